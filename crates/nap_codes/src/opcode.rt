@@ -1,0 +1,53 @@
+/// An opcode of the PDI set, by its name in the standard.
+#[derive(Clone, Copy, PartialEq, Eq, Debug, Drop)]
+pub enum Opcode {
+    Reset,
+    Domain,
+    Text,
+    Texture,
+    PointSetAbs,
+    PointSetRel,
+    PointAbs,
+    PointRel,
+    LineAbs,
+    LineRel,
+    SetLineAbs,
+    SetLineRel,
+    ArcOutlined,
+    ArcFilled,
+    SetArcOutlined,
+    SetArcFilled,
+    RectOutlined,
+    RectFilled,
+    SetRectOutlined,
+    SetRectFilled,
+    PolyOutlined,
+    PolyFilled,
+    SetPolyOutlined,
+    SetPolyFilled,
+    Field,
+    IncrementalPoint,
+    IncrementalLine,
+    IncrementalPolyFilled,
+    SetColor,
+    Wait,
+    SelectColor,
+    Blink,
+}
+
+/// A code that this profile leaves out by name.
+#[derive(Clone, Copy, PartialEq, Eq, Debug, Drop)]
+pub enum Left {
+    Can,
+    Sdc,
+    Nsr,
+    Deft,
+    Unprotect,
+    Edc1,
+    Edc2,
+    Edc3,
+    Edc4,
+    IncrementalPoint,
+    IncrementalLine,
+    IncrementalPoly,
+}

@@ -1,0 +1,89 @@
+ghost use Rattle.std.specs.Prelude.{◌≡◌, ◌<◌, ◌^◌, ◌↔◌, IsSome, IfSome};
+
+use std::marker::Model;
+
+/// The address of an entry of the colour map, from 0 to 16,777,215 (single-value operands).
+#[derive(Clone, Copy, PartialEq, Eq, Debug, Drop)]
+pub struct Addr(u32);
+
+impl Model for Addr {
+    ghost use Rattle.std.specs.Prelude.{ℕ, ◌<◌};
+
+    ghost Value = { ℕ };
+
+    ghost view = { λ a. a.0 };
+
+    ghost invariant = { λ a. a.0 < 16777216 };
+
+    ghost inverse = { λ n. record { 0 = n } };
+}
+
+impl Addr {
+    /// The address with this number.
+    pub fn try_new(number: u32) -> Option<Addr>
+        ensures found { IsSome result ↔ (number < 16777216) }
+        ensures value { IfSome result (λ a. a ≡ number) }
+    {
+        if number < 16_777_216 {
+            Some(Addr(number))
+        } else {
+            None
+        }
+    }
+
+    /// The address's number.
+    pub fn get(self) -> u32
+        ensures value { result ≡ self }
+        ensures below { result < 16777216 }
+    {
+        self.0
+    }
+}
+
+/// A colour by its parts, green, red and blue in the order of the standard, each of 16 bits.
+#[derive(Clone, Copy, PartialEq, Eq, Debug, Drop)]
+pub struct Grb {
+    g: u16,
+    r: u16,
+    b: u16,
+}
+
+impl Model for Grb {
+    ghost use Rattle.nap_values.specs.Colours.{Components};
+
+    ghost Value = { Components };
+
+    ghost view = { λ c. record { g = c.g; r = c.r; b = c.b } };
+
+    ghost inverse = { λ v. record { g = v.g; r = v.r; b = v.b } };
+}
+
+impl Grb {
+    /// The colour with these parts.
+    pub fn new(g: u16, r: u16, b: u16) -> Grb
+        ensures { result ≡ record { g = g; r = r; b = b } }
+    {
+        Grb { g, r, b }
+    }
+
+    /// The green part.
+    pub fn g(self) -> u16
+        ensures { result ≡ self.g }
+    {
+        self.g
+    }
+
+    /// The red part.
+    pub fn r(self) -> u16
+        ensures { result ≡ self.r }
+    {
+        self.r
+    }
+
+    /// The blue part.
+    pub fn b(self) -> u16
+        ensures { result ≡ self.b }
+    {
+        self.b
+    }
+}

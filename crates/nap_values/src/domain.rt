@@ -1,0 +1,55 @@
+ghost use Rattle.std.specs.Prelude.{◌≡◌, ◌≤◌, ◌↔◌, IsSome, IfSome};
+
+use std::marker::Model;
+
+/// How many words an operand has: 1 to 8 where it is multi-value, 1 to 4 where it is single-value (DOMAIN).
+#[derive(Clone, Copy, PartialEq, Eq, Debug, Drop)]
+pub struct Domain {
+    multi: u8,
+    single: u8,
+}
+
+impl Model for Domain {
+    ghost use Rattle.std.specs.Prelude.{◌≤◌};
+    ghost use Rattle.nap_values.specs.Domains.{OperandLengths};
+
+    ghost Value = { OperandLengths };
+
+    ghost view = { λ d. record { multi = d.multi; single = d.single } };
+
+    ghost invariant = { λ d. (1 ≤ d.multi) × (d.multi ≤ 8) × (1 ≤ d.single) × (d.single ≤ 4) };
+
+    ghost inverse = { λ v. record { multi = v.multi; single = v.single } };
+}
+
+impl Domain {
+    /// The domain with these lengths.
+    pub fn try_new(multi: u8, single: u8) -> Option<Domain>
+        ensures found { IsSome result ↔ ((1 ≤ multi) × (multi ≤ 8) × (1 ≤ single) × (single ≤ 4)) }
+        ensures value { IfSome result (λ d. d ≡ record { multi = multi; single = single }) }
+    {
+        if multi >= 1 && multi <= 8 && single >= 1 && single <= 4 {
+            Some(Domain { multi, single })
+        } else {
+            None
+        }
+    }
+
+    /// The words of a multi-value operand.
+    pub fn multi(self) -> u8
+        ensures value { result ≡ self.multi }
+        ensures least { 1 ≤ result }
+        ensures most { result ≤ 8 }
+    {
+        self.multi
+    }
+
+    /// The words of a single-value operand.
+    pub fn single(self) -> u8
+        ensures value { result ≡ self.single }
+        ensures least { 1 ≤ result }
+        ensures most { result ≤ 4 }
+    {
+        self.single
+    }
+}

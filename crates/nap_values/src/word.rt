@@ -1,0 +1,44 @@
+ghost use Rattle.std.specs.Prelude.{◌≡◌, ◌<◌, ◌≤◌, ◌-◌, ◌↔◌, IsSome, IfSome};
+
+use std::marker::Model;
+
+/// Six bits of an operand, as one byte of a stream carries them (PDI operands).
+#[derive(Clone, Copy, PartialEq, Eq, Debug, Drop)]
+pub struct Word(u8);
+
+impl Model for Word {
+    ghost use Rattle.std.specs.Prelude.{ℕ, ◌<◌};
+
+    ghost Value = { ℕ };
+
+    ghost view = { λ w. w.0 };
+
+    ghost invariant = { λ w. w.0 < 64 };
+
+    ghost inverse = { λ n. record { 0 = n } };
+}
+
+impl Word {
+    /// The word of no bits.
+    pub const ZERO: Word = Word(0);
+
+    /// The word with this number, from 0 to 63.
+    pub fn try_new(number: u8) -> Option<Word>
+        ensures found { IsSome result ↔ (number < 64) }
+        ensures value { IfSome result (λ word. word ≡ number) }
+    {
+        if number < 64 {
+            Some(Word(number))
+        } else {
+            None
+        }
+    }
+
+    /// The word's number, from 0 to 63.
+    pub fn get(self) -> u8
+        ensures value { result ≡ self }
+        ensures below { result < 64 }
+    {
+        self.0
+    }
+}
