@@ -41,6 +41,20 @@ pub enum CursorKind {
     Off,
 }
 
+/// What the argument of a control stands for (C1 set).
+#[derive(Clone, Copy, PartialEq, Eq, Debug, Drop)]
+pub(crate) enum Argument {
+    /// The name of a macro.
+    Macro,
+    /// The name of a macro that is shown once it is defined.
+    ShownMacro,
+    /// The code of a character.
+    Glyph,
+    Mask,
+    /// How often a character is repeated.
+    Count,
+}
+
 /// A row of the tables of control codes.
 #[derive(Clone, Copy, PartialEq, Eq, Debug, Drop)]
 pub enum Row {

@@ -1,3 +1,7 @@
+pub mod Digits
 pub mod Coordinates
 pub mod Colours
 pub mod Domains
+pub mod Operands
+pub mod Spellings
+pub mod Laws

@@ -19,16 +19,27 @@ impl Model for Addr {
 }
 
 impl Addr {
+    /// Each address is below this.
+    pub const LIMIT: u32 = 16_777_216;
+
     /// The address with this number.
     pub fn try_new(number: u32) -> Option<Addr>
         ensures found { IsSome result ↔ (number < 16777216) }
         ensures value { IfSome result (λ a. a ≡ number) }
     {
-        if number < 16_777_216 {
+        if number < Self::LIMIT {
             Some(Addr(number))
         } else {
             None
         }
+    }
+
+    /// The address with this number.
+    pub(crate) fn new(number: u32) -> Addr
+        requires { number < 16777216 }
+        ensures { result ≡ number }
+    {
+        Addr(number)
     }
 
     /// The address's number.
@@ -64,6 +75,17 @@ impl Grb {
         ensures { result ≡ record { g = g; r = r; b = b } }
     {
         Grb { g, r, b }
+    }
+
+    /// The colour with these parts, None where one is above 65,535.
+    pub fn try_new(g: u32, r: u32, b: u32) -> Option<Grb>
+        ensures found { IsSome result ↔ ((g < 65536) × (r < 65536) × (b < 65536)) }
+        ensures value { IfSome result (λ colour. colour ≡ record { g = g; r = r; b = b }) }
+    {
+        let g = u16::try_from(g).ok()?;
+        let r = u16::try_from(r).ok()?;
+        let b = u16::try_from(b).ok()?;
+        Some(Grb { g, r, b })
     }
 
     /// The green part.

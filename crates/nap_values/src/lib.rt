@@ -3,7 +3,10 @@
 
 pub mod colour;
 pub mod domain;
+pub mod laws;
+pub mod operand;
 pub mod point;
+pub mod spelling;
 pub mod word;
 
 pub use colour::{Addr, Grb};

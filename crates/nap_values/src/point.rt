@@ -23,12 +23,20 @@ impl Model for Point {
 }
 
 impl Point {
+    ghost use Rattle.nap_values.specs.Coordinates.{moved, displacement_to};
+
+    /// The lower left corner of the square.
+    pub const ORIGIN: Point = Point { x: 0, y: 0 };
+
+    /// Each coordinate is below this.
+    pub const LIMIT: u32 = 8_388_608;
+
     /// The point with these coordinates.
     pub fn try_new(x: u32, y: u32) -> Option<Point>
         ensures found { IsSome result ↔ ((x < 8388608) × (y < 8388608)) }
         ensures value { IfSome result (λ p. p ≡ record { x = x; y = y }) }
     {
-        if x < 8_388_608 && y < 8_388_608 {
+        if x < Self::LIMIT && y < Self::LIMIT {
             Some(Point { x, y })
         } else {
             None
@@ -49,6 +57,27 @@ impl Point {
         ensures below { result < 8388608 }
     {
         self.y
+    }
+
+    /// The point this far away, None outside the square.
+    #[tactic(auto, unfolding(crate::specs::Coordinates::moved))]
+    pub fn by(self, step: Move) -> Option<Point>
+        ensures { result ≡ moved self step }
+    {
+        let x = self.x.checked_add_signed(step.x)?;
+        let y = self.y.checked_add_signed(step.y)?;
+        Point::try_new(x, y)
+    }
+
+    /// How far it is from here to the other point.
+    #[tactic(auto, unfolding(crate::specs::Coordinates::displacement_to))]
+    pub fn to(self, other: Point) -> Move
+        ensures { result ≡ displacement_to self other }
+    {
+        Move {
+            x: other.x as i32 - self.x as i32,
+            y: other.y as i32 - self.y as i32,
+        }
     }
 }
 
@@ -73,19 +102,36 @@ impl Model for Move {
 }
 
 impl Move {
+    ghost use Rattle.nap_values.specs.Coordinates.{point_at};
+
     /// No displacement.
     pub const ZERO: Move = Move { x: 0, y: 0 };
+
+    /// Each part is below this, and none is below its negative.
+    pub const LIMIT: i32 = 8_388_608;
 
     /// The displacement with these parts.
     pub fn try_new(x: i32, y: i32) -> Option<Move>
         ensures found { IsSome result ↔ ((negsuc 8388607 ≤ℤ x) × (x <ℤ pos 8388608) × (negsuc 8388607 ≤ℤ y) × (y <ℤ pos 8388608)) }
         ensures value { IfSome result (λ m. m ≡ record { x = x; y = y }) }
     {
-        if x >= -8_388_608 && x < 8_388_608 && y >= -8_388_608 && y < 8_388_608 {
+        let range = -Self::LIMIT..Self::LIMIT;
+        if range.contains(&x) && range.contains(&y) {
             Some(Move { x, y })
         } else {
             None
         }
+    }
+
+    /// The displacement with these parts.
+    pub(crate) fn new(x: i32, y: i32) -> Move
+        requires left { negsuc 8388607 ≤ℤ x }
+        requires right { x <ℤ pos 8388608 }
+        requires down { negsuc 8388607 ≤ℤ y }
+        requires up { y <ℤ pos 8388608 }
+        ensures { result ≡ record { x = x; y = y } }
+    {
+        Move { x, y }
     }
 
     /// The part from left to right.
@@ -104,5 +150,15 @@ impl Move {
         ensures high { result <ℤ pos 8388608 }
     {
         self.y
+    }
+
+    /// The point this far from the origin, None outside the square.
+    #[tactic(auto, unfolding(crate::specs::Coordinates::point_at))]
+    pub fn point(self) -> Option<Point>
+        ensures { result ≡ point_at self }
+    {
+        let x = u32::try_from(self.x).ok()?;
+        let y = u32::try_from(self.y).ok()?;
+        Point::try_new(x, y)
     }
 }

@@ -22,12 +22,15 @@ impl Word {
     /// The word of no bits.
     pub const ZERO: Word = Word(0);
 
+    /// Each word is below this.
+    pub const LIMIT: u8 = 64;
+
     /// The word with this number, from 0 to 63.
     pub fn try_new(number: u8) -> Option<Word>
         ensures found { IsSome result ↔ (number < 64) }
         ensures value { IfSome result (λ word. word ≡ number) }
     {
-        if number < 64 {
+        if number < Self::LIMIT {
             Some(Word(number))
         } else {
             None

@@ -1,0 +1,5 @@
+use Rattle.nap_codes.proofs.CodeRanges.{code_ranges}
+use Rattle.nap_codes.proofs.laws.code_ranges.Goals as goal
+
+pub returns : goal.returns
+returns c = code_ranges

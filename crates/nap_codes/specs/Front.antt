@@ -1,0 +1,173 @@
+use Rattle.std.specs.Prelude.{ℕ, suc, ◌-◌, ◌==◌, nat_le, nat_lt, Bool, true, false, ◌&&◌, if◌then◌else◌, List, [], ◌∷◌, Option, Some, None}
+use Rattle.std.specs.Option.{option_map}
+use Rattle.nap_codes.specs.declared.code.Code.{Code}
+use Rattle.nap_codes.specs.declared.code.Code.TheVariants.{Step, Shifted, Designated, Char, Call, Op, Operand, DefMacro, DefGlyph, DefMask, Repeat}
+use Rattle.nap_codes.specs.declared.code.CodeFault.{CodeFault}
+use Rattle.nap_codes.specs.declared.code.CodeFault.TheVariants.{EighthBit, BadEscape, ShiftAlone, ShiftedCode, BadArgument, LeftOut}
+use Rattle.nap_codes.specs.declared.code_set.CharSet.TheVariants as chars
+use Rattle.nap_codes.specs.declared.code_set.CodeSet.{CodeSet}
+use Rattle.nap_codes.specs.declared.code_set.CodeSet.TheVariants as sets
+use Rattle.nap_codes.specs.declared.code_set.CodeSets.{CodeSets}
+use Rattle.nap_codes.specs.declared.code_set.GSet.TheVariants.{G2, G3}
+use Rattle.nap_codes.specs.declared.control.Argument.{Argument}
+use Rattle.nap_codes.specs.declared.control.Argument.TheVariants as arguments
+use Rattle.nap_codes.specs.declared.control.Row.{Row}
+use Rattle.nap_codes.specs.declared.control.Row.TheVariants.{Whole, More, Out}
+use Rattle.nap_codes.specs.declared.control.TextStep.TheVariants.{Aps}
+use Rattle.nap_codes.specs.declared.opcode.Left.{Left}
+use Rattle.nap_codes.specs.declared.opcode.Opcode.{Opcode}
+use Rattle.nap_codes.specs.CodeSets.{set_at, with_set, after_control0}
+use Rattle.nap_codes.specs.Tables.{row_of, designation, control0_rows, control1_rows, mask_rows, opcode_rows, left_out_opcode}
+
+-- What stands at the front of a list of bytes: nothing whole yet; a code, with the number of bytes that spell it and the
+-- code sets after it; or a fault, with the index of the byte at which it stands.
+pub data Front : Type 0 where
+  unfinished : Front
+  whole : Code → ℕ → CodeSets → Front
+  refused : CodeFault → ℕ → Front
+
+-- the front of a list, where that of its rest is known and the first byte is part of it
+unfoldable pub one_further : Front → Front
+one_further unfinished = unfinished
+one_further (whole code n sets) = whole code (suc n) sets
+one_further (refused fault i) = refused fault (suc i)
+
+-- whether a byte can be a code of a G set, the name of a macro or part of a position
+abbrev pub is_graphic : ℕ → Bool
+is_graphic byte = nat_le 0x20 byte && nat_lt byte 0x80
+
+-- A byte that continues no spelling has this fault, unless it has the eighth bit.
+unfoldable pub bad_byte : CodeFault → ℕ → Front
+bad_byte fault byte = refused (if nat_le 0x80 byte then EighthBit else fault) 0
+
+-- the last byte of a spelling, or a byte that continues none
+unfoldable pub last_byte : CodeSets → CodeFault → ℕ → Option Code → Front
+last_byte sets fault byte (Some code) = whole code 1 sets
+last_byte sets fault byte None = bad_byte fault byte
+
+-- a code of a set of characters or of the macro set
+unfoldable pub plain_code : CodeSet → ℕ → Option Code
+plain_code sets.Primary byte = Some (Char chars.Primary byte)
+plain_code sets.Supplementary byte = Some (Char chars.Supplementary byte)
+plain_code sets.Mosaic byte = Some (Char chars.Mosaic byte)
+plain_code sets.Drcs byte = Some (Char chars.Drcs byte)
+plain_code sets.Macros byte = Some (Call byte)
+plain_code sets.Pdi byte = None
+
+-- an opcode, which may be left out
+unfoldable pub opcode_front : CodeSets → Opcode → Option Left → Front
+opcode_front sets op None = whole (Op op) 1 sets
+opcode_front sets op (Some name) = refused (LeftOut name) 0
+
+-- a code of the PDI set: an opcode or an operand
+unfoldable pub pdi_front : CodeSets → ℕ → Option Opcode → Front
+pdi_front sets byte (Some op) = opcode_front sets op (left_out_opcode op)
+pdi_front sets byte None = whole (Operand (byte - 0x40)) 1 sets
+
+-- a code of the set in GL
+unfoldable pub gl_front : CodeSets → ℕ → Option Code → Front
+gl_front sets byte (Some code) = whole code 1 sets
+gl_front sets byte None = pdi_front sets byte (row_of opcode_rows byte)
+
+-- the code after a single shift, which may not be of the PDI set
+unfoldable pub shifted_front : CodeSets → Option Code → Front
+shifted_front sets (Some code) = whole code 1 sets
+shifted_front sets None = refused ShiftedCode 0
+
+-- what follows SS2 or SS3, which shift this set
+unfoldable pub single_shift_front : CodeSets → CodeSet → List ℕ → Front
+single_shift_front sets set [] = unfinished
+single_shift_front sets set (byte ∷ bytes) =
+    if is_graphic byte then shifted_front sets (plain_code set byte) else bad_byte ShiftAlone byte
+
+-- the second byte of a position
+unfoldable pub column_front : CodeSets → ℕ → List ℕ → Front
+column_front sets row [] = unfinished
+column_front sets row (byte ∷ bytes) =
+    last_byte sets BadArgument byte (if is_graphic byte then Some (Step (Aps row byte)) else None)
+
+-- what follows APS: a position
+unfoldable pub position_front : CodeSets → List ℕ → Front
+position_front sets [] = unfinished
+position_front sets (byte ∷ bytes) =
+    if is_graphic byte then one_further (column_front sets byte bytes) else bad_byte BadArgument byte
+
+-- what a control of the C1 set takes as its argument, where it takes one
+unfoldable pub argument_of : ℕ → Argument
+argument_of byte =
+    if byte == 0x40 then arguments.Macro
+    else if byte == 0x41 then arguments.ShownMacro
+    else if byte == 0x43 then arguments.Glyph
+    else if byte == 0x44 then arguments.Mask
+    else arguments.Count
+
+-- the code of a control with this argument, if it is in its range
+unfoldable pub with_argument : Argument → ℕ → Option Code
+with_argument arguments.Macro byte = if is_graphic byte then Some (DefMacro byte false) else None
+with_argument arguments.ShownMacro byte = if is_graphic byte then Some (DefMacro byte true) else None
+with_argument arguments.Glyph byte = if is_graphic byte then Some (DefGlyph byte) else None
+with_argument arguments.Mask byte = option_map DefMask (row_of mask_rows byte)
+with_argument arguments.Count byte =
+    if nat_le 0x40 byte && nat_lt byte 0x80 then Some (Repeat (byte - 0x40)) else None
+
+-- the argument of a control
+unfoldable pub argument_front : CodeSets → Argument → List ℕ → Front
+argument_front sets argument [] = unfinished
+argument_front sets argument (byte ∷ bytes) = last_byte sets BadArgument byte (with_argument argument byte)
+
+-- what a designation does, if it is one
+unfoldable pub designated_front : CodeSets → ℕ → Option (ℕ × CodeSet) → Front
+designated_front sets byte (Some named) = whole (Designated named.0 named.1) 1 (with_set sets named.0 named.1)
+designated_front sets byte None = bad_byte BadEscape byte
+
+-- the final byte of a designation
+unfoldable pub final_front : CodeSets → ℕ → List ℕ → Front
+final_front sets intermediate [] = unfinished
+final_front sets intermediate (byte ∷ bytes) = designated_front sets byte (designation intermediate byte)
+
+-- what follows the intermediate byte of a designation: one more of them, 20, or the final byte
+unfoldable pub designation_front : CodeSets → ℕ → List ℕ → Front
+designation_front sets intermediate [] = unfinished
+designation_front sets intermediate (byte ∷ bytes) =
+    if byte == 0x20 then one_further (final_front sets intermediate bytes) else final_front sets intermediate (byte ∷ bytes)
+
+-- an escape sequence that is no control: a locking shift or a designation
+unfoldable pub sequence_front : CodeSets → ℕ → List ℕ → Front
+sequence_front sets byte bytes =
+    if byte == 0x6E then whole Shifted 1 (record sets { gl = G2 })
+    else if byte == 0x6F then whole Shifted 1 (record sets { gl = G3 })
+    else if nat_le 0x28 byte && nat_le byte 0x2F then one_further (designation_front sets byte bytes)
+    else bad_byte BadEscape byte
+
+-- what follows ESC, by the row of the C1 set
+unfoldable pub control1_front : CodeSets → ℕ → List ℕ → Option Row → Front
+control1_front sets byte bytes (Some (Whole code)) = whole code 1 sets
+control1_front sets byte bytes (Some (Out name)) = refused (LeftOut name) 0
+control1_front sets byte bytes (Some More) = one_further (argument_front sets (argument_of byte) bytes)
+control1_front sets byte bytes None = sequence_front sets byte bytes
+
+-- what follows ESC
+unfoldable pub escape_front : CodeSets → List ℕ → Front
+escape_front sets [] = unfinished
+escape_front sets (byte ∷ bytes) = control1_front sets byte bytes (row_of control1_rows byte)
+
+-- what follows a control of the C0 set that further bytes belong to: ESC, APS, SS2 or SS3
+unfoldable pub more_front : CodeSets → ℕ → List ℕ → Front
+more_front sets byte bytes =
+    if byte == 0x1B then escape_front sets bytes
+    else if byte == 0x1C then position_front sets bytes
+    else if byte == 0x19 then single_shift_front sets sets.g2 bytes
+    else single_shift_front sets sets.g3 bytes
+
+-- what the first byte begins, by the row of the C0 set
+unfoldable pub control0_front : CodeSets → ℕ → List ℕ → Option Row → Front
+control0_front sets byte bytes (Some (Whole code)) = whole code 1 (after_control0 sets byte)
+control0_front sets byte bytes (Some (Out name)) = refused (LeftOut name) 0
+control0_front sets byte bytes (Some More) = one_further (more_front sets byte bytes)
+control0_front sets byte bytes None =
+    if is_graphic byte then gl_front sets byte (plain_code (set_at sets sets.gl) byte) else refused EighthBit 0
+
+-- what stands at the front of a list of bytes under these code sets
+unfoldable pub front : CodeSets → List ℕ → Front
+front sets [] = unfinished
+front sets (byte ∷ bytes) = control0_front sets byte bytes (row_of control0_rows byte)

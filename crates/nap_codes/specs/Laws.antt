@@ -1,0 +1,79 @@
+use Rattle.std.specs.Prelude.{ℕ, suc, ◌≡◌, ◌<◌, ◌≤◌, List, ◌++◌, length, take}
+use Rattle.nap_codes.specs.declared.code.Code.{Code}
+use Rattle.nap_codes.specs.declared.code.Code.TheVariants as codes
+use Rattle.nap_codes.specs.declared.code.CodeFault.{CodeFault}
+use Rattle.nap_codes.specs.declared.code_set.CodeSets.{CodeSets}
+use Rattle.nap_codes.specs.declared.control.TextStep.TheVariants.{Aps}
+use Rattle.nap_codes.specs.declared.opcode.Opcode.{Opcode}
+use Rattle.nap_codes.specs.Front.{unfinished, whole, refused, front}
+
+-- a code stays at the front where more bytes come
+abbrev pub WholeStays : Type 0
+WholeStays = (sets : CodeSets) (xs ys : List ℕ) (code : Code) (n : ℕ) (after : CodeSets) →
+    front sets xs ≡ whole code n after → front sets (xs ++ ys) ≡ whole code n after
+
+-- a refusal stays at the front where more bytes come
+abbrev pub RefusedStays : Type 0
+RefusedStays = (sets : CodeSets) (xs ys : List ℕ) (fault : CodeFault) (i : ℕ) →
+    front sets xs ≡ refused fault i → front sets (xs ++ ys) ≡ refused fault i
+
+-- A code has at least one byte, and its bytes are there.
+abbrev pub WholeLength : Type 0
+WholeLength = (sets : CodeSets) (xs : List ℕ) (code : Code) (n : ℕ) (after : CodeSets) →
+    front sets xs ≡ whole code n after → (1 ≤ n) × (n ≤ length xs)
+
+-- A refused byte is there.
+abbrev pub RefusedIndex : Type 0
+RefusedIndex = (sets : CodeSets) (xs : List ℕ) (fault : CodeFault) (i : ℕ) →
+    front sets xs ≡ refused fault i → i < length xs
+
+-- The bytes that spell a code are enough to have it at the front.
+abbrev pub WholeTaken : Type 0
+WholeTaken = (sets : CodeSets) (xs : List ℕ) (code : Code) (n : ℕ) (after : CodeSets) →
+    front sets xs ≡ whole code n after → front sets (take n xs) ≡ whole code n after
+
+-- The bytes up to a refused one are enough to have it refused.
+abbrev pub RefusedTaken : Type 0
+RefusedTaken = (sets : CodeSets) (xs : List ℕ) (fault : CodeFault) (i : ℕ) →
+    front sets xs ≡ refused fault i → front sets (take (suc i) xs) ≡ refused fault i
+
+-- fewer bytes than those that spell a code
+abbrev pub EarlierUnfinished : Type 0
+EarlierUnfinished = (sets : CodeSets) (xs : List ℕ) (code : Code) (n : ℕ) (after : CodeSets) (k : ℕ) →
+    front sets xs ≡ whole code n after → k < n → front sets (take k xs) ≡ unfinished
+
+-- the bytes before a refused one, or fewer
+abbrev pub UnfinishedBefore : Type 0
+UnfinishedBefore = (sets : CodeSets) (xs : List ℕ) (fault : CodeFault) (i k : ℕ) →
+    front sets xs ≡ refused fault i → k ≤ i → front sets (take k xs) ≡ unfinished
+
+-- a byte that can be a code of a G set
+abbrev pub IsGraphic : ℕ → Type 0
+IsGraphic byte = (0x20 ≤ byte) × (byte < 0x80)
+
+-- The numbers in a code are in their ranges.
+abbrev pub IsInRange : Code → Type 0
+IsInRange (codes.Step (Aps row column)) = IsGraphic row × IsGraphic column
+IsInRange (codes.Designated number set) = number < 4
+IsInRange (codes.Char set byte) = IsGraphic byte
+IsInRange (codes.Call byte) = IsGraphic byte
+IsInRange (codes.Operand word) = word < 64
+IsInRange (codes.DefMacro name show) = IsGraphic name
+IsInRange (codes.DefGlyph byte) = IsGraphic byte
+IsInRange (codes.Repeat count) = count < 64
+IsInRange _ = Unit {0}
+
+-- the numbers in the code at a front
+abbrev pub CodeRanges : Type 0
+CodeRanges = (sets : CodeSets) (xs : List ℕ) (code : Code) (n : ℕ) (after : CodeSets) →
+    front sets xs ≡ whole code n after → IsInRange code
+
+-- An opcode is one byte, and leaves the code sets.
+abbrev pub OneByteOpcode : Type 0
+OneByteOpcode = (sets : CodeSets) (xs : List ℕ) (op : Opcode) (n : ℕ) (after : CodeSets) →
+    front sets xs ≡ whole (codes.Op op) n after → (n ≡ 1) × (after ≡ sets)
+
+-- An operand is one byte, and leaves the code sets.
+abbrev pub OneByteOperand : Type 0
+OneByteOperand = (sets : CodeSets) (xs : List ℕ) (word : ℕ) (n : ℕ) (after : CodeSets) →
+    front sets xs ≡ whole (codes.Operand word) n after → (n ≡ 1) × (after ≡ sets)

@@ -1,0 +1,23 @@
+use Rattle.std.specs.Prelude.{ℕ, ◌≡◌, List, [], ◌∷◌, ◌++◌, length}
+use Rattle.nap_codes.specs.declared.code.Step.{Step}
+use Rattle.nap_codes.specs.declared.code.Step.TheVariants as steps
+use Rattle.nap_codes.specs.declared.code_set.CodeSets.{CodeSets}
+use Rattle.nap_codes.specs.Front.{Front, unfinished, whole, refused, front}
+
+-- what a lexer stands for: its code sets, and the bytes of the code that is half read
+pub record LexerState : Type 0 where
+  pub sets : CodeSets
+  pub half : List ℕ
+
+-- The front of the half-read code with this byte behind it says what the byte does.
+abbrev pub StepsBy : Front → LexerState → ℕ → Step → LexerState → Type 0
+StepsBy unfinished old byte step new =
+    (step ≡ steps.More) × (new ≡ record { sets = old.sets; half = old.half ++ byte ∷ [] })
+StepsBy (whole code n after) old byte step new =
+    (step ≡ steps.Code code) × (n ≡ length (old.half ++ byte ∷ [])) × (new ≡ record { sets = after; half = [] })
+StepsBy (refused fault i) old byte step new =
+    (step ≡ steps.Fault fault) × (i ≡ length old.half) × (new ≡ old)
+
+-- what a byte does to a lexer
+abbrev pub Steps : LexerState → ℕ → Step → LexerState → Type 0
+Steps old byte step new = StepsBy (front old.sets (old.half ++ byte ∷ [])) old byte step new

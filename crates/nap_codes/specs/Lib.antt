@@ -1,0 +1,5 @@
+pub mod Tables
+pub mod CodeSets
+pub mod Front
+pub mod Laws
+pub mod Lexer

@@ -1,0 +1,34 @@
+//! What holds of the definitions. Each function's contract is a law; the functions do nothing.
+
+ghost use Rattle.nap_codes.specs.Laws.{CodeRanges, EarlierUnfinished, OneByteOpcode, OneByteOperand, RefusedIndex, RefusedStays, RefusedTaken, UnfinishedBefore, WholeLength, WholeStays, WholeTaken};
+
+/// What stands at the front stays there where more bytes come.
+pub fn front_stays()
+    ensures whole { WholeStays }
+    ensures refused { RefusedStays }
+{}
+
+/// The bytes of what stands at the front: there are as many, and they are enough.
+pub fn front_length()
+    ensures whole { WholeLength }
+    ensures refused { RefusedIndex }
+    ensures whole_taken { WholeTaken }
+    ensures refused_taken { RefusedTaken }
+{}
+
+/// Fewer bytes than a code or a refusal has are unfinished.
+pub fn earlier_is_unfinished()
+    ensures whole { EarlierUnfinished }
+    ensures refused { UnfinishedBefore }
+{}
+
+/// The numbers in a code are in their ranges.
+pub fn code_ranges()
+    ensures { CodeRanges }
+{}
+
+/// A code of the PDI set is one byte, and leaves the code sets.
+pub fn one_byte_of_pdi()
+    ensures opcode { OneByteOpcode }
+    ensures operand { OneByteOperand }
+{}

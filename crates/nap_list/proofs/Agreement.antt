@@ -1,0 +1,251 @@
+use Rattle.std.proofs.Common.{◌≡◌, ℕ, Bool, true, false, Option, Some, None, refl, sym, subst, cond}
+use Rattle.std.specs.Prelude.{unwrap_or, IsSome, IfSome, ◌==◌, slice_get, length, ◌-◌, ◌/◌, ◌%◌}
+use Rattle.nap_values.specs.Coordinates.{Coordinates, Displacement}
+use Rattle.nap_list.specs.declared.attribute.Origin.TheVariants as origins
+use Rattle.nap_list.specs.declared.attribute.Preset.TheVariants as presets
+use Rattle.nap_list.specs.declared.attribute.Pen.{Pen}
+use Rattle.nap_list.specs.declared.attribute.Pen.TheVariants as pens
+use Rattle.nap_list.specs.declared.attribute.Base.{Base}
+use Rattle.nap_list.specs.declared.attribute.Base.TheVariants as bases
+use Rattle.nap_list.specs.declared.attribute.Colour.{Colour}
+use Rattle.nap_list.specs.declared.attribute.Colour.TheVariants as colours
+use Rattle.nap_list.specs.declared.attribute.Texture.{Texture}
+use Rattle.nap_list.specs.declared.attribute.Held.{Held}
+use Rattle.nap_list.specs.declared.state.Drawing.{Drawing}
+use Rattle.nap_list.specs.declared.state.Opened.{Opened}
+use Rattle.nap_list.specs.declared.state.LastChar.{LastChar}
+use Rattle.nap_list.specs.declared.state.State.{State}
+use Rattle.nap_list.specs.declared.entry.Entry.{Entry}
+use Rattle.nap_list.specs.declared.entry.Entry.TheVariants as entries
+use Rattle.nap_list.specs.Entry.{held}
+use Rattle.nap_list.specs.State.{PenFits, ColourFits, MaskFits, TextureFits, HeldFits, Comes, base_shown, colour_code, taking, with_pen, with_pen_at, reset, saved_values, drawn, definition_after, start, start_texture}
+use Rattle.nap_list.specs.Agreement.{BaseAgrees, ColourAgrees, InMode, Agrees, DefinitionsAgree, StatesAgree, Holds, AgreeingFits}
+
+-- a value fits where it stands
+
+pen_itself : (pen : Pen) → PenFits pen (Some pen)
+pen_itself pens.Start = refl
+pen_itself (pens.At p) = tt
+pen_itself pens.After = refl
+
+base_itself : (base : Base) → BaseAgrees base base
+base_itself (bases.Own origin) = refl
+base_itself (bases.Direct grb) = tt
+
+colour_itself : (colour : Colour) → ColourAgrees colour colour
+colour_itself (colours.Own origin) = tt
+colour_itself (colours.Direct grb) = tt
+colour_itself (colours.Front a) = tt
+colour_itself (colours.Pair a b) = tt
+colour_itself (colours.ByReset preset) = refl
+
+mask_itself : (word : ℕ) (mask : Option Displacement) → MaskFits (record { word = word; mask = mask }) mask
+mask_itself word None = refl
+mask_itself word (Some m) = tt
+
+-- held values fit
+
+pen_fits : (w : Option Pen) (pen shown : Pen) → IfSome w (λ p. p ≡ pen) → PenFits shown (Some pen) → PenFits shown w
+pen_fits None pen shown is h = tt
+pen_fits (Some p) pen shown is h = subst (λ (x : Pen). PenFits shown (Some x)) (sym is) h
+
+-- where the colour is this one
+colour_at : (d shown : Drawing) (colour : Colour) → BaseAgrees d.base shown.base → ColourAgrees colour shown.colour → InMode d.base colour → ColourFits shown (Some colour)
+colour_at d shown (colours.Own origin) base c mode = subst (λ (b : Base). BaseAgrees b shown.base) mode base
+colour_at d shown (colours.Direct grb) base c mode = tt
+colour_at d shown (colours.Front a) base c mode = tt
+colour_at d shown (colours.Pair a b) base c mode = tt
+colour_at d shown (colours.ByReset preset) base c mode = c
+
+colour_fits : (w : Option Colour) (d shown : Drawing) → IfSome w (λ c. c ≡ d.colour) → Agrees d shown → ColourFits shown w
+colour_fits None d shown is h = tt
+colour_fits (Some colour) d shown is h = subst (λ (x : Colour). ColourFits shown (Some x)) (sym is) (colour_at d shown d.colour h.base h.colour h.mode)
+
+texture_fits : (w : Option Texture) (t shown : Texture) → IfSome w (λ u. u ≡ t) → TextureFits shown (Some t) → TextureFits shown w
+texture_fits None t shown is h = tt
+texture_fits (Some u) t shown is h = subst (λ (x : Texture). TextureFits shown (Some x)) (sym is) h
+
+held_fits : (h : Held) (d shown : Drawing) → Holds h d → Agrees d shown → HeldFits shown h
+held_fits h d shown holds agrees = record {
+  pen = pen_fits h.pen d.pen shown.pen holds.pen agrees.pen;
+  colour = colour_fits h.colour d shown holds.colour agrees;
+  texture = texture_fits h.texture d.texture shown.texture holds.texture agrees.texture;
+}
+
+-- states that agree take the same values and agree
+
+pen_taken : (w : Option Pen) (pen shown : Pen) → PenFits shown (Some pen) → PenFits (unwrap_or w shown) (Some (unwrap_or w pen))
+pen_taken None pen shown h = h
+pen_taken (Some p) pen shown h = pen_itself p
+
+texture_taken : (w : Option Texture) (t shown : Texture) → TextureFits shown (Some t) → TextureFits (unwrap_or w shown) (Some (unwrap_or w t))
+texture_taken None t shown h = h
+texture_taken (Some u) t shown h = mask_itself u.word u.mask
+
+colour_taken : (w : Option Colour) (colour shown : Colour) → ColourAgrees colour shown → ColourAgrees (unwrap_or w colour) (unwrap_or w shown)
+colour_taken None colour shown h = h
+colour_taken (Some c) colour shown h = colour_itself c
+
+base_taken : (w : Option Colour) (base shown : Base) → BaseAgrees base shown → BaseAgrees (base_shown base w) (base_shown shown w)
+base_taken None base shown h = h
+base_taken (Some (colours.Own origin)) base shown h = h
+base_taken (Some (colours.Direct grb)) base shown h = tt
+base_taken (Some (colours.Front a)) base shown h = h
+base_taken (Some (colours.Pair a b)) base shown h = h
+base_taken (Some (colours.ByReset preset)) base shown h = h
+
+mode_taken : (w : Option Colour) (base : Base) (colour : Colour) → IfSome w (λ c. c ≡ colour) → InMode base colour → InMode (base_shown base w) (unwrap_or w colour)
+mode_taken None base colour is h = h
+mode_taken (Some (colours.Own origin)) base colour is h = subst (InMode base) (sym is) h
+mode_taken (Some (colours.Direct grb)) base colour is h = refl
+mode_taken (Some (colours.Front a)) base colour is h = tt
+mode_taken (Some (colours.Pair a b)) base colour is h = tt
+mode_taken (Some (colours.ByReset preset)) base colour is h = tt
+
+taken_agree : (h : Held) (d shown : Drawing) → Holds h d → Agrees d shown → Agrees (taking d h) (taking shown h)
+taken_agree h d shown holds agrees = record {
+  pen = pen_taken h.pen d.pen shown.pen agrees.pen;
+  base = base_taken h.colour d.base shown.base agrees.base;
+  colour = colour_taken h.colour d.colour shown.colour agrees.colour;
+  mode = mode_taken h.colour d.base d.colour holds.colour agrees.mode;
+  texture = texture_taken h.texture d.texture shown.texture agrees.texture;
+}
+
+-- and agree after the effect of an entry
+
+pen_set : (pen : Pen) (d shown : Drawing) → Agrees d shown → Agrees (with_pen pen d) (with_pen pen shown)
+pen_set pen d shown h = record { pen = pen_itself pen; base = h.base; colour = h.colour; mode = h.mode; texture = h.texture }
+
+pen_set_at : (p : Option Coordinates) (d shown : Drawing) → Agrees d shown → Agrees (with_pen_at p d) (with_pen_at p shown)
+pen_set_at None d shown h = h
+pen_set_at (Some p) d shown h = pen_set (pens.At p) d shown h
+
+front_set : (a : ℕ) (d shown : Drawing) → Agrees d shown → Agrees (record d { colour = colours.Front a }) (record shown { colour = colours.Front a })
+front_set a d shown h = record { pen = h.pen; base = h.base; colour = tt; mode = tt; texture = h.texture }
+
+cond_agree : {A : Type 0} (P : A → A → Type 0) (b : Bool) (x y u v : A) → P x u → P y v → P (cond b x y) (cond b u v)
+cond_agree P true x y u v p q = p
+cond_agree P false x y u v p q = q
+
+reset_mode : (a b c : Bool) (base : Base) (colour : Colour) → InMode base colour →
+    InMode (cond a (bases.Own origins.AfterReset) base)
+    (cond a (colours.Own origins.AfterReset) (cond b (colours.ByReset presets.Two) (cond c (colours.ByReset presets.Three) colour)))
+reset_mode true b c base colour h = refl
+reset_mode false true c base colour h = tt
+reset_mode false false true base colour h = tt
+reset_mode false false false base colour h = h
+
+reset_colour : (a b c : Bool) (colour shown : Colour) → ColourAgrees colour shown →
+    ColourAgrees
+    (cond a (colours.Own origins.AfterReset) (cond b (colours.ByReset presets.Two) (cond c (colours.ByReset presets.Three) colour)))
+    (cond a (colours.Own origins.AfterReset) (cond b (colours.ByReset presets.Two) (cond c (colours.ByReset presets.Three) shown)))
+reset_colour true b c colour shown h = tt
+reset_colour false true c colour shown h = refl
+reset_colour false false true colour shown h = refl
+reset_colour false false false colour shown h = h
+
+reset_agree : (first second : ℕ) (d shown : Drawing) → Agrees d shown → Agrees (reset first second d) (reset first second shown)
+reset_agree first second d shown h = record {
+  pen = refl;
+  base = cond_agree BaseAgrees (colour_code first == 1) (bases.Own origins.AfterReset) d.base (bases.Own origins.AfterReset) shown.base refl h.base;
+  colour = reset_colour (colour_code first == 1) (colour_code first == 2) (colour_code first == 3) d.colour shown.colour h.colour;
+  mode = reset_mode (colour_code first == 1) (colour_code first == 2) (colour_code first == 3) d.base d.colour h.mode;
+  texture = cond_agree (λ (t u : Texture). TextureFits u (Some t)) (second / 8 % 2 == 1) start_texture d.texture start_texture shown.texture refl h.texture;
+}
+
+saved_agree : (o p : Option Opened) (d shown : Drawing) → DefinitionsAgree o p → Agrees d shown → Agrees (saved_values o d) (saved_values p shown)
+saved_agree None None d shown defs h = h
+saved_agree None (Some b) d shown defs h = absurd defs
+saved_agree (Some a) None d shown defs h = absurd defs
+saved_agree (Some a) (Some b) d shown defs h = defs.1
+
+drawn_agree : (o p : Option Opened) (d shown : Drawing) (e : Entry) → DefinitionsAgree o p → Agrees d shown → Agrees (drawn o d e) (drawn p shown e)
+drawn_agree o p d shown (entries.Point at pel colour) defs h = pen_set (pens.At at) d shown h
+drawn_agree o p d shown (entries.Line from to ink) defs h = pen_set (pens.At to) d shown h
+drawn_agree o p d shown (entries.Arc filled points ink) defs h = pen_set_at (slice_get points (length points - 1)) d shown h
+drawn_agree o p d shown (entries.Rect filled from to ink) defs h = pen_set (pens.At (record { x = to.x; y = from.y })) d shown h
+drawn_agree o p d shown (entries.Poly filled points ink) defs h = pen_set_at (slice_get points 0) d shown h
+drawn_agree o p d shown (entries.Char set code hand) defs h = pen_set pens.After d shown h
+drawn_agree o p d shown (entries.TextMove step hand) defs h = pen_set pens.After d shown h
+drawn_agree o p d shown (entries.ToEol hand) defs h = pen_set pens.After d shown h
+drawn_agree o p d shown (entries.Field area pen) defs h = pen_set pens.After d shown h
+drawn_agree o p d shown (entries.Clear pen) defs h = pen_set pens.After d shown h
+drawn_agree o p d shown (entries.Reset first second pen) defs h = reset_agree first second d shown h
+drawn_agree o p d shown (entries.Map addr grb) defs h = front_set addr d shown h
+drawn_agree o p d shown (entries.GlyphStart code) defs h = pen_set pens.Start d shown h
+drawn_agree o p d shown (entries.MaskStart mask) defs h = pen_set pens.Start d shown h
+drawn_agree o p d shown entries.DefEnd defs h = saved_agree o p d shown defs h
+drawn_agree o p d shown e defs h = h
+
+definition_agrees : (o p : Option Opened) (d shown : Drawing) (e : Entry) → DefinitionsAgree o p → Agrees d shown →
+    DefinitionsAgree (definition_after o d e) (definition_after p shown e)
+definition_agrees o p d shown (entries.GlyphStart code) defs h = (refl, h)
+definition_agrees o p d shown (entries.MaskStart mask) defs h = (refl, h)
+definition_agrees o p d shown entries.DefEnd defs h = tt
+definition_agrees o p d shown e defs h = defs
+
+none_agrees : (o p : Option Opened) → DefinitionsAgree o p → o ≡ None → p ≡ None
+none_agrees None None defs is = refl
+none_agrees None (Some b) defs is = absurd defs
+none_agrees (Some a) None defs is = refl
+none_agrees (Some a) (Some b) defs is = cc
+
+some_agrees : (o p : Option Opened) → DefinitionsAgree o p → IsSome o → IsSome p
+some_agrees None p defs is = cc
+some_agrees (Some a) None defs is = absurd defs
+some_agrees (Some a) (Some b) defs is = refl
+
+comes_too : (s shown : State) (e : Entry) → StatesAgree s shown → Comes s e → Comes shown e
+comes_too s shown (entries.ToEol hand) h comes = subst (λ (l : Option LastChar). IsSome l) h.last comes
+comes_too s shown (entries.GlyphStart code) h comes = none_agrees s.definition shown.definition h.definition comes
+comes_too s shown (entries.MaskStart mask) h comes = none_agrees s.definition shown.definition h.definition comes
+comes_too s shown entries.DefEnd h comes = some_agrees s.definition shown.definition h.definition comes
+comes_too s shown e h comes = tt
+
+pub agreeing_fits : AgreeingFits
+agreeing_fits s shown e agree holds made comes =
+    let d = taking s.drawing (held e) in
+    let d' = taking shown.drawing (held e) in
+    let taken = taken_agree (held e) s.drawing shown.drawing holds agree.drawing in (
+      record {
+        values = held_fits (held e) s.drawing shown.drawing holds agree.drawing;
+        made = made;
+        comes = comes_too s shown e agree comes;
+      },
+      record {
+        drawing = drawn_agree s.definition shown.definition d d' e agree.definition taken;
+        definition = definition_agrees s.definition shown.definition d d' e agree.definition taken;
+        last = refl;
+      },
+    )
+
+-- the start agrees with itself
+pub start_agrees : StatesAgree start start
+start_agrees = record {
+  drawing = record { pen = refl; base = refl; colour = tt; mode = refl; texture = refl };
+  definition = tt;
+  last = refl;
+}
+
+is_unwrapped : {A : Type 0} (w : Option A) (a : A) → IfSome w (λ b. b ≡ a) → unwrap_or w a ≡ a
+is_unwrapped None a is = refl
+is_unwrapped (Some b) a is = is
+
+base_stays : (w : Option Colour) (d : Drawing) → IfSome w (λ c. c ≡ d.colour) → InMode d.base d.colour → base_shown d.base w ≡ d.base
+base_stays None d is h = refl
+base_stays (Some (colours.Own origin)) d is h = refl
+base_stays (Some (colours.Direct grb)) d is h = sym (subst (InMode d.base) (sym is) h)
+base_stays (Some (colours.Front a)) d is h = refl
+base_stays (Some (colours.Pair a b)) d is h = refl
+base_stays (Some (colours.ByReset preset)) d is h = refl
+
+-- where all held values stand already, taking them changes nothing
+pub taking_nothing : (h : Held) (d : Drawing) → Holds h d → InMode d.base d.colour → taking d h ≡ d
+taking_nothing h d holds mode =
+    let p = is_unwrapped h.pen d.pen holds.pen in
+    let q = is_unwrapped h.pel d.pel holds.pel in
+    let b = base_stays h.colour d holds.colour mode in
+    let c = is_unwrapped h.colour d.colour holds.colour in
+    let t = is_unwrapped h.texture d.texture holds.texture in
+    let x = is_unwrapped h.text d.text holds.text in
+    rw (p, q, b, c, t, x) refl

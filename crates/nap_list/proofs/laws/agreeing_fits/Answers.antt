@@ -1,0 +1,5 @@
+use Rattle.nap_list.proofs.Agreement.{agreeing_fits}
+use Rattle.nap_list.proofs.laws.agreeing_fits.Goals as goal
+
+pub returns : goal.returns
+returns c = agreeing_fits

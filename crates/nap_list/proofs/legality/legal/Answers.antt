@@ -1,0 +1,51 @@
+use Rattle.std.proofs.Common.{◌∙◌, take, subst, sym, ap, arith, length}
+use Rattle.std.proofs.lemmas.Bool.{true≢false}
+use Rattle.nap_list.specs.declared.state.State.{State}
+use Rattle.nap_list.specs.State.{start, after, walk, AllFit, Fits}
+use Rattle.nap_list.proofs.Walks.{walk_more, fit_more}
+use Rattle.nap_list.proofs.Breaks.{misfit_at, one_more, only_break, no_break, not_legal, ends_open, ends_legal}
+use Rattle.nap_list.proofs.legality.legal.Goals as goal
+
+pub loop-index-init : goal.loop-index-init
+unfolding walk AllFit
+loop-index-init c = record { state = c.start-state.ensures; fit = tt }
+
+pub loop-index-preserved : goal.loop-index-preserved
+loop-index-preserved c =
+    let es = c.args.entries.now in
+    let e = c.index-entries-index.result in
+    let front = take c.loop-index.index es in
+    let before = c.loop-index.invariant in
+    let fits = subst (λ (s : State). Fits s e) before.state (c.fits.ensures.0 c.if-not-fits.false) in
+    rw (one_more es c.loop-index.index e c.loop-index-test.true c.index-entries-index.is) (record {
+      state = c.step.ensures ∙ (ap (λ (s : State). after s e) before.state ∙ sym (walk_more start front e));
+      fit = fit_more start front e before.fit fits;
+    })
+
+pub returns-then-not-fits-clause-ok : goal.returns-then-not-fits-clause-ok
+returns-then-not-fits-clause-ok c =
+    let es = c.args.entries.now in
+    let at = c.loop-index in
+    let e = c.index-entries-index.result in
+    let misfit : Fits at.state e → ⊥ = λ fits. true≢false (sym (c.fits.ensures.1 fits) ∙ c.if-not-fits.true) in
+    not_legal es at.index (misfit_at es at.index e at.state c.loop-index-test.true c.index-entries-index.is at.invariant.state at.invariant.fit misfit)
+
+pub returns-then-not-fits-clause-err : goal.returns-then-not-fits-clause-err
+returns-then-not-fits-clause-err c =
+    let es = c.args.entries.now in
+    let at = c.loop-index in
+    let e = c.index-entries-index.result in
+    let misfit : Fits at.state e → ⊥ = λ fits. true≢false (sym (c.fits.ensures.1 fits) ∙ c.if-not-fits.true) in
+    only_break es at.index (misfit_at es at.index e at.state c.loop-index-test.true c.index-entries-index.is at.invariant.state at.invariant.fit misfit)
+
+pub returns-then-is_some-clause-err : goal.returns-then-is_some-clause-err
+returns-then-is_some-clause-err c =
+    let es = c.args.entries.now in
+    let at = c.loop-index in
+    only_break es (length es) (ends_open es at.index at.state (omega (arith, c.loop-index-test.false)) at.invariant.state at.invariant.fit (sym c.is_some.ensures ∙ c.if-is_some.true))
+
+pub returns-clause-err : goal.returns-clause-err
+returns-clause-err c =
+    let es = c.args.entries.now in
+    let at = c.loop-index in
+    no_break es (ends_legal es at.index at.state (omega (arith, c.loop-index-test.false)) at.invariant.state at.invariant.fit (sym c.is_some.ensures ∙ c.if-is_some.false))

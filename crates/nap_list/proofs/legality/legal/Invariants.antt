@@ -1,0 +1,10 @@
+use Rattle.std.proofs.Common.{◌≡◌, take}
+use Rattle.nap_list.specs.State.{start, walk, AllFit}
+use Rattle.nap_list.proofs.legality.legal.Given as goal
+
+-- the state so far, and that the entries so far fit
+abbrev pub invariant-loop-index : goal.invariant-loop-index
+invariant-loop-index l = record {
+  state : l.state ≡ walk start (take l.index l.entries);
+  fit : AllFit start (take l.index l.entries);
+}

@@ -1,0 +1,5 @@
+pub mod Agreement
+pub mod Device
+pub mod Entry
+pub mod Laws
+pub mod State

@@ -1,0 +1,25 @@
+// Which lists are legal.
+ghost use Rattle.std.specs.Prelude.{◌↔◌, ℕ, IsOk, IsErrOf};
+ghost use Rattle.nap_list.specs.State.{Legal, BreaksAt};
+
+use crate::entry::Entry;
+use crate::state::State;
+
+/// Whether each entry fits the state that those before it leave, and no definition is left open. The error is the index
+/// of the first entry that doesn't fit, or the length where only a definition is left open.
+pub fn legal(entries: &[Entry]) -> Result<(), usize>
+    ensures ok { IsOk result ↔ Legal entries.now }
+    ensures err { (index : ℕ) → IsErrOf result index ↔ BreaksAt index entries.now }
+{
+    let mut state = State::start();
+    for (index, entry) in entries.iter().enumerate() {
+        if !state.fits(entry) {
+            return Err(index);
+        }
+        state.step(entry);
+    }
+    if state.definition.is_some() {
+        return Err(entries.len());
+    }
+    Ok(())
+}

@@ -1,0 +1,60 @@
+// A growing list of points.
+ghost use Rattle.std.specs.Prelude.{◌≡◌, [], ◌∷◌, ◌++◌, IfOk, OnOk, OnErr};
+
+use nap_values::Point;
+use std::alloc::{AllocError, Global};
+use std::marker::Model;
+
+/// The most points of an arc or a polygon, the start among them (our profile).
+pub const SHAPE_POINTS: usize = 1_025;
+
+/// The points of a shape, in the order in which they are drawn.
+#[derive(Debug, Drop)]
+pub struct Points {
+    points: Vec<Point>,
+}
+
+impl Model for Points {
+    ghost use Rattle.std.specs.Prelude.{List};
+    ghost use Rattle.nap_values.specs.Coordinates.{Coordinates};
+
+    ghost Value = { List Coordinates };
+
+    ghost view = { λ p. p.points.items };
+}
+
+impl Points {
+    /// No points, and no memory taken.
+    pub fn new(alloc: Global) -> Points
+        ensures { result ≡ [] }
+    {
+        Points {
+            points: Vec::new(alloc),
+        }
+    }
+
+    /// No points, and the room for this many taken at once.
+    pub fn with_capacity(alloc: Global, capacity: usize) -> Result<Points, AllocError>
+        ensures { IfOk result (λ points. points ≡ []) }
+    {
+        Ok(Points {
+            points: Vec::with_capacity(alloc, capacity)?,
+        })
+    }
+
+    /// Adds a point at the end.
+    pub fn push(&mut self, point: Point) -> Result<(), AllocError>
+        ensures ok { OnOk result (self.new ≡ self.old ++ point ∷ []) }
+        ensures err { OnErr result (self.new ≡ self.old) }
+    {
+        self.points.push(point)?;
+        Ok(())
+    }
+
+    /// All the points.
+    pub fn as_slice(&self) -> &[Point]
+        ensures { result.now ≡ self.now }
+    {
+        &self.points
+    }
+}

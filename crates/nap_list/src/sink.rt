@@ -1,0 +1,128 @@
+// What takes entries, one after another.
+ghost use Rattle.std.specs.Prelude.{◌≡◌, List, [], ◌∷◌, ◌++◌, Bool, true, false, OnOk, IsErrOf};
+ghost use Rattle.std.proofs.Common.{sym, ap, ◌∙◌, append-nil, append_assoc};
+ghost use Rattle.nap_list.specs.declared.state.State.{State};
+ghost use Rattle.nap_list.specs.declared.entry.Entry.{Entry};
+ghost use Rattle.nap_list.specs.declared.sink.SinkFault.TheVariants.{Memory};
+ghost use Rattle.nap_list.specs.State.{Fits, after, start, walk};
+
+use crate::entry::Entry;
+use crate::state::State;
+use std::alloc::{AllocError, AllocFailed, Global};
+use std::marker::Model;
+
+/// Why an entry was not taken.
+#[derive(Clone, Copy, PartialEq, Eq, Debug, Drop)]
+pub enum SinkFault {
+    /// There was no memory for it.
+    Memory,
+    /// The device behind the sink failed.
+    Write,
+}
+
+impl From<AllocError> for SinkFault {
+    ghost from_gives = { λ _ e. e ≡ Memory };
+
+    fn from(_: AllocError) -> Self {
+        SinkFault::Memory
+    }
+}
+
+impl<T: Drop> From<AllocFailed<T>> for SinkFault {
+    ghost from_gives = { λ _ e. e ≡ Memory };
+
+    fn from(_: AllocFailed<T>) -> Self {
+        SinkFault::Memory
+    }
+}
+
+/// Takes the entries of a display list in their order. It need not keep them.
+pub trait Sink {
+    /// The state that the next entry has to fit.
+    ghost state: { Self → State };
+
+    /// Whether its device has failed.
+    ghost failed: { Self → Bool };
+
+    /// The second sink comes from the first by taking the list.
+    ghost took: { Self → List Entry → Self → Type 0 };
+
+    /// The second sink comes from the first by taking the list, and then a failure amid the entry.
+    ghost broke: { Self → List Entry → Entry → Self → Type 0 };
+
+    /// Takes one entry, or none of it that counts: a failed device may have taken a part.
+    fn put(&mut self, entry: Entry) -> Result<(), SinkFault>
+        requires { Fits (state self.old) entry }
+        ensures took { OnOk result (took self.old (entry ∷ []) self.new) }
+        ensures after { OnOk result (state self.new ≡ after (state self.old) entry) }
+        ensures memory { IsErrOf result SinkFault.Memory → self.new ≡ self.old }
+        ensures write { IsErrOf result SinkFault.Write → failed self.new ≡ true }
+        ensures only_write { failed self.new ≡ true → IsErrOf result SinkFault.Write }
+        ensures state { IsErrOf result SinkFault.Write → state self.new ≡ state self.old }
+        ensures broke { IsErrOf result SinkFault.Write → failed self.old ≡ false → broke self.old [] entry self.new }
+        ensures still { IsErrOf result SinkFault.Write → failed self.old ≡ true → self.new ≡ self.old };
+
+    /// Nothing was taken.
+    ghost took_none: { (s : Self) → took s [] s };
+
+    /// One list was taken after another.
+    ghost took_more: { (s t u : Self) (d e : List Entry) → took s d t → took t e u → took s (d ++ e) u };
+
+    /// A failure came after a list was taken.
+    ghost took_broke: { (s t u : Self) (d e : List Entry) (x : Entry) → took s d t → broke t e x u → broke s (d ++ e) x u };
+}
+
+/// Keeps the entries in memory, and fails for want of it alone.
+#[derive(Debug, Drop)]
+pub struct ListSink {
+    list: Vec<Entry>,
+}
+
+impl Model for ListSink {
+    ghost use Rattle.std.specs.Prelude.{List};
+    ghost use Rattle.nap_list.specs.declared.entry.Entry.{Entry};
+
+    ghost Value = { List Entry };
+
+    ghost view = { λ s. s.list.items };
+}
+
+impl ListSink {
+    /// A sink that has taken nothing, no memory either.
+    pub fn new(alloc: Global) -> ListSink
+        ensures { result ≡ [] }
+    {
+        ListSink {
+            list: Vec::new(alloc),
+        }
+    }
+
+    /// The entries that were taken.
+    pub fn into_list(self) -> Vec<Entry>
+        ensures { result.items ≡ self }
+    {
+        self.list
+    }
+}
+
+impl Sink for ListSink {
+    ghost state = { λ s. walk start s };
+
+    ghost failed = { λ s. false };
+
+    ghost took = { λ s d t. t ≡ s ++ d };
+
+    ghost broke = { λ s d e t. ⊥ };
+
+    #[tactic(auto, using(crate::proofs::Walks::walk_more))]
+    fn put(&mut self, entry: Entry) -> Result<(), SinkFault> {
+        self.list.push(entry)?;
+        Ok(())
+    }
+
+    ghost took_none = { λ s. sym (append-nil s) };
+
+    ghost took_more = { λ s t u d e a b. b ∙ (ap (λ (list : List Entry). list ++ e) a ∙ append_assoc s d e) };
+
+    ghost took_broke = { λ s t u d e x a b. absurd b };
+}

@@ -1,0 +1,320 @@
+// The state that a list of entries leaves.
+ghost use Rattle.std.specs.Prelude.{◌≡◌, ◌↔◌, IsTrue};
+ghost use Rattle.nap_list.specs.State.{start_texture, start_text, start_drawing, start, corner, PenFits, ColourFits, TextureFits, HeldFits, Comes, Fits, taking, with_pen, saved_values, reset, drawn, definition_after, last_after, after};
+
+use crate::attribute::{Base, CharSize, Colour, Held, Origin, Pen, Preset, TextLook, Texture};
+use crate::entry::Entry;
+use nap_codes::{CharSet, Mask, Size};
+use nap_values::{Move, Point, Word};
+
+/// The values that stand, which the next entry may hold.
+#[derive(Clone, Copy, PartialEq, Eq, Debug, Drop)]
+pub struct Drawing {
+    pub pen: Pen,
+    pub pel: Move,
+    pub base: Base,
+    pub colour: Colour,
+    pub texture: Texture,
+    pub text: TextLook,
+}
+
+/// What is being defined: the glyph of a code, or a mask.
+#[derive(Clone, Copy, PartialEq, Eq, Debug, Drop)]
+pub enum Definition {
+    Glyph(u8),
+    Mask(Mask),
+}
+
+/// A definition that isn't ended, with the values at its start.
+#[derive(Clone, Copy, PartialEq, Eq, Debug, Drop)]
+pub struct Opened {
+    pub what: Definition,
+    pub saved: Drawing,
+}
+
+/// A character, without what it was drawn with.
+#[derive(Clone, Copy, PartialEq, Eq, Debug, Drop)]
+pub struct LastChar {
+    pub set: CharSet,
+    pub code: u8,
+}
+
+/// What a list of entries leaves: the values, the definition that is open, and the last entry where it was a character.
+#[derive(PartialEq, Eq, Debug, Drop)]
+pub struct State {
+    pub drawing: Drawing,
+    pub definition: Option<Opened>,
+    pub last: Option<LastChar>,
+}
+
+impl Texture {
+    fn start() -> Texture
+        ensures { result ≡ start_texture }
+    {
+        Texture {
+            word: Word::ZERO,
+            mask: None,
+        }
+    }
+}
+
+impl TextLook {
+    fn start() -> TextLook
+        ensures { result ≡ start_text }
+    {
+        TextLook {
+            first: Word::ZERO,
+            second: Word::ZERO,
+            size: CharSize::Named(Size::Normal),
+            reverse: false,
+            underline: false,
+            wrap: false,
+            scroll: false,
+        }
+    }
+}
+
+impl Drawing {
+    /// The values before any entry.
+    pub fn start() -> Drawing
+        ensures { result ≡ start_drawing }
+    {
+        Drawing {
+            pen: Pen::Start,
+            pel: Move::ZERO,
+            base: Base::Own(Origin::AtStart),
+            colour: Colour::Own(Origin::AtStart),
+            texture: Texture::start(),
+            text: TextLook::start(),
+        }
+    }
+
+    fn pen_fits(&self, pen: Option<Pen>) -> bool
+        ensures { IsTrue result ↔ PenFits self.now.pen pen }
+    {
+        match pen {
+            Some(Pen::Start) => matches!(self.pen, Pen::Start),
+            Some(Pen::After) => matches!(self.pen, Pen::After),
+            Some(Pen::At(_)) | None => true,
+        }
+    }
+
+    fn colour_fits(&self, colour: Option<Colour>) -> bool
+        ensures { IsTrue result ↔ ColourFits self.now colour }
+    {
+        match colour {
+            Some(Colour::Own(origin)) => self.base == Base::Own(origin),
+            Some(Colour::ByReset(preset)) => self.colour == Colour::ByReset(preset),
+            _ => true,
+        }
+    }
+
+    fn texture_fits(&self, texture: Option<Texture>) -> bool
+        ensures { IsTrue result ↔ TextureFits self.now.texture texture }
+    {
+        match texture {
+            Some(Texture { mask: None, .. }) => self.texture.mask.is_none(),
+            _ => true,
+        }
+    }
+
+    fn held_fits(&self, held: &Held) -> bool
+        ensures { IsTrue result ↔ HeldFits self.now held.now }
+    {
+        self.pen_fits(held.pen) && self.colour_fits(held.colour) && self.texture_fits(held.texture)
+    }
+
+    /// Takes the values that an entry holds.
+    fn take(&mut self, held: &Held)
+        ensures { self.new ≡ taking self.old held.now }
+    {
+        *self = Drawing {
+            pen: held.pen.unwrap_or(self.pen),
+            pel: held.pel.unwrap_or(self.pel),
+            base: match held.colour {
+                Some(Colour::Direct(grb)) => Base::Direct(grb),
+                _ => self.base,
+            },
+            colour: held.colour.unwrap_or(self.colour),
+            texture: held.texture.unwrap_or(self.texture),
+            text: held.text.unwrap_or(self.text),
+        };
+    }
+
+    /// What RESET does to the values, by its two words (our profile).
+    pub fn reset(&mut self, first: Word, second: Word)
+        ensures { self.new ≡ reset first second self.old }
+    {
+        let (first, second) = (first.get(), second.get());
+        let code = first / 2 % 4;
+        *self = Drawing {
+            pen: Pen::After,
+            pel: if first % 2 == 1 { Move::ZERO } else { self.pel },
+            base: if code == 1 {
+                Base::Own(Origin::AfterReset)
+            } else {
+                self.base
+            },
+            colour: match code {
+                1 => Colour::Own(Origin::AfterReset),
+                2 => Colour::ByReset(Preset::Two),
+                3 => Colour::ByReset(Preset::Three),
+                _ => self.colour,
+            },
+            texture: if second / 8 % 2 == 1 {
+                Texture::start()
+            } else {
+                self.texture
+            },
+            text: if second % 2 == 1 {
+                TextLook::start()
+            } else {
+                self.text
+            },
+        };
+    }
+}
+
+fn corner(from: Point, to: Point) -> Point
+    ensures { result ≡ corner from to }
+{
+    Point::try_new(to.x(), from.y()).unwrap()
+}
+
+impl State {
+    /// The state before any entry.
+    pub fn start() -> State
+        ensures { result ≡ start }
+    {
+        State {
+            drawing: Drawing::start(),
+            definition: None,
+            last: None,
+        }
+    }
+
+    /// The same state again.
+    pub fn copy(&self) -> State
+        ensures { result ≡ self.now }
+    {
+        State {
+            drawing: self.drawing,
+            definition: self.definition,
+            last: self.last,
+        }
+    }
+
+    fn comes(&self, entry: &Entry) -> bool
+        ensures { IsTrue result ↔ Comes self.now entry.now }
+    {
+        match entry {
+            Entry::ToEol { .. } => self.last.is_some(),
+            Entry::GlyphStart(_) => self.definition.is_none(),
+            Entry::MaskStart(_) => self.definition.is_none(),
+            Entry::DefEnd => self.definition.is_some(),
+            _ => true,
+        }
+    }
+
+    /// Whether the entry may come next.
+    pub fn fits(&self, entry: &Entry) -> bool
+        ensures { IsTrue result ↔ Fits self.now entry.now }
+    {
+        self.drawing.held_fits(&entry.held()) && entry.is_well_made() && self.comes(entry)
+    }
+
+    /// Opens a definition, whose drawing begins with the pen at the start.
+    fn open(&mut self, what: Definition)
+        ensures definition { self.new.definition ≡ Some (record { what = what; saved = self.old.drawing }) }
+        ensures drawing { self.new.drawing ≡ with_pen Pen.Start self.old.drawing }
+        ensures last { self.new.last ≡ self.old.last }
+    {
+        self.definition = Some(Opened {
+            what,
+            saved: self.drawing,
+        });
+        self.drawing.pen = Pen::Start;
+    }
+
+    /// Ends the definition that is open, and puts the values back.
+    fn close(&mut self)
+        ensures definition { self.new.definition ≡ None }
+        ensures drawing { self.new.drawing ≡ saved_values self.old.definition self.old.drawing }
+        ensures last { self.new.last ≡ self.old.last }
+    {
+        if let Some(opened) = self.definition {
+            self.drawing = opened.saved;
+        }
+        self.definition = None;
+    }
+
+    /// The effect of the entry on the values and on the definition that is open.
+    fn act(&mut self, entry: &Entry)
+        ensures drawing { self.new.drawing ≡ drawn self.old.definition self.old.drawing entry.now }
+        ensures definition { self.new.definition ≡ definition_after self.old.definition self.old.drawing entry.now }
+    {
+        match entry {
+            Entry::Point { at, .. } => self.drawing.pen = Pen::At(*at),
+            Entry::Line { to, .. } => self.drawing.pen = Pen::At(*to),
+            Entry::Arc { points, .. } => {
+                if let Some(last) = points.as_slice().last() {
+                    self.drawing.pen = Pen::At(*last);
+                }
+            }
+            Entry::Poly { points, .. } => {
+                if let Some(first) = points.as_slice().first() {
+                    self.drawing.pen = Pen::At(*first);
+                }
+            }
+            Entry::Rect { from, to, .. } => self.drawing.pen = Pen::At(corner(*from, *to)),
+            Entry::Char { .. }
+            | Entry::TextMove { .. }
+            | Entry::ToEol { .. }
+            | Entry::Field { .. }
+            | Entry::Clear { .. } => self.drawing.pen = Pen::After,
+            Entry::Reset { first, second, .. } => self.drawing.reset(*first, *second),
+            Entry::Map { addr, .. } => self.drawing.colour = Colour::Front(*addr),
+            Entry::GlyphStart(code) => self.open(Definition::Glyph(*code)),
+            Entry::MaskStart(mask) => self.open(Definition::Mask(*mask)),
+            Entry::DefEnd => self.close(),
+            Entry::Blink { .. }
+            | Entry::BlinkEnd { .. }
+            | Entry::BlinkMark { .. }
+            | Entry::Wait(_)
+            | Entry::Bell
+            | Entry::Cursor(_) => {}
+        }
+    }
+
+    /// Goes on to the state that an entry leaves that fits.
+    pub fn step(&mut self, entry: &Entry)
+        requires { Fits self.old entry.now }
+        ensures { self.new ≡ after self.old entry.now }
+    {
+        self.drawing.take(&entry.held());
+        self.act(entry);
+        self.last = last_char(entry);
+    }
+
+    /// The state that an entry leaves that fits.
+    pub fn after(&self, entry: &Entry) -> State
+        requires { Fits self.now entry.now }
+        ensures { result ≡ after self.now entry.now }
+    {
+        let mut state = self.copy();
+        state.step(entry);
+        state
+    }
+}
+
+fn last_char(entry: &Entry) -> Option<LastChar>
+    ensures { result ≡ last_after entry.now }
+{
+    match entry {
+        Entry::Char { set, code, .. } => Some(LastChar {
+            set: *set,
+            code: *code,
+        }),
+        _ => None,
+    }
+}

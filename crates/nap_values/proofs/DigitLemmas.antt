@@ -1,0 +1,69 @@
+use Rattle.std.proofs.Common.{◌≡◌, ℕ, suc, zero, ◌+◌, ◌*◌, ◌/◌, ◌%◌, ◌^◌, ◌<◌, List, [], ◌∷◌, ◌++◌, length, replicate, All, refl, ap, arith}
+use Rattle.std.proofs.Math.Nat.{pow-suc, pow-zero, pow-succ', one-le-pow}
+use Rattle.std.proofs.lemmas.Nat.{div-add-mod', mod_below, div_below, div-mul-add, mod-mul-add, mul-add-lt}
+use Rattle.std.proofs.lemmas.List.Elements.{All-nil, All-cons, All-head, All-tail}
+use Rattle.nap_values.specs.Digits.{value_of, digits_of}
+
+pow_pos : (base places : ℕ) → 0 < base → 0 < base ^ places
+pow_pos base places pos = one-le-pow places base pos
+
+pub length-digits_of : (base places n : ℕ) → length (digits_of base places n) ≡ places
+unfolding digits_of
+length-digits_of base zero n = refl
+length-digits_of base (suc places) n = ap suc (length-digits_of base places (n % base ^ places))
+
+pub digits_of-below : (base places n : ℕ) → 0 < base → n < base ^ places → All (λ d. d < base) (digits_of base places n)
+unfolding digits_of
+digits_of-below base zero n pos fits = All-nil (λ d. d < base)
+digits_of-below base (suc places) n pos fits =
+    let unit_pos = pow_pos base places pos in
+    let first : n / base ^ places < base = div_below n (base ^ places) base unit_pos (rw pow-succ' at fits) in
+    All-cons (λ d. d < base) (n / base ^ places) (digits_of base places (n % base ^ places)) first
+    (digits_of-below base places (n % base ^ places) pos (mod_below n (base ^ places) unit_pos))
+
+pub value_of-below : (base places : ℕ) (digits : List ℕ) → 0 < base → All (λ d. d < base) digits → value_of base places digits < base ^ places
+unfolding value_of
+value_of-below base zero digits pos all = omega (arith, pow-zero base)
+value_of-below base (suc places) [] pos all = pow_pos base (suc places) pos
+value_of-below base (suc places) (digit ∷ digits) pos all =
+    let first : digit < base = All-head (λ d. d < base) digit digits all in
+    let rest = value_of-below base places digits pos (All-tail (λ d. d < base) digit digits all) in
+    rw pow-suc (mul-add-lt digit (base ^ places) (value_of base places digits) base first rest)
+
+-- a number that fits so many places is the value of its digits
+pub value_of-digits_of : (base places n : ℕ) → 0 < base → n < base ^ places → value_of base places (digits_of base places n) ≡ n
+unfolding value_of digits_of
+value_of-digits_of base zero n pos fits = omega (arith, pow-zero base)
+value_of-digits_of base (suc places) n pos fits =
+    rw (value_of-digits_of base places (n % base ^ places) pos (mod_below n (base ^ places) (pow_pos base places pos)))
+    (div-add-mod' n (base ^ places))
+
+-- so many digits are those of their value
+pub digits_of-value_of : (base places : ℕ) (digits : List ℕ) → 0 < base → All (λ d. d < base) digits → length digits ≡ places →
+    digits_of base places (value_of base places digits) ≡ digits
+unfolding value_of digits_of
+digits_of-value_of base zero [] pos all len = refl
+digits_of-value_of base zero (digit ∷ digits) pos all len = absurd (omega arith)
+digits_of-value_of base (suc places) [] pos all len = absurd (omega arith)
+digits_of-value_of base (suc places) (digit ∷ digits) pos all len =
+    let others = All-tail (λ d. d < base) digit digits all in
+    let rest = value_of-below base places digits pos others in
+    rw (
+      div-mul-add digit (base ^ places) (value_of base places digits) rest,
+      mod-mul-add digit (base ^ places) (value_of base places digits) rest,
+      digits_of-value_of base places digits pos others (omega arith),
+    ) refl
+
+value_of-zeros : (base places n : ℕ) → value_of base places (replicate n 0) ≡ 0
+unfolding value_of
+value_of-zeros base zero n = refl
+value_of-zeros base (suc places) zero = refl
+value_of-zeros base (suc places) (suc n) = omega (arith, value_of-zeros base places n)
+
+-- zeros at the end leave the value
+pub value_of-append-zeros : (base places : ℕ) (digits : List ℕ) (n : ℕ) → value_of base places (digits ++ replicate n 0) ≡ value_of base places digits
+unfolding value_of
+value_of-append-zeros base zero digits n = refl
+value_of-append-zeros base (suc places) [] zero = refl
+value_of-append-zeros base (suc places) [] (suc n) = omega (arith, value_of-zeros base places n)
+value_of-append-zeros base (suc places) (digit ∷ digits) n = ap (λ v. digit * base ^ places + v) (value_of-append-zeros base places digits n)

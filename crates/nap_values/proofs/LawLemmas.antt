@@ -1,0 +1,202 @@
+use Rattle.std.proofs.Common.{◌≡◌, ℕ, pos, zero, suc, ◌∷◌, ◌+◌, ◌<◌, ◌++◌, List, map, length, replicate, All, refl, ap, sym, ◌∙◌, arith, ◌+ℤ◌, ◌-ℤ◌}
+use Rattle.std.proofs.lemmas.List.{length-map, map-append}
+use Rattle.std.proofs.lemmas.Int.{ints}
+use Rattle.nap_values.specs.Digits.{value_of, digits_of}
+use Rattle.nap_values.specs.Coordinates.{Displacement, point_at, moved, displacement_to}
+use Rattle.nap_values.specs.Colours.{Components}
+use Rattle.nap_values.specs.Operands.{x_digit, y_digit, g_digit, r_digit, b_digit, multi_of, single_of, colour_of}
+use Rattle.nap_values.specs.Spellings.{bytes_of, bits_of, words_of_pairs, words_of_triples, move_bytes, point_bytes, addr_bytes, grb_bytes}
+use Rattle.nap_values.specs.Laws.{IsWord, IsOnlySpelling, MovesSpellOnce, PointsSpellOnce, AddressesSpellOnce, ColoursSpellOnce, MissingWordsAreZero, ValuesAreInRange, DisplacementsLeadThere, DisplacementsAreUnique}
+use Rattle.nap_values.proofs.DigitLemmas.{value_of-digits_of, digits_of-value_of, value_of-below, length-digits_of, digits_of-below, value_of-append-zeros}
+use Rattle.nap_values.proofs.SpellingLemmas.{words_of-bytes_of, bytes_of-operand_bytes, length-words_of_pairs, words_of_pairs-words, x_digits-words_of_pairs, y_digits-words_of_pairs, words_of_pairs-digits, x_digits-below, y_digits-below, length-words_of_triples, words_of_triples-words, digits-words_of_triples, words_of_triples-digits, g_digits-below, r_digits-below, b_digits-below}
+use Rattle.nap_values.proofs.CoordinateLemmas.{bits_of-signed_of, signed_of-bits_of, bits_of-below, signed_of-low, signed_of-high, point_with-in_square, point_with-back}
+
+-- what the words say of the bytes that carry them
+spelling_of_words : (V : Type 0) (read : List ℕ → V) (size : ℕ) (value : V) (words : List ℕ) →
+    length words ≡ size → All IsWord words → read words ≡ value →
+    ((others : List ℕ) → All IsWord others → length others ≡ size → read others ≡ value → others ≡ words) →
+    IsOnlySpelling V read size value (bytes_of words)
+spelling_of_words V read size value words size_is all is only = record {
+  size_is = length-map words (λ word. 64 + word) ∙ size_is;
+  carriers = bytes_of-operand_bytes words all;
+  read_back = ap read (words_of-bytes_of words) ∙ is;
+  only = λ others all_words same read_so. ap bytes_of (only others all_words same read_so);
+}
+
+-- displacements with the same parts
+displacement_parts : (m k : Displacement) → m.x ≡ k.x → m.y ≡ k.y → m ≡ k
+displacement_parts m k same_x same_y = rw (same_x, same_y) refl
+
+-- the words that hold two numbers of 24 bits
+abbrev pair_words : ℕ → ℕ → List ℕ
+pair_words x y = words_of_pairs (digits_of 8 8 x) (digits_of 8 8 y)
+
+module _ (x y : ℕ) (x_fits : x < 16777216) (y_fits : y < 16777216) where
+  same_length : length (digits_of 8 8 x) ≡ length (digits_of 8 8 y)
+  same_length = length-digits_of 8 8 x ∙ sym (length-digits_of 8 8 y)
+
+  length-pair_words : length (pair_words x y) ≡ 8
+  length-pair_words = length-words_of_pairs (digits_of 8 8 x) (digits_of 8 8 y) same_length ∙ length-digits_of 8 8 x
+
+  pair_words-words : All IsWord (pair_words x y)
+  pair_words-words =
+      words_of_pairs-words (digits_of 8 8 x) (digits_of 8 8 y) (digits_of-below 8 8 x (omega arith) x_fits) (digits_of-below 8 8 y (omega arith) y_fits)
+
+  x_value-pair_words : value_of 8 8 (map x_digit (pair_words x y)) ≡ x
+  x_value-pair_words =
+      ap (value_of 8 8) (x_digits-words_of_pairs (digits_of 8 8 x) (digits_of 8 8 y) same_length (digits_of-below 8 8 y (omega arith) y_fits))
+      ∙ value_of-digits_of 8 8 x (omega arith) x_fits
+
+  y_value-pair_words : value_of 8 8 (map y_digit (pair_words x y)) ≡ y
+  y_value-pair_words =
+      ap (value_of 8 8) (y_digits-words_of_pairs (digits_of 8 8 x) (digits_of 8 8 y) same_length (digits_of-below 8 8 y (omega arith) y_fits))
+      ∙ value_of-digits_of 8 8 y (omega arith) y_fits
+
+-- eight words are those of their two numbers
+pair_words-values : (words : List ℕ) → All IsWord words → length words ≡ 8 →
+    words ≡ pair_words (value_of 8 8 (map x_digit words)) (value_of 8 8 (map y_digit words))
+pair_words-values words all size =
+    let xs = digits_of-value_of 8 8 (map x_digit words) (omega arith) (x_digits-below words all) (length-map words x_digit ∙ size) in
+    let ys = digits_of-value_of 8 8 (map y_digit words) (omega arith) (y_digits-below words all) (length-map words y_digit ∙ size) in
+    rw (xs, ys) (sym (words_of_pairs-digits words))
+
+x_value-below : (words : List ℕ) → All IsWord words → value_of 8 8 (map x_digit words) < 16777216
+x_value-below words all = value_of-below 8 8 (map x_digit words) (omega arith) (x_digits-below words all)
+
+y_value-below : (words : List ℕ) → All IsWord words → value_of 8 8 (map y_digit words) < 16777216
+y_value-below words all = value_of-below 8 8 (map y_digit words) (omega arith) (y_digits-below words all)
+
+pub moves_spell_once : MovesSpellOnce
+unfolding multi_of move_bytes
+moves_spell_once m within =
+    let x_fits = bits_of-below m.x within.0 within.1 in
+    let y_fits = bits_of-below m.y within.2 within.3 in
+    let words = pair_words (bits_of m.x) (bits_of m.y) in
+    spelling_of_words Displacement multi_of 8 m words
+    (length-pair_words (bits_of m.x) (bits_of m.y) x_fits y_fits)
+    (pair_words-words (bits_of m.x) (bits_of m.y) x_fits y_fits)
+    (rw (
+      x_value-pair_words (bits_of m.x) (bits_of m.y) x_fits y_fits,
+      y_value-pair_words (bits_of m.x) (bits_of m.y) x_fits y_fits,
+      signed_of-bits_of m.x within.0 within.1,
+      signed_of-bits_of m.y within.2 within.3,
+    ) refl)
+    (λ others all size is.
+    let x_is = sym (bits_of-signed_of (value_of 8 8 (map x_digit others)) (x_value-below others all)) ∙ ap (λ (k : Displacement). bits_of k.x) is in
+    let y_is = sym (bits_of-signed_of (value_of 8 8 (map y_digit others)) (y_value-below others all)) ∙ ap (λ (k : Displacement). bits_of k.y) is in
+    rw (x_is, y_is) at (pair_words-values others all size))
+
+-- where a point is spelled, so is the displacement to it from the origin
+pub points_spell_once : PointsSpellOnce
+unfolding point_at point_bytes move_bytes
+points_spell_once p inside =
+    let from_origin : Displacement = record { x = pos p.x; y = pos p.y } in
+    let spelled = moves_spell_once from_origin (omega (arith, ints), omega (arith, ints), omega (arith, ints), omega (arith, ints)) in
+    record {
+      size_is = spelled.size_is;
+      carriers = spelled.carriers;
+      read_back = ap point_at spelled.read_back ∙ point_with-in_square p inside;
+      only = λ words all size is.
+          let back = point_with-back (multi_of words).x (multi_of words).y p is in
+          spelled.only words all size (displacement_parts (multi_of words) from_origin back.1 back.2);
+    }
+
+pub addresses_spell_once : AddressesSpellOnce
+unfolding single_of addr_bytes
+addresses_spell_once number fits =
+    spelling_of_words ℕ single_of 4 number (digits_of 64 4 number)
+    (length-digits_of 64 4 number)
+    (digits_of-below 64 4 number (omega arith) fits)
+    (value_of-digits_of 64 4 number (omega arith) fits)
+    (λ words all size is. sym (digits_of-value_of 64 4 words (omega arith) all size) ∙ ap (digits_of 64 4) is)
+
+pub colours_spell_once : ColoursSpellOnce
+unfolding colour_of grb_bytes
+colours_spell_once c within =
+    let pos4 : 0 < 4 = omega arith in
+    let gs = digits_of 4 8 c.g in
+    let rs = digits_of 4 8 c.r in
+    let bs = digits_of 4 8 c.b in
+    let gs_below = digits_of-below 4 8 c.g pos4 within.0 in
+    let rs_below = digits_of-below 4 8 c.r pos4 within.1 in
+    let bs_below = digits_of-below 4 8 c.b pos4 within.2 in
+    let same_r : length gs ≡ length rs = length-digits_of 4 8 c.g ∙ sym (length-digits_of 4 8 c.r) in
+    let same_b : length gs ≡ length bs = length-digits_of 4 8 c.g ∙ sym (length-digits_of 4 8 c.b) in
+    let digits = digits-words_of_triples gs rs bs same_r same_b gs_below rs_below bs_below in
+    spelling_of_words Components colour_of 8 c (words_of_triples gs rs bs)
+    (length-words_of_triples gs rs bs same_r same_b ∙ length-digits_of 4 8 c.g)
+    (words_of_triples-words gs rs bs gs_below rs_below bs_below)
+    (rw (
+      digits.0,
+      digits.1,
+      digits.2,
+      value_of-digits_of 4 8 c.g pos4 within.0,
+      value_of-digits_of 4 8 c.r pos4 within.1,
+      value_of-digits_of 4 8 c.b pos4 within.2,
+    ) refl)
+    (λ words all size is.
+    let g_back = digits_of-value_of 4 8 (map g_digit words) pos4 (g_digits-below words all) (length-map words g_digit ∙ size) in
+    let r_back = digits_of-value_of 4 8 (map r_digit words) pos4 (r_digits-below words all) (length-map words r_digit ∙ size) in
+    let b_back = digits_of-value_of 4 8 (map b_digit words) pos4 (b_digits-below words all) (length-map words b_digit ∙ size) in
+    let g_is = sym g_back ∙ ap (λ (k : Components). digits_of 4 8 k.g) is in
+    let r_is = sym r_back ∙ ap (λ (k : Components). digits_of 4 8 k.r) is in
+    let b_is = sym b_back ∙ ap (λ (k : Components). digits_of 4 8 k.b) is in
+    rw (g_is, r_is, b_is) at (sym (words_of_triples-digits words all)))
+
+map-replicate : (f : ℕ → ℕ) (n d : ℕ) → map f (replicate n d) ≡ replicate n (f d)
+map-replicate f zero d = refl
+map-replicate f (suc n) d = ap (λ rest. f d ∷ rest) (map-replicate f n d)
+
+-- zero words at the end leave the value of digits that are zero in them
+value_of-missing : (base places : ℕ) (digit : ℕ → ℕ) (words : List ℕ) (n : ℕ) → digit 0 ≡ 0 →
+    value_of base places (map digit (words ++ replicate n 0)) ≡ value_of base places (map digit words)
+value_of-missing base places digit words n zero_is =
+    rw (map-append digit words (replicate n 0), map-replicate digit n 0, zero_is) (value_of-append-zeros base places (map digit words) n)
+
+pub missing_words_are_zero : MissingWordsAreZero
+unfolding multi_of single_of colour_of
+missing_words_are_zero words n = (
+  rw (value_of-missing 8 8 x_digit words n refl, value_of-missing 8 8 y_digit words n refl) refl,
+  value_of-append-zeros 64 4 words n,
+  rw (
+    value_of-missing 4 8 g_digit words n refl,
+    value_of-missing 4 8 r_digit words n refl,
+    value_of-missing 4 8 b_digit words n refl,
+  ) refl,
+)
+
+pub values_are_in_range : ValuesAreInRange
+unfolding multi_of single_of colour_of
+values_are_in_range words all =
+    let pos4 : 0 < 4 = omega arith in
+    let x_fits = x_value-below words all in
+    let y_fits = y_value-below words all in (
+      (
+        signed_of-low (value_of 8 8 (map x_digit words)) x_fits,
+        signed_of-high (value_of 8 8 (map x_digit words)) x_fits,
+        signed_of-low (value_of 8 8 (map y_digit words)) y_fits,
+        signed_of-high (value_of 8 8 (map y_digit words)) y_fits,
+      ),
+      value_of-below 64 4 words (omega arith) all,
+      (
+        value_of-below 4 8 (map g_digit words) pos4 (g_digits-below words all),
+        value_of-below 4 8 (map r_digit words) pos4 (r_digits-below words all),
+        value_of-below 4 8 (map b_digit words) pos4 (b_digits-below words all),
+      ),
+    )
+
+-- a number and the way to another
+there : (a b : ℕ) → pos a +ℤ (pos b -ℤ pos a) ≡ pos b
+there a b = omega (arith, ints)
+
+pub displacements_lead_there : DisplacementsLeadThere
+unfolding moved displacement_to
+displacements_lead_there p q inside = rw (there p.x q.x, there p.y q.y) (point_with-in_square q inside)
+
+pub displacements_are_unique : DisplacementsAreUnique
+unfolding moved displacement_to
+displacements_are_unique p q m is =
+    let back = point_with-back (pos p.x +ℤ m.x) (pos p.y +ℤ m.y) q is in
+    let x_is : pos q.x -ℤ pos p.x ≡ m.x = omega (arith, ints, back.1) in
+    let y_is : pos q.y -ℤ pos p.y ≡ m.y = omega (arith, ints, back.2) in
+    (back.0, displacement_parts (displacement_to p q) m x_is y_is)

@@ -1,0 +1,5 @@
+pub mod LoopLemmas
+pub mod DigitLemmas
+pub mod SpellingLemmas
+pub mod CoordinateLemmas
+pub mod LawLemmas

@@ -1,0 +1,5 @@
+use Rattle.nap_values.proofs.LawLemmas.{addresses_spell_once}
+use Rattle.nap_values.proofs.laws.addresses_spell_once.Goals as goal
+
+pub returns : goal.returns
+returns c = addresses_spell_once

@@ -1,0 +1,5 @@
+use Rattle.nap_values.proofs.LawLemmas.{displacements_lead_there}
+use Rattle.nap_values.proofs.laws.displacements_lead_there.Goals as goal
+
+pub returns : goal.returns
+returns c = displacements_lead_there

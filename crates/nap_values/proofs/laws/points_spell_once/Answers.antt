@@ -1,0 +1,5 @@
+use Rattle.nap_values.proofs.LawLemmas.{points_spell_once}
+use Rattle.nap_values.proofs.laws.points_spell_once.Goals as goal
+
+pub returns : goal.returns
+returns c = points_spell_once

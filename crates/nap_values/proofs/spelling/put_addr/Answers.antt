@@ -1,0 +1,22 @@
+use Rattle.std.proofs.Common.{◌≡◌, ◌+◌, ◌-◌, arith, sym, ap, ◌∙◌, append_assoc, append-nil}
+use Rattle.nap_values.specs.Digits.{digits_of}
+use Rattle.nap_values.specs.Spellings.{addr_bytes}
+use Rattle.nap_values.proofs.LoopLemmas.{IsRestAt-more, digits_of-more}
+use Rattle.nap_values.proofs.spelling.put_addr.Goals as goal
+
+pub loop-i-preserved : goal.loop-i-preserved
+loop-i-preserved c =
+    let l = c.loop-i in
+    let split = digits_of-more 64 4 l.i l.unit l.rest l.invariant.at (omega arith) c.loop-i-test.true in
+    record {
+      at = IsRestAt-more 64 4 l.i l.unit l.rest l.invariant.at (omega arith) c.loop-i-test.true;
+      len = c.push.ensures.len ∙ ap (λ n. n + 1) l.invariant.len;
+      bytes = rw (c.push.ensures.items, append_assoc) (rw split at l.invariant.bytes);
+    }
+
+pub returns : goal.returns
+unfolding digits_of addr_bytes
+returns c =
+    let left : 4 - c.loop-i.i ≡ 0 = omega arith in
+    let whole = rw left at c.loop-i.invariant.bytes in
+    sym (append-nil c.loop-i.bytes.items) ∙ whole

@@ -1,0 +1,45 @@
+use Rattle.std.specs.Prelude.{ℕ, ℤ, pos, ◌+◌, ◌*◌, ◌/◌, ◌%◌, ◌-ℤ◌, nat_lt, if◌then◌else◌, List, map}
+use Rattle.nap_values.specs.Digits.{value_of}
+use Rattle.nap_values.specs.Coordinates.{Displacement}
+use Rattle.nap_values.specs.Colours.{Components}
+
+-- the signed number that 24 bits stand for in two's complement
+abbrev pub signed_of : ℕ → ℤ
+signed_of n = if nat_lt n 8388608 then pos n else (pos n -ℤ pos 16777216)
+
+-- the three bits of a word for the way from left to right
+abbrev pub x_digit : ℕ → ℕ
+x_digit word = word / 8
+
+-- the three bits of a word for the way from the bottom up
+abbrev pub y_digit : ℕ → ℕ
+y_digit word = word % 8
+
+-- the displacement that the words of a multi-value operand spell
+unfoldable pub multi_of : List ℕ → Displacement
+multi_of words = record {
+  x = signed_of (value_of 8 8 (map x_digit words));
+  y = signed_of (value_of 8 8 (map y_digit words));
+}
+
+-- the number that the words of a single-value operand spell
+unfoldable pub single_of : List ℕ → ℕ
+single_of words = value_of 64 4 words
+
+-- the two bits of a word for each part of a colour: its six bits are green, red, blue, green, red, blue
+abbrev pub g_digit : ℕ → ℕ
+g_digit word = word / 32 * 2 + word / 4 % 2
+
+abbrev pub r_digit : ℕ → ℕ
+r_digit word = word / 16 % 2 * 2 + word / 2 % 2
+
+abbrev pub b_digit : ℕ → ℕ
+b_digit word = word / 8 % 2 * 2 + word % 2
+
+-- the colour that the words of a multi-value operand spell
+unfoldable pub colour_of : List ℕ → Components
+colour_of words = record {
+  g = value_of 4 8 (map g_digit words);
+  r = value_of 4 8 (map r_digit words);
+  b = value_of 4 8 (map b_digit words);
+}

@@ -1,0 +1,74 @@
+ghost use Rattle.std.specs.Prelude.{◌≡◌, ◌<◌, ◌≤◌, length};
+ghost use Rattle.nap_values.specs.Operands.{signed_of, multi_of, single_of, colour_of};
+
+use crate::colour::{Addr, Grb};
+use crate::point::Move;
+use crate::word::Word;
+
+/// The signed number that 24 bits stand for.
+fn signed(bits: u32) -> i32
+    requires { bits < 16777216 }
+    ensures { result ≡ signed_of bits }
+{
+    if bits < 8_388_608 {
+        bits as i32
+    } else {
+        bits as i32 - 16_777_216
+    }
+}
+
+/// The displacement that a multi-value operand of this size spells. Words that the run lacks are zero (PDI operands).
+pub fn multi(run: &[Word], size: u8) -> Move
+    requires some { 0 < length run.now }
+    requires most { length run.now ≤ size }
+    requires places { size ≤ 8 }
+    ensures { result ≡ multi_of run.now }
+{
+    let mut x: u32 = 0;
+    let mut y: u32 = 0;
+    let mut unit: u32 = 16_777_216;
+    for word in run {
+        unit /= 8;
+        let bits = u32::from(word.get());
+        x += bits / 8 * unit;
+        y += bits % 8 * unit;
+    }
+    Move::new(signed(x), signed(y))
+}
+
+/// The address that a single-value operand of this size spells. Words that the run lacks are zero (PDI operands).
+pub fn single(run: &[Word], size: u8) -> Addr
+    requires some { 0 < length run.now }
+    requires most { length run.now ≤ size }
+    requires places { size ≤ 4 }
+    ensures { result ≡ single_of run.now }
+{
+    let mut number: u32 = 0;
+    let mut unit: u32 = Addr::LIMIT;
+    for word in run {
+        unit /= 64;
+        number += u32::from(word.get()) * unit;
+    }
+    Addr::new(number)
+}
+
+/// The colour that a multi-value operand of this size spells. Words that the run lacks are zero (SET COLOR).
+pub fn colour(run: &[Word], size: u8) -> Grb
+    requires some { 0 < length run.now }
+    requires most { length run.now ≤ size }
+    requires places { size ≤ 8 }
+    ensures { result ≡ colour_of run.now }
+{
+    let mut g: u32 = 0;
+    let mut r: u32 = 0;
+    let mut b: u32 = 0;
+    let mut unit: u32 = 65_536;
+    for word in run {
+        unit /= 4;
+        let bits = u32::from(word.get());
+        g += (bits / 32 * 2 + bits / 4 % 2) * unit;
+        r += (bits / 16 % 2 * 2 + bits / 2 % 2) * unit;
+        b += (bits / 8 % 2 * 2 + bits % 2) * unit;
+    }
+    Grb::new(g as u16, r as u16, b as u16)
+}

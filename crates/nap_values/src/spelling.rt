@@ -1,0 +1,102 @@
+ghost use Rattle.std.specs.Prelude.{◌≡◌, ◌<◌, ◌≤ℤ◌, ◌<ℤ◌, pos, negsuc};
+ghost use Rattle.nap_values.specs.Digits.{digits_of};
+ghost use Rattle.nap_values.specs.Spellings.{bits_of, bytes_of, words_of_pairs, colour_word, move_bytes, point_bytes, addr_bytes, grb_bytes};
+
+use crate::colour::{Addr, Grb};
+use crate::point::{Move, Point};
+use arrayvec::ArrayVec;
+
+/// The 24 bits that stand for a signed number.
+fn bits(number: i32) -> u32
+    requires low { negsuc 8388607 ≤ℤ number }
+    requires high { number <ℤ pos 8388608 }
+    ensures value { result ≡ bits_of number }
+    ensures below { result < 16777216 }
+{
+    if number >= 0 {
+        number as u32
+    } else {
+        (number + 16_777_216) as u32
+    }
+}
+
+/// The eight bytes that spell two numbers of 24 bits.
+fn pairs(x: u32, y: u32) -> ArrayVec<u8, 8>
+    requires x_fits { x < 16777216 }
+    requires y_fits { y < 16777216 }
+    ensures { result.items ≡ bytes_of (words_of_pairs (digits_of 8 8 x) (digits_of 8 8 y)) }
+{
+    let mut bytes = ArrayVec::new();
+    let mut x_rest = x;
+    let mut y_rest = y;
+    let mut unit: u32 = 16_777_216;
+    for i in 0..8_usize {
+        unit /= 8;
+        let word = x_rest / unit * 8 + y_rest / unit;
+        bytes.push(64 + word as u8);
+        x_rest %= unit;
+        y_rest %= unit;
+    }
+    bytes
+}
+
+/// The six bits that hold two bits of each part of a colour: green, red, blue, green, red, blue.
+fn colour_bits(g: u32, r: u32, b: u32) -> u8
+    requires g_fits { g < 4 }
+    requires r_fits { r < 4 }
+    requires b_fits { b < 4 }
+    ensures value { result ≡ colour_word g r b }
+    ensures below { result < 64 }
+{
+    (g / 2 * 32 + r / 2 * 16 + b / 2 * 8 + g % 2 * 4 + r % 2 * 2 + b % 2) as u8
+}
+
+/// The eight bytes that spell a displacement in a multi-value operand of eight words (PDI operands).
+#[tactic(auto, unfolding(crate::specs::Spellings::move_bytes))]
+pub fn put_move(step: Move) -> ArrayVec<u8, 8>
+    ensures { result.items ≡ move_bytes step }
+{
+    pairs(bits(step.x()), bits(step.y()))
+}
+
+/// The eight bytes that spell a point in a multi-value operand of eight words (PDI operands).
+#[tactic(auto, unfolding(crate::specs::Spellings::point_bytes))]
+pub fn put_point(point: Point) -> ArrayVec<u8, 8>
+    ensures { result.items ≡ point_bytes point }
+{
+    pairs(point.x(), point.y())
+}
+
+/// The four bytes that spell an address in a single-value operand of four words (PDI operands).
+pub fn put_addr(addr: Addr) -> ArrayVec<u8, 8>
+    ensures { result.items ≡ addr_bytes addr }
+{
+    let mut bytes = ArrayVec::new();
+    let mut rest = addr.get();
+    let mut unit: u32 = Addr::LIMIT;
+    for i in 0..4_usize {
+        unit /= 64;
+        bytes.push(64 + (rest / unit) as u8);
+        rest %= unit;
+    }
+    bytes
+}
+
+/// The eight bytes that spell a colour in a multi-value operand of eight words (SET COLOR).
+pub fn put_grb(grb: Grb) -> ArrayVec<u8, 8>
+    ensures { result.items ≡ grb_bytes grb }
+{
+    let mut bytes = ArrayVec::new();
+    let mut g = u32::from(grb.g());
+    let mut r = u32::from(grb.r());
+    let mut b = u32::from(grb.b());
+    let mut unit: u32 = 65_536;
+    for i in 0..8_usize {
+        unit /= 4;
+        bytes.push(64 + colour_bits(g / unit, r / unit, b / unit));
+        g %= unit;
+        r %= unit;
+        b %= unit;
+    }
+    bytes
+}
