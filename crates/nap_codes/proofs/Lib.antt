@@ -1,5 +1,13 @@
+pub mod RowLemmas
+pub mod TableLemmas
 pub mod FrontLemmas
 pub mod FrontIsSteady
 pub mod FrontLaws
+pub mod FrontBegins
+pub mod HalfLemmas
+pub mod FrontIsSpelled
+pub mod SpelledIsFront
+pub mod SpellingLaws
 pub mod CodeRanges
+pub mod LexedLemmas
 pub mod Rows

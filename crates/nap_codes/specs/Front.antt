@@ -6,7 +6,7 @@ use Rattle.nap_codes.specs.declared.code.CodeFault.{CodeFault}
 use Rattle.nap_codes.specs.declared.code.CodeFault.TheVariants.{EighthBit, BadEscape, ShiftAlone, ShiftedCode, BadArgument, LeftOut}
 use Rattle.nap_codes.specs.declared.code_set.CharSet.TheVariants as chars
 use Rattle.nap_codes.specs.declared.code_set.CodeSet.{CodeSet}
-use Rattle.nap_codes.specs.declared.code_set.CodeSet.TheVariants as sets
+use Rattle.nap_codes.specs.declared.code_set.CodeSet.TheVariants as code_sets
 use Rattle.nap_codes.specs.declared.code_set.CodeSets.{CodeSets}
 use Rattle.nap_codes.specs.declared.code_set.GSet.TheVariants.{G2, G3}
 use Rattle.nap_codes.specs.declared.control.Argument.{Argument}
@@ -37,8 +37,12 @@ abbrev pub is_graphic : ℕ → Bool
 is_graphic byte = nat_le 0x20 byte && nat_lt byte 0x80
 
 -- A byte that continues no spelling has this fault, unless it has the eighth bit.
+abbrev pub fault_of : CodeFault → ℕ → CodeFault
+fault_of fault byte = if nat_le 0x80 byte then EighthBit else fault
+
+-- a byte that continues no spelling
 unfoldable pub bad_byte : CodeFault → ℕ → Front
-bad_byte fault byte = refused (if nat_le 0x80 byte then EighthBit else fault) 0
+bad_byte fault byte = refused (fault_of fault byte) 0
 
 -- the last byte of a spelling, or a byte that continues none
 unfoldable pub last_byte : CodeSets → CodeFault → ℕ → Option Code → Front
@@ -47,12 +51,12 @@ last_byte sets fault byte None = bad_byte fault byte
 
 -- a code of a set of characters or of the macro set
 unfoldable pub plain_code : CodeSet → ℕ → Option Code
-plain_code sets.Primary byte = Some (Char chars.Primary byte)
-plain_code sets.Supplementary byte = Some (Char chars.Supplementary byte)
-plain_code sets.Mosaic byte = Some (Char chars.Mosaic byte)
-plain_code sets.Drcs byte = Some (Char chars.Drcs byte)
-plain_code sets.Macros byte = Some (Call byte)
-plain_code sets.Pdi byte = None
+plain_code code_sets.Primary byte = Some (Char chars.Primary byte)
+plain_code code_sets.Supplementary byte = Some (Char chars.Supplementary byte)
+plain_code code_sets.Mosaic byte = Some (Char chars.Mosaic byte)
+plain_code code_sets.Drcs byte = Some (Char chars.Drcs byte)
+plain_code code_sets.Macros byte = Some (Call byte)
+plain_code code_sets.Pdi byte = None
 
 -- an opcode, which may be left out
 unfoldable pub opcode_front : CodeSets → Opcode → Option Left → Front
@@ -125,7 +129,7 @@ unfoldable pub final_front : CodeSets → ℕ → List ℕ → Front
 final_front sets intermediate [] = unfinished
 final_front sets intermediate (byte ∷ bytes) = designated_front sets byte (designation intermediate byte)
 
--- what follows the intermediate byte of a designation: one more of them, 20, or the final byte
+-- what follows the intermediate byte of a designation: the final byte, with one byte 20 before it or none
 unfoldable pub designation_front : CodeSets → ℕ → List ℕ → Front
 designation_front sets intermediate [] = unfinished
 designation_front sets intermediate (byte ∷ bytes) =

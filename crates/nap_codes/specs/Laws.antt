@@ -1,18 +1,19 @@
-use Rattle.std.specs.Prelude.{ℕ, suc, ◌≡◌, ◌<◌, ◌≤◌, List, ◌++◌, length, take}
+use Rattle.std.specs.Prelude.{ℕ, suc, ◌≡◌, ◌<◌, ◌≤◌, List, ◌++◌, length, take, None}
 use Rattle.nap_codes.specs.declared.code.Code.{Code}
 use Rattle.nap_codes.specs.declared.code.Code.TheVariants as codes
 use Rattle.nap_codes.specs.declared.code.CodeFault.{CodeFault}
 use Rattle.nap_codes.specs.declared.code_set.CodeSets.{CodeSets}
 use Rattle.nap_codes.specs.declared.control.TextStep.TheVariants.{Aps}
 use Rattle.nap_codes.specs.declared.opcode.Opcode.{Opcode}
+use Rattle.nap_codes.specs.Tables.{left_out_opcode}
 use Rattle.nap_codes.specs.Front.{unfinished, whole, refused, front}
 
--- a code stays at the front where more bytes come
+-- A code stays at the front where more bytes come.
 abbrev pub WholeStays : Type 0
 WholeStays = (sets : CodeSets) (xs ys : List ℕ) (code : Code) (n : ℕ) (after : CodeSets) →
     front sets xs ≡ whole code n after → front sets (xs ++ ys) ≡ whole code n after
 
--- a refusal stays at the front where more bytes come
+-- A refusal stays at the front where more bytes come.
 abbrev pub RefusedStays : Type 0
 RefusedStays = (sets : CodeSets) (xs ys : List ℕ) (fault : CodeFault) (i : ℕ) →
     front sets xs ≡ refused fault i → front sets (xs ++ ys) ≡ refused fault i
@@ -37,12 +38,12 @@ abbrev pub RefusedTaken : Type 0
 RefusedTaken = (sets : CodeSets) (xs : List ℕ) (fault : CodeFault) (i : ℕ) →
     front sets xs ≡ refused fault i → front sets (take (suc i) xs) ≡ refused fault i
 
--- fewer bytes than those that spell a code
+-- Fewer bytes than those that spell a code are unfinished.
 abbrev pub EarlierUnfinished : Type 0
 EarlierUnfinished = (sets : CodeSets) (xs : List ℕ) (code : Code) (n : ℕ) (after : CodeSets) (k : ℕ) →
     front sets xs ≡ whole code n after → k < n → front sets (take k xs) ≡ unfinished
 
--- the bytes before a refused one, or fewer
+-- The bytes before a refused one, or fewer, are unfinished.
 abbrev pub UnfinishedBefore : Type 0
 UnfinishedBefore = (sets : CodeSets) (xs : List ℕ) (fault : CodeFault) (i k : ℕ) →
     front sets xs ≡ refused fault i → k ≤ i → front sets (take k xs) ≡ unfinished
@@ -51,19 +52,20 @@ UnfinishedBefore = (sets : CodeSets) (xs : List ℕ) (fault : CodeFault) (i k : 
 abbrev pub IsGraphic : ℕ → Type 0
 IsGraphic byte = (0x20 ≤ byte) × (byte < 0x80)
 
--- The numbers in a code are in their ranges.
+-- the ranges of the numbers in a code
 abbrev pub IsInRange : Code → Type 0
 IsInRange (codes.Step (Aps row column)) = IsGraphic row × IsGraphic column
 IsInRange (codes.Designated number set) = number < 4
 IsInRange (codes.Char set byte) = IsGraphic byte
 IsInRange (codes.Call byte) = IsGraphic byte
+IsInRange (codes.Op op) = left_out_opcode op ≡ None
 IsInRange (codes.Operand word) = word < 64
 IsInRange (codes.DefMacro name show) = IsGraphic name
 IsInRange (codes.DefGlyph byte) = IsGraphic byte
 IsInRange (codes.Repeat count) = count < 64
 IsInRange _ = Unit {0}
 
--- the numbers in the code at a front
+-- The code at a front has its numbers in their ranges.
 abbrev pub CodeRanges : Type 0
 CodeRanges = (sets : CodeSets) (xs : List ℕ) (code : Code) (n : ℕ) (after : CodeSets) →
     front sets xs ≡ whole code n after → IsInRange code

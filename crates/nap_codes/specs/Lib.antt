@@ -2,4 +2,8 @@ pub mod Tables
 pub mod CodeSets
 pub mod Front
 pub mod Laws
+pub mod Spelling
+pub mod SpellingLaws
 pub mod Lexer
+pub mod Lexed
+pub mod Half

@@ -1,7 +1,7 @@
 use Rattle.std.specs.Prelude.{ℕ, ◌==◌, if◌then◌else◌, List, [], ◌∷◌, Option, Some, None, true, false}
 use Rattle.nap_codes.specs.declared.code.Code.TheVariants as codes
 use Rattle.nap_codes.specs.declared.code_set.CodeSet.{CodeSet}
-use Rattle.nap_codes.specs.declared.code_set.CodeSet.TheVariants as sets
+use Rattle.nap_codes.specs.declared.code_set.CodeSet.TheVariants as code_sets
 use Rattle.nap_codes.specs.declared.control.CursorKind.TheVariants as cursors
 use Rattle.nap_codes.specs.declared.control.Mask.{Mask}
 use Rattle.nap_codes.specs.declared.control.Mask.TheVariants as masks
@@ -22,12 +22,12 @@ row_of (row ∷ rows) byte = if byte == row.0 then Some row.1 else row_of rows b
 -- the sets by the final byte of the escape sequence that designates them
 unfoldable pub set_rows : List (ℕ × CodeSet)
 set_rows =
-    (0x42, sets.Primary)
-    ∷ (0x7C, sets.Supplementary)
-    ∷ (0x57, sets.Pdi)
-    ∷ (0x7D, sets.Mosaic)
-    ∷ (0x7A, sets.Macros)
-    ∷ (0x7B, sets.Drcs)
+    (0x42, code_sets.Primary)
+    ∷ (0x7C, code_sets.Supplementary)
+    ∷ (0x57, code_sets.Pdi)
+    ∷ (0x7D, code_sets.Mosaic)
+    ∷ (0x7A, code_sets.Macros)
+    ∷ (0x7B, code_sets.Drcs)
     ∷ []
 
 -- the number of the G set that the intermediate byte of a designation names

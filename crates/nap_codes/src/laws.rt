@@ -1,6 +1,15 @@
 //! What holds of the definitions. Each function's contract is a law; the functions do nothing.
 
 ghost use Rattle.nap_codes.specs.Laws.{CodeRanges, EarlierUnfinished, OneByteOpcode, OneByteOperand, RefusedIndex, RefusedStays, RefusedTaken, UnfinishedBefore, WholeLength, WholeStays, WholeTaken};
+ghost use Rattle.nap_codes.specs.Lexed.{StepsAreLexed};
+ghost use Rattle.nap_codes.specs.SpellingLaws.{RefusedIsSpelled, UnfinishedIsPrefix, WholeIsSpelled};
+
+/// What stands at the front is what the bytes spell.
+pub fn front_is_spelled()
+    ensures whole { WholeIsSpelled }
+    ensures refused { RefusedIsSpelled }
+    ensures unfinished { UnfinishedIsPrefix }
+{}
 
 /// What stands at the front stays there where more bytes come.
 pub fn front_stays()
@@ -31,4 +40,9 @@ pub fn code_ranges()
 pub fn one_byte_of_pdi()
     ensures opcode { OneByteOpcode }
     ensures operand { OneByteOperand }
+{}
+
+/// The steps of a lexer at rest give the codes of the bytes, one after another, whatever pieces they come in.
+pub fn steps_are_lexed()
+    ensures { StepsAreLexed }
 {}

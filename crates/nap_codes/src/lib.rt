@@ -5,9 +5,14 @@ pub mod code;
 pub mod code_set;
 pub mod control;
 pub mod laws;
+pub mod lexer;
 pub mod opcode;
 
 pub use code::{Code, CodeFault, Step};
-pub use code_set::{CharSet, CodeSet, CodeSets, GSet};
-pub use control::{CursorKind, Mask, Row, Size, TextStep};
-pub use opcode::{Left, Opcode};
+pub use code_set::{CharSet, CodeSet, CodeSets, GSet, designate};
+pub use control::{CursorKind, Mask, Row, Size, TextStep, control0, control1};
+pub use lexer::Lexer;
+pub use opcode::{Left, Opcode, opcode_of};
+
+#[cfg(test)]
+mod tests;

@@ -1,10 +1,13 @@
 // Where bytes come from, and where they go.
-ghost use Rattle.std.specs.Prelude.{◌≡◌, ◌+◌, ◌-◌, ◌^◌, ◌<◌, ◌≤◌, ◌||◌, ℕ, List, Bool, true, false, Option, min, length, IfOk, is_err};
+ghost use Rattle.std.specs.Prelude.{◌≡◌, ◌+◌, ◌-◌, ◌^◌, ◌<◌, ◌≤◌, ◌||◌, ℕ, List, Bool, Option, min, length, IfOk, is_err};
 ghost use Rattle.std.specs.Io.KnownBytes.{Keeps, ReadConsumes, WriteAppends};
 ghost use Rattle.std.specs.Io.{ReadsAtMost, WritesAtMost};
 
-use std::io::{Read, Write};
-use std::marker::Model;
+mod source;
+mod target;
+
+pub use source::Source;
+pub use target::Target;
 
 /// A device failed. Why is the device's own matter.
 #[derive(Clone, Copy, PartialEq, Eq, Debug, Drop)]
@@ -62,141 +65,4 @@ pub trait Outlet {
     /// Whether a write or a flush has failed.
     fn failed(&self) -> bool
         ensures { result ≡ failed self.now };
-}
-
-/// A reader of `std` as an inlet. It tells its bytes where the reader does.
-#[derive(Drop)]
-pub struct Source<R> {
-    reader: R,
-    calls: u64,
-    failed: bool,
-}
-
-impl<R> Model for Source<R> {
-    ghost use Rattle.nap_list.specs.Device.{Reading};
-
-    ghost Value = { Reading R };
-
-    ghost view = { λ s. record { reader = s.reader; calls = s.calls; failed = s.failed } };
-}
-
-impl<R: Read> Source<R> {
-    /// The reader, which hasn't been read.
-    pub fn new(reader: R) -> Source<R>
-        ensures { result ≡ record { reader = reader; calls = 0; failed = false } }
-    {
-        Source {
-            reader,
-            calls: 0,
-            failed: false,
-        }
-    }
-
-    /// The reader as it stands.
-    pub fn into_inner(self) -> R
-        ensures { result ≡ self.reader }
-    {
-        let Source {
-            reader,
-            calls: _,
-            failed: _,
-        } = self;
-        reader
-    }
-}
-
-impl<R: Read> Inlet for Source<R> {
-    ghost left = { λ s. R.remaining s.reader };
-
-    ghost calls = { λ s. s.calls };
-
-    ghost failed = { λ s. s.failed };
-
-    fn read(&mut self, room: &mut [u8]) -> Result<usize, DeviceFault> {
-        self.calls = self.calls.saturating_add(1);
-        match self.reader.read(room) {
-            Ok(count) => Ok(count),
-            Err(_) => {
-                self.failed = true;
-                Err(DeviceFault)
-            }
-        }
-    }
-
-    fn calls(&self) -> u64 {
-        self.calls
-    }
-
-    fn failed(&self) -> bool {
-        self.failed
-    }
-}
-
-/// A writer of `std` as an outlet. It tells its bytes where the writer does.
-#[derive(Drop)]
-pub struct Target<W> {
-    writer: W,
-    failed: bool,
-}
-
-impl<W> Model for Target<W> {
-    ghost use Rattle.nap_list.specs.Device.{Writing};
-
-    ghost Value = { Writing W };
-
-    ghost view = { λ t. record { writer = t.writer; failed = t.failed } };
-}
-
-impl<W: Write> Target<W> {
-    /// The writer, which hasn't been written.
-    pub fn new(writer: W) -> Target<W>
-        ensures { result ≡ record { writer = writer; failed = false } }
-    {
-        Target {
-            writer,
-            failed: false,
-        }
-    }
-
-    /// The writer as it stands.
-    pub fn into_inner(self) -> W
-        ensures { result ≡ self.writer }
-    {
-        let Target { writer, failed: _ } = self;
-        writer
-    }
-}
-
-impl<W: Write> Outlet for Target<W> {
-    ghost taken = { λ t. W.contents t.writer };
-
-    ghost failed = { λ t. t.failed };
-
-    fn write(&mut self, piece: &[u8]) -> Result<usize, DeviceFault> {
-        match self.writer.write(piece) {
-            Ok(0) if !piece.is_empty() => {
-                self.failed = true;
-                Err(DeviceFault)
-            }
-            Ok(count) => Ok(count),
-            Err(_) => {
-                self.failed = true;
-                Err(DeviceFault)
-            }
-        }
-    }
-
-    fn flush(&mut self) -> Result<(), DeviceFault> {
-        match self.writer.flush() {
-            Ok(()) => Ok(()),
-            Err(_) => {
-                self.failed = true;
-                Err(DeviceFault)
-            }
-        }
-    }
-
-    fn failed(&self) -> bool {
-        self.failed
-    }
 }

@@ -8,7 +8,7 @@ use nap_codes::{CharSet, CursorKind, Mask, TextStep};
 use nap_values::{Addr, Grb, Move, Point, Word};
 
 /// One act of drawing, with the values that it depends on and with absolute points.
-#[derive(Debug, Drop)]
+#[derive(PartialEq, Eq, Debug, Drop)]
 pub enum Entry {
     Point {
         at: Point,

@@ -19,3 +19,6 @@ pub use legality::legal;
 pub use points::{Points, SHAPE_POINTS};
 pub use sink::{ListSink, Sink, SinkFault};
 pub use state::{Definition, Drawing, LastChar, Opened, State};
+
+#[cfg(test)]
+mod tests;

@@ -1,5 +1,9 @@
 // A growing list of points.
-ghost use Rattle.std.specs.Prelude.{◌≡◌, [], ◌∷◌, ◌++◌, IfOk, OnOk, OnErr};
+ghost use Rattle.std.specs.Prelude.{◌≡◌, [], ◌∷◌, ◌++◌, IfOk, OnOk, OnErr, nat_eq};
+ghost use Rattle.std.specs.Ordering.{on, eq_of_both};
+ghost use Rattle.std.specs.Cmp.Lexicographic.{pointwise};
+ghost use Rattle.std.specs.Cmp.Rules.{comparing};
+ghost use Rattle.std.proofs.Common.{rules};
 
 use nap_values::Point;
 use std::alloc::{AllocError, Global};
@@ -57,4 +61,18 @@ impl Points {
     {
         &self.points
     }
+}
+
+impl PartialEq for Points {
+    ghost eq = { pointwise (eq_of_both (on (λ p. p.x) nat_eq) (on (λ p. p.y) nat_eq)) };
+
+    ghost laws = { Prim.search (comparing, rules) };
+
+    fn eq(&self, other: &Points) -> bool {
+        self.as_slice() == other.as_slice()
+    }
+}
+
+impl Eq for Points {
+    ghost laws = { Prim.search (comparing, rules) };
 }

@@ -50,7 +50,7 @@ pub trait Sink {
     /// The second sink comes from the first by taking the list, and then a failure amid the entry.
     ghost broke: { Self → List Entry → Entry → Self → Type 0 };
 
-    /// Takes one entry, or none of it that counts: a failed device may have taken a part.
+    /// Takes one entry. An error takes none, though a device that fails may have got a part of what stands for it.
     fn put(&mut self, entry: Entry) -> Result<(), SinkFault>
         requires { Fits (state self.old) entry }
         ensures took { OnOk result (took self.old (entry ∷ []) self.new) }
@@ -101,7 +101,8 @@ impl ListSink {
     pub fn into_list(self) -> Vec<Entry>
         ensures { result.items ≡ self }
     {
-        self.list
+        let ListSink { list } = self;
+        list
     }
 }
 

@@ -1,8 +1,7 @@
 use Rattle.std.proofs.Common.{Bool, true, false, cond, nat_lt, ◌&&◌, ◌≡◌, ℕ, ℤ, pos, negsuc, ◌<◌, Some, None, refl, ap, arith, ◌≤ℤ◌, ◌<ℤ◌}
 use Rattle.std.proofs.lemmas.Bool.Decides.{nat_tests}
 use Rattle.nap_values.specs.Coordinates.{Coordinates, IsInSquare, point_with}
-use Rattle.nap_values.specs.Operands.{signed_of}
-use Rattle.nap_values.specs.Spellings.{bits_of}
+use Rattle.nap_values.specs.TwosComplement.{signed_of, bits_of}
 
 pub bits_of-signed_of : (n : ℕ) → n < 16777216 → bits_of (signed_of n) ≡ n
 bits_of-signed_of n fits = grind (arith, nat_tests)

@@ -1,22 +1,23 @@
-use Rattle.std.proofs.Common.{◌≡◌, ℕ, pos, zero, suc, ◌∷◌, ◌+◌, ◌<◌, ◌++◌, List, map, length, replicate, All, refl, ap, sym, ◌∙◌, arith, ◌+ℤ◌, ◌-ℤ◌}
+use Rattle.std.proofs.Common.{negsuc, ◌≤ℤ◌, ◌<ℤ◌, ◌≡◌, ℕ, pos, zero, suc, ◌∷◌, ◌+◌, ◌<◌, ◌++◌, List, map, length, replicate, All, refl, ap, sym, ◌∙◌, arith, ◌+ℤ◌, ◌-ℤ◌}
 use Rattle.std.proofs.lemmas.List.{length-map, map-append}
 use Rattle.std.proofs.lemmas.Int.{ints}
 use Rattle.nap_values.specs.Digits.{value_of, digits_of}
 use Rattle.nap_values.specs.Coordinates.{Displacement, point_at, moved, displacement_to}
 use Rattle.nap_values.specs.Colours.{Components}
+use Rattle.nap_values.specs.TwosComplement.{bits_of}
 use Rattle.nap_values.specs.Operands.{x_digit, y_digit, g_digit, r_digit, b_digit, multi_of, single_of, colour_of}
-use Rattle.nap_values.specs.Spellings.{bytes_of, bits_of, words_of_pairs, words_of_triples, move_bytes, point_bytes, addr_bytes, grb_bytes}
+use Rattle.nap_values.specs.Spellings.{bytes_of, words_of_pairs, words_of_triples, move_bytes, point_bytes, addr_bytes, grb_bytes}
 use Rattle.nap_values.specs.Laws.{IsWord, IsOnlySpelling, MovesSpellOnce, PointsSpellOnce, AddressesSpellOnce, ColoursSpellOnce, MissingWordsAreZero, ValuesAreInRange, DisplacementsLeadThere, DisplacementsAreUnique}
 use Rattle.nap_values.proofs.DigitLemmas.{value_of-digits_of, digits_of-value_of, value_of-below, length-digits_of, digits_of-below, value_of-append-zeros}
 use Rattle.nap_values.proofs.SpellingLemmas.{words_of-bytes_of, bytes_of-operand_bytes, length-words_of_pairs, words_of_pairs-words, x_digits-words_of_pairs, y_digits-words_of_pairs, words_of_pairs-digits, x_digits-below, y_digits-below, length-words_of_triples, words_of_triples-words, digits-words_of_triples, words_of_triples-digits, g_digits-below, r_digits-below, b_digits-below}
 use Rattle.nap_values.proofs.CoordinateLemmas.{bits_of-signed_of, signed_of-bits_of, bits_of-below, signed_of-low, signed_of-high, point_with-in_square, point_with-back}
 
 -- what the words say of the bytes that carry them
-spelling_of_words : (V : Type 0) (read : List ℕ → V) (size : ℕ) (value : V) (words : List ℕ) →
+spelling_of_words : {V : Type 0} (read : List ℕ → V) (size : ℕ) (value : V) (words : List ℕ) →
     length words ≡ size → All IsWord words → read words ≡ value →
     ((others : List ℕ) → All IsWord others → length others ≡ size → read others ≡ value → others ≡ words) →
-    IsOnlySpelling V read size value (bytes_of words)
-spelling_of_words V read size value words size_is all is only = record {
+    IsOnlySpelling read size value (bytes_of words)
+spelling_of_words read size value words size_is all is only = record {
   size_is = length-map words (λ word. 64 + word) ∙ size_is;
   carriers = bytes_of-operand_bytes words all;
   read_back = ap read (words_of-bytes_of words) ∙ is;
@@ -72,7 +73,7 @@ moves_spell_once m within =
     let x_fits = bits_of-below m.x within.0 within.1 in
     let y_fits = bits_of-below m.y within.2 within.3 in
     let words = pair_words (bits_of m.x) (bits_of m.y) in
-    spelling_of_words Displacement multi_of 8 m words
+    spelling_of_words multi_of 8 m words
     (length-pair_words (bits_of m.x) (bits_of m.y) x_fits y_fits)
     (pair_words-words (bits_of m.x) (bits_of m.y) x_fits y_fits)
     (rw (
@@ -104,7 +105,7 @@ points_spell_once p inside =
 pub addresses_spell_once : AddressesSpellOnce
 unfolding single_of addr_bytes
 addresses_spell_once number fits =
-    spelling_of_words ℕ single_of 4 number (digits_of 64 4 number)
+    spelling_of_words single_of 4 number (digits_of 64 4 number)
     (length-digits_of 64 4 number)
     (digits_of-below 64 4 number (omega arith) fits)
     (value_of-digits_of 64 4 number (omega arith) fits)
@@ -123,7 +124,7 @@ colours_spell_once c within =
     let same_r : length gs ≡ length rs = length-digits_of 4 8 c.g ∙ sym (length-digits_of 4 8 c.r) in
     let same_b : length gs ≡ length bs = length-digits_of 4 8 c.g ∙ sym (length-digits_of 4 8 c.b) in
     let digits = digits-words_of_triples gs rs bs same_r same_b gs_below rs_below bs_below in
-    spelling_of_words Components colour_of 8 c (words_of_triples gs rs bs)
+    spelling_of_words colour_of 8 c (words_of_triples gs rs bs)
     (length-words_of_triples gs rs bs same_r same_b ∙ length-digits_of 4 8 c.g)
     (words_of_triples-words gs rs bs gs_below rs_below bs_below)
     (rw (
@@ -189,9 +190,16 @@ values_are_in_range words all =
 there : (a b : ℕ) → pos a +ℤ (pos b -ℤ pos a) ≡ pos b
 there a b = omega (arith, ints)
 
+-- the way between numbers below 2^23
+way_in_range : (a b : ℕ) → a < 8388608 → b < 8388608 → (negsuc 8388607 ≤ℤ (pos b -ℤ pos a)) × ((pos b -ℤ pos a) <ℤ pos 8388608)
+way_in_range a b a_below b_below = (omega (arith, ints), omega (arith, ints))
+
 pub displacements_lead_there : DisplacementsLeadThere
 unfolding moved displacement_to
-displacements_lead_there p q inside = rw (there p.x q.x, there p.y q.y) (point_with-in_square q inside)
+displacements_lead_there p q p_inside q_inside =
+    let x = way_in_range p.x q.x p_inside.0 q_inside.0 in
+    let y = way_in_range p.y q.y p_inside.1 q_inside.1 in
+    ((x.0, x.1, y.0, y.1), rw (there p.x q.x, there p.y q.y) (point_with-in_square q q_inside))
 
 pub displacements_are_unique : DisplacementsAreUnique
 unfolding moved displacement_to

@@ -1,4 +1,4 @@
-use Rattle.std.specs.Prelude.{ℕ, ◌≡◌, ◌<◌, ◌≤◌, ◌++◌, Option, Some, List, length, replicate, All}
+use Rattle.std.specs.Prelude.{ℕ, ◌≡◌, ◌<◌, ◌≤◌, ◌++◌, Some, List, length, replicate, All}
 use Rattle.nap_values.specs.Coordinates.{Coordinates, Displacement, IsInSquare, IsInRange, point_at, moved, displacement_to}
 use Rattle.nap_values.specs.Colours.{Components, HasSixteenBitParts}
 use Rattle.nap_values.specs.Operands.{multi_of, single_of, colour_of}
@@ -13,7 +13,7 @@ abbrev pub IsOperandByte : ℕ → Type 0
 IsOperandByte byte = (64 ≤ byte) × (byte < 128)
 
 -- These are so many operand bytes that are read as the value, and no other words of that number are read so.
-pub record IsOnlySpelling (V : Type 0) (read : List ℕ → V) (size : ℕ) (value : V) (bytes : List ℕ) : Type 0 where
+pub record IsOnlySpelling {V : Type 0} (read : List ℕ → V) (size : ℕ) (value : V) (bytes : List ℕ) : Type 0 where
   pub size_is : length bytes ≡ size
   pub carriers : All IsOperandByte bytes
   pub read_back : read (words_of bytes) ≡ value
@@ -21,20 +21,20 @@ pub record IsOnlySpelling (V : Type 0) (read : List ℕ → V) (size : ℕ) (val
 
 -- each displacement has one spelling
 abbrev pub MovesSpellOnce : Type 0
-MovesSpellOnce = (m : Displacement) → IsInRange m → IsOnlySpelling Displacement multi_of 8 m (move_bytes m)
+MovesSpellOnce = (m : Displacement) → IsInRange m → IsOnlySpelling multi_of 8 m (move_bytes m)
 
 -- each point has one spelling
 abbrev pub PointsSpellOnce : Type 0
 PointsSpellOnce = (p : Coordinates) → IsInSquare p →
-    IsOnlySpelling (Option Coordinates) (λ words. point_at (multi_of words)) 8 (Some p) (point_bytes p)
+    IsOnlySpelling (λ words. point_at (multi_of words)) 8 (Some p) (point_bytes p)
 
 -- each address has one spelling
 abbrev pub AddressesSpellOnce : Type 0
-AddressesSpellOnce = (number : ℕ) → number < 16777216 → IsOnlySpelling ℕ single_of 4 number (addr_bytes number)
+AddressesSpellOnce = (number : ℕ) → number < 16777216 → IsOnlySpelling single_of 4 number (addr_bytes number)
 
 -- each colour has one spelling
 abbrev pub ColoursSpellOnce : Type 0
-ColoursSpellOnce = (c : Components) → HasSixteenBitParts c → IsOnlySpelling Components colour_of 8 c (grb_bytes c)
+ColoursSpellOnce = (c : Components) → HasSixteenBitParts c → IsOnlySpelling colour_of 8 c (grb_bytes c)
 
 -- words that an operand lacks are zero
 abbrev pub MissingWordsAreZero : Type 0
@@ -48,9 +48,10 @@ abbrev pub ValuesAreInRange : Type 0
 ValuesAreInRange = (words : List ℕ) → All IsWord words →
     IsInRange (multi_of words) × (single_of words < 16777216) × HasSixteenBitParts (colour_of words)
 
--- the displacement to a point leads to it
+-- the displacement from one point of the square to another is in range and leads there
 abbrev pub DisplacementsLeadThere : Type 0
-DisplacementsLeadThere = (p q : Coordinates) → IsInSquare q → moved p (displacement_to p q) ≡ Some q
+DisplacementsLeadThere = (p q : Coordinates) → IsInSquare p → IsInSquare q →
+    IsInRange (displacement_to p q) × (moved p (displacement_to p q) ≡ Some q)
 
 -- whatever leads to a point is the displacement to it
 abbrev pub DisplacementsAreUnique : Type 0

@@ -1,4 +1,5 @@
 pub mod Digits
+pub mod TwosComplement
 pub mod Coordinates
 pub mod Colours
 pub mod Domains

@@ -1,11 +1,8 @@
-use Rattle.std.specs.Prelude.{ℕ, ℤ, pos, ◌+◌, ◌*◌, ◌/◌, ◌%◌, ◌-ℤ◌, nat_lt, if◌then◌else◌, List, map}
+use Rattle.std.specs.Prelude.{ℕ, ◌+◌, ◌*◌, ◌/◌, ◌%◌, List, map}
+use Rattle.nap_values.specs.TwosComplement.{signed_of}
 use Rattle.nap_values.specs.Digits.{value_of}
 use Rattle.nap_values.specs.Coordinates.{Displacement}
 use Rattle.nap_values.specs.Colours.{Components}
-
--- the signed number that 24 bits stand for in two's complement
-abbrev pub signed_of : ℕ → ℤ
-signed_of n = if nat_lt n 8388608 then pos n else (pos n -ℤ pos 16777216)
 
 -- the three bits of a word for the way from left to right
 abbrev pub x_digit : ℕ → ℕ

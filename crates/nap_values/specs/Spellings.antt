@@ -1,4 +1,5 @@
-use Rattle.std.specs.Prelude.{ℕ, ℤ, pos, negsuc, ◌+◌, ◌-◌, ◌*◌, ◌/◌, ◌%◌, List, [], ◌∷◌, map}
+use Rattle.std.specs.Prelude.{ℕ, ◌+◌, ◌-◌, ◌*◌, ◌/◌, ◌%◌, List, [], ◌∷◌, map}
+use Rattle.nap_values.specs.TwosComplement.{bits_of}
 use Rattle.nap_values.specs.Digits.{digits_of}
 use Rattle.nap_values.specs.Coordinates.{Coordinates, Displacement}
 use Rattle.nap_values.specs.Colours.{Components}
@@ -27,11 +28,6 @@ words_of_triples [] rs bs = []
 words_of_triples (g ∷ gs) [] bs = []
 words_of_triples (g ∷ gs) (r ∷ rs) [] = []
 words_of_triples (g ∷ gs) (r ∷ rs) (b ∷ bs) = colour_word g r b ∷ words_of_triples gs rs bs
-
--- the 24 bits that stand for a signed number in two's complement
-abbrev pub bits_of : ℤ → ℕ
-bits_of (pos n) = n
-bits_of (negsuc n) = 16777215 - n
 
 -- the eight bytes that spell a displacement
 unfoldable pub move_bytes : Displacement → List ℕ

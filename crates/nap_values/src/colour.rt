@@ -70,6 +70,9 @@ impl Model for Grb {
 }
 
 impl Grb {
+    /// Each part is below this.
+    pub const LIMIT: u32 = 65_536;
+
     /// The colour with these parts.
     pub fn new(g: u16, r: u16, b: u16) -> Grb
         ensures { result ≡ record { g = g; r = r; b = b } }
@@ -85,7 +88,7 @@ impl Grb {
         let g = u16::try_from(g).ok()?;
         let r = u16::try_from(r).ok()?;
         let b = u16::try_from(b).ok()?;
-        Some(Grb { g, r, b })
+        Some(Grb::new(g, r, b))
     }
 
     /// The green part.

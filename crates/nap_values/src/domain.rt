@@ -23,6 +23,12 @@ impl Model for Domain {
 }
 
 impl Domain {
+    /// The operand lengths at the start of a stream.
+    pub const START: Domain = Domain {
+        multi: 3,
+        single: 1,
+    };
+
     /// The domain with these lengths.
     pub fn try_new(multi: u8, single: u8) -> Option<Domain>
         ensures found { IsSome result ↔ ((1 ≤ multi) × (multi ≤ 8) × (1 ≤ single) × (single ≤ 4)) }

@@ -2,14 +2,20 @@
 #![tactic(auto)]
 
 pub mod colour;
+pub mod displacement;
 pub mod domain;
 pub mod laws;
 pub mod operand;
 pub mod point;
 pub mod spelling;
+mod twos_complement;
 pub mod word;
 
 pub use colour::{Addr, Grb};
+pub use displacement::Move;
 pub use domain::Domain;
-pub use point::{Move, Point};
+pub use point::Point;
 pub use word::Word;
+
+#[cfg(test)]
+mod tests;

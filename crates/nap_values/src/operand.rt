@@ -1,21 +1,10 @@
 ghost use Rattle.std.specs.Prelude.{◌≡◌, ◌<◌, ◌≤◌, length};
-ghost use Rattle.nap_values.specs.Operands.{signed_of, multi_of, single_of, colour_of};
+ghost use Rattle.nap_values.specs.Operands.{multi_of, single_of, colour_of};
 
 use crate::colour::{Addr, Grb};
-use crate::point::Move;
+use crate::displacement::Move;
+use crate::twos_complement::{MODULUS, signed};
 use crate::word::Word;
-
-/// The signed number that 24 bits stand for.
-fn signed(bits: u32) -> i32
-    requires { bits < 16777216 }
-    ensures { result ≡ signed_of bits }
-{
-    if bits < 8_388_608 {
-        bits as i32
-    } else {
-        bits as i32 - 16_777_216
-    }
-}
 
 /// The displacement that a multi-value operand of this size spells. Words that the run lacks are zero (PDI operands).
 pub fn multi(run: &[Word], size: u8) -> Move
@@ -26,7 +15,7 @@ pub fn multi(run: &[Word], size: u8) -> Move
 {
     let mut x: u32 = 0;
     let mut y: u32 = 0;
-    let mut unit: u32 = 16_777_216;
+    let mut unit = MODULUS;
     for word in run {
         unit /= 8;
         let bits = u32::from(word.get());
@@ -44,7 +33,7 @@ pub fn single(run: &[Word], size: u8) -> Addr
     ensures { result ≡ single_of run.now }
 {
     let mut number: u32 = 0;
-    let mut unit: u32 = Addr::LIMIT;
+    let mut unit = Addr::LIMIT;
     for word in run {
         unit /= 64;
         number += u32::from(word.get()) * unit;
@@ -62,7 +51,7 @@ pub fn colour(run: &[Word], size: u8) -> Grb
     let mut g: u32 = 0;
     let mut r: u32 = 0;
     let mut b: u32 = 0;
-    let mut unit: u32 = 65_536;
+    let mut unit = Grb::LIMIT;
     for word in run {
         unit /= 4;
         let bits = u32::from(word.get());

@@ -1,24 +1,12 @@
-ghost use Rattle.std.specs.Prelude.{◌≡◌, ◌<◌, ◌≤ℤ◌, ◌<ℤ◌, pos, negsuc};
+ghost use Rattle.std.specs.Prelude.{◌≡◌, ◌<◌};
 ghost use Rattle.nap_values.specs.Digits.{digits_of};
-ghost use Rattle.nap_values.specs.Spellings.{bits_of, bytes_of, words_of_pairs, colour_word, move_bytes, point_bytes, addr_bytes, grb_bytes};
+ghost use Rattle.nap_values.specs.Spellings.{bytes_of, words_of_pairs, colour_word, move_bytes, point_bytes, addr_bytes, grb_bytes};
 
 use crate::colour::{Addr, Grb};
-use crate::point::{Move, Point};
+use crate::displacement::Move;
+use crate::point::Point;
+use crate::twos_complement::{MODULUS, bits};
 use arrayvec::ArrayVec;
-
-/// The 24 bits that stand for a signed number.
-fn bits(number: i32) -> u32
-    requires low { negsuc 8388607 ≤ℤ number }
-    requires high { number <ℤ pos 8388608 }
-    ensures value { result ≡ bits_of number }
-    ensures below { result < 16777216 }
-{
-    if number >= 0 {
-        number as u32
-    } else {
-        (number + 16_777_216) as u32
-    }
-}
 
 /// The eight bytes that spell two numbers of 24 bits.
 fn pairs(x: u32, y: u32) -> ArrayVec<u8, 8>
@@ -29,7 +17,7 @@ fn pairs(x: u32, y: u32) -> ArrayVec<u8, 8>
     let mut bytes = ArrayVec::new();
     let mut x_rest = x;
     let mut y_rest = y;
-    let mut unit: u32 = 16_777_216;
+    let mut unit = MODULUS;
     for i in 0..8_usize {
         unit /= 8;
         let word = x_rest / unit * 8 + y_rest / unit;
@@ -73,7 +61,7 @@ pub fn put_addr(addr: Addr) -> ArrayVec<u8, 8>
 {
     let mut bytes = ArrayVec::new();
     let mut rest = addr.get();
-    let mut unit: u32 = Addr::LIMIT;
+    let mut unit = Addr::LIMIT;
     for i in 0..4_usize {
         unit /= 64;
         bytes.push(64 + (rest / unit) as u8);
@@ -90,7 +78,7 @@ pub fn put_grb(grb: Grb) -> ArrayVec<u8, 8>
     let mut g = u32::from(grb.g());
     let mut r = u32::from(grb.r());
     let mut b = u32::from(grb.b());
-    let mut unit: u32 = 65_536;
+    let mut unit = Grb::LIMIT;
     for i in 0..8_usize {
         unit /= 4;
         bytes.push(64 + colour_bits(g / unit, r / unit, b / unit));

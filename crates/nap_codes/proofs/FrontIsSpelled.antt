@@ -1,0 +1,383 @@
+use Rattle.std.proofs.Common.{ℕ, suc, ◌+◌, ◌≡◌, ◌≢◌, ◌<◌, ◌≤◌, ◌⊎◌, inl, inr, List, [], ◌∷◌, ◌++◌, take, get_or, Option, Some, None, Bool, true, false, cond, eqb, ltb, leb, ◌&&◌, ◌||◌, not, refl, ap, sym, ◌∙◌, subst, arith, append_assoc, append-nil}
+use Rattle.std.proofs.lemmas.Bool.{eqb-true}
+use Rattle.std.proofs.lemmas.Bool.Decides.{nat_tests}
+use Rattle.std.specs.Option.{option_map}
+use Rattle.nap_codes.specs.declared.code.Code.{Code}
+use Rattle.nap_codes.specs.declared.code.Code.TheVariants as codes
+use Rattle.nap_codes.specs.declared.code.CodeFault.{CodeFault}
+use Rattle.nap_codes.specs.declared.code.CodeFault.TheVariants.{BadEscape, ShiftAlone, ShiftedCode, BadArgument}
+use Rattle.nap_codes.specs.declared.code_set.CodeSet.{CodeSet}
+use Rattle.nap_codes.specs.declared.code_set.CodeSet.TheVariants as code_sets
+use Rattle.nap_codes.specs.declared.code_set.CodeSets.{CodeSets}
+use Rattle.nap_codes.specs.declared.code_set.GSet.TheVariants.{G0, G1, G2, G3}
+use Rattle.nap_codes.specs.declared.control.Argument.{Argument}
+use Rattle.nap_codes.specs.declared.control.Argument.TheVariants as arguments
+use Rattle.nap_codes.specs.declared.control.Mask.{Mask}
+use Rattle.nap_codes.specs.declared.control.Row.{Row}
+use Rattle.nap_codes.specs.declared.control.Row.TheVariants.{Whole, More, Out}
+use Rattle.nap_codes.specs.declared.control.TextStep.TheVariants.{Aps}
+use Rattle.nap_codes.specs.declared.opcode.Left.{Left}
+use Rattle.nap_codes.specs.declared.opcode.Opcode.{Opcode}
+use Rattle.nap_codes.specs.CodeSets.{set_at, with_set, after_control0}
+use Rattle.nap_codes.specs.Tables.{row_of, number_rows, set_rows, designation, control0_rows, control1_rows, mask_rows, opcode_rows, left_out_opcode}
+use Rattle.nap_codes.specs.Front.{Front, unfinished, whole, refused, one_further, is_graphic, bad_byte, last_byte, plain_code, opcode_front, pdi_front, gl_front, shifted_front, single_shift_front, column_front, position_front, argument_of, with_argument, argument_front, designated_front, final_front, designation_front, sequence_front, control1_front, escape_front, more_front, control0_front, front}
+use Rattle.nap_codes.specs.Half.{control_of}
+use Rattle.nap_codes.specs.Laws.{IsGraphic}
+use Rattle.nap_codes.specs.Spelling.{Spells, SpellsRefused, IsSpelling, IsProperPrefix, accepted, refusal, escape_fault, escaped_fault, place_fault, stray_fault}
+use Rattle.nap_codes.specs.Spelling as spelling
+use Rattle.nap_codes.proofs.RowLemmas.{each_row, row_found, row_missing, row_at}
+use Rattle.nap_codes.proofs.TableLemmas.{graphic_range, control0_missing, opcode_missing, no_control1, shift_out_row, shift_in_row, one_of_four, control_of-argument_of, no_plain_code, paired-rows}
+
+-- What is said of the bytes behind those that were read is true of the spellings.
+pub data Answers (sets : CodeSets) (read xs : List ℕ) : Front → Type 0 where
+  unfinished_at : (byte : ℕ) (more : List ℕ) → IsSpelling sets (read ++ (xs ++ byte ∷ more)) → Answers sets read xs unfinished
+  whole_at : {code : Code} {n : ℕ} {after : CodeSets} → Spells sets (read ++ take n xs) code after →
+      Answers sets read xs (whole code n after)
+  refused_at : {fault : CodeFault} {i : ℕ} → SpellsRefused sets (read ++ take (suc i) xs) fault →
+      Answers sets read xs (refused fault i)
+  stray_at : {fault : CodeFault} {i : ℕ} → fault ≡ stray_fault (read ++ take i xs) (get_or xs i 0) →
+      Answers sets read xs (refused fault i)
+
+Answers-cond : {sets : CodeSets} {read xs : List ℕ} (b : Bool) {x y : Front} →
+    (b ≡ true → Answers sets read xs x) → (b ≡ false → Answers sets read xs y) → Answers sets read xs (cond b x y)
+Answers-cond true f g = f refl
+Answers-cond false f g = g refl
+
+-- one byte more was read
+one_further-Answers : (sets : CodeSets) (read : List ℕ) (x : ℕ) (xs : List ℕ) (r : Front) →
+    Answers sets (read ++ x ∷ []) xs r → Answers sets read (x ∷ xs) (one_further r)
+unfolding one_further
+one_further-Answers sets read x xs _ (unfinished_at byte more s) =
+    unfinished_at byte more (subst (IsSpelling sets) (append_assoc read (x ∷ []) (xs ++ byte ∷ more)) s)
+one_further-Answers sets read x xs _ (whole_at {code = code} {n = n} {after = after} s) =
+    whole_at (subst (λ bytes. Spells sets bytes code after) (append_assoc read (x ∷ []) (take n xs)) s)
+one_further-Answers sets read x xs _ (refused_at {fault = fault} {i = i} s) =
+    refused_at (subst (λ bytes. SpellsRefused sets bytes fault) (append_assoc read (x ∷ []) (take (suc i) xs)) s)
+one_further-Answers sets read x xs _ (stray_at {fault = fault} {i = i} e) =
+    stray_at (e ∙ ap (λ bytes. stray_fault bytes (get_or xs i 0)) (append_assoc read (x ∷ []) (take i xs)))
+
+-- a byte that continues no spelling
+bad_byte-Answers : (sets : CodeSets) (read : List ℕ) (fault : CodeFault) (byte : ℕ) (bytes : List ℕ) → place_fault read ≡ fault →
+    Answers sets read (byte ∷ bytes) (bad_byte fault byte)
+unfolding bad_byte stray_fault
+bad_byte-Answers sets read fault byte bytes e = stray_at (rw (append-nil read, e) refl)
+
+-- the last byte of a spelling, where it passes a test
+passed : (sets : CodeSets) (read : List ℕ) (fault : CodeFault) (byte : ℕ) (bytes : List ℕ) (code : Code) (b : Bool) →
+    place_fault read ≡ fault → (b ≡ true → Spells sets (read ++ byte ∷ []) code sets) →
+    Answers sets read (byte ∷ bytes) (last_byte sets fault byte (cond b (Some code) None))
+unfolding last_byte
+passed sets read fault byte bytes code true e spells = whole_at (spells refl)
+passed sets read fault byte bytes code false e spells = bad_byte-Answers sets read fault byte bytes e
+
+-- what follows SS2 or SS3
+module _ (sets : CodeSets) (lead : ℕ) (set : CodeSet)
+    (spells : (byte : ℕ) (code : Code) → IsGraphic byte → plain_code set byte ≡ Some code → Spells sets (lead ∷ byte ∷ []) code sets)
+    (refuses : (byte : ℕ) → IsGraphic byte → set ≡ code_sets.Pdi → SpellsRefused sets (lead ∷ byte ∷ []) ShiftedCode)
+    (place : place_fault (lead ∷ []) ≡ ShiftAlone) where
+  some_shifted : (byte : ℕ) (found : Option Code) → IsGraphic byte → plain_code set byte ≡ found → IsSpelling sets (lead ∷ byte ∷ [])
+  some_shifted byte (Some code) range e = accepted (spells byte code range e)
+  some_shifted byte None range e = refusal (refuses byte range (no_plain_code set byte e))
+
+  shifted_found : (byte : ℕ) (bytes : List ℕ) (found : Option Code) → IsGraphic byte → plain_code set byte ≡ found →
+      Answers sets (lead ∷ []) (byte ∷ bytes) (shifted_front sets found)
+  unfolding shifted_front
+  shifted_found byte bytes (Some code) range e = whole_at (spells byte code range e)
+  shifted_found byte bytes None range e = refused_at (refuses byte range (no_plain_code set byte e))
+
+  single_shift-Answers : (bytes : List ℕ) → Answers sets (lead ∷ []) bytes (single_shift_front sets set bytes)
+  unfolding single_shift_front
+  single_shift-Answers [] = unfinished_at 0x20 [] (some_shifted 0x20 (plain_code set 0x20) (omega arith, omega arith) refl)
+  single_shift-Answers (byte ∷ bytes) =
+      Answers-cond (is_graphic byte) (λ e. shifted_found byte bytes (plain_code set byte) (graphic_range byte e) refl)
+      (λ _. bad_byte-Answers sets (lead ∷ []) ShiftAlone byte bytes place)
+
+single_shift2-Answers : (sets : CodeSets) (bytes : List ℕ) → Answers sets (0x19 ∷ []) bytes (single_shift_front sets sets.g2 bytes)
+unfolding place_fault
+single_shift2-Answers sets bytes =
+    single_shift-Answers sets 0x19 sets.g2 (λ byte code range e. spelling.single_shift2 range e) (λ byte range e. spelling.shifted2 range e) refl bytes
+
+single_shift3-Answers : (sets : CodeSets) (bytes : List ℕ) → Answers sets (0x1D ∷ []) bytes (single_shift_front sets sets.g3 bytes)
+unfolding place_fault
+single_shift3-Answers sets bytes =
+    single_shift-Answers sets 0x1D sets.g3 (λ byte code range e. spelling.single_shift3 range e) (λ byte range e. spelling.shifted3 range e) refl bytes
+
+-- a position
+space : IsGraphic 0x20
+space = (omega arith, omega arith)
+
+column-Answers : (sets : CodeSets) (row : ℕ) (bytes : List ℕ) → IsGraphic row →
+    Answers sets (0x1C ∷ row ∷ []) bytes (column_front sets row bytes)
+unfolding column_front place_fault
+column-Answers sets row [] range = unfinished_at 0x20 [] (accepted (spelling.position range space))
+column-Answers sets row (byte ∷ bytes) range =
+    passed sets (0x1C ∷ row ∷ []) BadArgument byte bytes (codes.Step (Aps row byte)) (is_graphic byte) refl
+    (λ e. spelling.position range (graphic_range byte e))
+
+position-Answers : (sets : CodeSets) (bytes : List ℕ) → Answers sets (0x1C ∷ []) bytes (position_front sets bytes)
+unfolding position_front place_fault
+position-Answers sets [] = unfinished_at 0x20 (0x20 ∷ []) (accepted (spelling.position space space))
+position-Answers sets (byte ∷ bytes) =
+    Answers-cond (is_graphic byte)
+    (λ e. one_further-Answers sets (0x1C ∷ []) byte bytes _ (column-Answers sets byte bytes (graphic_range byte e)))
+    (λ _. bad_byte-Answers sets (0x1C ∷ []) BadArgument byte bytes refl)
+
+-- the argument of a control
+mask_found : (sets : CodeSets) (byte : ℕ) (bytes : List ℕ) (found : Option Mask) → row_of mask_rows byte ≡ found →
+    Answers sets (0x1B ∷ 0x44 ∷ []) (byte ∷ bytes) (last_byte sets BadArgument byte (option_map codes.DefMask found))
+unfolding last_byte place_fault escaped_fault escape_fault row_of control1_rows
+mask_found sets byte bytes (Some mask) e = whole_at (spelling.def_texture e)
+mask_found sets byte bytes None e = bad_byte-Answers sets (0x1B ∷ 0x44 ∷ []) BadArgument byte bytes refl
+
+count_above : (byte : ℕ) → leb 0x40 byte && ltb byte 0x80 ≡ true → 0x40 ≤ byte
+count_above byte e = grind (arith, nat_tests)
+
+count_below : (byte : ℕ) → leb 0x40 byte && ltb byte 0x80 ≡ true → byte < 0x80
+count_below byte e = grind (arith, nat_tests)
+
+argument-Answers : (sets : CodeSets) (argument : Argument) (bytes : List ℕ) →
+    Answers sets (0x1B ∷ control_of argument ∷ []) bytes (argument_front sets argument bytes)
+unfolding argument_front with_argument place_fault escaped_fault escape_fault row_of control1_rows mask_rows
+argument-Answers sets arguments.Macro [] = unfinished_at 0x20 [] (accepted (spelling.def_macro space))
+argument-Answers sets arguments.Macro (byte ∷ bytes) =
+    passed sets _ BadArgument byte bytes _ (is_graphic byte) refl (λ e. spelling.def_macro (graphic_range byte e))
+argument-Answers sets arguments.ShownMacro [] = unfinished_at 0x20 [] (accepted (spelling.defp_macro space))
+argument-Answers sets arguments.ShownMacro (byte ∷ bytes) =
+    passed sets _ BadArgument byte bytes _ (is_graphic byte) refl (λ e. spelling.defp_macro (graphic_range byte e))
+argument-Answers sets arguments.Glyph [] = unfinished_at 0x20 [] (accepted (spelling.def_drcs space))
+argument-Answers sets arguments.Glyph (byte ∷ bytes) =
+    passed sets _ BadArgument byte bytes _ (is_graphic byte) refl (λ e. spelling.def_drcs (graphic_range byte e))
+argument-Answers sets arguments.Mask [] = unfinished_at 0x41 [] (accepted (spelling.def_texture refl))
+argument-Answers sets arguments.Mask (byte ∷ bytes) = mask_found sets byte bytes _ refl
+argument-Answers sets arguments.Count [] = unfinished_at 0x40 [] (accepted (spelling.repeat (omega arith) (omega arith)))
+argument-Answers sets arguments.Count (byte ∷ bytes) =
+    passed sets _ BadArgument byte bytes _ (leb 0x40 byte && ltb byte 0x80) refl
+    (λ e. spelling.repeat (count_above byte e) (count_below byte e))
+
+designated_found : (sets : CodeSets) (read : List ℕ) (intermediate byte : ℕ) (bytes : List ℕ) (found : Option (ℕ × CodeSet)) →
+    place_fault read ≡ BadEscape →
+    ((number : ℕ) (set : CodeSet) → row_of number_rows intermediate ≡ Some number → row_of set_rows byte ≡ Some set →
+    Spells sets (read ++ byte ∷ []) (codes.Designated number set) (with_set sets number set)) →
+    designation intermediate byte ≡ found → Answers sets read (byte ∷ bytes) (designated_front sets byte found)
+unfolding designated_front designation
+designated_found sets read intermediate byte bytes (Some named) place spells e =
+    let rows = paired-rows (row_of number_rows intermediate) (row_of set_rows byte) named e in
+    whole_at (spells named.0 named.1 rows.0 rows.1)
+designated_found sets read intermediate byte bytes None place spells e =
+    bad_byte-Answers sets read BadEscape byte bytes place
+
+-- Each byte from 28 to 2F names a G set.
+has_number : (intermediate : ℕ) (found : Option ℕ) → 0x28 ≤ intermediate → intermediate ≤ 0x2F →
+    row_of number_rows intermediate ≡ found → (number : ℕ) × (row_of number_rows intermediate ≡ Some number)
+unfolding row_of number_rows
+has_number intermediate (Some number) from to e = (number, e)
+has_number intermediate None from to e =
+    let past : 0x28 + 8 ≤ intermediate = row_missing number_rows 0x28 8 intermediate refl e from in
+    absurd (omega arith)
+
+no_control_place : (intermediate : ℕ) (bytes : List ℕ) → intermediate ≤ 0x2F → place_fault (0x1B ∷ intermediate ∷ bytes) ≡ BadEscape
+unfolding place_fault escaped_fault escape_fault
+no_control_place intermediate bytes to = rw (no_control1 intermediate _ (omega arith) refl) refl
+
+primary_row : row_of set_rows 0x42 ≡ Some code_sets.Primary
+unfolding row_of set_rows
+primary_row = refl
+
+final-Answers : (sets : CodeSets) (intermediate : ℕ) (bytes : List ℕ) → 0x28 ≤ intermediate → intermediate ≤ 0x2F →
+    Answers sets (0x1B ∷ intermediate ∷ 0x20 ∷ []) bytes (final_front sets intermediate bytes)
+unfolding final_front
+final-Answers sets intermediate [] from to =
+    let number = has_number intermediate _ from to refl in
+    unfinished_at 0x42 [] (accepted (spelling.spaced_designation number.1 primary_row))
+final-Answers sets intermediate (byte ∷ bytes) from to =
+    designated_found sets (0x1B ∷ intermediate ∷ 0x20 ∷ []) intermediate byte bytes (designation intermediate byte)
+    (no_control_place intermediate (0x20 ∷ []) to) (λ number set n s. spelling.spaced_designation n s) refl
+
+designation-Answers : (sets : CodeSets) (intermediate : ℕ) (bytes : List ℕ) → 0x28 ≤ intermediate → intermediate ≤ 0x2F →
+    Answers sets (0x1B ∷ intermediate ∷ []) bytes (designation_front sets intermediate bytes)
+unfolding designation_front final_front
+designation-Answers sets intermediate [] from to =
+    let number = has_number intermediate _ from to refl in
+    unfinished_at 0x42 [] (accepted (spelling.designation number.1 primary_row))
+designation-Answers sets intermediate (byte ∷ bytes) from to =
+    Answers-cond (eqb byte 0x20)
+    (λ e.
+    one_further-Answers sets (0x1B ∷ intermediate ∷ []) byte bytes _
+    (subst (λ k. Answers sets (0x1B ∷ intermediate ∷ k ∷ []) bytes (final_front sets intermediate bytes)) (sym (eqb-true byte 0x20 e))
+    (final-Answers sets intermediate bytes from to)))
+    (λ _.
+    designated_found sets (0x1B ∷ intermediate ∷ []) intermediate byte bytes (designation intermediate byte)
+    (no_control_place intermediate [] to) (λ number set n s. spelling.designation n s) refl)
+
+intermediate_test : (byte : ℕ) → leb 0x28 byte && leb byte 0x2F ≡ true → (0x28 ≤ byte) × (byte ≤ 0x2F)
+intermediate_test byte e = grind (arith, nat_tests)
+
+-- what follows ESC
+sequence-Answers : (sets : CodeSets) (byte : ℕ) (bytes : List ℕ) →
+    Answers sets (0x1B ∷ []) (byte ∷ bytes) (sequence_front sets byte bytes)
+unfolding sequence_front place_fault escaped_fault
+sequence-Answers sets byte bytes =
+    Answers-cond (eqb byte 0x6E)
+    (λ e.
+    whole_at (subst (λ k. Spells sets (0x1B ∷ k ∷ []) codes.Shifted (record sets { gl = G2 })) (sym (eqb-true byte 0x6E e)) spelling.locking_shift2))
+    (λ _.
+    Answers-cond (eqb byte 0x6F)
+    (λ e.
+    whole_at (subst (λ k. Spells sets (0x1B ∷ k ∷ []) codes.Shifted (record sets { gl = G3 })) (sym (eqb-true byte 0x6F e)) spelling.locking_shift3))
+    (λ _.
+    Answers-cond (leb 0x28 byte && leb byte 0x2F)
+    (λ e.
+    let range = intermediate_test byte e in
+    one_further-Answers sets (0x1B ∷ []) byte bytes _ (designation-Answers sets byte bytes range.0 range.1))
+    (λ _. bad_byte-Answers sets (0x1B ∷ []) BadEscape byte bytes refl)))
+
+control1-Answers : (sets : CodeSets) (byte : ℕ) (bytes : List ℕ) (found : Option Row) → row_of control1_rows byte ≡ found →
+    Answers sets (0x1B ∷ []) (byte ∷ bytes) (control1_front sets byte bytes found)
+unfolding control1_front
+control1-Answers sets byte bytes (Some (Whole code)) e = whole_at (spelling.control1 e)
+control1-Answers sets byte bytes (Some (Out name)) e = refused_at (spelling.left_out_control1 e)
+control1-Answers sets byte bytes (Some More) e =
+    one_further-Answers sets (0x1B ∷ []) byte bytes _
+    (subst (λ k. Answers sets (0x1B ∷ k ∷ []) bytes (argument_front sets (argument_of byte) bytes)) (control_of-argument_of byte e)
+    (argument-Answers sets (argument_of byte) bytes))
+control1-Answers sets byte bytes None e = sequence-Answers sets byte bytes
+
+escape-Answers : (sets : CodeSets) (bytes : List ℕ) → Answers sets (0x1B ∷ []) bytes (escape_front sets bytes)
+unfolding escape_front row_of control1_rows
+escape-Answers sets [] = unfinished_at 0x45 [] (accepted (spelling.control1 refl))
+escape-Answers sets (byte ∷ bytes) = control1-Answers sets byte bytes _ refl
+
+-- what follows a control of the C0 set that further bytes belong to
+last_of_four : (byte : ℕ) → row_of control0_rows byte ≡ Some More → eqb byte 0x1B ≡ false → eqb byte 0x1C ≡ false →
+    eqb byte 0x19 ≡ false → byte ≡ 0x1D
+last_of_four byte row not_escape not_position not_shift2 =
+    at (eqb byte 0x19) (eqb byte 0x1B) (eqb byte 0x1C) (eqb byte 0x1D) refl (one_of_four byte row) not_shift2 not_escape not_position
+  where
+    at : (a b c d : Bool) → eqb byte 0x1D ≡ d → a || b || c || d ≡ true → a ≡ false → b ≡ false → c ≡ false → byte ≡ 0x1D
+    at false false false true is e f g h = eqb-true byte 0x1D is
+    at false false false false is e f g h = let bad : ⊥ = cc in absurd bad
+    at true b c d is e f g h = let bad : ⊥ = cc in absurd bad
+    at false true c d is e f g h = let bad : ⊥ = cc in absurd bad
+    at false false true d is e f g h = let bad : ⊥ = cc in absurd bad
+
+more-Answers : (sets : CodeSets) (byte : ℕ) (bytes : List ℕ) → row_of control0_rows byte ≡ Some More →
+    Answers sets (byte ∷ []) bytes (more_front sets byte bytes)
+unfolding more_front
+more-Answers sets byte bytes row =
+    Answers-cond (eqb byte 0x1B)
+    (λ e. subst (λ k. Answers sets (k ∷ []) bytes (escape_front sets bytes)) (sym (eqb-true byte 0x1B e)) (escape-Answers sets bytes))
+    (λ not_escape.
+    Answers-cond (eqb byte 0x1C)
+    (λ e. subst (λ k. Answers sets (k ∷ []) bytes (position_front sets bytes)) (sym (eqb-true byte 0x1C e)) (position-Answers sets bytes))
+    (λ not_position.
+    Answers-cond (eqb byte 0x19)
+    (λ e.
+    subst (λ k. Answers sets (k ∷ []) bytes (single_shift_front sets sets.g2 bytes)) (sym (eqb-true byte 0x19 e)) (single_shift2-Answers sets bytes))
+    (λ not_shift2.
+    subst (λ k. Answers sets (k ∷ []) bytes (single_shift_front sets sets.g3 bytes)) (sym (last_of_four byte row not_escape not_position not_shift2)) (single_shift3-Answers sets bytes))))
+
+-- a code of the set in GL
+left_out_found : (sets : CodeSets) (byte : ℕ) (bytes : List ℕ) (op : Opcode) (found : Option Left) → set_at sets sets.gl ≡ code_sets.Pdi →
+    row_of opcode_rows byte ≡ Some op → left_out_opcode op ≡ found → Answers sets [] (byte ∷ bytes) (opcode_front sets op found)
+unfolding opcode_front
+left_out_found sets byte bytes op None pdi row e = whole_at (spelling.opcode pdi row e)
+left_out_found sets byte bytes op (Some name) pdi row e = refused_at (spelling.left_out_of_pdi pdi row e)
+
+pdi_found : (sets : CodeSets) (byte : ℕ) (bytes : List ℕ) (found : Option Opcode) → set_at sets sets.gl ≡ code_sets.Pdi → IsGraphic byte →
+    row_of opcode_rows byte ≡ found → Answers sets [] (byte ∷ bytes) (pdi_front sets byte found)
+unfolding pdi_front
+pdi_found sets byte bytes (Some op) pdi range e = left_out_found sets byte bytes op (left_out_opcode op) pdi e refl
+pdi_found sets byte bytes None pdi range e = whole_at (spelling.operand pdi (opcode_missing byte e range.0) range.1)
+
+gl_found : (sets : CodeSets) (byte : ℕ) (bytes : List ℕ) (found : Option Code) → IsGraphic byte →
+    plain_code (set_at sets sets.gl) byte ≡ found → Answers sets [] (byte ∷ bytes) (gl_front sets byte found)
+unfolding gl_front
+gl_found sets byte bytes (Some code) range e = whole_at (spelling.in_gl range e)
+gl_found sets byte bytes None range e =
+    pdi_found sets byte bytes (row_of opcode_rows byte) (no_plain_code (set_at sets sets.gl) byte e) range refl
+
+-- a control of the C0 set with no more bytes
+is_shifted : Code → Bool
+is_shifted codes.Shifted = true
+is_shifted _ = false
+
+shifts_alone : ℕ → Row → Bool
+shifts_alone byte (Whole code) = not (is_shifted code) || eqb byte 0x0E || eqb byte 0x0F
+shifts_alone byte More = true
+shifts_alone byte (Out name) = true
+
+each_shifts_alone : each_row shifts_alone control0_rows ≡ true
+unfolding shifts_alone is_shifted control0_rows
+each_shifts_alone = refl
+
+-- A control that is neither SO nor SI shifts nothing.
+no_shift : (byte : ℕ) (code : Code) → row_of control0_rows byte ≡ Some (Whole code) → eqb byte 0x0E ≡ false → eqb byte 0x0F ≡ false →
+    code ≢ codes.Shifted
+unfolding shifts_alone is_shifted
+no_shift byte code row not_out not_in is =
+    let row_is : row_of control0_rows byte ≡ Some (Whole codes.Shifted) = row ∙ ap (λ c. Some (Whole c)) is in
+    let passes : eqb byte 0x0E || eqb byte 0x0F ≡ true = row_found shifts_alone control0_rows byte (Whole codes.Shifted) each_shifts_alone row_is in
+    at (eqb byte 0x0E) (eqb byte 0x0F) passes not_out not_in
+  where
+    at : (a b : Bool) → a || b ≡ true → a ≡ false → b ≡ false → ⊥
+    at true b e f g = cc
+    at false true e f g = cc
+    at false false e f g = cc
+
+control0_whole : (sets : CodeSets) (byte : ℕ) (code : Code) → row_of control0_rows byte ≡ Some (Whole code) →
+    Spells sets (byte ∷ []) code (after_control0 sets byte)
+unfolding after_control0
+control0_whole sets byte code row = at (eqb byte 0x0E) (eqb byte 0x0F) refl refl
+  where
+    code_at : {known : ℕ} → byte ≡ known → row_of control0_rows known ≡ Some (Whole codes.Shifted) → code ≡ codes.Shifted
+    code_at {known} is shift =
+        let same : Whole code ≡ Whole codes.Shifted = row_at control0_rows byte known (Whole code) (Whole codes.Shifted) is shift row in
+        cc
+
+    at : (a b : Bool) → eqb byte 0x0E ≡ a → eqb byte 0x0F ≡ b →
+        Spells sets (byte ∷ []) code (cond a (record sets { gl = G1 }) (cond b (record sets { gl = G0 }) sets))
+    at true b e f =
+        let is = eqb-true byte 0x0E e in
+        rw (is, code_at is shift_out_row) spelling.shift_out
+    at false true e f =
+        let is = eqb-true byte 0x0F f in
+        rw (is, code_at is shift_in_row) spelling.shift_in
+    at false false e f = spelling.control0 row (no_shift byte code row e f)
+
+eighth_bit : (byte : ℕ) → 0x20 ≤ byte → is_graphic byte ≡ false → leb 0x80 byte ≡ true
+eighth_bit byte least e = grind (arith, nat_tests)
+
+control0-Answers : (sets : CodeSets) (byte : ℕ) (bytes : List ℕ) (found : Option Row) → row_of control0_rows byte ≡ found →
+    Answers sets [] (byte ∷ bytes) (control0_front sets byte bytes found)
+unfolding control0_front stray_fault
+control0-Answers sets byte bytes (Some (Whole code)) e = whole_at (control0_whole sets byte code e)
+control0-Answers sets byte bytes (Some (Out name)) e = refused_at (spelling.left_out_control0 e)
+control0-Answers sets byte bytes (Some More) e = one_further-Answers sets [] byte bytes _ (more-Answers sets byte bytes e)
+control0-Answers sets byte bytes None e =
+    Answers-cond (is_graphic byte) (λ g. gl_found sets byte bytes _ (graphic_range byte g) refl)
+    (λ g. stray_at (rw (eighth_bit byte (control0_missing byte e) g) refl))
+
+bell_row : row_of control0_rows 0x07 ≡ Some (Whole codes.Bell)
+unfolding row_of control0_rows
+bell_row = refl
+
+bell_is_no_shift : codes.Bell ≢ codes.Shifted
+bell_is_no_shift e = cc
+
+-- What stands at the front is true of the spellings.
+pub front-Answers : (sets : CodeSets) (xs : List ℕ) → Answers sets [] xs (front sets xs)
+unfolding front
+front-Answers sets [] = unfinished_at 0x07 [] (accepted (spelling.control0 bell_row bell_is_no_shift))
+front-Answers sets (byte ∷ bytes) = control0-Answers sets byte bytes _ refl
+
+pub Answers-whole : {sets : CodeSets} {xs : List ℕ} {code : Code} {n : ℕ} {after : CodeSets} →
+    Answers sets [] xs (whole code n after) → Spells sets (take n xs) code after
+Answers-whole (whole_at s) = s
+
+pub Answers-unfinished : {sets : CodeSets} {xs : List ℕ} → Answers sets [] xs unfinished → IsProperPrefix sets xs
+Answers-unfinished (unfinished_at byte more s) = (byte, more, s)
+
+pub Answers-refused : {sets : CodeSets} {xs : List ℕ} {fault : CodeFault} {i : ℕ} → Answers sets [] xs (refused fault i) →
+    SpellsRefused sets (take (suc i) xs) fault ⊎ (fault ≡ stray_fault (take i xs) (get_or xs i 0))
+Answers-refused (refused_at s) = inl s
+Answers-refused (stray_at e) = inr e

@@ -1,0 +1,119 @@
+use Rattle.std.proofs.Common.{ℕ, zero, suc, ◌≡◌, ◌<◌, List, [], ◌∷◌, ◌++◌, length, drop, Option, Some, refl, ap, sym, ◌∙◌, subst, arith, append_assoc, append-nil, length-drop}
+use Rattle.std.proofs.Math.Seq.{take-append_seam, drop-append_seam}
+use Rattle.nap_codes.specs.declared.code.Code.{Code}
+use Rattle.nap_codes.specs.declared.code.CodeFault.{CodeFault}
+use Rattle.nap_codes.specs.declared.code.Step.TheVariants as steps
+use Rattle.nap_codes.specs.declared.code_set.CodeSets.{CodeSets}
+use Rattle.nap_codes.specs.Front.{Front, unfinished, whole, refused, front}
+use Rattle.nap_codes.specs.Lexer.{LexerState, StepsBy}
+use Rattle.nap_codes.specs.Lexed.{Lexed, lexed_by, lexed_within, lexed, StepsThrough, at_end, at_more, at_code, at_fault, StepsAreLexed}
+use Rattle.nap_codes.proofs.FrontLaws.{whole_stays, refused_stays, whole_length}
+
+-- a code in front of what is read later
+abbrev with_code : Code → Lexed → Lexed
+with_code code rest = record rest { codes = code ∷ rest.codes }
+
+-- More steps than there are bytes change nothing.
+lexed_within-spare : (f g : ℕ) (sets : CodeSets) (bytes : List ℕ) → length bytes < f → length bytes < g →
+    lexed_within f sets bytes ≡ lexed_within g sets bytes
+unfolding lexed_within
+lexed_within-spare zero g sets bytes hf hg = absurd (omega arith)
+lexed_within-spare (suc f) zero sets bytes hf hg = absurd (omega arith)
+lexed_within-spare (suc f) (suc g) sets bytes hf hg =
+    at (front sets bytes) refl (λ after rest h h'. lexed_within-spare f g after rest h h')
+  where
+    at : (r : Front) → front sets bytes ≡ r →
+        ((after : CodeSets) (rest : List ℕ) → length rest < f → length rest < g → lexed_within f after rest ≡ lexed_within g after rest) →
+        lexed_by (lexed_within f) sets bytes r ≡ lexed_by (lexed_within g) sets bytes r
+    at unfinished e ih = refl
+    at (refused fault i) e ih = refl
+    at (whole code n after) e ih =
+        let some = whole_length sets bytes code n after e in
+        let less : length (drop n bytes) < length bytes = simp length-drop (omega arith) in
+        ap (with_code code) (ih after (drop n bytes) (omega arith) (omega arith))
+
+-- the codes of a list, by what stands at its front
+lexed-front : (sets : CodeSets) (bytes : List ℕ) → lexed sets bytes ≡ lexed_by lexed sets bytes (front sets bytes)
+unfolding lexed lexed_within
+lexed-front sets bytes = at (front sets bytes) refl
+  where
+    at : (r : Front) → front sets bytes ≡ r →
+        lexed_by (lexed_within (length bytes)) sets bytes r ≡ lexed_by lexed sets bytes r
+    at unfinished e = refl
+    at (refused fault i) e = refl
+    at (whole code n after) e =
+        let some = whole_length sets bytes code n after e in
+        let less : length (drop n bytes) < length bytes = simp length-drop (omega arith) in
+        ap (with_code code) (lexed_within-spare (length bytes) (suc (length (drop n bytes))) after (drop n bytes) less (omega arith))
+
+-- what a step says of the front
+module _ (old new : LexerState) (byte : ℕ) where
+  on_more : (r : Front) → StepsBy r old byte steps.More new →
+      (r ≡ unfinished) × (new ≡ record { sets = old.sets; half = old.half ++ byte ∷ [] })
+  on_more unfinished e = (refl, e.1)
+  on_more (whole code n after) e = let bad : ⊥ = cc in absurd bad
+  on_more (refused fault i) e = let bad : ⊥ = cc in absurd bad
+
+  on_code : (r : Front) (code : Code) → StepsBy r old byte (steps.Code code) new →
+      (r ≡ whole code (length (old.half ++ byte ∷ [])) new.sets) × (new.half ≡ [])
+  on_code unfinished code e = let bad : ⊥ = cc in absurd bad
+  on_code (whole c n after) code e =
+      let same : c ≡ code = cc in
+      let sets : after ≡ new.sets = ap (λ s. s.sets) (sym e.2) in
+      (rw (same, e.1, sets) refl, ap (λ s. s.half) e.2)
+  on_code (refused fault i) code e = let bad : ⊥ = cc in absurd bad
+
+  on_fault : (r : Front) (fault : CodeFault) → StepsBy r old byte (steps.Fault fault) new →
+      (r ≡ refused fault (length old.half)) × (new ≡ old)
+  on_fault unfinished fault e = let bad : ⊥ = cc in absurd bad
+  on_fault (whole code n after) fault e = let bad : ⊥ = cc in absurd bad
+  on_fault (refused f i) fault e =
+      let same : f ≡ fault = cc in
+      (rw (same, e.1) refl, e.2)
+
+front-nothing : (sets : CodeSets) (bytes : List ℕ) → bytes ≡ [] → front sets bytes ≡ unfinished
+unfolding front
+front-nothing sets bytes e = rw e refl
+
+-- the codes of a list that begins with the bytes of a code
+lexed-code : (sets : CodeSets) (read bytes : List ℕ) (code : Code) (after : CodeSets) → front sets read ≡ whole code (length read) after →
+    lexed sets (read ++ bytes) ≡ with_code code (lexed after bytes)
+lexed-code sets read bytes code after e =
+    rw (lexed-front sets (read ++ bytes), whole_stays sets read bytes code (length read) after e, drop-append_seam read bytes) refl
+
+-- the codes of a list that begins with the bytes up to a refused one
+lexed-fault : (sets : CodeSets) (half : List ℕ) (byte : ℕ) (bytes : List ℕ) (fault : CodeFault) →
+    front sets (half ++ byte ∷ []) ≡ refused fault (length half) →
+    lexed sets (half ++ byte ∷ bytes) ≡ record { codes = []; fault = Some fault; state = record { sets = sets; half = half } }
+lexed-fault sets half byte bytes fault e =
+    let there : front sets (half ++ byte ∷ bytes) ≡ refused fault (length half) =
+    subst (λ xs. front sets xs ≡ refused fault (length half)) (append_assoc half (byte ∷ []) bytes)
+    (refused_stays sets (half ++ byte ∷ []) bytes fault (length half) e) in
+    rw (lexed-front sets (half ++ byte ∷ bytes), there, take-append_seam half (byte ∷ bytes)) refl
+
+-- the steps of a lexer that has these bytes half read
+steps_lexed : (state end : LexerState) (bytes : List ℕ) (codes : List Code) (fault : Option CodeFault) →
+    StepsThrough state bytes codes fault end → front state.sets state.half ≡ unfinished →
+    record { codes = codes; fault = fault; state = end } ≡ lexed state.sets (state.half ++ bytes)
+steps_lexed state _ _ _ _ at_end rests =
+    sym (rw (append-nil state.half, lexed-front state.sets state.half, rests) refl)
+steps_lexed state end _ codes fault (at_more {next = next} {byte = byte} {bytes = bytes} step rest) rests =
+    let is = on_more state next byte (front state.sets (state.half ++ byte ∷ [])) step in
+    let after : front next.sets next.half ≡ unfinished = rw is.1 is.0 in
+    steps_lexed next end bytes codes fault rest after
+    ∙ ap (λ s. lexed s.sets (s.half ++ bytes)) is.1 ∙ ap (lexed state.sets) (append_assoc state.half (byte ∷ []) bytes)
+steps_lexed state end _ _ fault (at_code {next = next} {byte = byte} {bytes = bytes} {code = code} {codes = codes} step rest) rests =
+    let is = on_code state next byte (front state.sets (state.half ++ byte ∷ [])) code step in
+    ap (with_code code) (steps_lexed next end bytes codes fault rest (front-nothing next.sets next.half is.1))
+    ∙ ap (λ half. with_code code (lexed next.sets (half ++ bytes))) is.1
+    ∙ sym (lexed-code state.sets (state.half ++ byte ∷ []) bytes code next.sets is.0)
+    ∙ ap (lexed state.sets) (append_assoc state.half (byte ∷ []) bytes)
+steps_lexed state end _ _ _ (at_fault {byte = byte} {bytes = bytes} {fault = fault} step) rests =
+    let is = on_fault state end byte (front state.sets (state.half ++ byte ∷ [])) fault step in
+    ap (λ s. record { codes = []; fault = Some fault; state = s }) is.1
+    ∙ sym (lexed-fault state.sets state.half byte bytes fault is.0)
+
+-- From a lexer at rest, the steps give the codes of the list.
+pub steps_are_lexed : StepsAreLexed
+steps_are_lexed sets bytes codes fault end steps =
+    steps_lexed (record { sets = sets; half = [] }) end bytes codes fault steps (front-nothing sets [] refl)

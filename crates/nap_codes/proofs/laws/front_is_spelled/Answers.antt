@@ -1,0 +1,11 @@
+use Rattle.nap_codes.proofs.SpellingLaws.{whole_is_spelled, refused_is_spelled, unfinished_is_prefix}
+use Rattle.nap_codes.proofs.laws.front_is_spelled.Goals as goal
+
+pub returns-clause-whole : goal.returns-clause-whole
+returns-clause-whole c = whole_is_spelled
+
+pub returns-clause-refused : goal.returns-clause-refused
+returns-clause-refused c = refused_is_spelled
+
+pub returns-clause-unfinished : goal.returns-clause-unfinished
+returns-clause-unfinished c = unfinished_is_prefix

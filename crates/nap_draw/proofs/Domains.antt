@@ -1,0 +1,37 @@
+use Rattle.std.proofs.Common.{◌≡◌, ℕ, ◌/◌, List, [], ◌∷◌, eqb, cond, false, Option, Some, None, Result, Ok, Err, refl, sym, ◌∙◌, ap, arith}
+use Rattle.std.specs.List.{slice_get}
+use Rattle.std.specs.Option.{unwrap_or}
+use Rattle.std.specs.Iterator.{YieldsFirst}
+use Rattle.std.proofs.lemmas.Bool.Decides.{nat_tests}
+use Rattle.nap_values.specs.Coordinates.{Displacement}
+use Rattle.nap_values.specs.Domains.{OperandLengths}
+use Rattle.nap_list.specs.State.{walk}
+use Rattle.nap_draw.specs.declared.work.Work.{Work}
+use Rattle.nap_draw.specs.declared.fault.DrawFault.{DrawFault}
+use Rattle.nap_draw.specs.Operands.{moves}
+use Rattle.nap_draw.specs.Rule.{Drawn, with_drawing, domain_in, domain_rule}
+
+-- an iterator's next item is the first of what it had left
+pub first_left : {S A : Type 0} (left : S → List A) (s t : S) (r : Option A) → YieldsFirst left s r t → r ≡ slice_get (left s) 0
+first_left left s t None steps = sym (ap (λ xs. slice_get xs 0) steps.0)
+first_left left s t (Some x) steps = sym (ap (λ xs. slice_get xs 0) steps)
+
+with_pel : Work → OperandLengths → Option Displacement → Result Drawn DrawFault
+with_pel work domain pel = Ok (record {
+  entries = [];
+  work = with_drawing (record work { domain = domain }) (record work.state.drawing { pel = unwrap_or pel work.state.drawing.pel });
+  clears = false;
+})
+
+pub domain_given : (work : Work) (run words : List ℕ) (word n : ℕ) (domain : OperandLengths) (pel : Option Displacement) →
+    run ≡ word ∷ words → n ≡ word → (n / 32 ≡ 1 → ⊥) → domain ≡ domain_in word → pel ≡ slice_get (moves domain.multi words) 0 → domain_rule work run ≡ Ok (record {
+      entries = [];
+      work = with_drawing (record work { domain = domain }) (record work.state.drawing { pel = unwrap_or pel work.state.drawing.pel });
+      clears = false;
+    })
+unfolding walk with_pel
+domain_given work run words word n domain pel is bits flat has follows =
+    let flat : word / 32 ≡ 1 → ⊥ = λ e. flat (ap (λ (m : ℕ). m / 32) bits ∙ e) in
+    let test : eqb (word / 32) 1 ≡ false = grind (arith, nat_tests, flat) in
+    let given : domain_rule work (word ∷ words) ≡ with_pel work (domain_in word) (slice_get (moves (domain_in word).multi words) 0) = rw test refl in
+    ap (domain_rule work) is ∙ (given ∙ sym (ap (with_pel work domain) follows ∙ ap (λ d. with_pel work d (slice_get (moves d.multi words) 0)) has))

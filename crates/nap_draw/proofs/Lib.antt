@@ -1,0 +1,9 @@
+pub mod Applied
+pub mod Cuts
+pub mod Domains
+pub mod Ends
+pub mod Fits
+pub mod Planning
+pub mod Puts
+pub mod Turns
+pub mod Walks

@@ -1,0 +1,91 @@
+use Rattle.std.proofs.Common.{◌≡◌, List, [], ◌∷◌, map, Bool, false, Option, Some, None, Result, Ok, Err, refl, sym, ◌∙◌, ap}
+use Rattle.std.specs.Option.{option_map}
+use Rattle.nap_values.specs.Coordinates.{Coordinates}
+use Rattle.nap_list.specs.declared.attribute.Pen.{Pen}
+use Rattle.nap_list.specs.declared.entry.Entry.{Entry}
+use Rattle.nap_list.specs.declared.state.Drawing.{Drawing}
+use Rattle.nap_list.specs.declared.state.State.{State}
+use Rattle.nap_list.specs.Entry.{held, WellMade}
+use Rattle.nap_list.specs.State.{with_pen, with_pen_at, drawn, definition_after, last_after, after, walk, Comes}
+use Rattle.nap_list.specs.Agreement.{InMode, Holds}
+use Rattle.nap_list.proofs.Agreement.{taking_nothing}
+use Rattle.nap_draw.specs.declared.spans.Span.{Span}
+use Rattle.nap_draw.specs.declared.work.Work.{Work}
+use Rattle.nap_draw.specs.declared.fault.DrawFault.{DrawFault}
+use Rattle.nap_draw.specs.Geometry.{end_of}
+use Rattle.nap_draw.specs.Rule.{Drawn, with_drawing, draws, goes, point_on, line_on}
+use Rattle.nap_draw.specs.Plans.{end_inside, landed}
+
+-- entries of one shape that only move the pen, each to a point of its own
+pub record Lands {A : Type 0} (entry : Drawing → A → Entry) (at : A → Coordinates) : Type 0 where
+  pub keeps : (pen : Pen) (d : Drawing) → entry (with_pen pen d) ≡ entry d
+  pub lands : (s : State) (x : A) → InMode s.drawing.base s.drawing.colour → after s (entry s.drawing x) ≡ landed s (Some (at x))
+  pub holds : (pen : Pen) (d : Drawing) (x : A) → Holds (held (entry d x)) (with_pen pen d)
+  pub made : (d : Drawing) (x : A) → WellMade (entry d x)
+  pub comes : (s : State) (d : Drawing) (x : A) → Comes s (entry d x)
+
+module _ {A : Type 0} (entry : Drawing → A → Entry) (at : A → Coordinates) (by : Lands entry at) where
+  pub one : (s : State) (o : Option A) (x : A) → InMode s.drawing.base s.drawing.colour →
+      after (landed s (option_map at o)) (entry s.drawing x) ≡ landed s (Some (at x))
+  one s None x mode = by.lands s x mode
+  one s (Some y) x mode =
+      let t = landed s (Some (at y)) in
+      ap (λ (f : A → Entry). after t (f x)) (sym (by.keeps t.drawing.pen s.drawing)) ∙ by.lands t x mode
+
+  walk_from : (s : State) (o : Option A) (xs : List A) → InMode s.drawing.base s.drawing.colour →
+      walk (landed s (option_map at o)) (map (entry s.drawing) xs) ≡ landed s (option_map at (end_of o xs))
+  unfolding walk end_of
+  walk_from s o [] mode = refl
+  walk_from s o (x ∷ xs) mode = ap (λ t. walk t (map (entry s.drawing) xs)) (one s o x mode) ∙ walk_from s (Some x) xs mode
+
+  -- where such entries lead
+  pub plan_draws : (work : Work) (xs : Option (List A)) (o : Option A) (p : Option Coordinates) → InMode work.state.drawing.base work.state.drawing.colour →
+      end_inside None xs ≡ Ok o → p ≡ option_map at o → (list : List Entry) × (option_map (map (entry work.state.drawing)) xs ≡ Some list)
+      × (draws work entry xs ≡ Ok (record { entries = list; work = record work { state = landed work.state p }; clears = false }))
+  plan_draws work None o p mode is to = let bad : ⊥ = cc in absurd bad
+  plan_draws work (Some xs) o p mode is to =
+      let list = map (entry work.state.drawing) xs in
+      let end : end_of None xs ≡ o = cc in
+      let there = walk_from work.state None xs mode ∙ ap (λ e. landed work.state (option_map at e)) end ∙ ap (landed work.state) (sym to) in
+      let all : State → Result Drawn DrawFault = λ s. Ok (record { entries = list; work = record work { state = s }; clears = false }) in
+      (list, refl, ap all there)
+
+-- what an entry leaves that holds the values that stand
+left_by : (s : State) (e : Entry) → Holds (held e) s.drawing → InMode s.drawing.base s.drawing.colour →
+    after s e ≡ record { drawing = drawn s.definition s.drawing e; definition = definition_after s.definition s.drawing e; last = last_after e }
+left_by s e holds mode =
+    let there : Drawing → State = λ d. record { drawing = drawn s.definition d e; definition = definition_after s.definition d e; last = last_after e } in
+    ap there (taking_nothing (held e) s.drawing holds mode)
+
+-- a pen goes to each point
+pub point_lands : Lands point_on (λ p. p)
+point_lands = record {
+  keeps = λ pen d. refl;
+  lands = λ s p mode. left_by s (point_on s.drawing p) (record { pen = tt; pel = refl; colour = refl; texture = tt; text = tt }) mode;
+  holds = λ pen d p. record { pen = tt; pel = refl; colour = refl; texture = tt; text = tt };
+  made = λ d p. tt;
+  comes = λ s d p. tt;
+}
+
+-- a pen goes to the end of each line
+pub line_lands : Lands line_on (λ s. s.to)
+line_lands = record {
+  keeps = λ pen d. refl;
+  lands = λ s span mode. left_by s (line_on s.drawing span) (record { pen = tt; pel = refl; colour = refl; texture = refl; text = tt }) mode;
+  holds = λ pen d span. record { pen = tt; pel = refl; colour = refl; texture = refl; text = tt };
+  made = λ d span. tt;
+  comes = λ s d span. tt;
+}
+
+pub itself : {A : Type 0} (o : Option A) → o ≡ option_map (λ x. x) o
+itself None = refl
+itself (Some x) = refl
+
+-- a pen that goes without drawing
+pub plan_goes : (work : Work) (ps : Option (List Coordinates)) (o : Option Coordinates) → end_inside None ps ≡ Ok o →
+    goes work ps ≡ Ok (record { entries = []; work = with_drawing work (with_pen_at o work.state.drawing); clears = false })
+unfolding walk
+plan_goes work None o is = let bad : ⊥ = cc in absurd bad
+plan_goes work (Some ps) o is =
+    let end : end_of None ps ≡ o = cc in
+    ap (λ e. Ok (record { entries = []; work = with_drawing work (with_pen_at e work.state.drawing); clears = false })) end

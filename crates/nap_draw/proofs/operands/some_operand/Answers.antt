@@ -1,0 +1,10 @@
+use Rattle.std.proofs.Common.{◌≡◌, ◌≢◌, length, refl, arith}
+use Rattle.std.proofs.lemmas.Bool.Decides.{nat_tests}
+use Rattle.nap_draw.proofs.Cuts.{none_of, more_of}
+use Rattle.nap_draw.proofs.operands.some_operand.Goals as goal
+
+pub returns-then-is_empty-clause-err : goal.returns-then-is_empty-clause-err
+returns-then-is_empty-clause-err c = (refl, none_of c.args.work.now c.args.run.now (grind (arith, nat_tests)))
+
+pub returns-clause-ok : goal.returns-clause-ok
+returns-clause-ok c = more_of c.args.work.now c.args.run.now (grind (arith, nat_tests))

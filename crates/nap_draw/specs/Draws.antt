@@ -1,0 +1,52 @@
+use Rattle.std.specs.Prelude.{◌≡◌, ◌⊎◌, ◌++◌, Bool, true, List, ◌∷◌, Result, Ok, Err}
+use Rattle.nap_list.specs.declared.entry.Entry.{Entry}
+use Rattle.nap_list.specs.declared.sink.SinkFault.{SinkFault}
+use Rattle.nap_list.specs.declared.sink.SinkFault.TheVariants as sink_faults
+use Rattle.nap_draw.specs.declared.work.Effects.{Effects}
+use Rattle.nap_draw.specs.declared.fault.DrawFault.{DrawFault}
+use Rattle.nap_draw.specs.declared.fault.DrawFault.TheVariants as faults
+use Rattle.nap_draw.specs.Rule.{Drawn}
+
+-- the fault where a sink took an entry not
+abbrev pub fault_of : SinkFault → DrawFault
+fault_of sink_faults.Memory = faults.Memory
+fault_of sink_faults.Write = faults.Sink
+
+-- where a fault comes from
+pub data Cause : Type 0 where
+  -- the codes of the stream
+  stream : Cause
+  -- want of memory
+  memory : Cause
+  -- the device behind the sink
+  device : Cause
+
+abbrev pub cause_of : DrawFault → Cause
+cause_of faults.Memory = memory
+cause_of faults.Sink = device
+cause_of _ = stream
+
+-- a front of the list was taken
+abbrev pub Puts : {S : Type 0} → (S → List Entry → S → Type 0) → S → List Entry → S → Type 0
+Puts took s list t = (front : List Entry) × (rest : List Entry) × (list ≡ front ++ rest) × took s front t
+
+-- a front of the list was taken, and the next entry broke
+abbrev pub Breaks : {S : Type 0} → (S → List Entry → Entry → S → Type 0) → S → List Entry → S → Type 0
+Breaks broke s list t = (front : List Entry) × (next : Entry) × (rest : List Entry) × (list ≡ front ++ next ∷ rest) × broke s front next t
+
+-- what a sink took of the entries that a rule gives, where this fault was answered
+abbrev pub DrawsBy : {S : Type 0} → (S → List Entry → S → Type 0) → (S → List Entry → Entry → S → Type 0) → (S → Bool) → Result Drawn DrawFault → S → S → DrawFault → Cause → Type 0
+DrawsBy took broke failed by s t fault stream = (by ≡ Err fault) × (t ≡ s)
+DrawsBy took broke failed by s t fault memory = (drawn : Drawn) × (by ≡ Ok drawn) × Puts took s drawn.entries t
+DrawsBy took broke failed by s t fault device = (drawn : Drawn) × (by ≡ Ok drawn) × (((failed s ≡ true) × (t ≡ s)) ⊎ Breaks broke s drawn.entries t)
+
+-- what a sink took of the entries that a rule gives, where this was answered
+abbrev pub Draws : {S : Type 0} → (S → List Entry → S → Type 0) → (S → List Entry → Entry → S → Type 0) → (S → Bool) → Result Drawn DrawFault → S → S → Result Effects DrawFault → Type 0
+Draws took broke failed by s t (Ok effects) = (entries : List Entry) × (by ≡ Ok (record { entries = entries; work = effects.work; clears = effects.clears })) × took s entries t
+Draws took broke failed by s t (Err fault) = DrawsBy took broke failed by s t fault (cause_of fault)
+
+-- what a sink took of a list that was put
+abbrev pub PutsAll : {S : Type 0} → (S → List Entry → S → Type 0) → (S → List Entry → Entry → S → Type 0) → (S → Bool) → List Entry → S → S → Result (Unit {0}) SinkFault → Type 0
+PutsAll took broke failed list s t (Ok _) = took s list t
+PutsAll took broke failed list s t (Err sink_faults.Memory) = Puts took s list t
+PutsAll took broke failed list s t (Err sink_faults.Write) = ((failed s ≡ true) × (t ≡ s)) ⊎ Breaks broke s list t

@@ -1,0 +1,64 @@
+use Rattle.std.specs.Prelude.{◌≡◌, List, [], ◌∷◌, map, Option, Some, None, IsSome, option_map, option_to_list, unwrap_or, Result, Ok, Err}
+use Rattle.nap_list.specs.declared.entry.Entry.{Entry}
+use Rattle.nap_list.specs.declared.entry.Entry.TheVariants as shapes
+use Rattle.nap_list.specs.declared.attribute.Pen.TheVariants as pens
+use Rattle.nap_list.specs.declared.state.State.{State}
+use Rattle.nap_list.specs.State.{with_pen}
+use Rattle.nap_values.specs.Coordinates.{Coordinates}
+use Rattle.nap_draw.specs.declared.entries.Dots.{Dots}
+use Rattle.nap_draw.specs.declared.entries.Strokes.{Strokes}
+use Rattle.nap_draw.specs.declared.entries.Entries.{Entries}
+use Rattle.nap_draw.specs.declared.entries.Entries.TheVariants as kinds
+use Rattle.nap_draw.specs.declared.plan.Plan.{Plan}
+use Rattle.nap_draw.specs.declared.fault.DrawFault.{DrawFault}
+use Rattle.nap_draw.specs.declared.fault.DrawFault.TheVariants as faults
+use Rattle.nap_draw.specs.Geometry.{end_of}
+use Rattle.nap_draw.specs.Cursors.{targets_left, spans_left}
+use Rattle.nap_draw.specs.Rule.{Drawn}
+use Rattle.nap_draw.specs.Draws.{Cause, stream, memory, device, cause_of}
+
+-- What is left to be put of an opcode's entries, where no point is outside the square.
+
+abbrev pub dots_left : Dots → Option (List Entry)
+dots_left dots = option_map (map (λ at. shapes.Point at dots.ink.pel dots.ink.colour)) (targets_left dots.targets)
+
+abbrev pub strokes_left : Strokes → Option (List Entry)
+strokes_left strokes = option_map (map (λ s. shapes.Line s.from s.to strokes.ink)) (spans_left strokes.spans)
+
+abbrev pub entries_left : Entries → Option (List Entry)
+entries_left (kinds.Single entry) = Some (option_to_list entry)
+entries_left (kinds.Dots dots) = dots_left dots
+entries_left (kinds.Strokes strokes) = strokes_left strokes
+
+abbrev pub AreInside : Entries → Type 0
+AreInside entries = IsSome (entries_left entries)
+
+abbrev pub listed : Entries → List Entry
+listed entries = unwrap_or (entries_left entries) []
+
+-- an iterator went from s to t and gave its first item
+abbrev pub YieldsWhole : {S A : Type 0} → (S → Option (List A)) → S → Option A → S → Type 0
+YieldsWhole left s None t = left s ≡ Some []
+YieldsWhole {S} {A} left s (Some x) t = (xs : List A) × (left t ≡ Some xs) × (left s ≡ Some (x ∷ xs))
+
+-- the last item, if there is one, or else this, where no point is outside the square
+abbrev pub end_inside : {A : Type 0} → Option A → Option (List A) → Result (Option A) DrawFault
+end_inside o None = Err faults.Outside
+end_inside o (Some xs) = Ok (end_of o xs)
+
+-- the state after entries that only move the pen, by where the last of them leaves it
+abbrev pub landed : State → Option Coordinates → State
+landed s None = s
+landed s (Some p) = record s { drawing = with_pen (pens.At p) s.drawing; last = None }
+
+-- why there is no plan: as the rule has it, or for want of memory, where the rule has entries
+abbrev pub PlansNot : Result Drawn DrawFault → DrawFault → Cause → Type 0
+PlansNot by fault stream = by ≡ Err fault
+PlansNot by fault memory = (drawn : Drawn) × (by ≡ Ok drawn)
+PlansNot by fault device = ⊥
+
+-- the plan is to do what the rule gives
+abbrev pub Plans : Result Drawn DrawFault → Result Plan DrawFault → Type 0
+Plans by (Ok plan) = (list : List Entry) × (entries_left plan.entries ≡ Some list)
+    × (by ≡ Ok (record { entries = list; work = plan.effects.work; clears = plan.effects.clears }))
+Plans by (Err fault) = PlansNot by fault (cause_of fault)

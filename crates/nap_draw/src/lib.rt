@@ -1,0 +1,20 @@
+//! The rule of each code that draws: its entries, and the work that it leaves.
+#![tactic(auto)]
+
+mod act;
+mod domain;
+mod entries;
+pub mod fault;
+pub mod laws;
+mod lines;
+mod operands;
+mod plan;
+mod points;
+mod put;
+mod spans;
+mod targets;
+pub mod work;
+
+pub use act::apply;
+pub use fault::DrawFault;
+pub use work::{Effects, Work};

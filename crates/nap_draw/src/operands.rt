@@ -1,0 +1,83 @@
+// The operands of a run, one after another.
+ghost use Rattle.std.specs.Prelude.{◌≡◌, length, List, Result, Err, IfOk, IfErr};
+ghost use Rattle.std.specs.Iterator.{YieldsFirst, item_count};
+ghost use Rattle.nap_values.specs.Coordinates.{Coordinates, Displacement};
+ghost use Rattle.nap_draw.specs.declared.fault.DrawFault.{DrawFault};
+ghost use Rattle.nap_draw.specs.Operands.{moves};
+ghost use Rattle.nap_draw.specs.Rule.{Drawn, moves_of, with_operands, from_pen};
+ghost use Rattle.nap_draw.specs.Draws.{stream, cause_of};
+ghost use Rattle.nap_draw.specs.Cursors.{moves_left};
+
+use crate::fault::DrawFault;
+use crate::work::Work;
+use nap_list::Pen;
+use nap_values::operand::multi;
+use nap_values::{Domain, Move, Point, Word};
+
+/// The multi-value operands of a run that are still to be read.
+#[derive(Drop)]
+pub(crate) struct Moves<'a> {
+    pub domain: Domain,
+    pub rest: &'a [Word],
+}
+
+/// An operand at least is needed.
+pub(crate) fn some_operand(work: &Work, run: &[Word]) -> Result<(), DrawFault>
+    ensures ok { IfOk result (λ _. (f : List Displacement → Result Drawn DrawFault) → with_operands work.now run.now f ≡ f (moves_of work.now run.now)) }
+    ensures err { IfErr result (λ fault. (cause_of fault ≡ stream) × ((f : List Displacement → Result Drawn DrawFault) → with_operands work.now run.now f ≡ Err fault)) }
+{
+    if run.is_empty() {
+        return Err(DrawFault::Missing);
+    }
+    Ok(())
+}
+
+/// The point that operands go on from, of which one at least is needed.
+pub(crate) fn start(work: &Work, run: &[Word]) -> Result<Point, DrawFault>
+    ensures ok { IfOk result (λ p. (f : Coordinates → List Displacement → Result Drawn DrawFault) → from_pen work.now run.now f ≡ f p (moves_of work.now run.now)) }
+    ensures err { IfErr result (λ fault. (cause_of fault ≡ stream) × ((f : Coordinates → List Displacement → Result Drawn DrawFault) → from_pen work.now run.now f ≡ Err fault)) }
+{
+    some_operand(work, run)?;
+    match work.state.drawing.pen {
+        Pen::At(point) => Ok(point),
+        Pen::Start => Ok(Point::ORIGIN),
+        Pen::After => Err(DrawFault::PenUnknown),
+    }
+}
+
+impl<'a> Moves<'a> {
+    /// All the operands of the run.
+    pub(crate) fn new(domain: Domain, run: &'a [Word]) -> Moves<'a>
+        ensures { moves_left result ≡ moves domain.multi run.now }
+    {
+        Moves { domain, rest: run }
+    }
+
+    /// The same operands again.
+    pub(crate) fn copy(&self) -> Moves<'a>
+        ensures { result ≡ self.now }
+    {
+        Moves {
+            domain: self.domain,
+            rest: self.rest,
+        }
+    }
+}
+
+impl Iterator for Moves<'_> {
+    type Item = Move;
+
+    ghost next_gives = { YieldsFirst moves_left };
+
+    ghost remaining = { item_count moves_left };
+
+    fn next(&mut self) -> Option<Move> {
+        if self.rest.is_empty() {
+            return None;
+        }
+        let size = self.domain.multi();
+        let (operand, rest) = self.rest.split_at(usize::from(size).min(self.rest.len()));
+        self.rest = rest;
+        Some(multi(operand, size))
+    }
+}

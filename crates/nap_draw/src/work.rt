@@ -1,0 +1,105 @@
+ghost use Rattle.std.specs.Prelude.{◌≡◌, false, unwrap_or};
+ghost use Rattle.nap_list.specs.State.{with_pen_at};
+ghost use Rattle.nap_draw.specs.Rule.{start_domain, start_work, ink_of, with_drawing};
+ghost use Rattle.nap_draw.specs.Plans.{landed};
+
+use nap_list::{Ink, Pen, State};
+use nap_values::{Domain, Move, Point};
+
+/// What the codes of a stream work on: the lengths of operands, the values that stand, and the lengths that the end of
+/// the definition that is open puts back.
+#[derive(PartialEq, Eq, Debug, Drop)]
+pub struct Work {
+    pub domain: Domain,
+    pub state: State,
+    pub saved: Domain,
+}
+
+/// What an opcode leaves: the work, and whether all macros are cleared.
+#[derive(PartialEq, Eq, Debug, Drop)]
+pub struct Effects {
+    pub work: Work,
+    pub clears: bool,
+}
+
+/// Operands of three words and of one.
+fn start_domain() -> Domain
+    ensures { result ≡ start_domain }
+{
+    Domain::try_new(3, 1).unwrap()
+}
+
+impl Effects {
+    /// The work, and no macro cleared.
+    pub(crate) fn quiet(work: Work) -> Effects
+        ensures { result ≡ record { work = work; clears = false } }
+    {
+        Effects {
+            work,
+            clears: false,
+        }
+    }
+}
+
+impl Work {
+    /// The work before any code.
+    pub fn start() -> Work
+        ensures { result ≡ start_work }
+    {
+        Work {
+            domain: start_domain(),
+            state: State::start(),
+            saved: start_domain(),
+        }
+    }
+
+    /// The same work again.
+    pub fn copy(&self) -> Work
+        ensures { result ≡ self.now }
+    {
+        Work {
+            domain: self.domain,
+            state: self.state.copy(),
+            saved: self.saved,
+        }
+    }
+
+    /// What lines and areas are drawn with.
+    pub(crate) fn ink(&self) -> Ink
+        ensures { result ≡ ink_of self.now.state.drawing }
+    {
+        Ink {
+            pel: self.state.drawing.pel,
+            colour: self.state.drawing.colour,
+            texture: self.state.drawing.texture,
+        }
+    }
+
+    /// The pel becomes this, where there is one.
+    pub(crate) fn set_pel(&mut self, pel: Option<Move>)
+        ensures { self.new ≡ with_drawing self.old (record self.old.state.drawing { pel = unwrap_or pel self.old.state.drawing.pel }) }
+    {
+        if let Some(pel) = pel {
+            self.state.drawing.pel = pel;
+        }
+    }
+
+    /// The pen goes to the point, where there is one.
+    pub(crate) fn go(&mut self, point: Option<Point>)
+        ensures { self.new ≡ with_drawing self.old (with_pen_at point self.old.state.drawing) }
+    {
+        if let Some(point) = point {
+            self.state.drawing.pen = Pen::At(point);
+        }
+    }
+
+    /// The pen comes to the point, where there is one, by an entry that was put.
+    pub(crate) fn land(&mut self, point: Option<Point>)
+        ensures { self.new ≡ record self.old { state = landed self.old.state point } }
+    {
+        if let Some(point) = point {
+            self.state.drawing.pen = Pen::At(point);
+            self.state.last = None;
+        }
+    }
+}

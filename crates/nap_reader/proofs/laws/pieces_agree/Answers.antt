@@ -1,0 +1,5 @@
+use Rattle.nap_reader.proofs.LawLemmas.{pieces_agree}
+use Rattle.nap_reader.proofs.laws.pieces_agree.Goals as goal
+
+pub returns : goal.returns
+returns c = pieces_agree

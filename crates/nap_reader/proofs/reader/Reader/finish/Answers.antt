@@ -1,0 +1,23 @@
+use Rattle.std.proofs.Common.{subst}
+use Rattle.nap_reader.specs.Stream.{begun, means}
+use Rattle.nap_reader.specs.Taking.{Has}
+use Rattle.nap_reader.proofs.ReadingLemmas.{means_latched}
+use Rattle.nap_reader.proofs.reader.Reader.finish.Goals as goal
+
+pub returns-in-Some-clause-err : goal.returns-in-Some-clause-err
+returns-in-Some-clause-err g c s p h =
+    let r = c.args.self in
+    let k = subst (Has g.S.Sink s (begun r.budget p) c.into_sink-sink.result) c.in-Some.is (c.into_sink-sink.ensures.list s p h) in
+    means_latched g.S.Sink s c.into_sink-sink.result r.budget p c.in-Some.refusal k
+
+pub returns-in-Some-refusal-clause-err : goal.returns-in-Some-refusal-clause-err
+returns-in-Some-refusal-clause-err g c s p h =
+    let r = c.args.self in
+    let k = subst (Has g.S.Sink s (means r.budget p) c.end.new.self.sink) c.in-Some-refusal.is (c.end.ensures.ended s p h) in
+    rw c.into_sink-sink-in-Some-refusal.ensures.now k
+
+pub returns-in-None-clause-ok : goal.returns-in-None-clause-ok
+returns-in-None-clause-ok g c s p h =
+    let r = c.args.self in
+    let k = subst (Has g.S.Sink s (means r.budget p) c.end.new.self.sink) c.in-None.is (c.end.ensures.ended s p h) in
+    rw c.into_sink.ensures.now k

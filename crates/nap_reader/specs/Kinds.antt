@@ -1,0 +1,14 @@
+use Rattle.nap_codes.specs.declared.code.Code.{Code}
+use Rattle.nap_codes.specs.declared.code.Code.TheVariants as code
+use Rattle.nap_reader.specs.declared.kind.Kind.{Kind}
+use Rattle.nap_reader.specs.declared.kind.Kind.TheVariants.{Opens, Strays, AddsNothing, Unbuilt}
+
+-- what a reader does with each code; no name is bound, so a call adds nothing
+abbrev pub kind_of : Code → Kind
+kind_of (code.Op op) = Opens op
+kind_of (code.Operand word) = Strays
+kind_of code.Fill = AddsNothing
+kind_of code.Shifted = AddsNothing
+kind_of (code.Designated number set) = AddsNothing
+kind_of (code.Call name) = AddsNothing
+kind_of _ = Unbuilt

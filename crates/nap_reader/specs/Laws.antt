@@ -1,0 +1,34 @@
+use Rattle.std.specs.Prelude.{◌≡◌, ◌+◌, ℕ, List, [], ◌∷◌, ◌++◌, Some, None, length}
+use Rattle.nap_list.specs.declared.entry.Entry.{Entry}
+use Rattle.nap_list.specs.State.{Legal}
+use Rattle.nap_reader.specs.declared.fault.Refusal.{Refusal}
+use Rattle.nap_reader.specs.Course.{continue}
+use Rattle.nap_reader.specs.Stream.{Outcome, placed_from, outcome_from, begun, means}
+
+-- More bytes behind add entries at the end alone.
+abbrev pub MoreBytesKeepEntries : Type 0
+MoreBytesKeepEntries = (budget : ℕ) (p q : List ℕ) →
+    (more : List Entry) × ((begun budget (p ++ q)).entries ≡ (begun budget p).entries ++ more)
+
+-- More bytes behind a stream that is refused leave its entries and its refusal.
+abbrev pub MoreBytesKeepRefusal : Type 0
+MoreBytesKeepRefusal = (budget : ℕ) (p q : List ℕ) (r : Refusal) → (begun budget p).refusal ≡ Some r →
+    begun budget (p ++ q) ≡ begun budget p
+
+-- all the bytes of the pieces, one piece after another
+abbrev pub joined : List (List ℕ) → List ℕ
+joined [] = []
+joined (piece ∷ pieces) = piece ++ joined pieces
+
+-- what is known of a stream once these pieces have come, where it stands at this place
+abbrev pub in_pieces : ℕ → Outcome → List (List ℕ) → Outcome
+in_pieces n o [] = o
+in_pieces n o (piece ∷ pieces) = in_pieces (n + length piece) (continue outcome_from o (placed_from n piece)) pieces
+
+-- What is known of a stream that comes in pieces is what is known of its bytes, so two ways to cut it agree.
+abbrev pub PiecesAgree : Type 0
+PiecesAgree = (budget : ℕ) (pieces : List (List ℕ)) → in_pieces 0 (begun budget []) pieces ≡ begun budget (joined pieces)
+
+-- An accepted stream has a legal list.
+abbrev pub AcceptedIsLegal : Type 0
+AcceptedIsLegal = (budget : ℕ) (p : List ℕ) → (means budget p).refusal ≡ None → Legal (means budget p).entries

@@ -1,0 +1,10 @@
+pub mod Course
+pub mod Faults
+pub mod Kinds
+pub mod Stream
+pub mod Held
+pub mod Taking
+pub mod Reading
+pub mod Carried
+pub mod Standing
+pub mod Laws

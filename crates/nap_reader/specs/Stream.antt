@@ -1,0 +1,172 @@
+use Rattle.std.specs.Prelude.{ℕ, zero, suc, ◌-◌, ◌&&◌, nat_lt, nat_le, Bool, if◌then◌else◌, List, [], ◌∷◌, ◌++◌, length, map, take, drop, Option, Some, None, Result, Ok, Err}
+use Rattle.std.specs.List.{prefix_len}
+use Rattle.nap_codes.specs.declared.code.Code.TheVariants as code
+use Rattle.nap_codes.specs.declared.code_set.CodeSets.{CodeSets}
+use Rattle.nap_codes.specs.declared.opcode.Opcode.{Opcode}
+use Rattle.nap_codes.specs.CodeSets.{start_sets}
+use Rattle.nap_codes.specs.Front as codes
+use Rattle.nap_list.specs.declared.entry.Entry.{Entry}
+use Rattle.nap_list.specs.declared.state.Opened.{Opened}
+use Rattle.nap_draw.specs.declared.work.Work.{Work}
+use Rattle.nap_draw.specs.declared.fault.DrawFault.{DrawFault}
+use Rattle.nap_draw.specs.Rule.{Drawn, rule, start_work}
+use Rattle.nap_reader.specs.declared.fault.Fault.{Fault}
+use Rattle.nap_reader.specs.declared.fault.Fault.TheVariants as faults
+use Rattle.nap_reader.specs.declared.fault.Refusal.{Refusal}
+use Rattle.nap_reader.specs.declared.kind.Kind.{Kind}
+use Rattle.nap_reader.specs.declared.kind.Kind.TheVariants as kinds
+use Rattle.nap_reader.specs.Faults.{code_fault, draw_fault}
+use Rattle.nap_reader.specs.Kinds.{kind_of}
+use Rattle.nap_reader.specs.Course as course
+
+-- a byte, and the place that it has in the input
+pub record Placed : Type 0 where
+  pub byte : ℕ
+  pub place : ℕ
+
+-- the bytes of an input, the first of them at this place
+unfoldable pub placed_from : ℕ → List ℕ → List Placed
+placed_from n [] = []
+placed_from n (b ∷ bs) = record { byte = b; place = n } ∷ placed_from (suc n) bs
+
+abbrev pub bytes_of : List Placed → List ℕ
+bytes_of xs = map (λ x. x.byte) xs
+
+-- what stands between two codes: the drawing state, the code sets, and what may still be charged
+pub record Machine : Type 0 where
+  pub work : Work
+  pub sets : CodeSets
+  pub left : ℕ
+
+abbrev pub Outcome : Type 0
+Outcome = course.Outcome Machine Entry Refusal Placed
+
+abbrev pub Front : Type 0
+Front = course.Front Machine Entry Refusal Placed
+
+abbrev pub refusal : Fault → ℕ → Refusal
+refusal fault place = record { fault = fault; place = place }
+
+-- operand bytes
+
+abbrev pub is_operand_byte : ℕ → Bool
+is_operand_byte b = nat_le 64 b && nat_lt b 128
+
+abbrev pub is_operand : Placed → Bool
+is_operand x = is_operand_byte x.byte
+
+-- how many operand bytes stand at the front
+abbrev pub run_length : List Placed → ℕ
+run_length xs = prefix_len is_operand xs
+
+-- the words that operand bytes carry
+abbrev pub words_of : List Placed → List ℕ
+words_of xs = map (λ x. x.byte - 64) xs
+
+-- the opcode's rule has acted
+abbrev pub drawn_front : Machine → ℕ → List Placed → Result Drawn DrawFault → Front
+drawn_front m place rest (Ok drawn) = course.act drawn.entries (record m { work = drawn.work }) rest
+drawn_front m place rest (Err fault) = course.refuse (refusal (draw_fault fault) place)
+
+-- A run that reaches the end of the list isn't over.
+abbrev pub closed_front : Machine → Opcode → ℕ → List Placed → List Placed → Front
+closed_front m op place run [] = course.pause
+closed_front m op place run (x ∷ xs) = drawn_front m place (x ∷ xs) (rule m.work op (words_of run))
+
+-- the most operand bytes of one opcode
+abbrev pub run_limit : ℕ
+run_limit = 16384
+
+-- an opcode on its run, and what stands behind the run
+abbrev pub run_front : Machine → Opcode → ℕ → List Placed → List Placed → Front
+run_front m op place run rest =
+    if nat_lt run_limit (length run) then course.refuse (refusal faults.LongRun place)
+    else closed_front m op place run rest
+
+-- an opcode takes the longest run of operand bytes behind it
+abbrev pub opcode_front : Machine → Opcode → ℕ → List Placed → Front
+opcode_front m op place xs = run_front m op place (take (run_length xs) xs) (drop (run_length xs) xs)
+
+-- what stands at the front where a code of this kind ends at this place, and this stands behind it
+abbrev pub code_front : Machine → Kind → ℕ → List Placed → Front
+code_front m (kinds.Opens op) place rest = opcode_front m op place rest
+code_front m kinds.Strays place rest = course.refuse (refusal faults.Stray place)
+code_front m kinds.AddsNothing place rest = course.act [] m rest
+code_front m kinds.Unbuilt place rest = course.refuse (refusal faults.Unbuilt place)
+
+-- the place of the byte at this index
+abbrev pub place_at : List Placed → ℕ → ℕ
+place_at [] i = 0
+place_at (x ∷ xs) zero = x.place
+place_at (x ∷ xs) (suc i) = place_at xs i
+
+abbrev pub front_by : Machine → List Placed → codes.Front → Front
+front_by m xs codes.unfinished = course.pause
+front_by m xs (codes.refused fault i) = course.refuse (refusal (code_fault fault) (place_at xs i))
+front_by m xs (codes.whole code n sets) = code_front (record m { sets = sets }) (kind_of code) (place_at xs (n - 1)) (drop n xs)
+
+-- what stands at the front of the list
+unfoldable pub front : Machine → List Placed → Front
+front m xs = front_by m xs (codes.front m.sets (bytes_of xs))
+
+abbrev pub left_of : Machine → ℕ
+left_of m = m.left
+
+-- what comes of a list from here on
+abbrev pub outcome_from : Machine → List Placed → Outcome
+outcome_from m xs = course.outcome front left_of m xs
+
+-- the machine at the start of a reading with this budget
+abbrev pub start_machine : ℕ → Machine
+start_machine budget = record { work = start_work; sets = start_sets; left = budget }
+
+-- what is known of a stream that may go on
+abbrev pub begun : ℕ → List ℕ → Outcome
+begun budget p = outcome_from (start_machine budget) (placed_from 0 p)
+
+-- the end of a stream
+
+-- an outcome in which the opcode at this place acted at last
+abbrev pub with_drawn : Outcome → ℕ → Result Drawn DrawFault → Outcome
+with_drawn o place (Ok drawn) = record {
+  entries = o.entries ++ drawn.entries;
+  refusal = None;
+  machine = record o.machine { work = drawn.work };
+  rest = [];
+}
+with_drawn o place (Err fault) = record o { refusal = Some (refusal (draw_fault fault) place) }
+
+-- A front that is a whole code at the end is that of an open run.
+abbrev pub with_run_by : Outcome → codes.Front → List Placed → Outcome
+with_run_by o (codes.whole (code.Op op) n sets) (x ∷ run) = with_drawn o x.place (rule o.machine.work op (words_of run))
+with_run_by o _ _ = o
+
+-- an open run acts
+abbrev pub with_run : Outcome → Outcome
+with_run o = with_run_by o (codes.front o.machine.sets (bytes_of o.rest)) o.rest
+
+-- a definition that is open at the end is refused there
+abbrev pub with_definition : Outcome → ℕ → Option Opened → Outcome
+with_definition o n None = o
+with_definition o n (Some opened) = record o { refusal = Some (refusal faults.Unended n) }
+
+-- a code that is unfinished at the end is refused there
+abbrev pub with_rest : Outcome → ℕ → List Placed → Outcome
+with_rest o n [] = with_definition o n o.machine.work.state.definition
+with_rest o n (x ∷ xs) = record o { refusal = Some (refusal faults.Cut n) }
+
+abbrev pub with_end : Outcome → ℕ → Option Refusal → Outcome
+with_end o n (Some r) = o
+with_end o n None = with_rest o n o.rest
+
+abbrev pub ended_by : Outcome → ℕ → Option Refusal → Outcome
+ended_by o n (Some r) = o
+ended_by o n None = with_end (with_run o) n (with_run o).refusal
+
+-- the stream ends here, at this place: an open run acts, then what is unfinished is refused
+abbrev pub ended : ℕ → Outcome → Outcome
+ended n o = ended_by o n o.refusal
+
+-- what a whole stream means
+abbrev pub means : ℕ → List ℕ → Outcome
+means budget p = ended (length p) (begun budget p)

@@ -1,0 +1,54 @@
+ghost use Rattle.std.specs.Prelude.{◌≡◌, ◌≤◌, ◌↔◌, IsSome, IfSome};
+
+use std::marker::Model;
+
+/// How many bytes of macro bodies one reading may be charged with (our profile).
+#[derive(Clone, Copy, PartialEq, Eq, Debug, Drop)]
+pub struct Budget(u32);
+
+impl Model for Budget {
+    ghost use Rattle.std.specs.Prelude.{ℕ, ◌≤◌};
+
+    ghost Value = { ℕ };
+
+    ghost view = { λ b. b.0 };
+
+    ghost invariant = { λ b. b.0 ≤ 16777216 };
+
+    ghost inverse = { λ n. record { 0 = n } };
+}
+
+impl Budget {
+    /// The greatest budget, in bytes.
+    pub const MOST: u32 = 16_777_216;
+
+    /// The usual budget, in bytes.
+    pub const USUAL: u32 = 1_048_576;
+
+    /// The budget of this many bytes.
+    pub fn new(bytes: u32) -> Option<Budget>
+        ensures found { IsSome result ↔ (bytes ≤ 16777216) }
+        ensures value { IfSome result (λ budget. budget ≡ bytes) }
+    {
+        if bytes <= Self::MOST {
+            Some(Budget(bytes))
+        } else {
+            None
+        }
+    }
+
+    /// The budget of a reading for which none is chosen.
+    pub fn usual() -> Budget
+        ensures { result ≡ 1048576 }
+    {
+        Budget(Self::USUAL)
+    }
+
+    /// The budget in bytes.
+    pub fn get(self) -> u32
+        ensures value { result ≡ self }
+        ensures most { result ≤ 16777216 }
+    {
+        self.0
+    }
+}

@@ -1,0 +1,34 @@
+// What a reader does with a code.
+ghost use Rattle.std.specs.Prelude.{◌≡◌};
+ghost use Rattle.nap_reader.specs.Kinds.{kind_of};
+
+use nap_codes::{Code, Opcode};
+
+/// What a reader does with a code.
+#[derive(Clone, Copy, PartialEq, Eq, Debug, Drop)]
+pub enum Kind {
+    /// It opens a run of operand bytes.
+    Opens(Opcode),
+    /// It is an operand word outside a run.
+    Strays,
+    /// It adds nothing.
+    AddsNothing,
+    /// It isn't built yet.
+    Unbuilt,
+}
+
+impl Kind {
+    /// The kind of a code.
+    pub fn of(code: Code) -> Kind
+        ensures { result ≡ kind_of code }
+    {
+        match code {
+            Code::Op(op) => Kind::Opens(op),
+            Code::Operand(_) => Kind::Strays,
+            Code::Fill | Code::Shifted | Code::Designated(_, _) | Code::Call(_) => {
+                Kind::AddsNothing
+            }
+            _ => Kind::Unbuilt,
+        }
+    }
+}

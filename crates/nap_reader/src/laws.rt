@@ -1,0 +1,22 @@
+// Laws of what a stream means, which no call can break.
+ghost use Rattle.nap_reader.specs.Laws.{AcceptedIsLegal, MoreBytesKeepEntries, MoreBytesKeepRefusal, PiecesAgree};
+
+/// More bytes behind a stream change no entry that it has given: its entries come first in those of the longer stream.
+pub fn more_bytes_keep_entries()
+    ensures { MoreBytesKeepEntries }
+{}
+
+/// More bytes behind a stream that is refused change nothing at all.
+pub fn more_bytes_keep_refusal()
+    ensures { MoreBytesKeepRefusal }
+{}
+
+/// What is known of a stream doesn't depend on how it is cut into pieces.
+pub fn pieces_agree()
+    ensures { PiecesAgree }
+{}
+
+/// The list of a stream that is accepted is legal.
+pub fn accepted_is_legal()
+    ensures { AcceptedIsLegal }
+{}

@@ -1,0 +1,24 @@
+// Reads a whole stream.
+ghost use Rattle.std.specs.Prelude.{◌≡◌, ◌≢◌, ◌<◌, ◌^◌, None, Some, length, IfOk, IfErr};
+ghost use Rattle.nap_reader.specs.Stream.{means};
+
+use crate::budget::Budget;
+use crate::fault::{Fault, Refusal};
+use crate::reader::Reader;
+use nap_list::{Entry, ListSink};
+use std::alloc::Global;
+
+/// The display list of a stream, or why and where it is refused.
+pub fn read_all(alloc: Global, budget: Budget, bytes: &[u8]) -> Result<Vec<Entry>, Refusal>
+    requires { length bytes.now < 2 ^ 63 }
+    ensures accepted { IfOk result (λ list. (means budget bytes.now).refusal ≡ None) }
+    ensures list { IfOk result (λ list. list.items ≡ (means budget bytes.now).entries) }
+    ensures refused { IfErr result (λ r. r.fault ≢ Fault.Memory → (means budget bytes.now).refusal ≡ Some r) }
+{
+    let mut reader = Reader::new(alloc, budget, ListSink::new(alloc));
+    reader.feed(bytes)?;
+    match reader.finish() {
+        Ok(sink) => Ok(sink.into_list()),
+        Err(stopped) => Err(stopped.refusal),
+    }
+}

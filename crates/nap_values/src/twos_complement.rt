@@ -1,0 +1,35 @@
+//! Numbers of 24 bits, the highest of which is their sign.
+ghost use Rattle.std.specs.Prelude.{◌≡◌, ◌<◌, ◌≤ℤ◌, ◌<ℤ◌, pos, negsuc};
+ghost use Rattle.nap_values.specs.TwosComplement.{signed_of, bits_of};
+
+/// All bits of a number are below this.
+pub(crate) const MODULUS: u32 = 16_777_216;
+
+/// Bits from here on have the sign.
+const SIGN: u32 = 8_388_608;
+
+/// The number that these bits stand for.
+pub(crate) fn signed(bits: u32) -> i32
+    requires { bits < 16777216 }
+    ensures { result ≡ signed_of bits }
+{
+    if bits < SIGN {
+        bits as i32
+    } else {
+        bits as i32 - MODULUS as i32
+    }
+}
+
+/// The bits that stand for this number.
+pub(crate) fn bits(number: i32) -> u32
+    requires low { negsuc 8388607 ≤ℤ number }
+    requires high { number <ℤ pos 8388608 }
+    ensures value { result ≡ bits_of number }
+    ensures below { result < 16777216 }
+{
+    if number >= 0 {
+        number as u32
+    } else {
+        (number + MODULUS as i32) as u32
+    }
+}
