@@ -1,4 +1,8 @@
-use Rattle.std.proofs.Common.{◌≡◌, ℕ, suc, zero, ◌-◌, ◌<◌, ◌≤◌, ◌≢◌, min, List, [], ◌∷◌, ◌++◌, length, map, take, drop, Result, Ok, Err, refl, sym, ◌∙◌, ap, arith, append_assoc, append-nil}
+use Rattle.std.proofs.Common.{◌≡◌, ℕ, suc, zero, ◌+◌, ◌-◌, ◌<◌, ◌≤◌, ◌≢◌, min, List, [], ◌∷◌, ◌++◌, length, map, take, drop, Result, Ok, Err, refl, sym, ◌∙◌, ap, arith, append_assoc, append-nil, length-drop, Bool, true, false, leb}
+use Rattle.std.proofs.Math.Nat.{add-div_left, add-mod_left, div-eq_of_lt, mod-eq_of_lt}
+use Rattle.std.proofs.lemmas.List.{length-map}
+use Rattle.std.proofs.lemmas.Bool.Decides.{nat_tests}
+use Rattle.std.specs.Int.{div_ceil}
 use Rattle.nap_values.specs.Operands.{multi_of}
 use Rattle.nap_draw.specs.declared.fault.DrawFault.TheVariants.{Missing}
 use Rattle.nap_draw.specs.Operands.{cut, operands, moves}
@@ -52,3 +56,41 @@ more_of work (word ∷ words) more f =
     let k = work.domain.multi in
     let e = ap (map multi_of) (cut-front k (k - 1) (word ∷ []) words) in
     ap (λ ms. and_then ms f) (some_ok _ _ _ e)
+
+-- how many operands there are
+
+ceil_zero : (k : ℕ) → 0 < k → div_ceil 0 k ≡ 0
+ceil_zero k some = rw (div-eq_of_lt some, mod-eq_of_lt some) refl
+
+ceil_more : (k n : ℕ) → 0 < k → div_ceil (k + n) k ≡ suc (div_ceil n k)
+ceil_more k n some = rw (add-div_left n some, add-mod_left k n) (omega arith)
+
+ceil_few : (k n : ℕ) → 0 < n → n < k → div_ceil n k ≡ 1
+ceil_few k n some less = rw (div-eq_of_lt less, mod-eq_of_lt less) (omega arith)
+
+by_size : (k : ℕ) (run rest : List ℕ) → 1 ≤ k → 0 < length run → length rest ≡ length run - min k (length run) →
+    suc (div_ceil (length rest) k) ≡ div_ceil (length run) k
+by_size k run rest some more left = at (leb k (length run)) refl
+  where
+    at : (b : Bool) → leb k (length run) ≡ b → suc (div_ceil (length rest) k) ≡ div_ceil (length run) k
+    at true whole =
+        let is : length run ≡ k + length rest = grind (arith, nat_tests) in
+        sym (ap (λ n. div_ceil n k) is ∙ ceil_more k (length rest) some)
+    at false part =
+        let less : length run < k = grind (arith, nat_tests) in
+        let none : length rest ≡ 0 = omega arith in
+        ap (λ n. suc (div_ceil n k)) none ∙ (ap suc (ceil_zero k some) ∙ sym (ceil_few k (length run) more less))
+
+count_within : (fuel k : ℕ) (run : List ℕ) → 1 ≤ k → length run ≤ fuel → length (operands k run) ≡ div_ceil (length run) k
+unfolding operands
+count_within fuel k [] some most = sym (ceil_zero k some)
+count_within zero k (word ∷ words) some most = absurd (omega arith)
+count_within (suc fuel) k (word ∷ words) some most =
+    let run : List ℕ = word ∷ words in
+    let rest : List ℕ = drop (min k (length run)) run in
+    let left : length rest ≡ length run - min k (length run) = length-drop (min k (length run)) run in
+    let front : length (operands k run) ≡ suc (length (operands k rest)) = ap length (operands-front k run some (omega arith)) in
+    front ∙ (ap suc (count_within fuel k rest some (omega arith)) ∙ by_size k run rest some (omega arith) left)
+
+pub moves_count_is : (k : ℕ) (run : List ℕ) → 1 ≤ k → length (moves k run) ≡ div_ceil (length run) k
+moves_count_is k run some = length-map (operands k run) multi_of ∙ count_within (length run) k run some (omega arith)

@@ -1,6 +1,6 @@
-use Rattle.std.proofs.Common.{◌≡◌, ℕ, ◌/◌, List, [], ◌∷◌, map, Bool, true, false, cond, eqb, Option, Some, None, Result, Ok, Err, refl, sym, ◌∙◌, ap, subst}
-use Rattle.std.specs.Option.{option_map}
-use Rattle.nap_values.specs.Coordinates.{Coordinates, Displacement}
+use Rattle.std.proofs.Common.{◌≡◌, ℕ, ◌/◌, List, [], ◌∷◌, map, Bool, true, false, cond, eqb, ltb, leb, ◌<◌, ◌≤◌, length, arith, Option, Some, None, Result, Ok, Err, refl, sym, ◌∙◌, ap, subst}
+use Rattle.std.specs.Option.{option_map, option_and_then}
+use Rattle.nap_values.specs.Coordinates.{Coordinates, Displacement, point_at}
 use Rattle.nap_codes.specs.declared.opcode.Opcode.{Opcode}
 use Rattle.nap_codes.specs.declared.opcode.Opcode.TheVariants as opcodes
 use Rattle.nap_list.specs.declared.attribute.Pen.{Pen}
@@ -8,17 +8,21 @@ use Rattle.nap_list.specs.declared.attribute.Pen.TheVariants as pens
 use Rattle.nap_list.specs.declared.entry.Entry.{Entry}
 use Rattle.nap_list.specs.declared.state.Drawing.{Drawing}
 use Rattle.nap_list.specs.declared.state.State.{State}
-use Rattle.nap_list.specs.Entry.{held}
-use Rattle.nap_list.specs.State.{AllFit, after, walk, with_pen, with_pen_at}
+use Rattle.nap_list.specs.Entry.{held, WellMade}
+use Rattle.nap_list.specs.State.{AllFit, Comes, after, walk, with_pen, with_pen_at}
 use Rattle.nap_list.specs.Agreement.{InMode, Holds, StatesAgree, Agrees}
 use Rattle.nap_list.proofs.Agreement.{agreeing_fits}
 use Rattle.nap_draw.specs.declared.work.Work.{Work}
+use Rattle.std.proofs.lemmas.Bool.Decides.{nat_tests}
+use Rattle.nap_list.specs.declared.attribute.Area.{Area}
 use Rattle.nap_draw.specs.declared.fault.DrawFault.{DrawFault}
-use Rattle.nap_draw.specs.Geometry.{end_of, points_at, reached, joined}
-use Rattle.nap_draw.specs.Rule.{Drawn, and_then, some_of, moves_of, pen_point, drawn, draws, goes, with_drawing, domain_rule, domain_in, with_domain, point_on, line_on, rule}
+use Rattle.nap_draw.specs.declared.fault.DrawFault.TheVariants as faults
+use Rattle.nap_draw.specs.Geometry.{end_of, points_at, reached, joined, between, away, across, arc_points, poly_points}
+use Rattle.nap_draw.specs.Rule.{Drawn, and_then, some_of, pairs_of, first_of, few_of, moves_of, pen_point, drawn, draws, draws_one, goes, with_drawing, domain_rule, domain_in, with_domain, shape_from_pen, shape_from_point, area_of, field_rule, point_on, line_on, rect_on, arc_on, poly_on, field_on, rule}
 use Rattle.nap_draw.specs.Laws.{RuleFits}
 use Rattle.nap_draw.specs.Plans.{landed}
-use Rattle.nap_draw.proofs.Walks.{Lands, one, point_lands, line_lands}
+use Rattle.nap_draw.proofs.Walks.{Lands, one, point_lands, line_lands, rect_lands}
+use Rattle.nap_draw.proofs.Outlines.{arc_made, poly_made}
 
 -- from agreeing states the entries fit one after another, and the states agree again
 Fitting : Work → Drawn → Type 0
@@ -109,6 +113,85 @@ pen_fits : (work : Work) (run : List ℕ) (f : Coordinates → List Displacement
     IsFitting work (and_then (some_of (moves_of work run)) (λ ms. and_then (pen_point work.state.drawing.pen) (λ p. f p ms)))
 pen_fits work run f each = operands_fit work run _ (λ ms. each_fits work (pen_point work.state.drawing.pen) (λ p. f p ms) (λ p. each p ms))
 
+pairs_fit : (work : Work) (run : List ℕ) (f : List Displacement → Result Drawn DrawFault) → ((ms : List Displacement) → IsFitting work (f ms)) →
+    IsFitting work (and_then (pairs_of (moves_of work run)) f)
+pairs_fit work run f each = each_fits work (pairs_of (moves_of work run)) f each
+
+-- one entry that holds the values that stand
+single_fits : (work : Work) (e : Entry) → Holds (held e) work.state.drawing → WellMade e → ((t : State) → Comes t e) → Fitting work (drawn work (e ∷ []))
+unfolding Fitting AllFit walk
+single_fits work e holds made comes shown a =
+    let fits = agreeing_fits work.state shown e a holds made (comes work.state) in ((fits.0, tt), fits.1)
+
+-- the continuation gets a list that isn't empty
+some_fit : (work : Work) (xs : List Displacement) (f : List Displacement → Result Drawn DrawFault) → ((ms : List Displacement) → 0 < length ms → IsFitting work (f ms)) →
+    IsFitting work (and_then (some_of xs) f)
+some_fit work [] f each = fault_fits work faults.Missing
+some_fit work (x ∷ xs) f each = each (x ∷ xs) (omega arith)
+
+-- and one that isn't too long
+few_fit : (work : Work) (ms : List Displacement) (f : List Displacement → Result Drawn DrawFault) → (length ms ≤ 1024 → IsFitting work (f ms)) →
+    IsFitting work (and_then (few_of ms) f)
+few_fit work ms f each = at (ltb 1024 (length ms)) refl
+  where
+    at : (b : Bool) → ltb 1024 (length ms) ≡ b → IsFitting work (and_then (cond b (Err faults.ManyPoints) (Ok ms)) f)
+    at true many = fault_fits work faults.ManyPoints
+    at false few = each (grind (arith, nat_tests))
+
+one_fits : {A : Type 0} (work : Work) (entry : Drawing → A → Entry) (o : Option A) →
+    ((x : A) → o ≡ Some x → Fitting work (drawn work (entry work.state.drawing x ∷ []))) → IsFitting work (draws_one work entry o)
+unfolding IsFitting
+one_fits work entry None fits = tt
+one_fits work entry (Some x) fits = fits x refl
+
+module _ (work : Work) (entry : Drawing → List Coordinates → Entry) (points : Coordinates → List Displacement → Option (List Coordinates))
+    (holds : (d : Drawing) (ps : List Coordinates) → Holds (held (entry d ps)) d) (comes : (d : Drawing) (ps : List Coordinates) (t : State) → Comes t (entry d ps))
+    (made : (d : Drawing) (p : Coordinates) (ms : List Displacement) (ps : List Coordinates) → 0 < length ms → length ms ≤ 1024 → points p ms ≡ Some ps → WellMade (entry d ps)) where
+  shape_fits : (p : Coordinates) (ms : List Displacement) → 0 < length ms → length ms ≤ 1024 → IsFitting work (draws_one work entry (points p ms))
+  shape_fits p ms some few =
+      let d = work.state.drawing in
+      one_fits work entry (points p ms) (λ ps is. single_fits work (entry d ps) (holds d ps) (made d p ms ps some few is) (comes d ps))
+
+  shape_pen_fits : (run : List ℕ) → IsFitting work (shape_from_pen work run entry points)
+  shape_pen_fits run =
+      some_fit work (moves_of work run) _ (λ ms some. few_fit work ms _ (λ few. each_fits work (pen_point work.state.drawing.pen) _ (λ p. shape_fits p ms some few)))
+
+  point_fits : (o : Option Coordinates) (ms : List Displacement) → 0 < length ms → length ms ≤ 1024 →
+      IsFitting work (draws_one work entry (option_and_then (λ p. points p ms) o))
+  point_fits None ms some few = fault_fits work faults.Outside
+  point_fits (Some p) ms some few = shape_fits p ms some few
+
+  first_fits : (xs : List Displacement) →
+      IsFitting work (and_then (first_of xs) (λ (m, ms). and_then (few_of ms) (λ ms. draws_one work entry (option_and_then (λ p. points p ms) (point_at m)))))
+  first_fits [] = fault_fits work faults.Missing
+  first_fits (m ∷ []) = fault_fits work faults.Missing
+  first_fits (m ∷ n ∷ ms) = few_fit work (n ∷ ms) _ (λ few. point_fits (point_at m) (n ∷ ms) (omega arith) few)
+
+  shape_point_fits : (run : List ℕ) → IsFitting work (shape_from_point work run entry points)
+  shape_point_fits run = first_fits (moves_of work run)
+
+holds_arc : (filled : Bool) (d : Drawing) (ps : List Coordinates) → Holds (held (arc_on filled d ps)) d
+holds_arc filled d ps = record { pen = tt; pel = refl; colour = refl; texture = refl; text = tt }
+
+holds_poly : (filled : Bool) (d : Drawing) (ps : List Coordinates) → Holds (held (poly_on filled d ps)) d
+holds_poly filled d ps = record { pen = tt; pel = refl; colour = refl; texture = refl; text = tt }
+
+arc_pen_fits : (work : Work) (filled : Bool) (run : List ℕ) → IsFitting work (shape_from_pen work run (arc_on filled) arc_points)
+arc_pen_fits work filled = shape_pen_fits work (arc_on filled) arc_points (holds_arc filled) (λ d ps t. tt) (λ d p ms ps some few is. arc_made p ms ps some few is)
+
+arc_point_fits : (work : Work) (filled : Bool) (run : List ℕ) → IsFitting work (shape_from_point work run (arc_on filled) arc_points)
+arc_point_fits work filled = shape_point_fits work (arc_on filled) arc_points (holds_arc filled) (λ d ps t. tt) (λ d p ms ps some few is. arc_made p ms ps some few is)
+
+poly_pen_fits : (work : Work) (filled : Bool) (run : List ℕ) → IsFitting work (shape_from_pen work run (poly_on filled) poly_points)
+poly_pen_fits work filled = shape_pen_fits work (poly_on filled) poly_points (holds_poly filled) (λ d ps t. tt) (λ d p ms ps some few is. poly_made p ms ps some few is)
+
+poly_point_fits : (work : Work) (filled : Bool) (run : List ℕ) → IsFitting work (shape_from_point work run (poly_on filled) poly_points)
+poly_point_fits work filled = shape_point_fits work (poly_on filled) poly_points (holds_poly filled) (λ d ps t. tt) (λ d p ms ps some few is. poly_made p ms ps some few is)
+
+field_fits : (work : Work) (ms : List Displacement) → IsFitting work (field_rule work ms)
+field_fits work ms = each_fits work (area_of work ms) _ (λ area. one_fits work field_on (Some area) (λ a is.
+    single_fits work (field_on work.state.drawing a) (record { pen = refl; pel = tt; colour = tt; texture = tt; text = tt }) tt (λ t. tt)))
+
 rule_is_fitting : (work : Work) (op : Opcode) (run : List ℕ) → IsFitting work (rule work op run)
 rule_is_fitting work opcodes.Domain run = domain_fits work run
 rule_is_fitting work opcodes.PointSetAbs run = operands_fit work run _ (λ ms. goes_fits work (points_at ms))
@@ -117,6 +200,21 @@ rule_is_fitting work opcodes.PointAbs run = operands_fit work run _ (λ ms. draw
 rule_is_fitting work opcodes.PointRel run = pen_fits work run _ (λ p ms. draws_fit point_on _ point_lands work (reached p ms))
 rule_is_fitting work opcodes.LineAbs run = pen_fits work run _ (λ p ms. draws_fit line_on _ line_lands work (option_map (joined p) (points_at ms)))
 rule_is_fitting work opcodes.LineRel run = pen_fits work run _ (λ p ms. draws_fit line_on _ line_lands work (option_map (joined p) (reached p ms)))
+rule_is_fitting work opcodes.SetLineAbs run = pairs_fit work run _ (λ ms. draws_fit line_on _ line_lands work (between ms))
+rule_is_fitting work opcodes.SetLineRel run = pairs_fit work run _ (λ ms. draws_fit line_on _ line_lands work (away ms))
+rule_is_fitting work opcodes.ArcOutlined run = arc_pen_fits work false run
+rule_is_fitting work opcodes.ArcFilled run = arc_pen_fits work true run
+rule_is_fitting work opcodes.SetArcOutlined run = arc_point_fits work false run
+rule_is_fitting work opcodes.SetArcFilled run = arc_point_fits work true run
+rule_is_fitting work opcodes.RectOutlined run = pen_fits work run _ (λ p ms. draws_fit (rect_on false) _ (rect_lands false) work (across p ms))
+rule_is_fitting work opcodes.RectFilled run = pen_fits work run _ (λ p ms. draws_fit (rect_on true) _ (rect_lands true) work (across p ms))
+rule_is_fitting work opcodes.SetRectOutlined run = pairs_fit work run _ (λ ms. draws_fit (rect_on false) _ (rect_lands false) work (away ms))
+rule_is_fitting work opcodes.SetRectFilled run = pairs_fit work run _ (λ ms. draws_fit (rect_on true) _ (rect_lands true) work (away ms))
+rule_is_fitting work opcodes.PolyOutlined run = poly_pen_fits work false run
+rule_is_fitting work opcodes.PolyFilled run = poly_pen_fits work true run
+rule_is_fitting work opcodes.SetPolyOutlined run = poly_point_fits work false run
+rule_is_fitting work opcodes.SetPolyFilled run = poly_point_fits work true run
+rule_is_fitting work opcodes.Field run = field_fits work (moves_of work run)
 rule_is_fitting work _ run = fault_fits work _
 
 fits_as : (work : Work) (r : Result Drawn DrawFault) (d : Drawn) → r ≡ Ok d → IsFitting work r → Fitting work d

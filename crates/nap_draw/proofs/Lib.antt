@@ -3,7 +3,9 @@ pub mod Cuts
 pub mod Domains
 pub mod Ends
 pub mod Fits
+pub mod Outlines
 pub mod Planning
 pub mod Puts
+pub mod Singles
 pub mod Turns
 pub mod Walks

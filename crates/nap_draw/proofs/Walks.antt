@@ -6,15 +6,17 @@ use Rattle.nap_list.specs.declared.entry.Entry.{Entry}
 use Rattle.nap_list.specs.declared.state.Drawing.{Drawing}
 use Rattle.nap_list.specs.declared.state.State.{State}
 use Rattle.nap_list.specs.Entry.{held, WellMade}
-use Rattle.nap_list.specs.State.{with_pen, with_pen_at, drawn, definition_after, last_after, after, walk, Comes}
+use Rattle.nap_list.specs.State.{with_pen, with_pen_at, drawn, definition_after, last_after, after, walk, Comes, corner}
 use Rattle.nap_list.specs.Agreement.{InMode, Holds}
 use Rattle.nap_list.proofs.Agreement.{taking_nothing}
 use Rattle.nap_draw.specs.declared.spans.Span.{Span}
+use Rattle.nap_draw.specs.declared.entries.Figure.{Figure}
+use Rattle.nap_draw.specs.declared.entries.Figure.TheVariants as figures
 use Rattle.nap_draw.specs.declared.work.Work.{Work}
 use Rattle.nap_draw.specs.declared.fault.DrawFault.{DrawFault}
 use Rattle.nap_draw.specs.Geometry.{end_of}
-use Rattle.nap_draw.specs.Rule.{Drawn, with_drawing, draws, goes, point_on, line_on}
-use Rattle.nap_draw.specs.Plans.{end_inside, landed}
+use Rattle.nap_draw.specs.Rule.{Drawn, with_drawing, draws, goes, point_on, line_on, rect_on}
+use Rattle.nap_draw.specs.Plans.{end_inside, landed, stroke_on, stroke_end}
 
 -- entries of one shape that only move the pen, each to a point of its own
 pub record Lands {A : Type 0} (entry : Drawing → A → Entry) (at : A → Coordinates) : Type 0 where
@@ -76,6 +78,20 @@ line_lands = record {
   made = λ d span. tt;
   comes = λ s d span. tt;
 }
+
+-- a pen goes to the corner straight across
+pub rect_lands : (filled : Bool) → Lands (rect_on filled) (λ s. corner s.from s.to)
+rect_lands filled = record {
+  keeps = λ pen d. refl;
+  lands = λ s span mode. left_by s (rect_on filled s.drawing span) (record { pen = tt; pel = refl; colour = refl; texture = refl; text = tt }) mode;
+  holds = λ pen d span. record { pen = tt; pel = refl; colour = refl; texture = refl; text = tt };
+  made = λ d span. tt;
+  comes = λ s d span. tt;
+}
+
+pub stroke_lands : (figure : Figure) → Lands (stroke_on figure) (stroke_end figure)
+stroke_lands figures.Line = line_lands
+stroke_lands (figures.Rect filled) = rect_lands filled
 
 pub itself : {A : Type 0} (o : Option A) → o ≡ option_map (λ x. x) o
 itself None = refl

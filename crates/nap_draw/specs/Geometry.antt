@@ -56,3 +56,16 @@ away (m ∷ n ∷ ms) = onward (span_by (point_at m) n) (λ _. away ms)
 unfoldable pub across : Coordinates → List Displacement → Option (List Span)
 across p [] = Some []
 across p (m ∷ ms) = onward (span_by (Some p) m) (λ s. across (corner s.from s.to) ms)
+
+-- a way of one step, there and back: a circle
+abbrev pub round : List Coordinates → List Coordinates
+round (p ∷ q ∷ []) = p ∷ q ∷ p ∷ []
+round points = points
+
+-- the points of a polygon: this one, and those reached from it
+abbrev pub poly_points : Coordinates → List Displacement → Option (List Coordinates)
+poly_points p ms = option_map (λ qs. p ∷ qs) (reached p ms)
+
+-- the points of an arc: the same, and a circle where there are two
+abbrev pub arc_points : Coordinates → List Displacement → Option (List Coordinates)
+arc_points p ms = option_map (λ qs. round (p ∷ qs)) (reached p ms)

@@ -1,20 +1,27 @@
-use Rattle.std.specs.Prelude.{◌≡◌, List, [], ◌∷◌, map, Option, Some, None, IsSome, option_map, option_to_list, unwrap_or, Result, Ok, Err}
+use Rattle.std.specs.Prelude.{◌≡◌, Bool, List, [], ◌∷◌, map, Option, Some, None, IsSome, option_map, option_to_list, unwrap_or, Result, Ok, Err}
 use Rattle.nap_list.specs.declared.entry.Entry.{Entry}
 use Rattle.nap_list.specs.declared.entry.Entry.TheVariants as shapes
 use Rattle.nap_list.specs.declared.attribute.Pen.TheVariants as pens
 use Rattle.nap_list.specs.declared.state.State.{State}
-use Rattle.nap_list.specs.State.{with_pen}
-use Rattle.nap_values.specs.Coordinates.{Coordinates}
+use Rattle.nap_list.specs.State.{with_pen, corner}
+use Rattle.nap_values.specs.Coordinates.{Coordinates, Displacement}
 use Rattle.nap_draw.specs.declared.entries.Dots.{Dots}
+use Rattle.nap_list.specs.declared.attribute.Ink.{Ink}
+use Rattle.nap_list.specs.declared.state.Drawing.{Drawing}
+use Rattle.nap_draw.specs.declared.entries.Figure.{Figure}
+use Rattle.nap_draw.specs.declared.entries.Figure.TheVariants as figures
+use Rattle.nap_draw.specs.declared.shapes.Shape.{Shape}
+use Rattle.nap_draw.specs.declared.shapes.Shape.TheVariants as outlines
+use Rattle.nap_draw.specs.declared.spans.Span.{Span}
 use Rattle.nap_draw.specs.declared.entries.Strokes.{Strokes}
 use Rattle.nap_draw.specs.declared.entries.Entries.{Entries}
 use Rattle.nap_draw.specs.declared.entries.Entries.TheVariants as kinds
 use Rattle.nap_draw.specs.declared.plan.Plan.{Plan}
 use Rattle.nap_draw.specs.declared.fault.DrawFault.{DrawFault}
 use Rattle.nap_draw.specs.declared.fault.DrawFault.TheVariants as faults
-use Rattle.nap_draw.specs.Geometry.{end_of}
+use Rattle.nap_draw.specs.Geometry.{end_of, arc_points, poly_points}
 use Rattle.nap_draw.specs.Cursors.{targets_left, spans_left}
-use Rattle.nap_draw.specs.Rule.{Drawn}
+use Rattle.nap_draw.specs.Rule.{Drawn, ink_of}
 use Rattle.nap_draw.specs.Draws.{Cause, stream, memory, device, cause_of}
 
 -- What is left to be put of an opcode's entries, where no point is outside the square.
@@ -22,8 +29,34 @@ use Rattle.nap_draw.specs.Draws.{Cause, stream, memory, device, cause_of}
 abbrev pub dots_left : Dots → Option (List Entry)
 dots_left dots = option_map (map (λ at. shapes.Point at dots.ink.pel dots.ink.colour)) (targets_left dots.targets)
 
+-- what is drawn along a span
+abbrev pub stroke : Figure → Ink → Span → Entry
+stroke figures.Line ink s = shapes.Line s.from s.to ink
+stroke (figures.Rect filled) ink s = shapes.Rect filled s.from s.to ink
+
+-- where the pen is then
+abbrev pub stroke_end : Figure → Span → Coordinates
+stroke_end figures.Line s = s.to
+stroke_end (figures.Rect filled) s = corner s.from s.to
+
+abbrev pub stroke_on : Figure → Drawing → Span → Entry
+stroke_on figure d s = stroke figure (ink_of d) s
+
+-- an arc or a polygon of these points
+abbrev pub shape_entry : Shape → Bool → List Coordinates → Ink → Entry
+shape_entry outlines.Arc filled points ink = shapes.Arc filled points ink
+shape_entry outlines.Poly filled points ink = shapes.Poly filled points ink
+
+abbrev pub shape_on : Shape → Bool → Drawing → List Coordinates → Entry
+shape_on shape filled d points = shape_entry shape filled points (ink_of d)
+
+-- the points of an arc or a polygon from this one on
+abbrev pub shape_points : Shape → Coordinates → List Displacement → Option (List Coordinates)
+shape_points outlines.Arc p ms = arc_points p ms
+shape_points outlines.Poly p ms = poly_points p ms
+
 abbrev pub strokes_left : Strokes → Option (List Entry)
-strokes_left strokes = option_map (map (λ s. shapes.Line s.from s.to strokes.ink)) (spans_left strokes.spans)
+strokes_left strokes = option_map (map (stroke strokes.figure strokes.ink)) (spans_left strokes.spans)
 
 abbrev pub entries_left : Entries → Option (List Entry)
 entries_left (kinds.Single entry) = Some (option_to_list entry)

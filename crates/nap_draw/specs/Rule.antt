@@ -1,11 +1,13 @@
-use Rattle.std.specs.Prelude.{ℕ, ◌≡◌, ◌+◌, ◌/◌, ◌%◌, ◌==◌, Bool, false, List, [], ◌∷◌, map, slice_get, Option, Some, None, option_map, unwrap_or, ⊤, Result, Ok, Err, if◌then◌else◌}
-use Rattle.nap_values.specs.Coordinates.{Coordinates, Displacement}
+use Rattle.std.specs.Prelude.{ℕ, ◌≡◌, ◌+◌, ◌/◌, ◌%◌, ◌==◌, Bool, true, false, nat_lt, length, List, [], ◌∷◌, map, slice_get, Option, Some, None, option_map, option_and_then, ok_or, unwrap_or, ⊤, Result, Ok, Err, if◌then◌else◌}
+use Rattle.nap_values.specs.Coordinates.{Coordinates, Displacement, point_at}
 use Rattle.nap_values.specs.Domains.{OperandLengths}
 use Rattle.nap_codes.specs.declared.opcode.Opcode.{Opcode}
 use Rattle.nap_codes.specs.declared.opcode.Opcode.TheVariants as opcodes
 use Rattle.nap_list.specs.declared.attribute.Pen.{Pen}
 use Rattle.nap_list.specs.declared.attribute.Pen.TheVariants as pens
 use Rattle.nap_list.specs.declared.attribute.Ink.{Ink}
+use Rattle.nap_list.specs.declared.attribute.Area.{Area}
+use Rattle.nap_list.specs.declared.attribute.Area.TheVariants as areas
 use Rattle.nap_list.specs.declared.entry.Entry.{Entry}
 use Rattle.nap_list.specs.declared.entry.Entry.TheVariants as entries
 use Rattle.nap_list.specs.declared.state.Drawing.{Drawing}
@@ -16,7 +18,7 @@ use Rattle.nap_draw.specs.declared.fault.DrawFault.{DrawFault}
 use Rattle.nap_draw.specs.declared.fault.DrawFault.TheVariants as faults
 use Rattle.nap_draw.specs.declared.spans.Span.{Span}
 use Rattle.nap_draw.specs.Operands.{moves}
-use Rattle.nap_draw.specs.Geometry.{end_of, points_at, reached, joined}
+use Rattle.nap_draw.specs.Geometry.{end_of, points_at, reached, joined, span_by, between, away, across, arc_points, poly_points}
 
 -- operands of three words and of one
 abbrev pub start_domain : OperandLengths
@@ -64,7 +66,7 @@ pen_point pens.After = Err faults.PenUnknown
 abbrev pub ink_of : Drawing → Ink
 ink_of d = record { pel = d.pel; colour = d.colour; texture = d.texture }
 
--- a point and a line drawn with the values that stand
+-- what is drawn, with the values that stand
 
 abbrev pub point_on : Drawing → Coordinates → Entry
 point_on d at = entries.Point at d.pel d.colour
@@ -72,10 +74,27 @@ point_on d at = entries.Point at d.pel d.colour
 abbrev pub line_on : Drawing → Span → Entry
 line_on d s = entries.Line s.from s.to (ink_of d)
 
+abbrev pub rect_on : Bool → Drawing → Span → Entry
+rect_on filled d s = entries.Rect filled s.from s.to (ink_of d)
+
+abbrev pub arc_on : Bool → Drawing → List Coordinates → Entry
+arc_on filled d points = entries.Arc filled points (ink_of d)
+
+abbrev pub poly_on : Bool → Drawing → List Coordinates → Entry
+poly_on filled d points = entries.Poly filled points (ink_of d)
+
+abbrev pub field_on : Drawing → Area → Entry
+field_on d area = entries.Field area d.pen
+
 -- an entry for each of them, where none is outside the square
 abbrev pub draws : {A : Type 0} → Work → (Drawing → A → Entry) → Option (List A) → Result Drawn DrawFault
 draws work entry None = Err faults.Outside
 draws work entry (Some shapes) = Ok (drawn work (map (entry work.state.drawing) shapes))
+
+-- one entry, where it isn't outside the square
+abbrev pub draws_one : {A : Type 0} → Work → (Drawing → A → Entry) → Option A → Result Drawn DrawFault
+draws_one work entry None = Err faults.Outside
+draws_one work entry (Some shape) = Ok (drawn work (entry work.state.drawing shape ∷ []))
 
 -- the pen at the last of the points, where none is outside the square
 abbrev pub goes : Work → Option (List Coordinates) → Result Drawn DrawFault
@@ -105,6 +124,49 @@ with_operands work run f = and_then (some_of (moves_of work run)) f
 abbrev pub from_pen : Work → List ℕ → (Coordinates → List Displacement → Result Drawn DrawFault) → Result Drawn DrawFault
 from_pen work run f = with_operands work run (λ ms. and_then (pen_point work.state.drawing.pen) (λ p. f p ms))
 
+-- pairs of operands, of which one at least is needed, and none may lack its second
+abbrev pub pairs_of : {A : Type 0} → List A → Result (List A) DrawFault
+pairs_of [] = Err faults.Missing
+pairs_of (x ∷ xs) = if length xs % 2 == 1 then Ok (x ∷ xs) else Err faults.Missing
+
+-- what comes of a run's pairs of operands
+abbrev pub with_pairs : Work → List ℕ → (List Displacement → Result Drawn DrawFault) → Result Drawn DrawFault
+with_pairs work run f = and_then (pairs_of (moves_of work run)) f
+
+-- a first operand, and at least one more
+abbrev pub first_of : {A : Type 0} → List A → Result (A × List A) DrawFault
+first_of [] = Err faults.Missing
+first_of (x ∷ []) = Err faults.Missing
+first_of (x ∷ y ∷ ys) = Ok (x, y ∷ ys)
+
+-- at most 1,024 displacements (our profile)
+abbrev pub few_of : List Displacement → Result (List Displacement) DrawFault
+few_of ms = if nat_lt 1024 (length ms) then Err faults.ManyPoints else Ok ms
+
+-- a shape from the pen on
+abbrev pub shape_from_pen : Work → List ℕ → (Drawing → List Coordinates → Entry) → (Coordinates → List Displacement → Option (List Coordinates)) → Result Drawn DrawFault
+shape_from_pen work run entry points =
+    with_operands work run (λ ms. and_then (few_of ms) (λ ms. and_then (pen_point work.state.drawing.pen) (λ p. draws_one work entry (points p ms))))
+
+-- a shape from the point that the first operand is
+abbrev pub shape_from_point : Work → List ℕ → (Drawing → List Coordinates → Entry) → (Coordinates → List Displacement → Option (List Coordinates)) → Result Drawn DrawFault
+shape_from_point work run entry points =
+    and_then (first_of (moves_of work run)) (λ (m, ms). and_then (few_of ms) (λ ms. draws_one work entry (option_and_then (λ p. points p ms) (point_at m))))
+
+-- the part of the square from a point as far as the displacement
+abbrev pub part : Option Coordinates → Displacement → Result Area DrawFault
+part p m = ok_or (option_map (λ s. areas.Part s.from s.to) (span_by p m)) faults.Outside
+
+-- the whole square, or a part from the pen on, or from a point on
+abbrev pub area_of : Work → List Displacement → Result Area DrawFault
+area_of work [] = Ok areas.Whole
+area_of work (m ∷ []) = and_then (pen_point work.state.drawing.pen) (λ p. part (Some p) m)
+area_of work (m ∷ n ∷ ms) = part (point_at m) n
+
+-- FIELD: an area
+abbrev pub field_rule : Work → List Displacement → Result Drawn DrawFault
+field_rule work ms = and_then (area_of work ms) (λ area. draws_one work field_on (Some area))
+
 -- an opcode that is no part of our profile has no rule
 abbrev pub IsDrawn : Opcode → Type 0
 IsDrawn opcodes.IncrementalPoint = ⊥
@@ -121,4 +183,19 @@ rule work opcodes.PointAbs run = with_operands work run (λ ms. draws work point
 rule work opcodes.PointRel run = from_pen work run (λ p ms. draws work point_on (reached p ms))
 rule work opcodes.LineAbs run = from_pen work run (λ p ms. draws work line_on (option_map (joined p) (points_at ms)))
 rule work opcodes.LineRel run = from_pen work run (λ p ms. draws work line_on (option_map (joined p) (reached p ms)))
+rule work opcodes.SetLineAbs run = with_pairs work run (λ ms. draws work line_on (between ms))
+rule work opcodes.SetLineRel run = with_pairs work run (λ ms. draws work line_on (away ms))
+rule work opcodes.ArcOutlined run = shape_from_pen work run (arc_on false) arc_points
+rule work opcodes.ArcFilled run = shape_from_pen work run (arc_on true) arc_points
+rule work opcodes.SetArcOutlined run = shape_from_point work run (arc_on false) arc_points
+rule work opcodes.SetArcFilled run = shape_from_point work run (arc_on true) arc_points
+rule work opcodes.RectOutlined run = from_pen work run (λ p ms. draws work (rect_on false) (across p ms))
+rule work opcodes.RectFilled run = from_pen work run (λ p ms. draws work (rect_on true) (across p ms))
+rule work opcodes.SetRectOutlined run = with_pairs work run (λ ms. draws work (rect_on false) (away ms))
+rule work opcodes.SetRectFilled run = with_pairs work run (λ ms. draws work (rect_on true) (away ms))
+rule work opcodes.PolyOutlined run = shape_from_pen work run (poly_on false) poly_points
+rule work opcodes.PolyFilled run = shape_from_pen work run (poly_on true) poly_points
+rule work opcodes.SetPolyOutlined run = shape_from_point work run (poly_on false) poly_points
+rule work opcodes.SetPolyFilled run = shape_from_point work run (poly_on true) poly_points
+rule work opcodes.Field run = field_rule work (moves_of work run)
 rule work _ run = Err faults.Unbuilt

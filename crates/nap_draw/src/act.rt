@@ -30,7 +30,7 @@ pub fn apply<S: Sink>(
     ensures failed { IsErrOf result DrawFault.Sink → S.failed sink.new ≡ true }
     ensures clear { OnOk result (S.failed sink.old ≡ false → S.failed sink.new ≡ false) }
 {
-    let mut plan = plan_of(work.copy(), op, run)?;
+    let mut plan = plan_of(alloc, work.copy(), op, run)?;
     put_all(&mut plan.entries, sink)?;
     Ok(plan.effects)
 }

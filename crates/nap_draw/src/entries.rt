@@ -1,11 +1,12 @@
 // The entries of an opcode, before they are put.
-ghost use Rattle.std.specs.Prelude.{IsSome};
+ghost use Rattle.std.specs.Prelude.{◌≡◌, IsSome, None, option_map};
 ghost use Rattle.std.specs.Iterator.{item_count};
-ghost use Rattle.nap_draw.specs.Plans.{dots_left, strokes_left, entries_left, AreInside, listed, YieldsWhole};
+ghost use Rattle.nap_draw.specs.Plans.{stroke, stroke_end, dots_left, strokes_left, entries_left, AreInside, listed, YieldsWhole};
 
-use crate::spans::{Span, Spans};
+use crate::spans::{Span, Spans, corner};
 use crate::targets::Targets;
 use nap_list::{Entry, Ink};
+use nap_values::Point;
 
 /// Points that are still to be drawn.
 #[derive(Drop)]
@@ -14,9 +15,18 @@ pub(crate) struct Dots<'a> {
     pub ink: Ink,
 }
 
-/// Lines that are still to be drawn.
+/// What is drawn along a span.
+#[derive(Clone, Copy, Drop)]
+pub(crate) enum Figure {
+    Line,
+    /// A rectangle with the span's ends at two corners, filled or not.
+    Rect(bool),
+}
+
+/// Lines or rectangles that are still to be drawn.
 #[derive(Drop)]
 pub(crate) struct Strokes<'a> {
+    pub figure: Figure,
     pub spans: Spans<'a>,
     pub ink: Ink,
 }
@@ -62,16 +72,40 @@ impl Dots<'_> {
     }
 }
 
+impl Figure {
+    fn entry(self, span: Span, ink: Ink) -> Entry
+        ensures { result ≡ stroke self ink span }
+    {
+        let Span { from, to } = span;
+        match self {
+            Figure::Line => Entry::Line { from, to, ink },
+            Figure::Rect(filled) => Entry::Rect {
+                filled,
+                from,
+                to,
+                ink,
+            },
+        }
+    }
+
+    /// Where the pen is once the figure is drawn along the span, where there is one.
+    pub(crate) fn end(self, span: Option<Span>) -> Option<Point>
+        ensures { result ≡ option_map (stroke_end self) span }
+    {
+        let Span { from, to } = span?;
+        match self {
+            Figure::Line => Some(to),
+            Figure::Rect(_) => Some(corner(from, to)),
+        }
+    }
+}
+
 impl Strokes<'_> {
     fn next(&mut self) -> Option<Entry>
         requires { IsSome (strokes_left self.old) }
         ensures { YieldsWhole strokes_left self.old result self.new }
     {
-        let Span { from, to } = self.spans.next()?.unwrap();
-        Some(Entry::Line {
-            from,
-            to,
-            ink: self.ink,
-        })
+        let span = self.spans.next()?.unwrap();
+        Some(self.figure.entry(span, self.ink))
     }
 }

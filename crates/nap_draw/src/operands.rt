@@ -4,9 +4,9 @@ ghost use Rattle.std.specs.Iterator.{YieldsFirst, item_count};
 ghost use Rattle.nap_values.specs.Coordinates.{Coordinates, Displacement};
 ghost use Rattle.nap_draw.specs.declared.fault.DrawFault.{DrawFault};
 ghost use Rattle.nap_draw.specs.Operands.{moves};
-ghost use Rattle.nap_draw.specs.Rule.{Drawn, moves_of, with_operands, from_pen};
+ghost use Rattle.nap_draw.specs.Rule.{Drawn, moves_of, with_operands, with_pairs, from_pen};
 ghost use Rattle.nap_draw.specs.Draws.{stream, cause_of};
-ghost use Rattle.nap_draw.specs.Cursors.{moves_left};
+ghost use Rattle.nap_draw.specs.Cursors.{moves_left, moves_count};
 
 use crate::fault::DrawFault;
 use crate::work::Work;
@@ -32,6 +32,18 @@ pub(crate) fn some_operand(work: &Work, run: &[Word]) -> Result<(), DrawFault>
     Ok(())
 }
 
+/// A pair of operands at least is needed, and no pair may lack its second.
+pub(crate) fn some_pairs(work: &Work, run: &[Word]) -> Result<(), DrawFault>
+    ensures ok { IfOk result (λ _. (f : List Displacement → Result Drawn DrawFault) → with_pairs work.now run.now f ≡ f (moves_of work.now run.now)) }
+    ensures err { IfErr result (λ fault. (cause_of fault ≡ stream) × ((f : List Displacement → Result Drawn DrawFault) → with_pairs work.now run.now f ≡ Err fault)) }
+{
+    let count = Moves::new(work.domain, run).len();
+    if count == 0 || count % 2 == 1 {
+        return Err(DrawFault::Missing);
+    }
+    Ok(())
+}
+
 /// The point that operands go on from, of which one at least is needed.
 pub(crate) fn start(work: &Work, run: &[Word]) -> Result<Point, DrawFault>
     ensures ok { IfOk result (λ p. (f : Coordinates → List Displacement → Result Drawn DrawFault) → from_pen work.now run.now f ≡ f p (moves_of work.now run.now)) }
@@ -51,6 +63,13 @@ impl<'a> Moves<'a> {
         ensures { moves_left result ≡ moves domain.multi run.now }
     {
         Moves { domain, rest: run }
+    }
+
+    /// How many operands there are.
+    pub(crate) fn len(&self) -> usize
+        ensures { result ≡ moves_count self.now }
+    {
+        self.rest.len().div_ceil(usize::from(self.domain.multi()))
     }
 
     /// The same operands again.

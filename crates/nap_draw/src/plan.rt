@@ -1,5 +1,6 @@
 // What each opcode is to do.
-ghost use Rattle.std.specs.Prelude.{◌≡◌, None, false};
+ghost use Rattle.std.specs.Prelude.{◌≡◌, Some, None, false};
+ghost use Rattle.nap_list.specs.State.{Fits, after};
 ghost use Rattle.nap_list.specs.Agreement.{InMode};
 ghost use Rattle.nap_draw.specs.Rule.{rule};
 ghost use Rattle.nap_draw.specs.Plans.{Plans};
@@ -8,11 +9,15 @@ ghost use Rattle.nap_draw.specs.declared.entries.Entries.TheVariants.{Single};
 use crate::domain::domain;
 use crate::entries::Entries;
 use crate::fault::DrawFault;
-use crate::lines::{line_abs, line_rel};
+use crate::field::field;
+use crate::lines::{line_abs, line_rel, rect, set_line_abs, set_line_rel, set_rect};
 use crate::points::{point_abs, point_rel, point_set_abs, point_set_rel};
+use crate::shapes::{Shape, shape_from_pen, shape_from_point};
 use crate::work::{Effects, Work};
 use nap_codes::Opcode;
+use nap_list::Entry;
 use nap_values::Word;
+use std::alloc::Global;
 
 /// What an opcode is to do, all its checks passed: the entries to be put, and the effects once they are.
 #[derive(Drop)]
@@ -22,6 +27,18 @@ pub(crate) struct Plan<'a> {
 }
 
 impl<'a> Plan<'a> {
+    /// To put the entry, and to go on from there.
+    pub(crate) fn single(mut work: Work, entry: Entry) -> Plan<'a>
+        requires { Fits work.state entry }
+        ensures { result ≡ record { entries = Single (Some entry); effects = record { work = record work { state = after work.state entry }; clears = false } } }
+    {
+        work.state.step(&entry);
+        Plan {
+            entries: Entries::Single(Some(entry)),
+            effects: Effects::quiet(work),
+        }
+    }
+
     /// To put nothing, and to go on with the work.
     pub(crate) fn silent(work: Work) -> Plan<'a>
         ensures { result ≡ record { entries = Single None; effects = record { work = work; clears = false } } }
@@ -34,7 +51,12 @@ impl<'a> Plan<'a> {
 }
 
 /// What the opcode is to do with its run.
-pub(crate) fn plan_of<'a>(work: Work, op: Opcode, run: &'a [Word]) -> Result<Plan<'a>, DrawFault>
+pub(crate) fn plan_of<'a>(
+    alloc: Global,
+    work: Work,
+    op: Opcode,
+    run: &'a [Word],
+) -> Result<Plan<'a>, DrawFault>
     requires { InMode work.state.drawing.base work.state.drawing.colour }
     ensures { Plans (rule work op run.now) result }
 {
@@ -46,6 +68,21 @@ pub(crate) fn plan_of<'a>(work: Work, op: Opcode, run: &'a [Word]) -> Result<Pla
         Opcode::PointRel => point_rel(work, run),
         Opcode::LineAbs => line_abs(work, run),
         Opcode::LineRel => line_rel(work, run),
+        Opcode::SetLineAbs => set_line_abs(work, run),
+        Opcode::SetLineRel => set_line_rel(work, run),
+        Opcode::ArcOutlined => shape_from_pen(alloc, work, Shape::Arc, false, run),
+        Opcode::ArcFilled => shape_from_pen(alloc, work, Shape::Arc, true, run),
+        Opcode::SetArcOutlined => shape_from_point(alloc, work, Shape::Arc, false, run),
+        Opcode::SetArcFilled => shape_from_point(alloc, work, Shape::Arc, true, run),
+        Opcode::RectOutlined => rect(work, false, run),
+        Opcode::RectFilled => rect(work, true, run),
+        Opcode::SetRectOutlined => set_rect(work, false, run),
+        Opcode::SetRectFilled => set_rect(work, true, run),
+        Opcode::PolyOutlined => shape_from_pen(alloc, work, Shape::Poly, false, run),
+        Opcode::PolyFilled => shape_from_pen(alloc, work, Shape::Poly, true, run),
+        Opcode::SetPolyOutlined => shape_from_point(alloc, work, Shape::Poly, false, run),
+        Opcode::SetPolyFilled => shape_from_point(alloc, work, Shape::Poly, true, run),
+        Opcode::Field => field(work, run),
         _ => Err(DrawFault::Unbuilt),
     }
 }

@@ -1,5 +1,5 @@
 // The spans that the operands of a run lead along.
-ghost use Rattle.std.specs.Prelude.{◌≡◌, ◌<◌, None, OnSome, option_map};
+ghost use Rattle.std.specs.Prelude.{◌≡◌, ◌<◌, None, OnSome};
 ghost use Rattle.std.specs.Iterator.{at_most};
 ghost use Rattle.nap_list.specs.State.{corner};
 ghost use Rattle.nap_draw.specs.Geometry.{span, span_by};
@@ -36,13 +36,6 @@ pub(crate) enum Spans<'a> {
     Away(Moves<'a>),
     /// From a point as far as the displacement, and each further time from the corner straight across.
     Across(Steps<'a>),
-}
-
-/// Where the span ends.
-pub(crate) fn end_point(span: Option<Span>) -> Option<Point>
-    ensures { result ≡ option_map (λ s. s.to) span }
-{
-    Some(span?.to)
 }
 
 fn make_span(from: Option<Point>, to: Option<Point>) -> Option<Span>
@@ -161,7 +154,7 @@ fn across(steps: &mut Steps<'_>) -> Option<Option<Span>>
     Some(Some(Span { from, to }))
 }
 
-fn span_by(from: Option<Point>, step: Move) -> Option<Span>
+pub(crate) fn span_by(from: Option<Point>, step: Move) -> Option<Span>
     ensures { result ≡ span_by from step }
 {
     let from = from?;
@@ -169,7 +162,7 @@ fn span_by(from: Option<Point>, step: Move) -> Option<Span>
 }
 
 /// The corner straight across from the first.
-fn corner(from: Point, to: Point) -> Point
+pub(crate) fn corner(from: Point, to: Point) -> Point
     ensures { result ≡ corner from to }
 {
     Point::try_new(to.x(), from.y()).unwrap()

@@ -1,8 +1,9 @@
 ghost use Rattle.std.specs.Prelude.{◌≡◌, false, unwrap_or};
 ghost use Rattle.nap_list.specs.State.{with_pen_at};
-ghost use Rattle.nap_draw.specs.Rule.{start_domain, start_work, ink_of, with_drawing};
+ghost use Rattle.nap_draw.specs.Rule.{start_domain, start_work, pen_point, ink_of, with_drawing};
 ghost use Rattle.nap_draw.specs.Plans.{landed};
 
+use crate::fault::DrawFault;
 use nap_list::{Ink, Pen, State};
 use nap_values::{Domain, Move, Point};
 
@@ -61,6 +62,23 @@ impl Work {
             domain: self.domain,
             state: self.state.copy(),
             saved: self.saved,
+        }
+    }
+
+    pub(crate) fn pen(&self) -> Pen
+        ensures { result ≡ self.now.state.drawing.pen }
+    {
+        self.state.drawing.pen
+    }
+
+    /// Where drawing goes on from.
+    pub(crate) fn pen_point(&self) -> Result<Point, DrawFault>
+        ensures { result ≡ pen_point self.now.state.drawing.pen }
+    {
+        match self.state.drawing.pen {
+            Pen::At(point) => Ok(point),
+            Pen::Start => Ok(Point::ORIGIN),
+            Pen::After => Err(DrawFault::PenUnknown),
         }
     }
 

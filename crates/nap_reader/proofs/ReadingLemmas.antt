@@ -255,6 +255,12 @@ pub has_reached : {S : Type 0} (g : Ghosts S) (s : S) (o : Outcome) (t : S) (wor
 has_reached g s o t work lexer left open_run run None h = leads_has g s t o _ h.rest h.leads (held_pauses work lexer left open_run run h.rest h.held)
 has_reached g s o t work lexer left open_run run (Some r) h = h
 
+-- the machine of a reader is that of the outcome where nothing pends
+pub continues_machine : {S : Type 0} (g : Ghosts S) (s : S) (o : Outcome) (t : S) (work : Work) (lexer : LexerState) (left : ℕ) (open_run : Option OpenRun) (run : List ℕ) →
+    Continues g s o t work lexer left open_run run [] → o.machine ≡ record { work = work; sets = lexer.sets; left = left }
+continues_machine g s o t work lexer left open_run run h =
+    leads_machine g s t o _ h.rest h.leads (held_pauses work lexer left open_run run h.rest h.held)
+
 -- more of the stream has come
 pub more_comes : {S : Type 0} (g : Ghosts S) (s : S) (budget : ℕ) (p q : List ℕ) (t : S) (work : Work) (lexer : LexerState) (left : ℕ) (open_run : Option OpenRun) (run : List ℕ) →
     Continues g s (begun budget p) t work lexer left open_run run [] →

@@ -1,13 +1,13 @@
-use Rattle.std.proofs.Common.{ℕ, ◌+◌, ◌-◌, ◌≡◌, List, [], ◌∷◌, ◌++◌, length, Some, None, sym, subst, arith, length-append}
+use Rattle.std.proofs.Common.{ap, ℕ, ◌+◌, ◌-◌, ◌≡◌, List, [], ◌∷◌, ◌++◌, length, Some, None, sym, subst, arith, length-append}
 use Rattle.nap_list.specs.declared.sink.Sink.{Ghosts}
 use Rattle.nap_reader.specs.declared.fault.Refusal.{Refusal}
 use Rattle.nap_reader.specs.declared.reader.Reader.{Reader}
-use Rattle.nap_reader.specs.Stream.{Placed, Outcome, placed_from, begun}
+use Rattle.nap_reader.specs.Stream.{Placed, Machine, Outcome, placed_from, begun}
 use Rattle.nap_reader.specs.Taking.{Has}
 use Rattle.nap_reader.specs.Reading.{ReachesBy}
 use Rattle.nap_reader.specs.Standing.{Reaches, Stands, SameCounts}
 use Rattle.nap_reader.proofs.LeadsLemmas.{has_latched}
-use Rattle.nap_reader.proofs.ReadingLemmas.{continues, reaches, has_reached, more_comes}
+use Rattle.nap_reader.proofs.ReadingLemmas.{continues, continues_machine, reaches, has_reached, more_comes}
 
 -- A reader that reaches what is known of the bytes stands for them.
 pub stands_by : {S : Type 0} {g : Ghosts S} (reader : Reader S g) (s : S) (p : List ℕ) → Reaches reader s (begun reader.budget p) [] →
@@ -16,6 +16,10 @@ stands_by {S} {g} reader s p h fed = record {
   sink = has_reached g s (begun reader.budget p) reader.sink reader.work reader.lexer (reader.budget - reader.charged) reader.open_run reader.run.items reader.refusal h;
   reaches = h;
   fed = fed;
+  left = λ live.
+      let left = reader.budget - reader.charged in
+      let l = continues g s (begun reader.budget p) reader.sink reader.work reader.lexer left reader.open_run reader.run.items [] reader.refusal live h in
+      ap (λ (m : Machine). m.left) (continues_machine g s (begun reader.budget p) reader.sink reader.work reader.lexer left reader.open_run reader.run.items l);
 }
 
 -- A byte was taken.
@@ -43,4 +47,5 @@ stays {S} {g} reader r is s p q h =
       sink = subst (Has g s (begun reader.budget (p ++ q)) reader.sink) (sym is) k;
       reaches = subst (ReachesBy g s (begun reader.budget (p ++ q)) reader.sink reader.work reader.lexer left reader.open_run reader.run.items []) (sym is) k;
       fed = λ e. cc (is, e);
+      left = λ e. cc (is, e);
     }

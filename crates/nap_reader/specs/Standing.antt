@@ -44,6 +44,7 @@ pub record Stands {S : Type 0} {g : Ghosts S} (reader : Reader S g) (s : S) (p :
   pub sink : Has g s (begun (budget_of reader) p) (sink_of reader) (refusal_of reader)
   pub reaches : Reaches reader s (begun (budget_of reader) p) []
   pub fed : refusal_of reader ≡ None → fed_of reader ≡ length p
+  pub left : refusal_of reader ≡ None → (begun (budget_of reader) p).machine.left ≡ budget_of reader - charged_of reader
 
 -- The refusal came at the byte with this index: what was known before it had none.
 pub record StopsAt {S : Type 0} {g : Ghosts S} (old new : Reader S g) (piece : List ℕ) (i : ℕ) : Type 0 where

@@ -45,7 +45,8 @@ pub struct Reader<S: Sink> {
     sink: S,
     ghost short: { vec_len run ≤ 16384 },
     ghost rule: { HasRule open_run } by { HasRule-prop open_run },
-    ghost within: { charged ≤ 16777216 },
+    ghost within: { charged ≤ budget },
+    ghost small: { charged ≤ 16777216 },
     ghost turned: { turns ≤ fed + charged },
     ghost agrees: { ForNone refusal (StatesAgree work.state (S.state sink)) } by { Prim.hlevel (props, StatesAgree-prop work.state (S.state sink)) },
 }
@@ -356,7 +357,8 @@ impl<S: Sink> Reader<S> {
 
     /// How many bytes of macro bodies were charged.
     pub fn charged(&self) -> u64
-        ensures { result ≡ charged_of self.now }
+        ensures count { result ≡ charged_of self.now }
+        ensures within { result ≤ budget_of self.now }
     {
         self.charged
     }

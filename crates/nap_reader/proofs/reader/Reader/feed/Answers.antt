@@ -10,7 +10,7 @@ pub returns-in-Some-clause-stands : goal.returns-in-Some-clause-stands
 returns-in-Some-clause-stands g c s p h = stays c.args.self.now c.in-Some.refusal c.in-Some.is s p c.args.piece.now h
 
 pub overflow_add-self-in-loop-byte : goal.overflow_add-self-in-loop-byte
-overflow_add-self-in-loop-byte g c = omega (arith, c.loop-byte.self.turned, c.loop-byte.self.within, c.loop-byte.invariant.fed, c.loop-byte-test.true, c.requires)
+overflow_add-self-in-loop-byte g c = omega (arith, c.loop-byte.self.turned, c.loop-byte.self.small, c.loop-byte.invariant.fed, c.loop-byte-test.true, c.requires)
 
 pub loop-byte-preserved : goal.loop-byte-preserved
 loop-byte-preserved g c =

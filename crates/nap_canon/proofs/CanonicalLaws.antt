@@ -1,0 +1,55 @@
+use Rattle.std.proofs.Common.{ℕ, ◌≡◌, ◌↔◌, List, ◌++◌, All, refl, ap, sym, ◌∙◌, subst}
+use Rattle.std.proofs.lemmas.List.Elements.{All-take}
+use Rattle.nap_list.specs.declared.entry.Entry.{Entry}
+use Rattle.nap_reader.specs.Stream.{Outcome, means}
+use Rattle.nap_canon.specs.Text.{text, HasText, HaveText}
+use Rattle.nap_canon.specs.Streams.{IsAccepted, list_of, IsCanonicalOf}
+use Rattle.nap_canon.specs.Laws.{IsReadAs, TextIsRead, TextOfPrefix, CanonicalStreams, CanonicalStreamsAgree}
+use Rattle.nap_canon.proofs.TextLemmas.{text-append, built_front}
+use Rattle.nap_canon.proofs.PointLemmas.{means_text}
+use Rattle.nap_canon.proofs.InsideLemmas.{read_points_are_inside}
+
+pub text_is_read : TextIsRead
+text_is_read budget es built inside =
+    let is = means_text budget es built inside in
+    record {
+      accepted = ap (λ (o : Outcome). o.refusal) is;
+      list = ap (λ (o : Outcome). o.entries) is;
+      uncharged = ap (λ (o : Outcome). o.machine.left) is;
+    }
+
+pub text_of_prefix : TextOfPrefix
+text_of_prefix es fs built = (built_front es fs built, text-append es fs)
+
+-- a canonical stream is read as the text that it is
+pub read_as : (budget other : ℕ) (c p : List ℕ) → IsCanonicalOf budget c p → IsReadAs other c (list_of budget p)
+read_as budget other c p canonical =
+    subst (λ (bytes : List ℕ). IsReadAs other bytes (list_of budget p)) (sym canonical.text_is)
+    (text_is_read other (list_of budget p) canonical.built (read_points_are_inside budget p))
+
+pub equal_texts : (budget other : ℕ) (c p d q : List ℕ) → IsCanonicalOf budget c p → IsCanonicalOf other d q →
+    (c ≡ d) ↔ (list_of budget p ≡ list_of other q)
+equal_texts budget other c p d q first second = (
+  λ same.
+      sym (read_as budget budget c p first).list
+      ∙ (ap (list_of budget) same
+      ∙ (read_as other budget d q second).list),
+  λ same. first.text_is ∙ (ap text same ∙ sym second.text_is),
+)
+
+pub own_text : (budget other : ℕ) (c p : List ℕ) → IsCanonicalOf budget c p → IsCanonicalOf other c c
+own_text budget other c p canonical =
+    let read = read_as budget other c p canonical in
+    record {
+      accepted = read.accepted;
+      built = subst HaveText (sym read.list) canonical.built;
+      text_is = canonical.text_is ∙ ap text (sym read.list);
+    }
+
+pub canonical_streams_agree : CanonicalStreamsAgree
+canonical_streams_agree budget = record {
+  equal = equal_texts budget;
+  accepted = λ other c p canonical. (read_as budget other c p canonical).accepted;
+  same_list = λ other c p canonical. (read_as budget other c p canonical).list;
+  own = own_text budget;
+}

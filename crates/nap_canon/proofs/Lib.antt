@@ -1,0 +1,9 @@
+pub mod TextLemmas
+pub mod LackLemmas
+pub mod FaultLemmas
+pub mod RuleLemmas
+pub mod ReadLemmas
+pub mod PointLemmas
+pub mod InsideLemmas
+pub mod CanonicalLaws
+pub mod StreamLemmas

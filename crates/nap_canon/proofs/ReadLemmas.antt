@@ -1,0 +1,130 @@
+use Rattle.std.proofs.Common.{ℕ, ◌≡◌, List, [], ◌∷◌, ◌++◌, length, false, Option, None, Result, Ok, Err, refl, ap, sym, subst, ◌∙◌, append_assoc, append-nil}
+use Rattle.std.specs.Prelude.{⊤}
+use Rattle.nap_codes.specs.declared.code.Code.{Code}
+use Rattle.nap_codes.specs.declared.code.Code.TheVariants as code
+use Rattle.nap_codes.specs.declared.code_set.CodeSets.{CodeSets}
+use Rattle.nap_codes.specs.declared.opcode.Opcode.{Opcode}
+use Rattle.nap_codes.specs.Front as codes
+use Rattle.nap_codes.proofs.FrontLaws.{whole_stays}
+use Rattle.nap_list.specs.declared.entry.Entry.{Entry}
+use Rattle.nap_draw.specs.Rule.{Drawn, rule}
+use Rattle.nap_draw.specs.declared.fault.DrawFault.{DrawFault}
+use Rattle.nap_reader.specs.declared.reader.OpenRun.{OpenRun}
+use Rattle.nap_reader.specs.Course as course
+use Rattle.nap_reader.specs.Course.{prepend, paused, onward}
+use Rattle.nap_reader.specs.Held.{IsOpenRun}
+use Rattle.nap_reader.specs.Stream.{Placed, Machine, Outcome, Front, bytes_of, words_of, is_operand, front, drawn_front, outcome_from, with_run, with_run_by, with_drawn, with_definition, with_end, placed_from, start_machine, means, ended, ended_by}
+use Rattle.nap_reader.proofs.StreamLemmas.{outcome_from-front}
+use Rattle.nap_reader.proofs.HeldLemmas.{front_run, open_run_pauses}
+
+-- What comes of a list once an open run at its end has acted.
+
+abbrev pub settled : List Entry → Machine → Outcome
+settled es m = record { entries = es; refusal = None; machine = m; rest = [] }
+
+-- these entries, and this machine
+pub record Reads (m : Machine) (xs : List Placed) (es : List Entry) (after : Machine) : Type 0 where
+  pub going : (outcome_from m xs).refusal ≡ None
+  pub acts : with_run (outcome_from m xs) ≡ settled es after
+
+-- an open run acts behind whatever came before it
+
+with_drawn-prepend : (es : List Entry) (o : Outcome) (place : ℕ) (by : Result Drawn DrawFault) →
+    with_drawn (prepend es o) place by ≡ prepend es (with_drawn o place by)
+with_drawn-prepend es o place (Ok drawn) = rw append_assoc refl
+with_drawn-prepend es o place (Err fault) = refl
+
+with_run_by-prepend : (es : List Entry) (o : Outcome) (f : codes.Front) (xs : List Placed) →
+    with_run_by (prepend es o) f xs ≡ prepend es (with_run_by o f xs)
+with_run_by-prepend es o (codes.whole (code.Op op) n sets) [] = refl
+with_run_by-prepend es o (codes.whole (code.Op op) n sets) (x ∷ run) = with_drawn-prepend es o x.place (rule o.machine.work op (words_of run))
+with_run_by-prepend es o _ xs = refl
+
+with_run-prepend : (es : List Entry) (o : Outcome) → with_run (prepend es o) ≡ prepend es (with_run o)
+with_run-prepend es o = with_run_by-prepend es o (codes.front o.machine.sets (bytes_of o.rest)) o.rest
+
+-- no bytes
+
+no_code : (sets : CodeSets) → codes.front sets [] ≡ codes.unfinished
+unfolding codes.front
+no_code sets = refl
+
+nothing_pauses : (m : Machine) → outcome_from m [] ≡ paused m []
+unfolding front
+nothing_pauses m =
+    let none : front m [] ≡ course.pause = rw (no_code m.sets) refl in
+    outcome_from-front m [] ∙ ap (onward outcome_from m []) none
+
+pub reads_nothing : (m : Machine) → Reads m [] [] m
+reads_nothing m = record {
+  going = ap (λ (o : Outcome). o.refusal) (nothing_pauses m);
+  acts = ap with_run (nothing_pauses m) ∙ ap (λ (f : codes.Front). with_run_by (paused m []) f []) (no_code m.sets);
+}
+
+-- a code that acts
+pub reads_act : (m : Machine) (xs : List Placed) (ds : List Entry) (next : Machine) (ys : List Placed) (es : List Entry) (after : Machine) →
+    front m xs ≡ course.act ds next ys → Reads next ys es after → Reads m xs (ds ++ es) after
+reads_act m xs ds next ys es after e rest =
+    let is : outcome_from m xs ≡ prepend ds (outcome_from next ys) = outcome_from-front m xs ∙ ap (onward outcome_from m xs) e in
+    record {
+      going = ap (λ (o : Outcome). o.refusal) is ∙ rest.going;
+      acts = ap with_run is ∙ (with_run-prepend ds (outcome_from next ys) ∙ ap (prepend ds) rest.acts);
+    }
+
+-- an opcode whose run reaches the end
+run_acts : (m : Machine) (x : Placed) (operands : List Placed) (op : Opcode) (drawn : Drawn) →
+    codes.front m.sets (x.byte ∷ []) ≡ codes.whole (code.Op op) 1 m.sets → rule m.work op (words_of operands) ≡ Ok drawn →
+    with_run (paused m (x ∷ operands)) ≡ settled drawn.entries (record m { work = drawn.work })
+run_acts m x operands op drawn names by =
+    let found = whole_stays m.sets (x.byte ∷ []) (bytes_of operands) (code.Op op) 1 m.sets names in
+    ap (λ (f : codes.Front). with_run_by (paused m (x ∷ operands)) f (x ∷ operands)) found
+    ∙ ap (with_drawn (paused m (x ∷ operands)) x.place) by
+
+reads_last : (m : Machine) (rest : List Placed) (open_run : OpenRun) (run : List ℕ) (drawn : Drawn) →
+    IsOpenRun rest open_run run m.sets → rule m.work open_run.op run ≡ Ok drawn →
+    Reads m rest drawn.entries (record m { work = drawn.work })
+reads_last m rest open_run run drawn h by =
+    let is : outcome_from m rest ≡ paused m rest =
+    outcome_from-front m rest ∙ ap (onward outcome_from m rest) (open_run_pauses m rest open_run run h) in
+    record {
+      going = ap (λ (o : Outcome). o.refusal) is;
+      acts =
+          ap with_run is
+          ∙ (ap (λ (xs : List Placed). with_run (paused m xs)) h.is
+          ∙ run_acts m h.opcode h.operands open_run.op drawn h.names (ap (rule m.work open_run.op) h.words ∙ by));
+    }
+
+-- no operand byte comes first
+abbrev pub BeginsAnew : List Placed → Type 0
+BeginsAnew [] = ⊤
+BeginsAnew (x ∷ xs) = is_operand x ≡ false
+
+-- an opcode with its run, and what is behind it
+pub reads_run : (m : Machine) (rest : List Placed) (open_run : OpenRun) (run : List ℕ) (drawn : Drawn) (xs : List Placed) (es : List Entry) (after : Machine) →
+    IsOpenRun rest open_run run m.sets → rule m.work open_run.op run ≡ Ok drawn → BeginsAnew xs →
+    Reads (record m { work = drawn.work }) xs es after → Reads m (rest ++ xs) (drawn.entries ++ es) after
+reads_run m rest open_run run drawn [] es after h by anew behind =
+    let none = reads_nothing (record m { work = drawn.work }) in
+    let same : settled [] (record m { work = drawn.work }) ≡ settled es after = sym none.acts ∙ behind.acts in
+    let last = reads_last m rest open_run run drawn h by in
+    subst (λ (ys : List Placed). Reads m ys (drawn.entries ++ es) after) (sym (append-nil rest))
+    (subst (λ (ds : List Entry). Reads m rest (drawn.entries ++ ds) after) (ap (λ (o : Outcome). o.entries) same)
+    (subst (λ (n : Machine). Reads m rest (drawn.entries ++ []) n) (ap (λ (o : Outcome). o.machine) same)
+    (subst (λ (ds : List Entry). Reads m rest ds (record m { work = drawn.work })) (sym (append-nil drawn.entries)) last)))
+reads_run m rest open_run run drawn (x ∷ xs) es after h by anew behind =
+    reads_act m (rest ++ x ∷ xs) drawn.entries (record m { work = drawn.work }) (x ∷ xs) es after
+    (front_run m rest open_run run x xs h anew ∙ ap (drawn_front m open_run.place (x ∷ xs)) by)
+    behind
+
+-- the end of a stream
+ends_settled : (n : ℕ) (o : Outcome) (es : List Entry) (m : Machine) → o.refusal ≡ None → with_run o ≡ settled es m →
+    m.work.state.definition ≡ None → ended n o ≡ settled es m
+ends_settled n o es m going acts closed =
+    ap (ended_by o n) going
+    ∙ (ap (λ (x : Outcome). with_end x n x.refusal) acts
+    ∙ ap (with_definition (settled es m) n) closed)
+
+pub means_settled : (budget : ℕ) (p : List ℕ) (es : List Entry) (m : Machine) → Reads (start_machine budget) (placed_from 0 p) es m →
+    m.work.state.definition ≡ None → means budget p ≡ settled es m
+means_settled budget p es m h closed =
+    ends_settled (length p) (outcome_from (start_machine budget) (placed_from 0 p)) es m h.going h.acts closed

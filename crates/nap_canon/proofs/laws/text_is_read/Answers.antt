@@ -1,0 +1,5 @@
+use Rattle.nap_canon.proofs.CanonicalLaws.{text_is_read}
+use Rattle.nap_canon.proofs.laws.text_is_read.Goals as goal
+
+pub returns : goal.returns
+returns c = text_is_read

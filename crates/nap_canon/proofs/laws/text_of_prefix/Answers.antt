@@ -1,0 +1,5 @@
+use Rattle.nap_canon.proofs.CanonicalLaws.{text_of_prefix}
+use Rattle.nap_canon.proofs.laws.text_of_prefix.Goals as goal
+
+pub returns : goal.returns
+returns c = text_of_prefix

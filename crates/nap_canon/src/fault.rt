@@ -1,0 +1,27 @@
+ghost use Rattle.std.specs.Prelude.{◌≡◌};
+ghost use Rattle.nap_canon.specs.declared.fault.CanonFault.TheVariants.{Memory};
+
+use std::alloc::AllocError;
+use thiserror::Error;
+
+/// Why a display list has no canonical text.
+#[derive(Clone, Copy, PartialEq, Eq, Debug, Drop, Error)]
+pub enum CanonFault {
+    /// The index of the first entry that may not come there, or the length where a definition is left open.
+    #[error("the display list is not legal at {0}")]
+    Illegal(usize),
+    /// There was no memory for the text.
+    #[error("no memory")]
+    Memory,
+    /// The index of the first entry for which canonical text isn't built yet.
+    #[error("canonical text is not built for the entry {0}")]
+    Unbuilt(usize),
+}
+
+impl From<AllocError> for CanonFault {
+    ghost from_gives = { λ _ e. e ≡ Memory };
+
+    fn from(_: AllocError) -> Self {
+        CanonFault::Memory
+    }
+}

@@ -1,0 +1,13 @@
+use Rattle.std.proofs.lemmas.Result.{err_from_is_err_and}
+use Rattle.nap_draw.specs.Geometry.{between}
+use Rattle.nap_draw.specs.Rule.{draws, line_on}
+use Rattle.nap_draw.proofs.Planning.{refused, on_pairs}
+use Rattle.nap_draw.proofs.lines.set_line_abs.Goals as goal
+
+pub returns-in_err-some_pairs : goal.returns-in_err-some_pairs
+returns-in_err-some_pairs c =
+    let fault = err_from_is_err_and c.from_residual.result c.from_residual.ensures.1 in
+    rw (fault.1, fault.2) (refused _ _ c.in_err-some_pairs.ensures.err.0 (c.in_err-some_pairs.ensures.err.1 _))
+
+pub returns : goal.returns
+returns c = on_pairs c.args.work c.args.run.now (λ ms. draws c.args.work line_on (between ms)) _ _ c.in_ok-some_pairs.ensures.ok c.new-moves.ensures c.strokes.ensures
