@@ -52,7 +52,7 @@ UnfinishedBefore = (sets : CodeSets) (xs : List ℕ) (fault : CodeFault) (i k : 
 abbrev pub IsGraphic : ℕ → Type 0
 IsGraphic byte = (0x20 ≤ byte) × (byte < 0x80)
 
--- the ranges of the numbers in a code
+-- what is known of a code by itself: the ranges of its numbers, and that an opcode is none of those left out
 abbrev pub IsInRange : Code → Type 0
 IsInRange (codes.Step (Aps row column)) = IsGraphic row × IsGraphic column
 IsInRange (codes.Designated number set) = number < 4
@@ -65,7 +65,7 @@ IsInRange (codes.DefGlyph byte) = IsGraphic byte
 IsInRange (codes.Repeat count) = count < 64
 IsInRange _ = Unit {0}
 
--- The code at a front has its numbers in their ranges.
+-- The code at a front has its numbers in their ranges, and is no opcode that is left out.
 abbrev pub CodeRanges : Type 0
 CodeRanges = (sets : CodeSets) (xs : List ℕ) (code : Code) (n : ℕ) (after : CodeSets) →
     front sets xs ≡ whole code n after → IsInRange code

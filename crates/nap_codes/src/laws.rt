@@ -31,7 +31,7 @@ pub fn earlier_is_unfinished()
     ensures refused { UnfinishedBefore }
 {}
 
-/// The numbers in a code are in their ranges.
+/// The numbers in a code are in their ranges, and no opcode is one that is left out.
 pub fn code_ranges()
     ensures { CodeRanges }
 {}
