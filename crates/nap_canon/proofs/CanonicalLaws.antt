@@ -1,10 +1,8 @@
-use Rattle.std.proofs.Common.{ℕ, ◌≡◌, ◌↔◌, List, ◌++◌, All, refl, ap, sym, ◌∙◌, subst}
-use Rattle.std.proofs.lemmas.List.Elements.{All-take}
-use Rattle.nap_list.specs.declared.entry.Entry.{Entry}
-use Rattle.nap_reader.specs.Stream.{Outcome, means}
-use Rattle.nap_canon.specs.Text.{text, HasText, HaveText}
-use Rattle.nap_canon.specs.Streams.{IsAccepted, list_of, IsCanonicalOf}
-use Rattle.nap_canon.specs.Laws.{IsReadAs, TextIsRead, TextOfPrefix, CanonicalStreams, CanonicalStreamsAgree}
+use Rattle.std.proofs.Common.{ℕ, ◌≡◌, ◌↔◌, List, ap, sym, ◌∙◌, subst}
+use Rattle.nap_reader.specs.Stream.{Outcome}
+use Rattle.nap_canon.specs.Text.{text, HaveText}
+use Rattle.nap_canon.specs.Streams.{list_of, IsCanonicalOf}
+use Rattle.nap_canon.specs.Laws.{IsReadAs, TextIsRead, TextOfPrefix, CanonicalStreamsAgree}
 use Rattle.nap_canon.proofs.TextLemmas.{text-append, built_front}
 use Rattle.nap_canon.proofs.PointLemmas.{means_text}
 use Rattle.nap_canon.proofs.InsideLemmas.{read_points_are_inside}

@@ -1,8 +1,8 @@
-use Rattle.std.proofs.Common.{ℕ, ◌≡◌, ◌↔◌, List, Option, Some, Result, Ok, Err, Vec, Global, IsErrOf, refl, ap}
+use Rattle.std.proofs.Common.{ℕ, ◌≡◌, ◌↔◌, List, Option, Some, Result, Ok, Err, Vec, Global, IsErrOf, ap}
 use Rattle.nap_list.specs.declared.entry.Entry.{Entry}
 use Rattle.nap_list.specs.State.{Legal, BreaksAt}
 use Rattle.nap_canon.specs.declared.fault.CanonFault.{CanonFault}
-use Rattle.nap_canon.specs.declared.fault.CanonFault.TheVariants.{Illegal, Memory, Unbuilt}
+use Rattle.nap_canon.specs.declared.fault.CanonFault.TheVariants.{Illegal, Unbuilt}
 use Rattle.nap_canon.specs.Text.{LacksText}
 
 abbrev Answer : Type 0

@@ -1,4 +1,4 @@
-use Rattle.std.proofs.Common.{ℕ, suc, ◌+◌, ◌-◌, ◌≡◌, ◌≤◌, ◌<◌, List, [], ◌∷◌, ◌++◌, length, All, true, false, None, Ok, refl, ap, sym, subst, ◌∙◌, arith}
+use Rattle.std.proofs.Common.{ℕ, suc, ◌+◌, ◌-◌, ◌≡◌, ◌≤◌, List, [], ◌∷◌, ◌++◌, length, All, true, false, refl, ap, sym, subst, ◌∙◌, arith}
 use Rattle.std.proofs.lemmas.Bool.Decides.{nat_tests}
 use Rattle.std.proofs.lemmas.List.{length-map}
 use Rattle.std.proofs.lemmas.List.Elements.{All-nil, All-cons, All-head, All-tail}
@@ -12,20 +12,19 @@ use Rattle.nap_codes.specs.declared.code_set.CodeSets.{CodeSets}
 use Rattle.nap_codes.specs.declared.code_set.GSet.TheVariants.{G1}
 use Rattle.nap_codes.specs.declared.opcode.Opcode.{Opcode}
 use Rattle.nap_codes.specs.declared.opcode.Opcode.TheVariants as opcodes
-use Rattle.nap_codes.specs.CodeSets.{start_sets, set_at, after_control0}
+use Rattle.nap_codes.specs.CodeSets.{start_sets, after_control0}
 use Rattle.nap_codes.specs.Tables.{row_of, control0_rows, opcode_rows, left_out_opcode}
 use Rattle.nap_codes.specs.Front as codes
 use Rattle.nap_list.specs.declared.entry.Entry.{Entry}
 use Rattle.nap_list.specs.declared.entry.Entry.TheVariants as entries
-use Rattle.nap_list.specs.State.{start_drawing, walk}
+use Rattle.nap_list.specs.State.{walk}
 use Rattle.nap_draw.specs.declared.work.Work.{Work}
 use Rattle.nap_draw.specs.Rule.{drawn}
 use Rattle.nap_reader.specs.Course as course
 use Rattle.nap_reader.specs.Held.{IsOpenRun}
-use Rattle.nap_reader.specs.Stream.{Placed, Machine, bytes_of, words_of, is_operand_byte, run_length, run_limit, front, placed_from, start_machine, means}
+use Rattle.nap_reader.specs.Stream.{Placed, Machine, words_of, is_operand_byte, run_length, run_limit, front, placed_from, start_machine, means}
 use Rattle.nap_reader.proofs.StreamLemmas.{placed_from-append}
 use Rattle.nap_canon.specs.Text.{pieces, written, text, HasText, HaveText, IsInside, AreInside}
-use Rattle.nap_canon.specs.Laws.{TextIsRead}
 use Rattle.nap_canon.proofs.RuleLemmas.{IsPlain, with_entries, header_work, header_rule, header_plain, plain_point, point_plain, point_rule}
 use Rattle.nap_canon.proofs.ReadLemmas.{Reads, settled, reads_nothing, reads_act, BeginsAnew, reads_run, means_settled}
 

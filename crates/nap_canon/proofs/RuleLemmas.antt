@@ -1,4 +1,4 @@
-use Rattle.std.proofs.Common.{ℕ, ◌≡◌, ◌≤◌, ◌<◌, List, [], ◌∷◌, length, map, take, drop, false, None, Some, Ok, refl, ap, sym, ◌∙◌, arith}
+use Rattle.std.proofs.Common.{ℕ, ◌≡◌, List, [], ◌∷◌, length, map, take, drop, false, None, Some, Ok, refl, ap, ◌∙◌, arith}
 use Rattle.std.proofs.lemmas.List.{length-map, take_all, drop_all}
 use Rattle.nap_values.specs.Coordinates.{Coordinates, IsInSquare, point_at}
 use Rattle.nap_values.specs.Operands.{multi_of}
@@ -10,8 +10,8 @@ use Rattle.nap_list.specs.declared.entry.Entry.TheVariants as entries
 use Rattle.nap_list.specs.State.{start_drawing, walk}
 use Rattle.nap_draw.specs.declared.work.Work.{Work}
 use Rattle.nap_draw.specs.Operands.{operands, moves}
-use Rattle.nap_draw.specs.Geometry.{points_at, onward}
-use Rattle.nap_draw.specs.Rule.{rule, drawn, draws, start_work, point_on, some_of, and_then}
+use Rattle.nap_draw.specs.Geometry.{points_at}
+use Rattle.nap_draw.specs.Rule.{rule, drawn, start_work}
 use Rattle.nap_draw.proofs.Cuts.{operands-front, operands_none}
 
 -- What the rules of drawing do with the pieces of canonical text.

@@ -1,4 +1,4 @@
-use Rattle.std.proofs.Common.{ℕ, ◌≡◌, ◌≢◌, ◌↔◌, List, length, Result, Ok, Err, None, Vec, Global, IsErrOf, refl, ap, sym, subst, inr, ◌∙◌}
+use Rattle.std.proofs.Common.{ℕ, ◌≡◌, ◌≢◌, ◌↔◌, List, length, Result, Err, Vec, Global, IsErrOf, refl, ap, sym, subst, inr, ◌∙◌}
 use Rattle.nap_list.specs.declared.entry.Entry.{Entry}
 use Rattle.nap_list.specs.State.{Legal, BreaksAt}
 use Rattle.nap_list.proofs.Breaks.{legal_never_breaks}
@@ -8,7 +8,7 @@ use Rattle.nap_reader.proofs.LegalLemmas.{accepted_is_legal}
 use Rattle.nap_canon.specs.declared.fault.CanonFault.{CanonFault}
 use Rattle.nap_canon.specs.declared.fault.CanonFault.TheVariants as canon_faults
 use Rattle.nap_canon.specs.Text.{text, HaveText, LacksText}
-use Rattle.nap_canon.specs.Streams.{IsAccepted, list_of, IsCanonicalOf, IsUnbuilt, IsRefusedBy, fault_of}
+use Rattle.nap_canon.specs.Streams.{IsAccepted, list_of, IsCanonicalOf, IsRefusedBy, fault_of}
 use Rattle.nap_canon.proofs.LackLemmas.{built_never_lacks}
 
 -- the text of the list that was read is the canonical stream

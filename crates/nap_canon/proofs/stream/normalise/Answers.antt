@@ -1,4 +1,4 @@
-use Rattle.std.proofs.Common.{◌≡◌, ◌≢◌, ◌∙◌, length, sym, subst}
+use Rattle.std.proofs.Common.{◌≢◌, ◌∙◌, sym, subst}
 use Rattle.nap_reader.specs.declared.fault.Refusal.{Refusal}
 use Rattle.nap_reader.specs.declared.fault.Fault.TheVariants as faults
 use Rattle.nap_canon.specs.Streams.{IsRefusedBy}

@@ -1,7 +1,7 @@
-use Rattle.std.proofs.Common.{◌≡◌, true, false, refl, sym, ◌∙◌, subst, arith, length, take}
+use Rattle.std.proofs.Common.{refl, sym, ◌∙◌, subst, arith}
 use Rattle.std.proofs.lemmas.Bool.{true≢false}
 use Rattle.std.proofs.lemmas.List.{take_all}
-use Rattle.nap_canon.specs.Text.{HasText, HaveText, LacksText}
+use Rattle.nap_canon.specs.Text.{HasText, HaveText}
 use Rattle.nap_canon.proofs.LackLemmas.{lacks_at, built_more, built_never_lacks, only_lack, no_lack}
 use Rattle.nap_canon.proofs.text.first_without_text.Goals as goal
 
