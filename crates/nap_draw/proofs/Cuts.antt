@@ -3,9 +3,9 @@ use Rattle.std.proofs.Math.Nat.{add-div_left, add-mod_left, div-eq_of_lt, mod-eq
 use Rattle.std.proofs.lemmas.List.{length-map}
 use Rattle.std.proofs.lemmas.Bool.Decides.{nat_tests}
 use Rattle.std.specs.Int.{div_ceil}
-use Rattle.nap_values.specs.Operands.{multi_of}
+use Rattle.nap_values.specs.Operands.{multi_of, single_of}
 use Rattle.nap_draw.specs.declared.fault.DrawFault.TheVariants.{Missing}
-use Rattle.nap_draw.specs.Operands.{cut, operands, moves}
+use Rattle.nap_draw.specs.Operands.{cut, operands, moves, addresses}
 use Rattle.nap_draw.specs.declared.fault.DrawFault.{DrawFault}
 use Rattle.nap_draw.specs.declared.work.Work.{Work}
 use Rattle.nap_values.specs.Coordinates.{Displacement}
@@ -42,6 +42,13 @@ moves_none k run none = ap (map multi_of) (operands_none k run none)
 pub moves_turn : (k n : ℕ) (run front after : List ℕ) → 1 ≤ k → 0 < length run →
     n ≡ min k (length run) → front ≡ take n run → after ≡ drop n run → moves k run ≡ multi_of front ∷ moves k after
 moves_turn k n run front after some more is first rest = rw (first, rest, is) (ap (map multi_of) (operands-front k run some more))
+
+pub addresses_none : (k : ℕ) (run : List ℕ) → length run ≡ 0 → addresses k run ≡ []
+addresses_none k run none = ap (map single_of) (operands_none k run none)
+
+pub addresses_turn : (k n : ℕ) (run front after : List ℕ) → 1 ≤ k → 0 < length run →
+    n ≡ min k (length run) → front ≡ take n run → after ≡ drop n run → addresses k run ≡ single_of front ∷ addresses k after
+addresses_turn k n run front after some more is first rest = rw (first, rest, is) (ap (map single_of) (operands-front k run some more))
 
 pub none_of : (work : Work) (run : List ℕ) → length run ≡ 0 → (f : List Displacement → Result Drawn DrawFault) → with_operands work run f ≡ Err Missing
 none_of work run none f = ap (λ ms. and_then (some_of ms) f) (moves_none work.domain.multi run none)

@@ -1,16 +1,27 @@
-use Rattle.std.proofs.Common.{◌≡◌, ℕ, ◌/◌, List, [], ◌∷◌, map, Bool, true, false, cond, eqb, ltb, leb, ◌<◌, ◌≤◌, length, arith, Option, Some, None, Result, Ok, Err, refl, sym, ◌∙◌, ap, subst}
-use Rattle.std.specs.Option.{option_map, option_and_then}
+use Rattle.std.proofs.Common.{◌≡◌, ℕ, ◌+◌, ◌/◌, List, [], ◌∷◌, map, Bool, true, false, cond, eqb, ltb, leb, ◌<◌, ◌≤◌, length, arith, Option, Some, None, Result, Ok, Err, refl, sym, ◌∙◌, ap, subst}
+use Rattle.std.specs.Option.{option_map, option_and_then, option_or}
 use Rattle.nap_values.specs.Coordinates.{Coordinates, Displacement, point_at}
 use Rattle.nap_codes.specs.declared.opcode.Opcode.{Opcode}
 use Rattle.nap_codes.specs.declared.opcode.Opcode.TheVariants as opcodes
 use Rattle.nap_list.specs.declared.attribute.Pen.{Pen}
 use Rattle.nap_list.specs.declared.attribute.Pen.TheVariants as pens
+use Rattle.nap_list.specs.declared.attribute.Base.{Base}
+use Rattle.nap_list.specs.declared.attribute.Base.TheVariants as bases
+use Rattle.nap_list.specs.declared.attribute.Colour.{Colour}
+use Rattle.nap_list.specs.declared.attribute.Colour.TheVariants as colours
+use Rattle.nap_list.specs.declared.attribute.TextLook.{TextLook}
+use Rattle.nap_list.specs.declared.attribute.Texture.{Texture}
+use Rattle.nap_values.specs.Colours.{Components}
+use Rattle.nap_values.specs.Operands.{colour_of}
+use Rattle.nap_draw.specs.Operands.{operands}
+use Rattle.nap_draw.proofs.Still.{wait_stays, blink_stays, stays_fit}
+use Rattle.nap_list.specs.declared.entry.Entry.TheVariants as entries
 use Rattle.nap_list.specs.declared.entry.Entry.{Entry}
 use Rattle.nap_list.specs.declared.state.Drawing.{Drawing}
 use Rattle.nap_list.specs.declared.state.State.{State}
 use Rattle.nap_list.specs.Entry.{held, WellMade}
-use Rattle.nap_list.specs.State.{AllFit, Comes, after, walk, with_pen, with_pen_at}
-use Rattle.nap_list.specs.Agreement.{InMode, Holds, StatesAgree, Agrees}
+use Rattle.nap_list.specs.State.{AllFit, Comes, TextureFits, MaskFits, with_colour, after, walk, with_pen, with_pen_at}
+use Rattle.nap_list.specs.Agreement.{ColourAgrees, InMode, Holds, StatesAgree, Agrees}
 use Rattle.nap_list.proofs.Agreement.{agreeing_fits}
 use Rattle.nap_draw.specs.declared.work.Work.{Work}
 use Rattle.std.proofs.lemmas.Bool.Decides.{nat_tests}
@@ -18,7 +29,7 @@ use Rattle.nap_list.specs.declared.attribute.Area.{Area}
 use Rattle.nap_draw.specs.declared.fault.DrawFault.{DrawFault}
 use Rattle.nap_draw.specs.declared.fault.DrawFault.TheVariants as faults
 use Rattle.nap_draw.specs.Geometry.{end_of, points_at, reached, joined, between, away, across, arc_points, poly_points}
-use Rattle.nap_draw.specs.Rule.{Drawn, and_then, some_of, pairs_of, first_of, few_of, moves_of, pen_point, drawn, draws, draws_one, goes, with_drawing, domain_rule, domain_in, with_domain, shape_from_pen, shape_from_point, area_of, field_rule, point_on, line_on, rect_on, arc_on, poly_on, field_on, rule}
+use Rattle.nap_draw.specs.Rule.{Drawn, and_then, some_of, pairs_of, first_of, few_of, moves_of, pen_point, drawn, draws, draws_one, goes, with_drawing, domain_rule, domain_in, with_domain, shape_from_pen, shape_from_point, area_of, field_rule, point_on, line_on, rect_on, arc_on, poly_on, field_on, reset_rule, text_rule, texture_rule, colour_of_base, selected, select_rule, maps, colours_as, set_color_rule, blink, blinks, blink_rule, rule}
 use Rattle.nap_draw.specs.Laws.{RuleFits}
 use Rattle.nap_draw.specs.Plans.{landed}
 use Rattle.nap_draw.proofs.Walks.{Lands, one, point_lands, line_lands, rect_lands}
@@ -192,6 +203,130 @@ field_fits : (work : Work) (ms : List Displacement) → IsFitting work (field_ru
 field_fits work ms = each_fits work (area_of work ms) _ (λ area. one_fits work field_on (Some area) (λ a is.
     single_fits work (field_on work.state.drawing a) (record { pen = refl; pel = tt; colour = tt; texture = tt; text = tt }) tt (λ t. tt)))
 
+wait_fits : (work : Work) (run : List ℕ) → Fitting work (drawn work (map entries.Wait run))
+unfolding Fitting
+wait_fits work run shown a = stays_fit work.state.drawing entries.Wait (wait_stays work.state.drawing) work.state.definition work.state.last run shown a
+
+blink_groups_fit : (work : Work) (k : ℕ) (groups : List (List ℕ)) → Fitting work (drawn work (map (blink k work.state.drawing.colour) groups))
+unfolding Fitting
+blink_groups_fit work k groups shown a =
+    let d = work.state.drawing in stays_fit d (blink k d.colour) (blink_stays d k a.drawing.mode) work.state.definition work.state.last groups shown a
+
+blink_fits : (work : Work) (k : ℕ) (groups : List (List ℕ)) → Fitting work (drawn work (blinks k work.state.drawing.colour groups))
+blink_fits work k [] = single_fits work (entries.BlinkEnd work.state.drawing.colour) (record { pen = tt; pel = tt; colour = refl; texture = tt; text = tt }) tt (λ t. tt)
+blink_fits work k (group ∷ groups) = blink_groups_fit work k (group ∷ groups)
+
+reset_fits : (work : Work) (first second : ℕ) → IsFitting work (reset_rule work first second)
+unfolding IsFitting Fitting
+reset_fits work first second shown a =
+    single_fits work (entries.Reset first second work.state.drawing.pen) (record { pen = refl; pel = tt; colour = tt; texture = tt; text = tt }) tt (λ t. tt) shown a
+
+text_agrees : (s : State) (look : TextLook) (shown : State) → StatesAgree s shown → StatesAgree (record s { drawing = record s.drawing { text = look } }) shown
+text_agrees s look shown a = record {
+  drawing = record { pen = a.drawing.pen; base = a.drawing.base; colour = a.drawing.colour; mode = a.drawing.mode; texture = a.drawing.texture };
+  definition = a.definition;
+  last = a.last;
+}
+
+mask_agrees : (t : Texture) (mask : Option Displacement) (shown : Texture) → TextureFits shown (Some t) → MaskFits shown (option_or mask t.mask)
+mask_agrees t None shown a = a
+mask_agrees t (Some m) shown a = tt
+
+texture_agrees : (s : State) (word : ℕ) (mask : Option Displacement) (shown : State) → StatesAgree s shown →
+    StatesAgree (record s { drawing = record s.drawing { texture = record { word = word; mask = option_or mask s.drawing.texture.mask } } }) shown
+texture_agrees s word mask shown a = record {
+  drawing = record { pen = a.drawing.pen; base = a.drawing.base; colour = a.drawing.colour; mode = a.drawing.mode; texture = mask_agrees s.drawing.texture mask shown.drawing.texture a.drawing.texture };
+  definition = a.definition;
+  last = a.last;
+}
+
+base_mode : (base : Base) → InMode base (colour_of_base base)
+base_mode (bases.Own origin) = refl
+base_mode (bases.Direct grb) = refl
+
+base_agrees : (base : Base) (shown : Colour) → ColourAgrees (colour_of_base base) shown
+base_agrees (bases.Own origin) shown = tt
+base_agrees (bases.Direct grb) shown = tt
+
+select_agrees : (s : State) (addresses : List ℕ) (shown : State) → StatesAgree s shown → StatesAgree (record s { drawing = with_colour (selected s.drawing.base addresses) s.drawing }) shown
+select_agrees s [] shown a = record {
+  drawing = record { pen = a.drawing.pen; base = a.drawing.base; colour = base_agrees s.drawing.base shown.drawing.colour; mode = base_mode s.drawing.base; texture = a.drawing.texture };
+  definition = a.definition;
+  last = a.last;
+}
+select_agrees s (x ∷ []) shown a = record {
+  drawing = record { pen = a.drawing.pen; base = a.drawing.base; colour = tt; mode = tt; texture = a.drawing.texture };
+  definition = a.definition;
+  last = a.last;
+}
+select_agrees s (x ∷ y ∷ more) shown a = record {
+  drawing = record { pen = a.drawing.pen; base = a.drawing.base; colour = tt; mode = tt; texture = a.drawing.texture };
+  definition = a.definition;
+  last = a.last;
+}
+
+direct_agrees : (s : State) (grb : Components) (shown : State) → StatesAgree s shown →
+    StatesAgree (record s { drawing = record s.drawing { base = bases.Direct grb; colour = colours.Direct grb } }) shown
+direct_agrees s grb shown a = record {
+  drawing = record { pen = a.drawing.pen; base = tt; colour = tt; mode = refl; texture = a.drawing.texture };
+  definition = a.definition;
+  last = a.last;
+}
+
+-- a colour at an address: the colours chosen stay, and those shown are the address
+abbrev ColourIsMapped : Colour → Type 0
+ColourIsMapped (colours.Front a) = Unit {0}
+ColourIsMapped (colours.Pair a b) = Unit {0}
+ColourIsMapped _ = ⊥
+
+mapped_agrees : (colour shown : Colour) → ColourIsMapped colour → ColourAgrees colour shown
+mapped_agrees (colours.Own origin) shown mapped = absurd mapped
+mapped_agrees (colours.Direct grb) shown mapped = absurd mapped
+mapped_agrees (colours.Front a) shown mapped = tt
+mapped_agrees (colours.Pair a b) shown mapped = tt
+mapped_agrees (colours.ByReset preset) shown mapped = absurd mapped
+
+direct_fits : (work : Work) (grb : Components) → IsFitting work (Ok (drawn (with_drawing work (record work.state.drawing { base = bases.Direct grb; colour = colours.Direct grb })) []))
+unfolding IsFitting
+direct_fits work grb = silent_fits work (with_drawing work (record work.state.drawing { base = bases.Direct grb; colour = colours.Direct grb })) (direct_agrees work.state grb)
+
+map_fits : (work : Work) (a : ℕ) (grb : Components) → ColourIsMapped work.state.drawing.colour → IsFitting work (maps work a grb)
+unfolding IsFitting Fitting AllFit walk
+map_fits work a grb mapped shown agrees = (
+  (record { values = record { pen = tt; colour = tt; texture = tt }; made = tt; comes = tt }, tt),
+  record {
+    drawing = record {
+      pen = agrees.drawing.pen;
+      base = agrees.drawing.base;
+      colour = mapped_agrees work.state.drawing.colour (colours.Front a) mapped;
+      mode = agrees.drawing.mode;
+      texture = agrees.drawing.texture;
+    };
+    definition = agrees.definition;
+    last = refl;
+  },
+)
+
+colours_fit : (work : Work) (colour : Colour) (grb : Components) → work.state.drawing.colour ≡ colour → IsFitting work (colours_as work colour grb)
+colours_fit work (colours.Own origin) grb is = direct_fits work grb
+colours_fit work (colours.Direct old) grb is = direct_fits work grb
+colours_fit work (colours.Front a) grb is = map_fits work a grb (subst (λ (c : Colour). ColourIsMapped c) (sym is) tt)
+colours_fit work (colours.Pair a b) grb is = map_fits work a grb (subst (λ (c : Colour). ColourIsMapped c) (sym is) tt)
+colours_fit work (colours.ByReset preset) grb is = fault_fits work faults.NoAddress
+
+set_color_fits : (work : Work) (operands : List (List ℕ)) → IsFitting work (set_color_rule work operands)
+set_color_fits work [] = fault_fits work faults.Missing
+set_color_fits work (operand ∷ []) = colours_fit work work.state.drawing.colour (colour_of operand) refl
+set_color_fits work (operand ∷ other ∷ more) = fault_fits work faults.ManyColours
+
+attribute_fits : (work w : Work) → ((shown : State) → StatesAgree work.state shown → StatesAgree w.state shown) → IsFitting work (Ok (drawn w []))
+unfolding IsFitting
+attribute_fits work w agrees = silent_fits work w agrees
+
+list_fits : (work : Work) (list : List Entry) → Fitting work (drawn work list) → IsFitting work (Ok (drawn work list))
+unfolding IsFitting
+list_fits work list fits = fits
+
 rule_is_fitting : (work : Work) (op : Opcode) (run : List ℕ) → IsFitting work (rule work op run)
 rule_is_fitting work opcodes.Domain run = domain_fits work run
 rule_is_fitting work opcodes.PointSetAbs run = operands_fit work run _ (λ ms. goes_fits work (points_at ms))
@@ -215,7 +350,14 @@ rule_is_fitting work opcodes.PolyFilled run = poly_pen_fits work true run
 rule_is_fitting work opcodes.SetPolyOutlined run = poly_point_fits work false run
 rule_is_fitting work opcodes.SetPolyFilled run = poly_point_fits work true run
 rule_is_fitting work opcodes.Field run = field_fits work (moves_of work run)
-rule_is_fitting work _ run = fault_fits work _
+rule_is_fitting work opcodes.Reset run = reset_fits work _ _
+rule_is_fitting work opcodes.Text run = attribute_fits work _ (text_agrees work.state _)
+rule_is_fitting work opcodes.Texture run = attribute_fits work _ (texture_agrees work.state _ _)
+rule_is_fitting work opcodes.SelectColor run = attribute_fits work _ (select_agrees work.state _)
+rule_is_fitting work opcodes.SetColor run = set_color_fits work (operands work.domain.multi run)
+rule_is_fitting work opcodes.Wait run = list_fits work _ (wait_fits work run)
+rule_is_fitting work opcodes.Blink run = list_fits work _ (blink_fits work work.domain.single (operands (work.domain.single + 3) run))
+rule_is_fitting work _ run = attribute_fits work work (λ shown agrees. agrees)
 
 fits_as : (work : Work) (r : Result Drawn DrawFault) (d : Drawn) → r ≡ Ok d → IsFitting work r → Fitting work d
 unfolding IsFitting

@@ -1,4 +1,5 @@
 pub mod Applied
+pub mod Attributes
 pub mod Cuts
 pub mod Domains
 pub mod Ends
@@ -7,5 +8,6 @@ pub mod Outlines
 pub mod Planning
 pub mod Puts
 pub mod Singles
+pub mod Still
 pub mod Turns
 pub mod Walks

@@ -53,7 +53,7 @@ module _ {A : Type 0} (entry : Drawing → A → Entry) (at : A → Coordinates)
       (list, refl, ap all there)
 
 -- what an entry leaves that holds the values that stand
-left_by : (s : State) (e : Entry) → Holds (held e) s.drawing → InMode s.drawing.base s.drawing.colour →
+pub left_by : (s : State) (e : Entry) → Holds (held e) s.drawing → InMode s.drawing.base s.drawing.colour →
     after s e ≡ record { drawing = drawn s.definition s.drawing e; definition = definition_after s.definition s.drawing e; last = last_after e }
 left_by s e holds mode =
     let there : Drawing → State = λ d. record { drawing = drawn s.definition d e; definition = definition_after s.definition d e; last = last_after e } in

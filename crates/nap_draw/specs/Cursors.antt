@@ -1,5 +1,6 @@
 use Rattle.std.specs.Prelude.{◌≡◌, ℕ, length, List, [], ◌∷◌, Option, Some, None, option_map}
 use Rattle.nap_values.specs.Coordinates.{Coordinates, Displacement}
+use Rattle.nap_draw.specs.declared.operands.Addresses.{Addresses}
 use Rattle.nap_draw.specs.declared.operands.Moves.{Moves}
 use Rattle.nap_draw.specs.declared.targets.Steps.{Steps}
 use Rattle.nap_draw.specs.declared.targets.Targets.{Targets}
@@ -8,13 +9,16 @@ use Rattle.nap_draw.specs.declared.spans.Span.{Span}
 use Rattle.nap_draw.specs.declared.spans.Lines.{Lines}
 use Rattle.nap_draw.specs.declared.spans.Spans.{Spans}
 use Rattle.nap_draw.specs.declared.spans.Spans.TheVariants as spans
-use Rattle.nap_draw.specs.Operands.{moves}
+use Rattle.nap_draw.specs.Operands.{moves, addresses}
 use Rattle.nap_draw.specs.Geometry.{points_at, reached, joined, between, away, across}
 
 -- What the iterators over a run have left.
 
 abbrev pub moves_left : Moves → List Displacement
 moves_left m = moves m.domain.multi m.rest.now
+
+abbrev pub addresses_left : Addresses → List ℕ
+addresses_left a = addresses a.domain.single a.rest.now
 
 -- how many operands are left
 abbrev pub moves_count : Moves → ℕ

@@ -1,6 +1,6 @@
 use Rattle.std.specs.Prelude.{ℕ, suc, zero, ◌-◌, List, [], ◌∷◌, ◌++◌, map}
 use Rattle.nap_values.specs.Coordinates.{Displacement}
-use Rattle.nap_values.specs.Operands.{multi_of}
+use Rattle.nap_values.specs.Operands.{multi_of, single_of}
 
 -- the words, cut into operands of k words, behind an operand that has room for this many more
 unfoldable pub cut : ℕ → ℕ → List ℕ → List ℕ → List (List ℕ)
@@ -16,3 +16,7 @@ operands k (word ∷ words) = cut k (k - 1) (word ∷ []) words
 -- the displacements that the operands of a run spell, each of k words
 abbrev pub moves : ℕ → List ℕ → List Displacement
 moves k run = map multi_of (operands k run)
+
+-- the addresses that the operands of a run spell, each of k words
+abbrev pub addresses : ℕ → List ℕ → List ℕ
+addresses k run = map single_of (operands k run)

@@ -1,4 +1,4 @@
-use Rattle.std.specs.Prelude.{◌≡◌, Bool, List, [], ◌∷◌, map, Option, Some, None, IsSome, option_map, option_to_list, unwrap_or, Result, Ok, Err}
+use Rattle.std.specs.Prelude.{◌≡◌, ℕ, ◌+◌, Bool, false, List, [], ◌∷◌, map, Option, Some, None, IsSome, option_map, option_to_list, unwrap_or, Result, Ok, Err}
 use Rattle.nap_list.specs.declared.entry.Entry.{Entry}
 use Rattle.nap_list.specs.declared.entry.Entry.TheVariants as shapes
 use Rattle.nap_list.specs.declared.attribute.Pen.TheVariants as pens
@@ -6,7 +6,14 @@ use Rattle.nap_list.specs.declared.state.State.{State}
 use Rattle.nap_list.specs.State.{with_pen, corner}
 use Rattle.nap_values.specs.Coordinates.{Coordinates, Displacement}
 use Rattle.nap_draw.specs.declared.entries.Dots.{Dots}
+use Rattle.nap_draw.specs.declared.entries.Pauses.{Pauses}
+use Rattle.nap_draw.specs.declared.entries.Blinks.{Blinks}
+use Rattle.nap_draw.specs.Operands.{operands}
+use Rattle.nap_list.specs.declared.attribute.Base.TheVariants as bases
+use Rattle.nap_list.specs.declared.attribute.Colour.TheVariants as colours
 use Rattle.nap_list.specs.declared.attribute.Ink.{Ink}
+use Rattle.nap_values.specs.Colours.{Components}
+use Rattle.nap_draw.specs.declared.work.Work.{Work}
 use Rattle.nap_list.specs.declared.state.Drawing.{Drawing}
 use Rattle.nap_draw.specs.declared.entries.Figure.{Figure}
 use Rattle.nap_draw.specs.declared.entries.Figure.TheVariants as figures
@@ -21,7 +28,7 @@ use Rattle.nap_draw.specs.declared.fault.DrawFault.{DrawFault}
 use Rattle.nap_draw.specs.declared.fault.DrawFault.TheVariants as faults
 use Rattle.nap_draw.specs.Geometry.{end_of, arc_points, poly_points}
 use Rattle.nap_draw.specs.Cursors.{targets_left, spans_left}
-use Rattle.nap_draw.specs.Rule.{Drawn, ink_of}
+use Rattle.nap_draw.specs.Rule.{Drawn, with_drawing, ink_of, blink}
 use Rattle.nap_draw.specs.Draws.{Cause, stream, memory, device, cause_of}
 
 -- What is left to be put of an opcode's entries, where no point is outside the square.
@@ -58,10 +65,18 @@ shape_points outlines.Poly p ms = poly_points p ms
 abbrev pub strokes_left : Strokes → Option (List Entry)
 strokes_left strokes = option_map (map (stroke strokes.figure strokes.ink)) (spans_left strokes.spans)
 
+abbrev pub pauses_left : Pauses → Option (List Entry)
+pauses_left pauses = Some (map shapes.Wait pauses.rest.now)
+
+abbrev pub blinks_left : Blinks → Option (List Entry)
+blinks_left blinks = Some (map (blink blinks.domain.single blinks.colour) (operands (blinks.domain.single + 3) blinks.rest.now))
+
 abbrev pub entries_left : Entries → Option (List Entry)
 entries_left (kinds.Single entry) = Some (option_to_list entry)
 entries_left (kinds.Dots dots) = dots_left dots
 entries_left (kinds.Strokes strokes) = strokes_left strokes
+entries_left (kinds.Pauses pauses) = pauses_left pauses
+entries_left (kinds.Blinks blinks) = blinks_left blinks
 
 abbrev pub AreInside : Entries → Type 0
 AreInside entries = IsSome (entries_left entries)
@@ -95,3 +110,17 @@ abbrev pub Plans : Result Drawn DrawFault → Result Plan DrawFault → Type 0
 Plans by (Ok plan) = (list : List Entry) × (entries_left plan.entries ≡ Some list)
     × (by ≡ Ok (record { entries = list; work = plan.effects.work; clears = plan.effects.clears }))
 Plans by (Err fault) = PlansNot by fault (cause_of fault)
+
+-- the plan of a new colour of mode 0
+abbrev pub direct_plan : Work → Components → Plan
+direct_plan work grb = record {
+  entries = kinds.Single None;
+  effects = record { work = with_drawing work (record work.state.drawing { base = bases.Direct grb; colour = colours.Direct grb }); clears = false };
+}
+
+-- the plan of a new colour at an address
+abbrev pub map_plan : Work → ℕ → Components → Plan
+map_plan work a grb = record {
+  entries = kinds.Single (Some (shapes.Map a grb));
+  effects = record { work = record work { state = record work.state { last = None } }; clears = false };
+}

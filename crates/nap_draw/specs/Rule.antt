@@ -1,10 +1,18 @@
-use Rattle.std.specs.Prelude.{ℕ, ◌≡◌, ◌+◌, ◌/◌, ◌%◌, ◌==◌, Bool, true, false, nat_lt, length, List, [], ◌∷◌, map, slice_get, Option, Some, None, option_map, option_and_then, ok_or, unwrap_or, ⊤, Result, Ok, Err, if◌then◌else◌}
+use Rattle.std.specs.Prelude.{ℕ, ◌≡◌, ◌+◌, ◌/◌, ◌%◌, ◌==◌, Bool, true, false, nat_lt, length, List, [], ◌∷◌, map, slice_get, slice_index, take, drop, Option, Some, None, option_map, option_and_then, ok_or, unwrap_or, ⊤, Result, Ok, Err, if◌then◌else◌}
+use Rattle.std.specs.Option.{option_or}
 use Rattle.nap_values.specs.Coordinates.{Coordinates, Displacement, point_at}
+use Rattle.nap_values.specs.Colours.{Components}
 use Rattle.nap_values.specs.Domains.{OperandLengths}
+use Rattle.nap_values.specs.Operands.{single_of, colour_of}
 use Rattle.nap_codes.specs.declared.opcode.Opcode.{Opcode}
 use Rattle.nap_codes.specs.declared.opcode.Opcode.TheVariants as opcodes
 use Rattle.nap_list.specs.declared.attribute.Pen.{Pen}
 use Rattle.nap_list.specs.declared.attribute.Pen.TheVariants as pens
+use Rattle.nap_list.specs.declared.attribute.Base.{Base}
+use Rattle.nap_list.specs.declared.attribute.Base.TheVariants as bases
+use Rattle.nap_list.specs.declared.attribute.CharSize.TheVariants as sizes
+use Rattle.nap_list.specs.declared.attribute.Colour.{Colour}
+use Rattle.nap_list.specs.declared.attribute.Colour.TheVariants as colours
 use Rattle.nap_list.specs.declared.attribute.Ink.{Ink}
 use Rattle.nap_list.specs.declared.attribute.Area.{Area}
 use Rattle.nap_list.specs.declared.attribute.Area.TheVariants as areas
@@ -12,12 +20,12 @@ use Rattle.nap_list.specs.declared.entry.Entry.{Entry}
 use Rattle.nap_list.specs.declared.entry.Entry.TheVariants as entries
 use Rattle.nap_list.specs.declared.state.Drawing.{Drawing}
 use Rattle.nap_list.specs.declared.state.State.{State}
-use Rattle.nap_list.specs.State.{start, walk, with_pen_at}
+use Rattle.nap_list.specs.State.{start, walk, with_colour, with_pen_at}
 use Rattle.nap_draw.specs.declared.work.Work.{Work}
 use Rattle.nap_draw.specs.declared.fault.DrawFault.{DrawFault}
 use Rattle.nap_draw.specs.declared.fault.DrawFault.TheVariants as faults
 use Rattle.nap_draw.specs.declared.spans.Span.{Span}
-use Rattle.nap_draw.specs.Operands.{moves}
+use Rattle.nap_draw.specs.Operands.{operands, moves, addresses}
 use Rattle.nap_draw.specs.Geometry.{end_of, points_at, reached, joined, span_by, between, away, across, arc_points, poly_points}
 
 -- operands of three words and of one
@@ -167,16 +175,103 @@ area_of work (m ∷ n ∷ ms) = part (point_at m) n
 abbrev pub field_rule : Work → List Displacement → Result Drawn DrawFault
 field_rule work ms = and_then (area_of work ms) (λ area. draws_one work field_on (Some area))
 
--- an opcode that is no part of our profile has no rule
+-- RESET: always an entry with both of its words; b1 of the first puts the domain back too, b5 of the second clears all macros (our profile)
+abbrev pub reset_rule : Work → ℕ → ℕ → Result Drawn DrawFault
+reset_rule work first second =
+    let entry = entries.Reset first second work.state.drawing.pen in
+    Ok (record {
+      entries = entry ∷ [];
+      work = record work { domain = if first % 2 == 1 then start_domain else work.domain; state = walk work.state (entry ∷ []) };
+      clears = second / 16 % 2 == 1;
+    })
+
+-- the first multi-value operand of a run, if there is one
+abbrev pub first_move : Work → List ℕ → Option Displacement
+first_move work run = slice_get (moves_of work run) 0
+
+-- TEXT: both words and the size; what is missing stays
+abbrev pub text_rule : Work → List ℕ → Result Drawn DrawFault
+text_rule work run =
+    let look = work.state.drawing.text in
+    Ok (drawn (with_drawing work (record work.state.drawing {
+      text = record look {
+        first = unwrap_or (slice_get run 0) look.first;
+        second = unwrap_or (slice_get run 1) look.second;
+        size = unwrap_or (option_map sizes.Given (first_move work (drop 2 run))) look.size;
+      };
+    })) [])
+
+-- TEXTURE: the word and the mask's size; what is missing stays
+abbrev pub texture_rule : Work → List ℕ → Result Drawn DrawFault
+texture_rule work run =
+    let texture = work.state.drawing.texture in
+    Ok (drawn (with_drawing work (record work.state.drawing {
+      texture = record {
+        word = unwrap_or (slice_get run 0) texture.word;
+        mask = option_or (first_move work (drop 1 run)) texture.mask;
+      };
+    })) [])
+
+-- the colour of mode 0
+abbrev pub colour_of_base : Base → Colour
+colour_of_base (bases.Own origin) = colours.Own origin
+colour_of_base (bases.Direct grb) = colours.Direct grb
+
+-- SELECT COLOR: back to mode 0, or the colour at an address, or those at two
+abbrev pub selected : Base → List ℕ → Colour
+selected base [] = colour_of_base base
+selected base (a ∷ []) = colours.Front a
+selected base (a ∷ b ∷ more) = colours.Pair a b
+
+abbrev pub select_rule : Work → List ℕ → Result Drawn DrawFault
+select_rule work run = Ok (drawn (with_drawing work (with_colour (selected work.state.drawing.base (addresses work.domain.single run)) work.state.drawing)) [])
+
+-- a new colour at an address; the colours chosen stay
+abbrev pub maps : Work → ℕ → Components → Result Drawn DrawFault
+maps work a grb = Ok (record { entries = entries.Map a grb ∷ []; work = record work { state = record work.state { last = None } }; clears = false })
+
+-- a new colour: of mode 0, or at the address that is chosen
+abbrev pub colours_as : Work → Colour → Components → Result Drawn DrawFault
+colours_as work (colours.Own origin) grb = Ok (drawn (with_drawing work (record work.state.drawing { base = bases.Direct grb; colour = colours.Direct grb })) [])
+colours_as work (colours.Direct old) grb = Ok (drawn (with_drawing work (record work.state.drawing { base = bases.Direct grb; colour = colours.Direct grb })) [])
+colours_as work (colours.Front a) grb = maps work a grb
+colours_as work (colours.Pair a b) grb = maps work a grb
+colours_as work (colours.ByReset preset) grb = Err faults.NoAddress
+
+-- SET COLOR: one colour
+abbrev pub set_color_rule : Work → List (List ℕ) → Result Drawn DrawFault
+set_color_rule work [] = Err faults.Missing
+set_color_rule work (operand ∷ []) = colours_as work work.state.drawing.colour (colour_of operand)
+set_color_rule work (operand ∷ other ∷ more) = Err faults.ManyColours
+
+-- BLINK's group of an address of k words and three words more, on, off and delay
+abbrev pub blink : ℕ → Colour → List ℕ → Entry
+blink k colour group =
+    entries.Blink (single_of (take k group)) (slice_index (drop k group) 0) (slice_index (drop k group) 1) (slice_index (drop k group) 2) colour
+
+-- BLINK: a blink for each group, or the end of all
+abbrev pub blinks : ℕ → Colour → List (List ℕ) → List Entry
+blinks k colour [] = entries.BlinkEnd colour ∷ []
+blinks k colour (group ∷ groups) = map (blink k colour) (group ∷ groups)
+
+abbrev pub blink_rule : Work → List ℕ → Result Drawn DrawFault
+blink_rule work run =
+    let k = work.domain.single in
+    Ok (drawn work (blinks k work.state.drawing.colour (operands (k + 3) run)))
+
+-- the incremental opcodes are no part of our profile
 abbrev pub IsDrawn : Opcode → Type 0
 IsDrawn opcodes.IncrementalPoint = ⊥
 IsDrawn opcodes.IncrementalLine = ⊥
 IsDrawn opcodes.IncrementalPolyFilled = ⊥
 IsDrawn _ = ⊤
 
--- the rule of each opcode on its whole run
+-- the rule of each opcode on its whole run; one that is no part of our profile gives nothing
 abbrev pub rule : Work → Opcode → List ℕ → Result Drawn DrawFault
+rule work opcodes.Reset run = reset_rule work (slice_index run 0) (slice_index run 1)
 rule work opcodes.Domain run = domain_rule work run
+rule work opcodes.Text run = text_rule work run
+rule work opcodes.Texture run = texture_rule work run
 rule work opcodes.PointSetAbs run = with_operands work run (λ ms. goes work (points_at ms))
 rule work opcodes.PointSetRel run = from_pen work run (λ p ms. goes work (reached p ms))
 rule work opcodes.PointAbs run = with_operands work run (λ ms. draws work point_on (points_at ms))
@@ -198,4 +293,8 @@ rule work opcodes.PolyFilled run = shape_from_pen work run (poly_on true) poly_p
 rule work opcodes.SetPolyOutlined run = shape_from_point work run (poly_on false) poly_points
 rule work opcodes.SetPolyFilled run = shape_from_point work run (poly_on true) poly_points
 rule work opcodes.Field run = field_rule work (moves_of work run)
-rule work _ run = Err faults.Unbuilt
+rule work opcodes.SetColor run = set_color_rule work (operands work.domain.multi run)
+rule work opcodes.Wait run = Ok (drawn work (map entries.Wait run))
+rule work opcodes.SelectColor run = select_rule work run
+rule work opcodes.Blink run = blink_rule work run
+rule work _ run = Ok (drawn work [])

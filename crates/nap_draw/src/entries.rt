@@ -1,12 +1,14 @@
 // The entries of an opcode, before they are put.
 ghost use Rattle.std.specs.Prelude.{◌≡◌, IsSome, None, option_map};
 ghost use Rattle.std.specs.Iterator.{item_count};
-ghost use Rattle.nap_draw.specs.Plans.{stroke, stroke_end, dots_left, strokes_left, entries_left, AreInside, listed, YieldsWhole};
+ghost use Rattle.nap_draw.specs.Plans.{stroke, stroke_end, dots_left, strokes_left, pauses_left, blinks_left, entries_left, AreInside, listed, YieldsWhole};
 
+use crate::operands::word_at;
 use crate::spans::{Span, Spans, corner};
 use crate::targets::Targets;
-use nap_list::{Entry, Ink};
-use nap_values::Point;
+use nap_list::{Colour, Entry, Ink};
+use nap_values::operand::single;
+use nap_values::{Domain, Point, Word};
 
 /// Points that are still to be drawn.
 #[derive(Drop)]
@@ -31,6 +33,20 @@ pub(crate) struct Strokes<'a> {
     pub ink: Ink,
 }
 
+/// Words of which each is still to be a pause.
+#[derive(Drop)]
+pub(crate) struct Pauses<'a> {
+    pub rest: &'a [Word],
+}
+
+/// Groups of BLINK that are still to be put.
+#[derive(Drop)]
+pub(crate) struct Blinks<'a> {
+    pub domain: Domain,
+    pub colour: Colour,
+    pub rest: &'a [Word],
+}
+
 /// The entries that are still to be put. No point of them lies outside the square.
 #[derive(Drop)]
 pub(crate) enum Entries<'a> {
@@ -38,6 +54,8 @@ pub(crate) enum Entries<'a> {
     Single(Option<Entry>),
     Dots(Dots<'a>),
     Strokes(Strokes<'a>),
+    Pauses(Pauses<'a>),
+    Blinks(Blinks<'a>),
 }
 
 impl Iterator for Entries<'_> {
@@ -54,6 +72,8 @@ impl Iterator for Entries<'_> {
             Entries::Single(entry) => entry.take(),
             Entries::Dots(dots) => dots.next(),
             Entries::Strokes(strokes) => strokes.next(),
+            Entries::Pauses(pauses) => pauses.next(),
+            Entries::Blinks(blinks) => blinks.next(),
         }
     }
 }
@@ -107,5 +127,37 @@ impl Strokes<'_> {
     {
         let span = self.spans.next()?.unwrap();
         Some(self.figure.entry(span, self.ink))
+    }
+}
+
+impl Pauses<'_> {
+    fn next(&mut self) -> Option<Entry>
+        ensures { YieldsWhole pauses_left self.old result self.new }
+    {
+        let (word, rest) = self.rest.split_first()?;
+        self.rest = rest;
+        Some(Entry::Wait(*word))
+    }
+}
+
+impl Blinks<'_> {
+    fn next(&mut self) -> Option<Entry>
+        ensures { YieldsWhole blinks_left self.old result self.new }
+    {
+        if self.rest.is_empty() {
+            return None;
+        }
+        let size = self.domain.single();
+        let words = usize::from(size) + 3;
+        let (group, rest) = self.rest.split_at(words.min(self.rest.len()));
+        self.rest = rest;
+        let (address, times) = group.split_at(usize::from(size).min(group.len()));
+        Some(Entry::Blink {
+            addr: single(address, size),
+            on: word_at(times, 0),
+            off: word_at(times, 1),
+            delay: word_at(times, 2),
+            colour: self.colour,
+        })
     }
 }

@@ -28,8 +28,6 @@ pub enum DrawFault {
     Memory,
     /// The device behind the sink failed.
     Sink,
-    /// The opcode isn't built yet.
-    Unbuilt,
 }
 
 impl From<AllocError> for DrawFault {

@@ -2,12 +2,14 @@
 #![tactic(auto)]
 
 mod act;
+mod colours;
 mod domain;
 mod entries;
 pub mod fault;
 mod field;
 pub mod laws;
 mod lines;
+mod look;
 mod operands;
 mod plan;
 mod points;
@@ -15,6 +17,7 @@ mod put;
 mod shapes;
 mod spans;
 mod targets;
+mod times;
 pub mod work;
 
 pub use act::apply;

@@ -1,18 +1,18 @@
 // The operands of a run, one after another.
-ghost use Rattle.std.specs.Prelude.{◌≡◌, length, List, Result, Err, IfOk, IfErr};
+ghost use Rattle.std.specs.Prelude.{◌≡◌, length, List, Result, Err, IfOk, IfErr, slice_index, drop};
 ghost use Rattle.std.specs.Iterator.{YieldsFirst, item_count};
 ghost use Rattle.nap_values.specs.Coordinates.{Coordinates, Displacement};
 ghost use Rattle.nap_draw.specs.declared.fault.DrawFault.{DrawFault};
 ghost use Rattle.nap_draw.specs.Operands.{moves};
 ghost use Rattle.nap_draw.specs.Rule.{Drawn, moves_of, with_operands, with_pairs, from_pen};
 ghost use Rattle.nap_draw.specs.Draws.{stream, cause_of};
-ghost use Rattle.nap_draw.specs.Cursors.{moves_left, moves_count};
+ghost use Rattle.nap_draw.specs.Cursors.{moves_left, moves_count, addresses_left};
 
 use crate::fault::DrawFault;
 use crate::work::Work;
 use nap_list::Pen;
-use nap_values::operand::multi;
-use nap_values::{Domain, Move, Point, Word};
+use nap_values::operand::{multi, single};
+use nap_values::{Addr, Domain, Move, Point, Word};
 
 /// The multi-value operands of a run that are still to be read.
 #[derive(Drop)]
@@ -99,4 +99,43 @@ impl Iterator for Moves<'_> {
         self.rest = rest;
         Some(multi(operand, size))
     }
+}
+
+/// The single-value operands of a run that are still to be read.
+#[derive(Drop)]
+pub(crate) struct Addresses<'a> {
+    pub domain: Domain,
+    pub rest: &'a [Word],
+}
+
+impl Iterator for Addresses<'_> {
+    type Item = Addr;
+
+    ghost next_gives = { YieldsFirst addresses_left };
+
+    ghost remaining = { item_count addresses_left };
+
+    fn next(&mut self) -> Option<Addr> {
+        if self.rest.is_empty() {
+            return None;
+        }
+        let size = self.domain.single();
+        let (operand, rest) = self.rest.split_at(usize::from(size).min(self.rest.len()));
+        self.rest = rest;
+        Some(single(operand, size))
+    }
+}
+
+/// The word at the index, zero where the run has none.
+pub(crate) fn word_at(run: &[Word], index: usize) -> Word
+    ensures { result ≡ slice_index run.now index }
+{
+    run.get(index).copied().unwrap_or(Word::ZERO)
+}
+
+/// The words from the index on.
+pub(crate) fn words_from(run: &[Word], index: usize) -> &[Word]
+    ensures { result.now ≡ drop index run.now }
+{
+    run.get(index..).unwrap_or(&[])
 }

@@ -2,17 +2,20 @@
 ghost use Rattle.std.specs.Prelude.{◌≡◌, Some, None, false};
 ghost use Rattle.nap_list.specs.State.{Fits, after};
 ghost use Rattle.nap_list.specs.Agreement.{InMode};
-ghost use Rattle.nap_draw.specs.Rule.{rule};
+ghost use Rattle.nap_draw.specs.Rule.{rule, IsDrawn};
 ghost use Rattle.nap_draw.specs.Plans.{Plans};
 ghost use Rattle.nap_draw.specs.declared.entries.Entries.TheVariants.{Single};
 
+use crate::colours::{select_color, set_color};
 use crate::domain::domain;
 use crate::entries::Entries;
 use crate::fault::DrawFault;
 use crate::field::field;
 use crate::lines::{line_abs, line_rel, rect, set_line_abs, set_line_rel, set_rect};
+use crate::look::{reset, text, texture};
 use crate::points::{point_abs, point_rel, point_set_abs, point_set_rel};
 use crate::shapes::{Shape, shape_from_pen, shape_from_point};
+use crate::times::{blink, wait};
 use crate::work::{Effects, Work};
 use nap_codes::Opcode;
 use nap_list::Entry;
@@ -57,11 +60,15 @@ pub(crate) fn plan_of<'a>(
     op: Opcode,
     run: &'a [Word],
 ) -> Result<Plan<'a>, DrawFault>
-    requires { InMode work.state.drawing.base work.state.drawing.colour }
+    requires mode { InMode work.state.drawing.base work.state.drawing.colour }
+    requires drawn { IsDrawn op }
     ensures { Plans (rule work op run.now) result }
 {
     match op {
+        Opcode::Reset => reset(work, run),
         Opcode::Domain => domain(work, run),
+        Opcode::Text => text(work, run),
+        Opcode::Texture => texture(work, run),
         Opcode::PointSetAbs => point_set_abs(work, run),
         Opcode::PointSetRel => point_set_rel(work, run),
         Opcode::PointAbs => point_abs(work, run),
@@ -83,6 +90,12 @@ pub(crate) fn plan_of<'a>(
         Opcode::SetPolyOutlined => shape_from_point(alloc, work, Shape::Poly, false, run),
         Opcode::SetPolyFilled => shape_from_point(alloc, work, Shape::Poly, true, run),
         Opcode::Field => field(work, run),
-        _ => Err(DrawFault::Unbuilt),
+        Opcode::SetColor => set_color(work, run),
+        Opcode::Wait => wait(work, run),
+        Opcode::SelectColor => select_color(work, run),
+        Opcode::Blink => blink(work, run),
+        Opcode::IncrementalPoint => unreachable!(),
+        Opcode::IncrementalLine => unreachable!(),
+        Opcode::IncrementalPolyFilled => unreachable!(),
     }
 }

@@ -1,10 +1,10 @@
 ghost use Rattle.std.specs.Prelude.{◌≡◌, false, unwrap_or};
 ghost use Rattle.nap_list.specs.State.{with_pen_at};
-ghost use Rattle.nap_draw.specs.Rule.{start_domain, start_work, pen_point, ink_of, with_drawing};
+ghost use Rattle.nap_draw.specs.Rule.{start_work, pen_point, ink_of, with_drawing};
 ghost use Rattle.nap_draw.specs.Plans.{landed};
 
 use crate::fault::DrawFault;
-use nap_list::{Ink, Pen, State};
+use nap_list::{Base, Colour, Ink, Pen, State, TextLook, Texture};
 use nap_values::{Domain, Move, Point};
 
 /// What the codes of a stream work on: the lengths of operands, the values that stand, and the lengths that the end of
@@ -21,13 +21,6 @@ pub struct Work {
 pub struct Effects {
     pub work: Work,
     pub clears: bool,
-}
-
-/// Operands of three words and of one.
-fn start_domain() -> Domain
-    ensures { result ≡ start_domain }
-{
-    Domain::try_new(3, 1).unwrap()
 }
 
 impl Effects {
@@ -48,9 +41,9 @@ impl Work {
         ensures { result ≡ start_work }
     {
         Work {
-            domain: start_domain(),
+            domain: Domain::START,
             state: State::start(),
-            saved: start_domain(),
+            saved: Domain::START,
         }
     }
 
@@ -65,6 +58,35 @@ impl Work {
         }
     }
 
+    /// How text is drawn.
+    pub(crate) fn text(&self) -> TextLook
+        ensures { result ≡ self.now.state.drawing.text }
+    {
+        self.state.drawing.text
+    }
+
+    /// How lines and areas are drawn.
+    pub(crate) fn texture(&self) -> Texture
+        ensures { result ≡ self.now.state.drawing.texture }
+    {
+        self.state.drawing.texture
+    }
+
+    /// The colour of mode 0.
+    pub(crate) fn base(&self) -> Base
+        ensures { result ≡ self.now.state.drawing.base }
+    {
+        self.state.drawing.base
+    }
+
+    /// The colour that stands.
+    pub(crate) fn colour(&self) -> Colour
+        ensures { result ≡ self.now.state.drawing.colour }
+    {
+        self.state.drawing.colour
+    }
+
+    /// Where the pen is.
     pub(crate) fn pen(&self) -> Pen
         ensures { result ≡ self.now.state.drawing.pen }
     {

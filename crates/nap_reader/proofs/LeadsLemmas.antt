@@ -64,7 +64,6 @@ module _ {S : Type 0} (g : Ghosts S) (s t u : S) (o : Outcome) (done : List Entr
   fault_answer draw_faults.NothingToRepeat k = by_cause draw_faults.NothingToRepeat stream k
   fault_answer draw_faults.Memory k = by_cause draw_faults.Memory memory k
   fault_answer draw_faults.Sink k = by_cause draw_faults.Sink device k
-  fault_answer draw_faults.Unbuilt k = by_cause draw_faults.Unbuilt stream k
 
 module _ {S : Type 0} (g : Ghosts S) (s t : S) (o : Outcome) (m : Machine) (rest pending : List Placed) (h : Leads g s o t m rest pending) where
   -- what the front of what is held and pending says of the outcome

@@ -79,4 +79,3 @@ draw_fault draw_faults.ManyPoints = faults.ManyPoints
 draw_fault draw_faults.NothingToRepeat = faults.NothingToRepeat
 draw_fault draw_faults.Memory = faults.Memory
 draw_fault draw_faults.Sink = faults.Sink
-draw_fault draw_faults.Unbuilt = faults.Unbuilt

@@ -130,7 +130,6 @@ impl From<DrawFault> for Fault {
             DrawFault::NothingToRepeat => Fault::NothingToRepeat,
             DrawFault::Memory => Fault::Memory,
             DrawFault::Sink => Fault::Sink,
-            DrawFault::Unbuilt => Fault::Unbuilt,
         }
     }
 }

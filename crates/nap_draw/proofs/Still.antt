@@ -1,0 +1,95 @@
+use Rattle.std.proofs.Common.{◌≡◌, ℕ, ◌+◌, List, [], ◌∷◌, map, length, take, drop, get_or, min, ◌<◌, ◌≤◌, leb, arith, Bool, true, false, Option, Some, None, Result, Ok, Err, refl, sym, ◌∙◌, ap, subst}
+use Rattle.std.proofs.lemmas.Bool.Decides.{nat_tests}
+use Rattle.std.proofs.lemmas.List.{take_all, drop_all}
+use Rattle.nap_values.specs.Operands.{single_of}
+use Rattle.nap_draw.specs.Operands.{operands}
+use Rattle.nap_draw.proofs.Cuts.{operands-front}
+use Rattle.nap_list.specs.declared.attribute.Colour.{Colour}
+use Rattle.nap_list.specs.declared.entry.Entry.{Entry}
+use Rattle.nap_list.specs.declared.entry.Entry.TheVariants as entries
+use Rattle.nap_list.specs.declared.state.Drawing.{Drawing}
+use Rattle.nap_list.specs.declared.state.LastChar.{LastChar}
+use Rattle.nap_list.specs.declared.state.Opened.{Opened}
+use Rattle.nap_list.specs.declared.state.State.{State}
+use Rattle.nap_list.specs.Entry.{held, WellMade}
+use Rattle.nap_list.specs.State.{AllFit, Comes, after, walk}
+use Rattle.nap_list.specs.Agreement.{InMode, Holds, StatesAgree}
+use Rattle.nap_list.proofs.Agreement.{agreeing_fits}
+use Rattle.nap_draw.specs.Rule.{blink}
+use Rattle.nap_draw.proofs.Walks.{left_by}
+
+abbrev at : Drawing → Option Opened → Option LastChar → State
+at d o last = record { drawing = d; definition = o; last = last }
+
+-- entries that leave the values as they stand
+pub record Stays {A : Type 0} (d : Drawing) (entry : A → Entry) : Type 0 where
+  pub stays : (x : A) (o : Option Opened) (last : Option LastChar) → after (at d o last) (entry x) ≡ at d o None
+  pub holds : (x : A) → Holds (held (entry x)) d
+  pub made : (x : A) → WellMade (entry x)
+  pub comes : (x : A) (s : State) → Comes s (entry x)
+
+module _ {A : Type 0} (d : Drawing) (entry : A → Entry) (by : Stays d entry) where
+  pub walk_stays : (o : Option Opened) (last : Option LastChar) (x : A) (xs : List A) → walk (at d o last) (map entry (x ∷ xs)) ≡ at d o None
+  unfolding walk
+  walk_stays o last x [] = by.stays x o last
+  walk_stays o last x (y ∷ ys) = ap (λ s. walk s (map entry (y ∷ ys))) (by.stays x o last) ∙ walk_stays o None y ys
+
+  pub stays_fit : (o : Option Opened) (last : Option LastChar) (xs : List A) (shown : State) → StatesAgree (at d o last) shown →
+      AllFit shown (map entry xs) × StatesAgree (walk (at d o last) (map entry xs)) (walk shown (map entry xs))
+  unfolding AllFit walk
+  stays_fit o last [] shown a = (tt, a)
+  stays_fit o last (x ∷ xs) shown a =
+      let e = entry x in
+      let here = agreeing_fits (at d o last) shown e a (by.holds x) (by.made x) (by.comes x (at d o last)) in
+      let there = by.stays x o last in
+      let then = stays_fit o None xs (after shown e) (subst (λ (s : State). StatesAgree s (after shown e)) there here.1) in
+      ((here.0, then.0), subst (λ (s : State). StatesAgree (walk s (map entry xs)) (walk (after shown e) (map entry xs))) (sym there) then.1)
+
+pub wait_stays : (d : Drawing) → Stays d entries.Wait
+wait_stays d = record {
+  stays = λ word o last. refl;
+  holds = λ word. record { pen = tt; pel = tt; colour = tt; texture = tt; text = tt };
+  made = λ word. tt;
+  comes = λ word s. tt;
+}
+
+pub blink_stays : (d : Drawing) (k : ℕ) → InMode d.base d.colour → Stays d (blink k d.colour)
+blink_stays d k mode = record {
+  stays = λ group o last. left_by (at d o last) (blink k d.colour group) (record { pen = tt; pel = tt; colour = refl; texture = tt; text = tt }) mode;
+  holds = λ group. record { pen = tt; pel = tt; colour = refl; texture = tt; text = tt };
+  made = λ group. tt;
+  comes = λ group s. tt;
+}
+
+take_least : (k : ℕ) (xs : List ℕ) → take (min k (length xs)) xs ≡ take k xs
+take_least k xs = at (leb k (length xs)) refl
+  where
+    at : (b : Bool) → leb k (length xs) ≡ b → take (min k (length xs)) xs ≡ take k xs
+    at true all = let e : min k (length xs) ≡ k = grind (arith, nat_tests) in ap (λ (n : ℕ). take n xs) e
+    at false few =
+        let e : min k (length xs) ≡ length xs = grind (arith, nat_tests) in
+        let most : length xs ≤ k = grind (arith, nat_tests) in
+        ap (λ (n : ℕ). take n xs) e ∙ (take_all (length xs) xs (omega arith) ∙ sym (take_all k xs most))
+
+drop_least : (k : ℕ) (xs : List ℕ) → drop (min k (length xs)) xs ≡ drop k xs
+drop_least k xs = at (leb k (length xs)) refl
+  where
+    at : (b : Bool) → leb k (length xs) ≡ b → drop (min k (length xs)) xs ≡ drop k xs
+    at true all = let e : min k (length xs) ≡ k = grind (arith, nat_tests) in ap (λ (n : ℕ). drop n xs) e
+    at false few =
+        let e : min k (length xs) ≡ length xs = grind (arith, nat_tests) in
+        let most : length xs ≤ k = grind (arith, nat_tests) in
+        ap (λ (n : ℕ). drop n xs) e ∙ (drop_all (length xs) xs (omega arith) ∙ sym (drop_all k xs most))
+
+-- a run that was cut behind its first group
+pub blink_turn : (k n m : ℕ) (colour : Colour) (run group after address times : List ℕ) (a on off delay : ℕ) → 0 < length run →
+    n ≡ min (k + 3) (length run) → m ≡ min k (length group) → group ≡ take n run → after ≡ drop n run → address ≡ take m group → times ≡ drop m group →
+    a ≡ single_of address → on ≡ get_or times 0 0 → off ≡ get_or times 1 0 → delay ≡ get_or times 2 0 →
+    map (blink k colour) (operands (k + 3) run) ≡ entries.Blink a on off delay colour ∷ map (blink k colour) (operands (k + 3) after)
+blink_turn k n m colour run group after address times a on off delay more is part first rest front back at one two three =
+    let cut : operands (k + 3) run ≡ group ∷ operands (k + 3) after =
+    rw (first, rest, is) (operands-front (k + 3) run (omega arith) more) in
+    let by = front ∙ (ap (λ (m : ℕ). take m group) part ∙ take_least k group) in
+    let behind = back ∙ (ap (λ (m : ℕ). drop m group) part ∙ drop_least k group) in
+    let made : entries.Blink a on off delay colour ≡ blink k colour group = rw (at, one, two, three, by, behind) refl in
+    ap (map (blink k colour)) cut ∙ ap (λ (e : Entry). e ∷ map (blink k colour) (operands (k + 3) after)) (sym made)
