@@ -1,4 +1,4 @@
-use Rattle.std.proofs.Common.{◌≡◌, ℕ, List, [], ◌++◌, Bool, Option, Some, Result, Ok, Err, refl, sym, ◌∙◌, ap, subst}
+use Rattle.std.proofs.Common.{◌≡◌, ℕ, List, [], Bool, Result, Ok, refl, sym, ap, subst}
 use Rattle.std.specs.Option.{unwrap_or}
 use Rattle.nap_codes.specs.declared.opcode.Opcode.{Opcode}
 use Rattle.nap_list.specs.declared.entry.Entry.{Entry}
@@ -9,7 +9,7 @@ use Rattle.nap_draw.specs.declared.fault.DrawFault.{DrawFault}
 use Rattle.nap_draw.specs.declared.plan.Plan.{Plan}
 use Rattle.nap_draw.specs.declared.work.Work.{Work}
 use Rattle.nap_draw.specs.Rule.{Drawn, rule}
-use Rattle.nap_draw.specs.Draws.{Cause, stream, memory, device, cause_of, DrawsBy, Draws}
+use Rattle.nap_draw.specs.Draws.{Cause, stream, memory, device, DrawsBy}
 use Rattle.nap_draw.specs.Plans.{listed, PlansNot, Plans}
 use Rattle.nap_draw.proofs.Fits.{rule_fits}
 

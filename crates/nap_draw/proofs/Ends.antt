@@ -1,4 +1,4 @@
-use Rattle.std.proofs.Common.{◌≡◌, List, [], ◌∷◌, Option, Some, None, Ok, Err, refl, sym, ◌∙◌, ap}
+use Rattle.std.proofs.Common.{◌≡◌, List, [], ◌∷◌, Option, Some, None, Ok, sym, ap}
 use Rattle.std.specs.Option.{option_map}
 use Rattle.nap_draw.specs.Geometry.{end_of}
 use Rattle.nap_draw.specs.Plans.{end_inside}

@@ -1,9 +1,8 @@
-use Rattle.std.proofs.Common.{◌≡◌, ℕ, ◌+◌, ◌/◌, List, [], ◌∷◌, map, Bool, true, false, cond, eqb, ltb, leb, ◌<◌, ◌≤◌, length, arith, Option, Some, None, Result, Ok, Err, refl, sym, ◌∙◌, ap, subst}
+use Rattle.std.proofs.Common.{◌≡◌, ℕ, ◌+◌, ◌/◌, List, [], ◌∷◌, map, Bool, true, false, cond, eqb, ltb, ◌<◌, ◌≤◌, length, arith, Option, Some, None, Result, Ok, Err, refl, sym, subst}
 use Rattle.std.specs.Option.{option_map, option_and_then, option_or}
 use Rattle.nap_values.specs.Coordinates.{Coordinates, Displacement, point_at}
 use Rattle.nap_codes.specs.declared.opcode.Opcode.{Opcode}
 use Rattle.nap_codes.specs.declared.opcode.Opcode.TheVariants as opcodes
-use Rattle.nap_list.specs.declared.attribute.Pen.{Pen}
 use Rattle.nap_list.specs.declared.attribute.Pen.TheVariants as pens
 use Rattle.nap_list.specs.declared.attribute.Base.{Base}
 use Rattle.nap_list.specs.declared.attribute.Base.TheVariants as bases
@@ -20,16 +19,15 @@ use Rattle.nap_list.specs.declared.entry.Entry.{Entry}
 use Rattle.nap_list.specs.declared.state.Drawing.{Drawing}
 use Rattle.nap_list.specs.declared.state.State.{State}
 use Rattle.nap_list.specs.Entry.{held, WellMade}
-use Rattle.nap_list.specs.State.{AllFit, Comes, TextureFits, MaskFits, with_colour, after, walk, with_pen, with_pen_at}
-use Rattle.nap_list.specs.Agreement.{ColourAgrees, InMode, Holds, StatesAgree, Agrees}
+use Rattle.nap_list.specs.State.{AllFit, Comes, TextureFits, MaskFits, with_colour, after, walk, with_pen_at}
+use Rattle.nap_list.specs.Agreement.{ColourAgrees, InMode, Holds, StatesAgree}
 use Rattle.nap_list.proofs.Agreement.{agreeing_fits}
 use Rattle.nap_draw.specs.declared.work.Work.{Work}
 use Rattle.std.proofs.lemmas.Bool.Decides.{nat_tests}
-use Rattle.nap_list.specs.declared.attribute.Area.{Area}
 use Rattle.nap_draw.specs.declared.fault.DrawFault.{DrawFault}
 use Rattle.nap_draw.specs.declared.fault.DrawFault.TheVariants as faults
 use Rattle.nap_draw.specs.Geometry.{end_of, points_at, reached, joined, between, away, across, arc_points, poly_points}
-use Rattle.nap_draw.specs.Rule.{Drawn, and_then, some_of, pairs_of, first_of, few_of, moves_of, pen_point, drawn, draws, draws_one, goes, with_drawing, domain_rule, domain_in, with_domain, shape_from_pen, shape_from_point, area_of, field_rule, point_on, line_on, rect_on, arc_on, poly_on, field_on, reset_rule, text_rule, texture_rule, colour_of_base, selected, select_rule, maps, colours_as, set_color_rule, blink, blinks, blink_rule, rule}
+use Rattle.nap_draw.specs.Rule.{Drawn, and_then, some_of, pairs_of, first_of, few_of, moves_of, pen_point, drawn, draws, draws_one, goes, with_drawing, domain_rule, domain_in, with_domain, shape_from_pen, shape_from_point, area_of, field_rule, point_on, line_on, rect_on, arc_on, poly_on, field_on, reset_rule, colour_of_base, selected, maps, colours_as, set_color_rule, blink, blinks, rule}
 use Rattle.nap_draw.specs.Laws.{RuleFits}
 use Rattle.nap_draw.specs.Plans.{landed}
 use Rattle.nap_draw.proofs.Walks.{Lands, one, point_lands, line_lands, rect_lands}

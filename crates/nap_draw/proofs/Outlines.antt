@@ -1,4 +1,4 @@
-use Rattle.std.proofs.Common.{◌≡◌, ℕ, suc, ◌<◌, ◌≤◌, List, [], ◌∷◌, length, Bool, true, false, cond, ltb, Option, Some, None, Result, Ok, Err, refl, sym, ◌∙◌, ap, subst, arith}
+use Rattle.std.proofs.Common.{◌≡◌, suc, ◌<◌, ◌≤◌, List, [], ◌∷◌, length, Bool, false, ltb, Option, Some, None, Result, Ok, Err, refl, sym, ◌∙◌, ap, subst, arith}
 use Rattle.std.specs.Option.{option_map, option_and_then}
 use Rattle.nap_values.specs.Coordinates.{Coordinates, Displacement, moved, point_at}
 use Rattle.std.proofs.lemmas.Bool.Decides.{nat_tests}
@@ -14,7 +14,7 @@ use Rattle.nap_draw.specs.declared.shapes.Shape.{Shape}
 use Rattle.nap_draw.specs.declared.shapes.Shape.TheVariants as outlines
 use Rattle.nap_draw.specs.declared.plan.Plan.{Plan}
 use Rattle.nap_draw.specs.declared.work.Work.{Work}
-use Rattle.nap_draw.specs.Rule.{Drawn, and_then, some_of, few_of, first_of, moves_of, pen_point, draws_one, shape_from_pen, shape_from_point}
+use Rattle.nap_draw.specs.Rule.{Drawn, and_then, some_of, few_of, first_of, pen_point, draws_one}
 use Rattle.nap_draw.specs.Plans.{end_inside, shape_on, shape_points, Plans}
 use Rattle.nap_draw.proofs.Singles.{own_fits}
 use Rattle.nap_list.specs.declared.points.TheConstants.{SHAPE_POINTS}

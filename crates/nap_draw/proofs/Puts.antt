@@ -1,4 +1,4 @@
-use Rattle.std.proofs.Common.{◌≡◌, ◌⊎◌, ℕ, List, [], ◌∷◌, ◌++◌, Bool, true, false, Option, Some, None, IsSome, Ok, Err, IsErrOf, inl, inr, refl, sym, ◌∙◌, ap, subst, append-nil, append_assoc}
+use Rattle.std.proofs.Common.{◌≡◌, ◌⊎◌, List, [], ◌∷◌, ◌++◌, Bool, true, false, Option, Some, IsSome, Err, IsErrOf, inl, inr, refl, sym, ◌∙◌, ap, subst, append-nil, append_assoc}
 use Rattle.std.specs.Option.{unwrap_or, is_some}
 use Rattle.nap_list.specs.declared.entry.Entry.{Entry}
 use Rattle.nap_list.specs.declared.state.State.{State}
@@ -6,7 +6,7 @@ use Rattle.nap_list.specs.declared.sink.SinkFault.{SinkFault}
 use Rattle.nap_list.specs.declared.sink.SinkFault.TheVariants.{Memory, Write}
 use Rattle.nap_list.specs.State.{Fits, AllFit, after, walk}
 use Rattle.nap_list.proofs.Walks.{walk_more, fit_rest}
-use Rattle.nap_draw.specs.Draws.{Puts, Breaks, PutsAll}
+use Rattle.nap_draw.specs.Draws.{Breaks, PutsAll}
 use Rattle.nap_draw.specs.Plans.{YieldsWhole}
 
 -- the entry behind those that were put fits

@@ -1,4 +1,4 @@
-use Rattle.std.proofs.Common.{◌≡◌, List, [], ◌∷◌, Bool, false, Option, Some, None, Result, Ok, Err, refl, sym, ◌∙◌, ap, subst}
+use Rattle.std.proofs.Common.{◌≡◌, [], ◌∷◌, false, Option, Some, None, Result, Ok, refl}
 use Rattle.nap_values.specs.Coordinates.{Displacement}
 use Rattle.nap_list.specs.declared.attribute.Pen.{Pen}
 use Rattle.nap_list.specs.declared.attribute.Pen.TheVariants as pens
@@ -11,7 +11,7 @@ use Rattle.nap_list.specs.declared.entry.Entry.{Entry}
 use Rattle.nap_list.specs.declared.state.Drawing.{Drawing}
 use Rattle.nap_list.specs.declared.state.State.{State}
 use Rattle.nap_list.specs.Entry.{held, WellMade}
-use Rattle.nap_list.specs.State.{PenFits, TextureFits, MaskFits, Comes, Fits, after, walk}
+use Rattle.nap_list.specs.State.{PenFits, MaskFits, Comes, Fits, after, walk}
 use Rattle.nap_list.specs.Agreement.{BaseAgrees, ColourAgrees, InMode, Agrees, StatesAgree, Holds}
 use Rattle.nap_list.proofs.Agreement.{agreeing_fits}
 use Rattle.nap_draw.specs.declared.plan.Plan.{Plan}

@@ -1,8 +1,7 @@
-use Rattle.std.proofs.Common.{◌≡◌, ℕ, ◌<◌, length, List, [], ◌∷◌, Option, Some, None, refl, sym, ◌∙◌, ap, subst, arith}
+use Rattle.std.proofs.Common.{◌≡◌, List, [], ◌∷◌, Option, Some, None, refl, sym, ◌∙◌, ap, subst}
 use Rattle.std.specs.Option.{option_map}
 use Rattle.nap_values.specs.Coordinates.{Coordinates, Displacement, point_at, moved}
 use Rattle.nap_list.specs.State.{corner}
-use Rattle.nap_draw.specs.declared.spans.Span.{Span}
 use Rattle.nap_draw.specs.Geometry.{onward, points_at, reached, joined, span, span_by, between, away, across}
 use Rattle.nap_draw.specs.Cursors.{YieldsInside}
 

@@ -1,4 +1,4 @@
-use Rattle.std.proofs.Common.{◌≡◌, List, [], ◌∷◌, map, Bool, false, Option, Some, None, Result, Ok, Err, refl, sym, ◌∙◌, ap}
+use Rattle.std.proofs.Common.{◌≡◌, List, [], ◌∷◌, map, Bool, false, Option, Some, None, Result, Ok, refl, sym, ◌∙◌, ap}
 use Rattle.std.specs.Option.{option_map}
 use Rattle.nap_values.specs.Coordinates.{Coordinates}
 use Rattle.nap_list.specs.declared.attribute.Pen.{Pen}
@@ -9,7 +9,6 @@ use Rattle.nap_list.specs.Entry.{held, WellMade}
 use Rattle.nap_list.specs.State.{with_pen, with_pen_at, drawn, definition_after, last_after, after, walk, Comes, corner}
 use Rattle.nap_list.specs.Agreement.{InMode, Holds}
 use Rattle.nap_list.proofs.Agreement.{taking_nothing}
-use Rattle.nap_draw.specs.declared.spans.Span.{Span}
 use Rattle.nap_draw.specs.declared.entries.Figure.{Figure}
 use Rattle.nap_draw.specs.declared.entries.Figure.TheVariants as figures
 use Rattle.nap_draw.specs.declared.work.Work.{Work}

@@ -12,3 +12,6 @@ pub use budget::Budget;
 pub use fault::{Fault, Refusal};
 pub use reader::{RUN_LIMIT, Reader, Stopped};
 pub use whole::read_all;
+
+#[cfg(test)]
+mod tests;

@@ -1,11 +1,7 @@
-use Rattle.std.proofs.Common.{◌≡◌, Ok, sym, subst}
+use Rattle.std.proofs.Common.{sym, subst}
 use Rattle.std.proofs.lemmas.Result.{err_from_is_err_and}
 use Rattle.nap_list.specs.declared.state.State.{State}
 use Rattle.nap_list.specs.Agreement.{StatesAgree}
-use Rattle.nap_draw.specs.declared.work.Work.{Work}
-use Rattle.nap_draw.specs.Rule.{rule}
-use Rattle.nap_draw.specs.Draws.{cause_of}
-use Rattle.nap_draw.specs.Plans.{Plans}
 use Rattle.nap_draw.proofs.Applied.{draws_not, plan_fits}
 use Rattle.nap_draw.proofs.act.apply.Goals as goal
 

@@ -2,7 +2,7 @@ use Rattle.std.proofs.Common.{◌≡◌, ◌<◌, ◌≤◌, length, sym, ◌∙
 use Rattle.std.proofs.lemmas.Bool.Decides.{nat_tests}
 use Rattle.nap_values.specs.Operands.{colour_of}
 use Rattle.nap_list.specs.declared.attribute.Colour.{Colour}
-use Rattle.nap_list.specs.declared.attribute.Colour.TheVariants.{Own, Direct, Front, Pair, ByReset}
+use Rattle.nap_list.specs.declared.attribute.Colour.TheVariants.{Own, Direct, Front, Pair}
 use Rattle.nap_draw.specs.Rule.{colours_as}
 use Rattle.nap_draw.specs.Plans.{direct_plan, map_plan}
 use Rattle.nap_draw.proofs.Attributes.{set_none, set_many, set_one, colour_plans, direct_plans, map_plans}

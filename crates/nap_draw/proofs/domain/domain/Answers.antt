@@ -1,4 +1,4 @@
-use Rattle.std.proofs.Common.{[], refl, sym, ◌∙◌, ap}
+use Rattle.std.proofs.Common.{[], refl, ◌∙◌, ap}
 use Rattle.std.specs.List.{slice_get}
 use Rattle.nap_draw.specs.Cursors.{moves_left}
 use Rattle.nap_draw.proofs.Domains.{first_left, domain_given}

@@ -1,4 +1,4 @@
-use Rattle.std.proofs.Common.{[], refl, sym, ◌∙◌}
+use Rattle.std.proofs.Common.{[], refl, sym}
 use Rattle.nap_draw.specs.Cursors.{targets_left}
 use Rattle.nap_draw.proofs.Walks.{plan_goes}
 use Rattle.nap_draw.proofs.points.go.Goals as goal

@@ -1,6 +1,5 @@
-use Rattle.std.proofs.Common.{[], ◌∷◌, true, refl, sym, ◌∙◌, ap}
+use Rattle.std.proofs.Common.{[], ◌∷◌, refl}
 use Rattle.std.proofs.lemmas.Result.{err_from_is_err_and}
-use Rattle.nap_list.specs.State.{walk}
 use Rattle.nap_draw.specs.Plans.{entries_left, listed}
 use Rattle.nap_draw.proofs.Puts.{next_fits, state_none, state_more, turn_inside, turn_list, list_more, put_failed}
 use Rattle.nap_draw.proofs.put.put_all.Goals as goal

@@ -1,4 +1,4 @@
-use Rattle.std.proofs.Common.{◌≡◌, ◌<◌, ◌≤◌, length, sym, arith}
+use Rattle.std.proofs.Common.{◌<◌, ◌≤◌, length, sym, arith}
 use Rattle.nap_draw.specs.Cursors.{moves_left}
 use Rattle.nap_draw.specs.Rule.{moves_of}
 use Rattle.nap_draw.specs.Plans.{shape_on, shape_points}

@@ -1,4 +1,4 @@
-use Rattle.std.proofs.Common.{Some, sym, ◌∙◌, ap, refl, ◌∷◌}
+use Rattle.std.proofs.Common.{Some, sym, ◌∙◌, ap, ◌∷◌}
 use Rattle.std.specs.Option.{option_map}
 use Rattle.nap_draw.specs.Geometry.{span, across}
 use Rattle.nap_draw.specs.Cursors.{moves_left, across_left}

@@ -1,5 +1,5 @@
 use Rattle.std.proofs.Common.{sym, ◌∙◌, ap, refl}
-use Rattle.nap_draw.specs.Geometry.{span, onward, away}
+use Rattle.nap_draw.specs.Geometry.{onward, away}
 use Rattle.nap_draw.specs.Cursors.{moves_left, away_left}
 use Rattle.nap_draw.proofs.Turns.{yields_none, onward_yields, away_end, away_lacks, away_turn}
 use Rattle.nap_draw.proofs.spans.away.Goals as goal

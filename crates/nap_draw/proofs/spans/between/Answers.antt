@@ -1,5 +1,5 @@
 use Rattle.std.proofs.Common.{sym, ◌∙◌, ap, refl}
-use Rattle.nap_draw.specs.Geometry.{span, onward, between}
+use Rattle.nap_draw.specs.Geometry.{onward, between}
 use Rattle.nap_draw.specs.Cursors.{moves_left, between_left}
 use Rattle.nap_draw.proofs.Turns.{yields_none, onward_yields, between_end, between_lacks, between_turn}
 use Rattle.nap_draw.proofs.spans.between.Goals as goal

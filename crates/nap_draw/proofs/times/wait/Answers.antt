@@ -1,8 +1,6 @@
 use Rattle.std.proofs.Common.{◌≡◌, ◌≢◌, length, map, Ok, refl, arith, ap}
 use Rattle.std.proofs.lemmas.Bool.Decides.{nat_tests}
 use Rattle.nap_list.specs.declared.entry.Entry.TheVariants.{Wait}
-use Rattle.nap_draw.specs.declared.fault.DrawFault.{DrawFault}
-use Rattle.nap_draw.specs.Rule.{Drawn}
 use Rattle.nap_draw.proofs.Attributes.{silent_plans, wait_none, wait_some}
 use Rattle.nap_draw.proofs.times.wait.Goals as goal
 

@@ -1,4 +1,4 @@
-use Rattle.std.proofs.Common.{List, Some, map, refl, ap}
+use Rattle.std.proofs.Common.{Some, map, refl, ap}
 use Rattle.nap_list.specs.declared.entry.Entry.TheVariants.{Wait}
 use Rattle.nap_draw.proofs.entries.Pauses.next.Goals as goal
 

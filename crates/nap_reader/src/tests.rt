@@ -1,0 +1,358 @@
+// Streams by hand, with the lists, refusals and counts that the profile gives them.
+ghost use Rattle.std.specs.Prelude.{◌≡◌, ◌++◌, List};
+ghost use Rattle.std.proofs.Common.{sym, ap, ◌∙◌, append-nil, append_assoc};
+ghost use Rattle.nap_list.specs.State.{start, walk};
+ghost use Rattle.nap_list.specs.declared.entry.Entry.{Entry};
+
+use crate::{Budget, Fault, Reader, Refusal, read_all};
+use nap_codes::{CodeFault, Left};
+use nap_draw::DrawFault;
+use nap_list::{Colour, Entry, Ink, ListSink, Origin, Sink, SinkFault, Texture};
+use nap_values::{Move, Point, Word};
+use std::alloc::{AllocError, Global};
+use std::process::Abort;
+use std::test::Fail;
+
+const AT_START: Colour = Colour::Own(Origin::AtStart);
+
+fn point(x: u32, y: u32) -> Point {
+    Point::try_new(x, y).unwrap_or(Point::ORIGIN)
+}
+
+fn dot(x: u32, y: u32) -> Entry {
+    Entry::Point {
+        at: point(x, y),
+        pel: Move::ZERO,
+        colour: AT_START,
+    }
+}
+
+fn line(from: Point, to: Point) -> Entry {
+    let texture = Texture {
+        word: Word::ZERO,
+        mask: None,
+    };
+    Entry::Line {
+        from,
+        to,
+        ink: Ink {
+            pel: Move::ZERO,
+            colour: AT_START,
+            texture,
+        },
+    }
+}
+
+fn refusal(fault: Fault, place: u64) -> Option<Refusal> {
+    Some(Refusal { fault, place })
+}
+
+/// All that a reader says of a stream.
+#[derive(Debug, Drop)]
+struct Answer {
+    list: Vec<Entry>,
+    refusal: Option<Refusal>,
+    fed: u64,
+    turns: u64,
+    charged: u64,
+}
+
+/// Feeds a piece, where few bytes came before it.
+fn feed<S: Sink>(rt: &impl Abort, reader: &mut Reader<S>, piece: &[u8]) -> Result<(), Refusal> {
+    assert!(rt; reader.fed() < 1 << 32);
+    assert!(rt; piece.len() < 1 << 32);
+    reader.feed(piece)
+}
+
+/// The sink at the end of the stream, and why it is refused.
+fn end<S: Sink>(reader: Reader<S>) -> (S, Option<Refusal>) {
+    match reader.finish() {
+        Ok(sink) => (sink, None),
+        Err(stopped) => (stopped.sink, Some(stopped.refusal)),
+    }
+}
+
+/// What a reader says of a stream that comes in these pieces. Once it is refused, each further piece is.
+#[tactic(auto, unfolding(nap_list::specs::State::walk))]
+fn answer_in(rt: &impl Abort, alloc: Global, pieces: &[&[u8]]) -> Answer {
+    let mut reader = Reader::new(alloc, Budget::usual(), ListSink::new(alloc));
+    for piece in pieces {
+        let before = reader.refused();
+        let answer = feed(rt, &mut reader, piece);
+        assert_eq!(rt; answer.err(), reader.refused());
+        assert!(rt; before.is_none() || before == reader.refused());
+    }
+    let (fed, turns, charged) = (reader.fed(), reader.turns(), reader.charged());
+    let before = reader.refused();
+    let (sink, refusal) = end(reader);
+    assert!(rt; before.is_none() || before == refusal);
+    Answer {
+        list: sink.into_list(),
+        refusal,
+        fed,
+        turns,
+        charged,
+    }
+}
+
+/// A stream, and what is to be said of it.
+#[derive(Debug, Drop)]
+struct Row<'a> {
+    bytes: &'a [u8],
+    list: &'a [Entry],
+    refusal: Option<Refusal>,
+    fed: u64,
+}
+
+impl Row<'_> {
+    fn agrees(&self, rt: &impl Abort, answer: &Answer) {
+        let bytes = self.bytes;
+        assert_eq!(rt; answer.list.as_slice(), self.list, "of {bytes:?}");
+        assert_eq!(rt; answer.refusal, self.refusal, "of {bytes:?}");
+        let counts = (answer.fed, answer.turns, answer.charged);
+        assert_eq!(rt; counts, (self.fed, self.fed, 0), "of {bytes:?}");
+    }
+
+    fn agrees_whole(&self, rt: &impl Abort, alloc: Global) {
+        assert!(rt; self.bytes.len() < 1 << 32);
+        match read_all(alloc, Budget::usual(), self.bytes) {
+            Ok(list) => {
+                assert_eq!(rt; self.refusal, None);
+                assert_eq!(rt; list.as_slice(), self.list);
+            }
+            Err(refusal) => assert_eq!(rt; Some(refusal), self.refusal),
+        }
+    }
+
+    fn agrees_in_single_bytes(&self, rt: &impl Abort, alloc: Global) -> Result<(), AllocError> {
+        let pieces = single_bytes(alloc, self.bytes)?;
+        self.agrees(rt, &answer_in(rt, alloc, &pieces));
+        Ok(())
+    }
+
+    fn agrees_in_every_cut(&self, rt: &impl Abort, alloc: Global) -> Result<(), AllocError> {
+        self.agrees_whole(rt, alloc);
+        self.agrees_in_single_bytes(rt, alloc)?;
+        for cut in 0..=self.bytes.len() {
+            let (first, second) = self.bytes.split_at(cut);
+            self.agrees(rt, &answer_in(rt, alloc, &[first, &[], second, &[]]));
+        }
+        Ok(())
+    }
+}
+
+/// Each byte in a piece of its own, with empty pieces between.
+fn single_bytes<'a>(alloc: Global, bytes: &'a [u8]) -> Result<Vec<&'a [u8]>, AllocError> {
+    let mut pieces: Vec<&'a [u8]> = Vec::new(alloc);
+    for index in 0..bytes.len() {
+        pieces.push(&bytes[index..index])?;
+        pieces.push(&bytes[index..=index])?;
+    }
+    Ok(pieces)
+}
+
+#[test]
+fn streams_say_the_same_in_every_cut(rt: HostRuntime) -> Result<(), Fail> {
+    let alloc = rt.alloc();
+    let none: &[Entry] = &[];
+    let middle = &[dot(4_194_304, 4_194_304)][..];
+    let moved = &[dot(6_291_456, 6_291_456)][..];
+    let diagonal = &[line(Point::ORIGIN, point(4_194_304, 4_194_304))][..];
+    let point_alone = Fault::LeftOut(Left::IncrementalPoint);
+    let rows = [
+        (b"".as_slice(), none, None, 0),
+        (b"\x0E!_", none, None, 3),
+        (b"\x0E&R@@", middle, None, 5),
+        (b"\x0E&R", middle, None, 3),
+        (b"\x0E!_&R@@@@@@@", middle, None, 12),
+        (b"\x0E%R@@'I@@", moved, None, 9),
+        (b"\x0E)R@@", diagonal, None, 5),
+        (b"\x1B+ z\x1D!", none, None, 6),
+        (b"\x0E$P@@)P@@", none, refusal(Fault::Outside, 5), 9),
+        (b"\x0E&R\x80", middle, refusal(Fault::EighthBit, 3), 4),
+        (b"\x80", none, refusal(Fault::EighthBit, 0), 1),
+        (b"\x0E@", none, refusal(Fault::Stray, 1), 2),
+        (b"\x0E!`", none, refusal(Fault::ThreeD, 1), 3),
+        (b"\x0E&", none, refusal(Fault::Missing, 1), 2),
+        (b"\x0E9", none, refusal(point_alone, 1), 2),
+        (b"A", none, refusal(Fault::Unbuilt, 0), 1),
+        (b"\x1B", none, refusal(Fault::Cut, 1), 1),
+        (b"\x1B0", none, refusal(Fault::BadEscape, 1), 2),
+        (b"\x1B+  z", none, refusal(Fault::BadEscape, 3), 4),
+    ];
+    for (bytes, list, refusal, fed) in rows {
+        let row = Row {
+            bytes,
+            list,
+            refusal,
+            fed,
+        };
+        row.agrees_in_every_cut(&rt, alloc)?;
+    }
+    Ok(())
+}
+
+#[test]
+fn the_longest_run(rt: HostRuntime) -> Result<(), Fail> {
+    let alloc = rt.alloc();
+    let mut bytes = Vec::from_slice(alloc, b"\x0E&")?;
+    let mut list = Vec::new(alloc);
+    for count in 1..=16_384 {
+        bytes.push(0x40)?;
+        if count % 3 == 1 {
+            list.push(dot(0, 0))?;
+        }
+    }
+    assert_eq!(rt; list.len(), 5_462);
+    let row = Row {
+        bytes: &bytes,
+        list: &list,
+        refusal: None,
+        fed: 16_386,
+    };
+    row.agrees_whole(&rt, alloc);
+    row.agrees_in_single_bytes(&rt, alloc)?;
+
+    bytes.push(0x40)?;
+    let row = Row {
+        bytes: &bytes,
+        list: &[],
+        refusal: refusal(Fault::LongRun, 1),
+        fed: 16_387,
+    };
+    row.agrees_whole(&rt, alloc);
+    row.agrees_in_single_bytes(&rt, alloc)?;
+    Ok(())
+}
+
+#[test]
+#[tactic(auto, unfolding(nap_list::specs::State::walk))]
+fn an_open_run_has_no_entry_yet(rt: HostRuntime) {
+    let alloc = rt.alloc();
+    let middle = &[dot(4_194_304, 4_194_304)][..];
+    for (bytes, want) in [
+        (b"\x0E&R@@".as_slice(), &middle[..0]),
+        (b"\x0E&R@@\x0F", middle),
+        (b"\x0E&R@@)P@@", middle),
+    ] {
+        let mut reader = Reader::new(alloc, Budget::usual(), ListSink::new(alloc));
+        assert_eq!(rt; feed(&rt, &mut reader, bytes), Ok(()));
+        let list = reader.into_sink().into_list();
+        assert_eq!(rt; list.as_slice(), want, "of {bytes:?}");
+    }
+}
+
+#[test]
+#[tactic(auto, unfolding(nap_list::specs::State::walk))]
+fn a_refusal_stays(rt: HostRuntime) {
+    let alloc = rt.alloc();
+    let mut reader = Reader::new(alloc, Budget::usual(), ListSink::new(alloc));
+    assert_eq!(rt; feed(&rt, &mut reader, b"\x0E&R"), Ok(()));
+    assert_eq!(rt; reader.refused(), None);
+    let want = Refusal {
+        fault: Fault::EighthBit,
+        place: 3,
+    };
+    for piece in [b"\x80", b"&"] {
+        assert_eq!(rt; feed(&rt, &mut reader, piece), Err(want));
+        assert_eq!(rt; reader.refused(), Some(want));
+        assert_eq!(rt; (reader.fed(), reader.turns()), (4, 4));
+    }
+    let (sink, refusal) = end(reader);
+    assert_eq!(rt; refusal, Some(want));
+    let list = sink.into_list();
+    assert_eq!(rt; list.as_slice(), [dot(4_194_304, 4_194_304)].as_slice());
+}
+
+// Keeps the entries until its device fails, with some puts left before it does.
+#[derive(Drop)]
+struct Faltering {
+    list: ListSink,
+    left: usize,
+    failed: bool,
+}
+
+impl Sink for Faltering {
+    ghost state = { λ s. walk start s.list };
+
+    ghost failed = { λ s. s.failed };
+
+    ghost took = { λ s d t. t.list ≡ s.list ++ d };
+
+    ghost broke = { λ s d e t. t.list ≡ s.list ++ d };
+
+    fn put(&mut self, entry: Entry) -> Result<(), SinkFault> {
+        if self.failed {
+            return Err(SinkFault::Write);
+        }
+        if self.left == 0 {
+            self.failed = true;
+            return Err(SinkFault::Write);
+        }
+        self.list.put(entry)?;
+        self.left -= 1;
+        Ok(())
+    }
+
+    ghost took_none = { λ s. sym (append-nil s.list) };
+
+    ghost took_more = { λ s t u d e a b. b ∙ (ap (λ (list : List Entry). list ++ e) a ∙ append_assoc s.list d e) };
+
+    ghost took_broke = { λ s t u d e x a b. b ∙ (ap (λ (list : List Entry). list ++ e) a ∙ append_assoc s.list d e) };
+}
+
+#[test]
+#[tactic(auto, unfolding(nap_list::specs::State::walk))]
+fn a_sink_that_fails_stops_the_reading(rt: HostRuntime) {
+    let alloc = rt.alloc();
+    let points = &[
+        dot(4_194_304, 4_194_304),
+        dot(2_097_152, 2_097_152),
+        dot(4_194_304, 4_194_304),
+    ][..];
+    let stream = b"\x0E&R@@I@@&R@@\x0F".as_slice();
+    let open = b"\x0E&R@@I@@&R@@".as_slice();
+    let at = |place| refusal(Fault::Sink, place);
+    for (bytes, list, fed, ended) in [
+        (stream, &points[..0], at(1), at(1)),
+        (stream, &points[..1], at(1), at(1)),
+        (stream, &points[..2], at(8), at(8)),
+        (stream, &points[..3], None, None),
+        (open, &points[..2], None, at(8)),
+    ] {
+        let sink = Faltering {
+            list: ListSink::new(alloc),
+            left: list.len(),
+            failed: false,
+        };
+        let mut reader = Reader::new(alloc, Budget::usual(), sink);
+        assert_eq!(rt; feed(&rt, &mut reader, bytes).err(), fed);
+        assert_eq!(rt; reader.sink().failed, fed.is_some());
+        let (sink, refusal) = end(reader);
+        assert_eq!(rt; refusal, ended);
+        assert_eq!(rt; sink.failed, ended.is_some());
+        assert_eq!(rt; sink.list.into_list().as_slice(), list);
+    }
+}
+
+#[test]
+fn budgets_and_names_of_faults(rt: HostRuntime) {
+    for (bytes, want) in [
+        (0, Some(0)),
+        (16_777_216, Some(16_777_216)),
+        (16_777_217, None),
+    ] {
+        assert_eq!(rt; Budget::new(bytes).map(Budget::get), want);
+    }
+    assert_eq!(rt; Budget::usual().get(), 1_048_576);
+    for (fault, number, name) in [
+        (Fault::from(CodeFault::EighthBit), 1, "EighthBit"),
+        (Fault::LeftOut(Left::Can), 6, "LeftOut"),
+        (Fault::from(DrawFault::Outside), 10, "Outside"),
+        (Fault::LongRun, 13, "LongRun"),
+        (Fault::Sink, 22, "Sink"),
+        (Fault::Unbuilt, 23, "Unbuilt"),
+    ] {
+        assert_eq!(rt; (fault.number(), fault.name()), (number, name));
+    }
+}
