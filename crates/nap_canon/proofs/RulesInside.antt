@@ -1,12 +1,13 @@
-use Rattle.std.proofs.Common.{ℕ, ◌+◌, ◌/◌, slice_index, ◌≡◌, eqb, List, [], ◌∷◌, All, true, false, Option, Some, None, IfSome, option_map, Result, Ok, Err, IfOk, refl}
+use Rattle.std.proofs.Common.{ℕ, ◌+◌, ◌/◌, ◌≡◌, eqb, List, [], ◌∷◌, All, true, false, Option, Some, None, IfSome, option_map, Result, Ok, Err, IfOk, refl}
 use Rattle.std.specs.Option.{option_and_then}
+use Rattle.std.specs.Prelude.{slice_index}
 use Rattle.std.proofs.lemmas.Bool.{cond_both}
 use Rattle.std.proofs.lemmas.List.Elements.{All-nil, All-cons, All-map}
-use Rattle.nap_values.specs.Colours.{Components}
-use Rattle.nap_values.specs.Operands.{colour_of}
 use Rattle.nap_values.specs.Coordinates.{Coordinates, Displacement, IsInSquare, point_at, moved}
+use Rattle.nap_values.specs.Operands.{colour_of}
 use Rattle.nap_values.proofs.CoordinateLemmas.{point_with-back}
 use Rattle.nap_values.proofs.LawLemmas.{displacements_are_unique}
+use Rattle.nap_values.specs.Colours.{Components}
 use Rattle.nap_codes.specs.declared.opcode.Opcode.{Opcode}
 use Rattle.nap_codes.specs.declared.opcode.Opcode.TheVariants as opcodes
 use Rattle.nap_list.specs.declared.attribute.Colour.{Colour}
@@ -16,9 +17,9 @@ use Rattle.nap_list.specs.declared.entry.Entry.TheVariants as entries
 use Rattle.nap_list.specs.declared.state.Drawing.{Drawing}
 use Rattle.nap_draw.specs.declared.work.Work.{Work}
 use Rattle.nap_draw.specs.declared.fault.DrawFault.{DrawFault}
-use Rattle.nap_draw.specs.Geometry.{onward, points_at, reached, joined, between, away, across, arc_points, poly_points}
 use Rattle.nap_draw.specs.Operands.{operands}
-use Rattle.nap_draw.specs.Rule.{Drawn, rule, draws, draws_one, goes, and_then, some_of, moves_of, pen_point, pairs_of, first_of, few_of, with_operands, from_pen, with_pairs, shape_from_pen, shape_from_point, domain_rule, area_of, field_rule, colours_as, set_color_rule, blink, blinks, point_on, line_on, rect_on, arc_on, poly_on, field_on}
+use Rattle.nap_draw.specs.Geometry.{onward, points_at, reached, joined, between, away, across, arc_points, poly_points}
+use Rattle.nap_draw.specs.Rule.{Drawn, rule, draws, draws_one, goes, and_then, some_of, moves_of, pen_point, pairs_of, first_of, few_of, with_operands, from_pen, with_pairs, shape_from_pen, shape_from_point, domain_rule, area_of, field_rule, reset_rule, maps, colours_as, set_color_rule, blink, blinks, point_on, line_on, rect_on, arc_on, poly_on, field_on}
 use Rattle.nap_canon.specs.Text.{IsInside, AreInside}
 
 -- The points that a rule gives are in the square.
@@ -130,27 +131,32 @@ field_gives : (work : Work) (ms : List Displacement) → Gives (field_rule work 
 field_gives work ms =
     Gives-and_then (area_of work ms) (λ area. draws_one work field_on (Some area)) (λ area. draws_another work field_on (Some area) (λ d x. tt))
 
--- one entry that is no point
-alone : (entry : Entry) → IsInside entry → AreInside (entry ∷ [])
-alone entry inside = All-cons IsInside entry [] inside (All-nil IsInside)
+reset_gives : (work : Work) (first second : ℕ) → Gives (reset_rule work first second)
+reset_gives work first second = All-cons IsInside (entries.Reset first second work.state.drawing.pen) [] tt (All-nil IsInside)
 
-set_color_by : (work : Work) (colour : Colour) (grb : Components) → Gives (colours_as work colour grb)
-set_color_by work (colours.Own origin) grb = All-nil IsInside
-set_color_by work (colours.Direct old) grb = All-nil IsInside
-set_color_by work (colours.Front a) grb = alone (entries.Map a grb) tt
-set_color_by work (colours.Pair a b) grb = alone (entries.Map a grb) tt
-set_color_by work (colours.ByReset preset) grb = tt
+maps_gives : (work : Work) (a : ℕ) (grb : Components) → Gives (maps work a grb)
+maps_gives work a grb = All-cons IsInside (entries.Map a grb) [] tt (All-nil IsInside)
 
-set_color_gives : (work : Work) (ops : List (List ℕ)) → Gives (set_color_rule work ops)
+colours_give : (work : Work) (colour : Colour) (grb : Components) → Gives (colours_as work colour grb)
+colours_give work (colours.Own origin) grb = All-nil IsInside
+colours_give work (colours.Direct old) grb = All-nil IsInside
+colours_give work (colours.Front a) grb = maps_gives work a grb
+colours_give work (colours.Pair a b) grb = maps_gives work a grb
+colours_give work (colours.ByReset preset) grb = tt
+
+set_color_gives : (work : Work) (operands : List (List ℕ)) → Gives (set_color_rule work operands)
 set_color_gives work [] = tt
-set_color_gives work (operand ∷ []) = set_color_by work work.state.drawing.colour (colour_of operand)
+set_color_gives work (operand ∷ []) = colours_give work work.state.drawing.colour (colour_of operand)
 set_color_gives work (operand ∷ other ∷ more) = tt
 
 blinks_inside : (k : ℕ) (colour : Colour) (groups : List (List ℕ)) → AreInside (blinks k colour groups)
-blinks_inside k colour [] = alone (entries.BlinkEnd colour) tt
-blinks_inside k colour (group ∷ groups) = All-map IsInside (blink k colour) (group ∷ groups) (λ k d within. tt)
+blinks_inside k colour [] = All-cons IsInside (entries.BlinkEnd colour) [] tt (All-nil IsInside)
+blinks_inside k colour (group ∷ groups) = All-map IsInside (blink k colour) (group ∷ groups) (λ i d within. tt)
 
 pub rule_gives : (work : Work) (op : Opcode) (run : List ℕ) → Gives (rule work op run)
+rule_gives work opcodes.Reset run = reset_gives work (slice_index run 0) (slice_index run 1)
+rule_gives work opcodes.Text run = All-nil IsInside
+rule_gives work opcodes.Texture run = All-nil IsInside
 rule_gives work opcodes.Domain run = domain_gives work run
 rule_gives work opcodes.PointSetAbs run = with_some work run (λ ms. goes work (points_at ms)) (λ ms. goes_nowhere work (points_at ms))
 rule_gives work opcodes.PointSetRel run = with_pen work run (λ p ms. goes work (reached p ms)) (λ p ms. goes_nowhere work (reached p ms))
@@ -173,10 +179,6 @@ rule_gives work opcodes.PolyFilled run = another_from_pen work run (poly_on true
 rule_gives work opcodes.SetPolyOutlined run = another_from_point work run (poly_on false) poly_points (λ d ps. tt)
 rule_gives work opcodes.SetPolyFilled run = another_from_point work run (poly_on true) poly_points (λ d ps. tt)
 rule_gives work opcodes.Field run = field_gives work (moves_of work run)
-rule_gives work opcodes.Reset run =
-    alone (entries.Reset (slice_index run 0) (slice_index run 1) work.state.drawing.pen) tt
-rule_gives work opcodes.Text run = All-nil IsInside
-rule_gives work opcodes.Texture run = All-nil IsInside
 rule_gives work opcodes.SetColor run = set_color_gives work (operands work.domain.multi run)
 rule_gives work opcodes.Wait run = All-map IsInside entries.Wait run (λ k d within. tt)
 rule_gives work opcodes.SelectColor run = All-nil IsInside

@@ -22,7 +22,7 @@ ReadPointsAreInside = (budget : ℕ) (p : List ℕ) → AreInside (list_of budge
 abbrev pub TextOfPrefix : Type 0
 TextOfPrefix = (es fs : List Entry) → HaveText (es ++ fs) → HaveText es × (text (es ++ fs) ≡ text es ++ written (pieces fs))
 
--- what canonical streams are good for
+-- what holds of canonical streams
 pub record CanonicalStreams (budget : ℕ) : Type 0 where
   -- They are equal exactly where the display lists are.
   pub equal : (other : ℕ) (c p d q : List ℕ) → IsCanonicalOf budget c p → IsCanonicalOf other d q →

@@ -2,8 +2,12 @@ use Rattle.std.specs.Prelude.{◌≡◌, ◌+◌, ℕ, List, [], ◌∷◌, ◌+
 use Rattle.nap_list.specs.declared.entry.Entry.{Entry}
 use Rattle.nap_list.specs.State.{Legal}
 use Rattle.nap_reader.specs.declared.fault.Refusal.{Refusal}
-use Rattle.nap_reader.specs.Course.{continue}
-use Rattle.nap_reader.specs.Stream.{Outcome, placed_from, outcome_from, begun, means}
+use Rattle.nap_reader.specs.Course.{continue, onward}
+use Rattle.nap_reader.specs.Stream.{Placed, Machine, Outcome, front, placed_from, outcome_from, begun, means}
+
+-- What comes of a list is what its front gives, and then what comes of the list that stands there then.
+abbrev pub FrontAfterFront : Type 0
+FrontAfterFront = (m : Machine) (xs : List Placed) → outcome_from m xs ≡ onward outcome_from m xs (front m xs)
 
 -- More bytes behind add entries at the end alone.
 abbrev pub MoreBytesKeepEntries : Type 0

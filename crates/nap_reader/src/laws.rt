@@ -1,5 +1,10 @@
 // Laws of what a stream means, which no call can break.
-ghost use Rattle.nap_reader.specs.Laws.{AcceptedIsLegal, MoreBytesKeepEntries, MoreBytesKeepRefusal, PiecesAgree};
+ghost use Rattle.nap_reader.specs.Laws.{AcceptedIsLegal, FrontAfterFront, MoreBytesKeepEntries, MoreBytesKeepRefusal, PiecesAgree};
+
+/// What a stream means is told front after front, with no bound on how many there are.
+pub fn front_after_front()
+    ensures { FrontAfterFront }
+{}
 
 /// More bytes behind a stream change no entry that it has given: its entries come first in those of the longer stream.
 pub fn more_bytes_keep_entries()

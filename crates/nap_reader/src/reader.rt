@@ -97,6 +97,7 @@ impl<S: Sink> Reader<S> {
         ensures fed { OnOk result (fed_of self.new ≡ fed_of self.old + length piece.now) }
         ensures stops { IfErr result (λ _. refusal_of self.old ≡ None → (i : ℕ) × StopsAt self.old self.new piece.now i) }
         ensures turns { turns_of self.new ≤ fed_of self.new + charged_of self.new }
+        ensures more_turns { turns_of self.old ≤ turns_of self.new }
         ensures all_turns { turns_of self.old ≡ fed_of self.old + charged_of self.old → OnOk result (turns_of self.new ≡ fed_of self.new + charged_of self.new) }
     {
         if let Some(refusal) = self.refusal {

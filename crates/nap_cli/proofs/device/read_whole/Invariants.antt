@@ -1,0 +1,11 @@
+use Rattle.std.proofs.Common.{◌≡◌, ◌+◌, ◌*◌, ◌≤◌, length}
+use Rattle.std.specs.Io.KnownBytes.{Consumes}
+use Rattle.nap_cli.proofs.device.read_whole.Given as goal
+
+abbrev pub invariant-loop : goal.invariant-loop
+invariant-loop g l = record {
+  room : length l.room ≡ 65536;
+  calls : g.I.Inlet.calls l.input ≡ g.I.Inlet.calls l.fn.input + l.counter;
+  read : Consumes (g.I.Inlet.left l.fn.input) (g.I.Inlet.left l.input) l.bytes.items;
+  small : length l.bytes.items ≤ 65536 * l.counter;
+}

@@ -1,0 +1,64 @@
+use Rattle.std.specs.Prelude.{◌≡◌, ◌⊎◌, ℕ, true, false, List, [], ◌∷◌, Some, codes, pos}
+use Rattle.clap.specs.Words.{App, IsAmong, Row, Rule, Text, fault_of, new_app, new_rule, one_of, subcommand_of, with_rule, with_subcommand}
+use Rattle.clap.specs.declared.error.kind.ErrorKind.{ErrorKind}
+use Rattle.clap.specs.declared.error.kind.ErrorKind.TheVariants as kind
+use Rattle.clap.specs.declared.builder.ArgAction.TheVariants.{SetTrue}
+use Rattle.clap.specs.declared.builder.value_parser.ValueParser.TheVariants.{Signed}
+use Rattle.nap_cli.specs.declared.command.Action.{Action}
+use Rattle.nap_cli.specs.declared.command.Action.TheVariants as action
+use Rattle.nap_cli.specs.declared.command.Command.{Command}
+use Rattle.nap_cli.specs.Devices.{Devices}
+use Rattle.nap_cli.specs.Commands.{Explains, Ran}
+
+-- The command line, as clap reads it.
+
+-- `--hex`
+abbrev pub hex_rule : Rule
+hex_rule = record (new_rule (codes "hex")) { long = Some (codes "hex"); action = Some SetTrue }
+
+-- `--budget N`, a number from 0 to 16777216
+abbrev pub budget_rule : Rule
+budget_rule = record (new_rule (codes "budget")) {
+  long = Some (codes "budget");
+  value_names = 1;
+  parser = Some (Signed (pos 0) (pos 16777216));
+  defaults = codes "1048576" ∷ [];
+}
+
+-- a command with both options
+abbrev pub command_app : Text → App
+command_app name = with_rule (with_rule (new_app name) hex_rule) budget_rule
+
+-- the program, of which a command is required, and whose words begin with it
+abbrev pub program_app : App
+program_app = record (new_app (codes "naplps")) {
+  top = record (new_app (codes "naplps")).top { no_binary_name = true; subcommand_required = true };
+}
+
+abbrev pub command_line : App
+command_line =
+    with_subcommand (with_subcommand (with_subcommand program_app (command_app (codes "list")).top) (command_app (codes "check")).top)
+    (command_app (codes "canon")).top
+
+abbrev pub action_name : Action → Text
+action_name action.List = codes "list"
+action_name action.Check = codes "check"
+action_name action.Canon = codes "canon"
+
+-- words that clap reads as this command; what they say of the budget is left open
+pub record Says (words : List Text) (c : Command) : Type 0 where
+  pub rows : List Row
+  pub entered : subcommand_of command_line words ≡ Some (action_name c.action, rows)
+  pub with_hex : one_of (codes "hex") rows ≡ Some (codes "true") → c.hex ≡ true
+  pub without_hex : one_of (codes "hex") rows ≡ Some (codes "false") → c.hex ≡ false
+
+-- what clap finds in words that say no command: this kind of fault, or want of memory
+abbrev pub IsFault : List Text → ErrorKind → Type 0
+IsFault words k =
+    (k ≡ kind.OutOfMemory) ⊎ (IsAmong k (fault_of command_line words) ⊎ ((k ≡ kind.MissingSubcommand) × ((c : Command) → Says words c → ⊥)))
+
+-- The program ran from the devices before to those after: the command that the words say, or none, and what clap finds
+-- in them was told.
+abbrev pub Answers : List Text → Devices → Devices → ℕ → Type 0
+Answers words before after status =
+    ((c : Command) × Says words c × Ran c before after status) ⊎ ((k : ErrorKind) × IsFault words k × Explains k before.taken after.taken status)

@@ -1,0 +1,155 @@
+use Rattle.std.specs.Prelude.{ℕ, ◌≡◌, ◌≢◌, ◌⊎◌, ◌==◌, ◌||◌, ◌-◌, not, Bool, true, false, List, [], ◌∷◌, ◌++◌, length, take, filter, flat_map, codes, decimal, Option, Some, Result, Ok, Err, IsErr}
+use Rattle.std.specs.Io.KnownBytes.{Appends, Consumes, IsAtEnd}
+use Rattle.hex.specs.Hex.{decode_of, encode_lower}
+use Rattle.clap.specs.declared.error.kind.ErrorKind.{ErrorKind}
+use Rattle.clap.specs.declared.error.kind.ErrorKind.TheVariants as kind
+use Rattle.nap_list.specs.declared.entry.Entry.{Entry}
+use Rattle.nap_reader.specs.declared.fault.Fault.TheVariants as fault
+use Rattle.nap_reader.specs.declared.fault.Refusal.{Refusal}
+use Rattle.nap_reader.specs.Stream.{means}
+use Rattle.nap_canon.specs.Streams.{IsAccepted, list_of, IsCanonicalOf, IsRefusedBy}
+use Rattle.nap_cli.specs.declared.answer.Verdict.{Verdict}
+use Rattle.nap_cli.specs.declared.answer.Verdict.TheVariants as verdict
+use Rattle.nap_cli.specs.declared.command.Action.{Action}
+use Rattle.nap_cli.specs.declared.command.Action.TheVariants as action
+use Rattle.nap_cli.specs.declared.command.Command.{Command}
+use Rattle.nap_cli.specs.declared.failure.Failure.{Failure}
+use Rattle.nap_cli.specs.declared.failure.Failure.TheVariants as failure
+use Rattle.nap_cli.specs.Lines.{line}
+use Rattle.nap_cli.specs.Failures.{exit_status, refusal_text, status_of, told_text}
+use Rattle.nap_cli.specs.Devices.{Devices, IsCutOff, Takes}
+
+-- The stream that a command reads.
+
+-- a space, a tab, CR or LF
+abbrev pub is_blank : ℕ → Bool
+is_blank b = (b == 32) || (b == 9) || (b == 13) || (b == 10)
+
+-- what hexadecimal text is without its blanks
+abbrev pub digits_of : List ℕ → List ℕ
+digits_of text = filter (λ b. not (is_blank b)) text
+
+-- the stream that the bytes of an input are: its bytes themselves, or those that its hexadecimal digits spell
+abbrev pub IsStream : Bool → List ℕ → List ℕ → Type 0
+IsStream false p stream = stream ≡ p
+IsStream true p stream = decode_of (digits_of p) ≡ Ok stream
+
+-- What a command prints.
+
+abbrev pub lines : List Entry → List ℕ
+lines entries = flat_map (λ entry. line entry ++ 10 ∷ []) entries
+
+abbrev pub count_line : ℕ → List ℕ
+count_line n = codes "accepted " ++ decimal n ++ codes " entries" ++ 10 ∷ []
+
+-- the canonical stream, as lower-case digits and the end of a line with hexadecimal text
+abbrev pub canon_text : Bool → List ℕ → List ℕ
+canon_text false text = text
+canon_text true text = encode_lower text ++ 10 ∷ []
+
+-- a stream and its refusal, to an action
+abbrev pub RefusedBy : Action → ℕ → List ℕ → Refusal → Type 0
+RefusedBy action.Canon budget stream r = IsRefusedBy budget stream r
+RefusedBy _ budget stream r = (means budget stream).refusal ≡ Some r
+
+-- The refusal is that of the stream. One for want of memory may come anywhere.
+abbrev pub IsRefusal : Command → List ℕ → Refusal → Type 0
+IsRefusal c stream r = r.fault ≢ fault.Memory → RefusedBy c.action c.budget stream r
+
+-- what an action prints of a stream, with its verdict: only `check` prints a refusal
+abbrev pub PrintsBy : Action → Command → List ℕ → List ℕ → Verdict → Type 0
+PrintsBy action.List c stream q verdict.Accepted = IsAccepted c.budget stream × (q ≡ lines (list_of c.budget stream))
+PrintsBy action.Check c stream q verdict.Accepted = IsAccepted c.budget stream × (q ≡ count_line (length (list_of c.budget stream)))
+PrintsBy action.Check c stream q verdict.Refused = (r : Refusal) × IsRefusal c stream r × (q ≡ refusal_text r ++ 10 ∷ [])
+PrintsBy action.Canon c stream q verdict.Accepted = (text : List ℕ) × IsCanonicalOf c.budget text stream × (q ≡ canon_text c.hex text)
+PrintsBy _ c stream q verdict.Refused = ⊥
+
+-- what a command prints of the bytes p, with its verdict
+abbrev pub Prints : Command → List ℕ → List ℕ → Verdict → Type 0
+Prints c p q v = (stream : List ℕ) × IsStream c.hex p stream × PrintsBy c.action c stream q v
+
+-- why text is not taken as hexadecimal: it is none, or there was no memory
+abbrev pub FailsToSpell : List ℕ → Failure → Type 0
+FailsToSpell text failure.Hex = IsErr (decode_of (digits_of text))
+FailsToSpell text failure.Memory = Unit {0}
+FailsToSpell text _ = ⊥
+
+-- why a command prints nothing of a stream: `list` and `canon` refuse it, or there was no memory
+abbrev pub Denies : Command → List ℕ → Failure → Type 0
+Denies c stream (failure.Refused r) = (c.action ≢ action.Check) × IsRefusal c stream r
+Denies c stream failure.Memory = Unit {0}
+Denies c stream _ = ⊥
+
+-- why a command prints nothing of the bytes p
+abbrev pub FailsOn : Command → List ℕ → Failure → Type 0
+FailsOn c p failure.Hex = (c.hex ≡ true) × IsErr (decode_of (digits_of p))
+FailsOn c p (failure.Refused r) = (stream : List ℕ) × IsStream c.hex p stream × Denies c stream (failure.Refused r)
+FailsOn c p failure.Memory = Unit {0}
+FailsOn c p _ = ⊥
+
+-- How a command ends.
+
+-- what an input shows after a command: the bytes left, whether it failed, and how often it was read
+pub record AfterReading : Type 0 where
+  pub left : Option (List ℕ)
+  pub failed : Bool
+  pub reads : ℕ
+
+-- why a command that read the bytes p prints nothing
+abbrev pub Fails : Command → List ℕ → AfterReading → Failure → Type 0
+Fails c p input failure.Read = IsCutOff input.failed input.reads
+Fails c p input failure.Memory = Unit {0}
+Fails c p input f = IsAtEnd input.left × FailsOn c p f
+
+-- a command found what it prints of the bytes p
+abbrev pub Finds : Command → List ℕ → AfterReading → List ℕ → Verdict → Type 0
+Finds c p input q v = IsAtEnd input.left × Prints c p q v
+
+-- q is nothing, or a front of what the command prints
+abbrev pub IsPartly : Command → List ℕ → AfterReading → List ℕ → Type 0
+IsPartly c p input q = (q ≡ []) ⊎ ((whole : List ℕ) × (v : Verdict) × Finds c p input whole v × (take (length q) whole ≡ q))
+
+-- A command read the bytes p and printed q, and ended so. Where the output failed, that is what is told, or there was no
+-- memory for its line.
+abbrev pub Ends : Command → List ℕ → AfterReading → List ℕ → Bool → Result Verdict Failure → Type 0
+Ends c p input q false (Ok v) = Finds c p input q v
+Ends c p input q true (Ok v) = ⊥
+Ends c p input q false (Err f) = (q ≡ []) × Fails c p input f
+Ends c p input q true (Err (failure.Write taken)) = (taken ≡ length q) × IsPartly c p input q
+Ends c p input q true (Err failure.Memory) = IsPartly c p input q
+Ends c p input q true (Err _) = ⊥
+
+-- standard error took e where a command ended so: all of the line, unless it failed
+pub record Tells (e : List ℕ) (failed : Bool) (ended : Result Verdict Failure) : Type 0 where
+  pub front : take (length e) (told_text ended) ≡ e
+  pub all : failed ≡ false → e ≡ told_text ended
+
+-- A command ran from the devices before to those after, with this exit status: it read the bytes p, printed q and told e.
+pub record Ran (c : Command) (before after : Devices) (status : ℕ) : Type 0 where
+  pub p : List ℕ
+  pub q : List ℕ
+  pub e : List ℕ
+  pub ended : Result Verdict Failure
+  pub read : Consumes before.left after.left p
+  pub printed : Appends before.taken after.taken q
+  pub told : Appends before.told after.told e
+  pub ends : Ends c p (record { left = after.left; failed = after.input_failed; reads = after.reads - before.reads }) q after.output_failed ended
+  pub tells : Tells e after.errors_failed ended
+  pub status_is : status ≡ exit_status ended
+
+-- the status of a text that was shown, or failed to be
+abbrev pub shown_status : Result (Unit {0}) Failure → ℕ
+shown_status (Ok done) = 0
+shown_status (Err f) = status_of f
+
+-- Help was shown: an output that had these bytes took its text, or failed. Or there was no memory for it.
+abbrev pub ShowsHelp : Option (List ℕ) → Option (List ℕ) → ℕ → Type 0
+ShowsHelp old new status =
+    ((text : List ℕ) × (shown : Result (Unit {0}) Failure) × Takes old new text shown × (status ≡ shown_status shown)) ⊎ ((new ≡ old) × (status ≡ 3))
+
+-- What comes of words that are no command, by what clap finds in them: help, or what is wrong, which goes to standard
+-- error alone, or want of memory.
+abbrev pub Explains : ErrorKind → Option (List ℕ) → Option (List ℕ) → ℕ → Type 0
+Explains kind.DisplayHelp old new status = ShowsHelp old new status
+Explains kind.DisplayVersion old new status = ShowsHelp old new status
+Explains _ old new status = (new ≡ old) × ((status ≡ 2) ⊎ (status ≡ 3))

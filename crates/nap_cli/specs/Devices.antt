@@ -1,0 +1,48 @@
+use Rattle.std.specs.Prelude.{ℕ, ◌≡◌, ◌⊎◌, ◌≤◌, Bool, true, List, Option, Result, Ok, Err, length, take}
+use Rattle.std.specs.Io.KnownBytes.{Appends}
+use Rattle.nap_list.specs.declared.device.Inlet as inlet
+use Rattle.nap_list.specs.declared.device.Outlet as outlet
+use Rattle.nap_cli.specs.declared.failure.Failure.{Failure}
+use Rattle.nap_cli.specs.declared.failure.Failure.TheVariants as failure
+
+-- What the three devices of a command show: the bytes left in the input, those that the output took and those that
+-- standard error took, where they tell them; how often the input was read; and which of them failed.
+pub record Devices : Type 0 where
+  pub left : Option (List ℕ)
+  pub reads : ℕ
+  pub input_failed : Bool
+  pub taken : Option (List ℕ)
+  pub output_failed : Bool
+  pub told : Option (List ℕ)
+  pub errors_failed : Bool
+
+abbrev pub devices : {I O E : Type 0} → inlet.Ghosts I → outlet.Ghosts O → outlet.Ghosts E → I → O → E → Devices
+devices i o e input output errors = record {
+  left = i.left input;
+  reads = i.calls input;
+  input_failed = i.failed input;
+  taken = o.taken output;
+  output_failed = o.failed output;
+  told = e.taken errors;
+  errors_failed = e.failed errors;
+}
+
+-- the most reads of a command
+abbrev pub read_limit : ℕ
+read_limit = 1048576
+
+-- Reading came to an end before the input did: the input failed, or was read as often as it may be.
+abbrev pub IsCutOff : Bool → ℕ → Type 0
+IsCutOff failed reads = (failed ≡ true) ⊎ (reads ≡ read_limit)
+
+-- an output that had these bytes took the whole text, or failed once it had taken so many bytes of it
+abbrev pub Takes : Option (List ℕ) → Option (List ℕ) → List ℕ → Result (Unit {0}) Failure → Type 0
+Takes old new text (Ok done) = Appends old new text
+Takes old new text (Err (failure.Write taken)) = (taken ≤ length text) × Appends old new (take taken text)
+Takes old new text (Err _) = ⊥
+
+-- why an input was not read to its end
+abbrev pub StopsReading : Bool → ℕ → Failure → Type 0
+StopsReading failed reads failure.Read = IsCutOff failed reads
+StopsReading failed reads failure.Memory = Unit {0}
+StopsReading failed reads _ = ⊥

@@ -1,0 +1,5 @@
+pub mod Lines
+pub mod Failures
+pub mod Devices
+pub mod Commands
+pub mod CommandLine

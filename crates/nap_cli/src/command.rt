@@ -1,0 +1,188 @@
+// The commands, and how the words of a command line say them.
+ghost use Rattle.std.specs.Prelude.{◌≡◌, ◌≢◌, ◌⊎◌, true, false, Some, IfErr, IfOk, MatchOption, codes, map, string_bytes};
+ghost use Rattle.clap.specs.Words.{app_of, found_of, kind_of, one_of, rows_of};
+ghost use Rattle.clap.specs.declared.builder.command.Command.TheViews.{out-Command as fields_of};
+ghost use Rattle.nap_cli.specs.CommandLine.{IsFault, Says, action_name, command_app, command_line};
+
+use clap::error::ErrorKind;
+use clap::{Arg, ArgAction, ArgMatches, Error, value_parser};
+use nap_reader::Budget;
+use std::alloc::{AllocError, Global};
+
+/// What a command does with the stream that it reads.
+#[derive(Clone, Copy, PartialEq, Eq, Debug, Drop)]
+pub enum Action {
+    /// Prints a line for each entry.
+    List,
+    /// Prints how many entries there are.
+    Check,
+    /// Prints the canonical stream.
+    Canon,
+}
+
+impl Action {
+    /// The action of the command with this name.
+    fn named(name: &str) -> Option<Action>
+        ensures { MatchOption result ((a : Action) → action_name a ≢ name.now) (λ a. action_name a ≡ name.now) }
+    {
+        match name {
+            LIST => Some(Action::List),
+            CHECK => Some(Action::Check),
+            CANON => Some(Action::Canon),
+            _ => None,
+        }
+    }
+}
+
+/// A command with its options.
+#[derive(Clone, Copy, PartialEq, Eq, Debug, Drop)]
+pub struct Command {
+    pub action: Action,
+    /// Streams are hexadecimal text.
+    pub hex: bool,
+    pub budget: Budget,
+}
+
+const PROGRAM: &str = "naplps";
+
+const HEX: &str = "hex";
+
+const BUDGET: &str = "budget";
+
+const LIST: &str = "list";
+
+const CHECK: &str = "check";
+
+const CANON: &str = "canon";
+
+const ABOUT: &str = "naplps 0.1.0: reads NAPLPS pages and rewrites them in one canonical spelling.
+
+A page is read from standard input, as bytes or as hexadecimal text. What comes of it goes to standard output, and
+what goes wrong to standard error.";
+
+const STATUSES: &str = "Statuses:
+  0  accepted
+  1  refused: the number and the name of the fault, and the place of the byte, from 0
+  2  a wrong command line
+  3  a fault of reading or writing, bad hexadecimal text, or no memory
+
+Example:
+  echo '0E 26 52 40 40' | naplps list --hex";
+
+const LIST_HELP: &str =
+    "Prints one line for each point, line, character or reset that the page draws";
+
+const LIST_EXAMPLE: &str =
+    "A refused page prints nothing; standard error says why. Statuses are those of 'naplps --help'.
+
+Example:
+  echo '0E 26 52 40 40' | naplps list --hex
+prints
+  POINT 4194304,4194304 pel=0,0 colour=own-start";
+
+const CHECK_HELP: &str =
+    "Says whether the page is accepted, and with how many entries, or why it is refused";
+
+const CHECK_EXAMPLE: &str = "Statuses are those of 'naplps --help'.
+
+Example:
+  echo '0E 26 52 40 40' | naplps check --hex
+prints
+  accepted 1 entries";
+
+const CANON_HELP: &str =
+    "Prints the page's canonical stream: two pages draw the same acts exactly if these are equal";
+
+const CANON_EXAMPLE: &str =
+    "With --hex the canonical stream is printed as lower-case digits. A refused page prints nothing; standard error says why.
+Statuses are those of 'naplps --help'.
+
+Example:
+  echo '0E 26 52 40 40' | naplps canon --hex
+prints
+  0e215f265240404040404040";
+
+/// One command of the program, with the options that each has.
+fn subcommand<'a>(
+    alloc: Global,
+    name: &'a str,
+    about: &'a str,
+    example: &'a str,
+) -> Result<clap::Command<'a>, AllocError>
+    ensures app { IfOk result (λ c. app_of c ≡ command_app name.entry.now) }
+    ensures local { IfOk result (λ c. (fields_of c).has_globals ≡ false) }
+{
+    let hex = Arg::new(alloc, HEX)
+        .long(HEX)
+        .action(ArgAction::SetTrue)
+        .help("The page is hexadecimal digits, with spaces, tabs and line ends as you like");
+    let budget = Arg::new(alloc, BUDGET)
+        .long(BUDGET)
+        .value_name("N")
+        .value_parser(value_parser!(u32).range(0..=16_777_216))
+        .default_value("1048576")
+        .help("How many bytes of macro bodies the page may be charged with, from 0 to 16777216");
+    clap::Command::new(alloc, name)
+        .about(about)
+        .after_help(example)
+        .arg(hex)?
+        .arg(budget)
+}
+
+/// The whole command line.
+fn program<'a>(alloc: Global) -> Result<clap::Command<'a>, AllocError>
+    ensures { IfOk result (λ c. app_of c ≡ command_line) }
+{
+    clap::Command::new(alloc, PROGRAM)
+        .bin_name(PROGRAM)?
+        .about(ABOUT)
+        .after_help(STATUSES)
+        .no_binary_name(true)
+        .subcommand_required(true)
+        .subcommand(subcommand(alloc, LIST, LIST_HELP, LIST_EXAMPLE)?)?
+        .subcommand(subcommand(alloc, CHECK, CHECK_HELP, CHECK_EXAMPLE)?)?
+        .subcommand(subcommand(alloc, CANON, CANON_HELP, CANON_EXAMPLE)?)
+}
+
+/// What clap says where words say no command.
+fn no_command(program: &mut clap::Command<'_>) -> Error
+    ensures { (kind_of result ≡ ErrorKind.OutOfMemory) ⊎ (kind_of result ≡ ErrorKind.MissingSubcommand) }
+{
+    match program.error(ErrorKind::MissingSubcommand, "there is no such command") {
+        Ok(error) => error,
+        Err(error) => Error::from(error),
+    }
+}
+
+impl Command {
+    /// The command that these words say, without the program's name; else clap's text of help or of what is wrong.
+    pub fn parse(alloc: Global, words: &[String]) -> Result<Command, Error>
+        ensures said { IfOk result (λ c. Says (map string_bytes words.now) c) }
+        ensures fault { IfErr result (λ e. IsFault (map string_bytes words.now) (kind_of e)) }
+    {
+        let mut program = program(alloc)?;
+        let matches = program.try_get_matches_from_mut(words)?;
+        match matches.subcommand() {
+            Some((name, options)) => match Action::named(name) {
+                Some(action) => Ok(Command::with(action, options)),
+                None => Err(no_command(&mut program)),
+            },
+            None => Err(no_command(&mut program)),
+        }
+    }
+
+    fn with(action: Action, options: &ArgMatches<'_>) -> Command
+        ensures action { result.action ≡ action }
+        ensures with_hex { one_of (codes "hex") (rows_of (found_of options.now)) ≡ Some (codes "true") → result.hex ≡ true }
+        ensures without_hex { one_of (codes "hex") (rows_of (found_of options.now)) ≡ Some (codes "false") → result.hex ≡ false }
+    {
+        Command {
+            action,
+            hex: options.get_flag(HEX),
+            budget: options
+                .get_one::<u32>(BUDGET)
+                .and_then(Budget::new)
+                .unwrap_or(Budget::usual()),
+        }
+    }
+}

@@ -1,0 +1,43 @@
+//! naplps: reads NAPLPS pages and rewrites them in one canonical spelling.
+#![tactic(auto)]
+
+pub mod answer;
+pub mod command;
+pub mod device;
+pub mod failure;
+pub mod field;
+pub mod line;
+pub mod program;
+#[cfg(test)]
+mod tests;
+
+pub use line::line_of;
+use nap_list::{Source, Target};
+pub use program::run;
+use std::process::ExitCode;
+use std::{env, io};
+
+fn main(rt: HostRuntime) -> io::Result<ExitCode> {
+    let alloc = rt.alloc();
+    let words: Vec<String> = match env::args(&rt) {
+        Ok(words) => words.skip(1).collect(alloc)?,
+        Err(error) if error.kind() == io::ErrorKind::InvalidData => {
+            eprintln!(rt; "error: a word of the command line isn't UTF-8")?;
+            return Ok(ExitCode::from(2));
+        }
+        Err(_) => {
+            eprintln!(rt; "no memory")?;
+            return Ok(ExitCode::from(3));
+        }
+    };
+    let mut input = Source::new(rt.stdin());
+    let mut errors = Target::new(rt.stderr());
+    let (_, status) = run(
+        alloc,
+        words.as_slice(),
+        &mut input,
+        Target::new(rt.stdout()),
+        &mut errors,
+    );
+    Ok(ExitCode::from(status))
+}

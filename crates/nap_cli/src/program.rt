@@ -1,0 +1,138 @@
+// The program on its words.
+ghost use Rattle.std.specs.Prelude.{◌≡◌, ◌≢◌, ◌⊎◌, ◌-◌, ◌<◌, ◌^◌, ℕ, List, false, Err, MatchResult, map, string_bytes};
+ghost use Rattle.std.specs.Io.KnownBytes.{Appends, Consumes};
+ghost use Rattle.clap.specs.Values.{kind_of};
+ghost use Rattle.nap_cli.specs.Devices.{devices};
+ghost use Rattle.nap_cli.specs.Commands.{AfterReading, Ends, Explains, Fails, Finds, Ran, Tells};
+ghost use Rattle.nap_cli.specs.CommandLine.{Answers};
+
+use crate::answer::{Printout, Verdict, answer};
+use crate::command::Command;
+use crate::device::{read_whole, write_whole};
+use crate::failure::Failure;
+use clap::Error;
+use clap::error::ErrorKind;
+use nap_list::{Inlet, Outlet};
+use std::alloc::{AllocError, Global};
+
+/// Tells of a failure on standard error, and answers the one that was told: `Memory` where there was none for the line.
+/// Whether standard error takes it makes no difference.
+fn tell<E: Outlet>(alloc: Global, failure: Failure, errors: &mut E) -> Failure
+    ensures told { (e : List ℕ) × Appends (E.taken errors.old) (E.taken errors.new) e × Tells e (E.failed errors.new) (Err result) }
+    ensures same { (result ≡ failure) ⊎ (result ≡ Failure.Memory) }
+{
+    match failure.line(alloc) {
+        Ok(line) => {
+            let _ = write_whole(errors, line.as_bytes());
+            failure
+        }
+        Err(AllocError) => {
+            let _ = write_whole(errors, b"no memory\n");
+            Failure::Memory
+        }
+    }
+}
+
+/// What a command prints of its input.
+fn find<I: Inlet>(alloc: Global, command: &Command, input: &mut I) -> Result<Printout, Failure>
+    requires { I.calls input.old < 2 ^ 63 }
+    ensures { let after : AfterReading = record { left = I.left input.new; failed = I.failed input.new; reads = I.calls input.new - I.calls input.old } in
+        (p : List ℕ) × Consumes (I.left input.old) (I.left input.new) p
+        × MatchResult result (λ a. Finds command.now p after a.text.items a.verdict) (Fails command.now p after) }
+{
+    let bytes = read_whole(alloc, input)?;
+    answer(alloc, command, bytes)
+}
+
+/// Prints what a command finds, and flushes the output also where that is nothing. A failing output takes the place of
+/// the failure before it.
+fn perform<I: Inlet, O: Outlet>(
+    alloc: Global,
+    command: &Command,
+    input: &mut I,
+    output: &mut O,
+) -> Result<Verdict, Failure>
+    requires calls { I.calls input.old < 2 ^ 63 }
+    requires works { O.failed output.old ≡ false }
+    ensures { let after : AfterReading = record { left = I.left input.new; failed = I.failed input.new; reads = I.calls input.new - I.calls input.old } in
+        (p : List ℕ) × (q : List ℕ) × Consumes (I.left input.old) (I.left input.new) p × Appends (O.taken output.old) (O.taken output.new) q
+        × Ends command.now p after q (O.failed output.new) result }
+{
+    match find(alloc, command, input) {
+        Ok(answer) => match write_whole(output, answer.text.as_slice()) {
+            Ok(()) => Ok(answer.verdict),
+            Err(fault) => Err(fault),
+        },
+        Err(failure) => match write_whole(output, &[]) {
+            Ok(()) => Err(failure),
+            Err(fault) => Err(fault),
+        },
+    }
+}
+
+/// A command on its input: the output again, and the exit status.
+pub fn execute<I: Inlet, O: Outlet, E: Outlet>(
+    alloc: Global,
+    command: &Command,
+    input: &mut I,
+    output: O,
+    errors: &mut E,
+) -> (O, u8)
+    requires calls { I.calls input.old < 2 ^ 63 }
+    requires works { O.failed output ≡ false }
+    ensures { let seen = devices I.Inlet O.Outlet E.Outlet in
+        Ran command.now (seen input.old output errors.old) (seen input.new result.0 errors.new) result.1 }
+{
+    let mut output = output;
+    match perform(alloc, command, input, &mut output) {
+        Ok(verdict) => (output, verdict.status()),
+        Err(failure) => {
+            let told = tell(alloc, failure, errors);
+            (output, told.status())
+        }
+    }
+}
+
+/// Help goes to the output. What is wrong with the words goes to standard error, and the output stays as it is.
+fn explain<O: Outlet, E: Outlet>(alloc: Global, error: Error, output: O, errors: &mut E) -> (O, u8)
+    ensures { Explains (kind_of error) (O.taken output) (O.taken result.0) result.1 }
+{
+    let Ok(text) = error.to_string(alloc) else {
+        return (output, tell(alloc, Failure::Memory, errors).status());
+    };
+    if error.kind() == ErrorKind::OutOfMemory {
+        return (output, tell(alloc, Failure::Memory, errors).status());
+    }
+    if error.use_stderr() {
+        let _ = write_whole(errors, text.as_bytes());
+        return (output, 2);
+    }
+    let mut output = output;
+    match write_whole(&mut output, text.as_bytes()) {
+        Ok(()) => (output, 0),
+        Err(failure) => {
+            let status = tell(alloc, failure, errors).status();
+            (output, status)
+        }
+    }
+}
+
+/// The program on its words, those after its own name: the output again, and the exit status. The clause leaves out which
+/// budget the words say.
+pub fn run<I: Inlet, O: Outlet, E: Outlet>(
+    alloc: Global,
+    words: &[String],
+    input: &mut I,
+    output: O,
+    errors: &mut E,
+) -> (O, u8)
+    requires calls { I.calls input.old < 2 ^ 63 }
+    requires works { O.failed output ≡ false }
+    ensures { let seen = devices I.Inlet O.Outlet E.Outlet in
+        Answers (map string_bytes words.now) (seen input.old output errors.old) (seen input.new result.0 errors.new) result.1 }
+{
+    match Command::parse(alloc, words) {
+        Ok(command) => execute(alloc, &command, input, output, errors),
+        Err(error) => explain(alloc, error, output, errors),
+    }
+}
