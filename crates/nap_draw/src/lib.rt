@@ -23,3 +23,6 @@ pub mod work;
 pub use act::apply;
 pub use fault::DrawFault;
 pub use work::{Effects, Work};
+
+#[cfg(test)]
+mod tests;
