@@ -19,16 +19,17 @@ use std::{env, io};
 
 fn main(rt: HostRuntime) -> io::Result<ExitCode> {
     let alloc = rt.alloc();
-    let words: Vec<String> = match env::args(&rt) {
-        Ok(words) => words.skip(1).collect(alloc)?,
+    let words = match env::args(&rt) {
+        Ok(words) => words.skip(1).collect::<Vec<String>>(alloc).ok(),
         Err(error) if error.kind() == io::ErrorKind::InvalidData => {
-            eprintln!(rt; "error: a word of the command line isn't UTF-8")?;
+            let _ = eprintln!(rt; "error: a word of the command line isn't UTF-8");
             return Ok(ExitCode::from(2));
         }
-        Err(_) => {
-            eprintln!(rt; "no memory")?;
-            return Ok(ExitCode::from(3));
-        }
+        Err(_) => None,
+    };
+    let Some(words) = words else {
+        let _ = eprintln!(rt; "no memory");
+        return Ok(ExitCode::from(3));
     };
     let mut input = Source::new(rt.stdin());
     let mut errors = Target::new(rt.stderr());
