@@ -80,11 +80,23 @@ fn long_run(alloc: Global, count: usize) -> Result<Vec<u8>, AllocError> {
     Ok(bytes)
 }
 
+/// The canonical stream of this many points in the corner.
+fn corners(alloc: Global, count: usize) -> Result<Vec<u8>, AllocError> {
+    let mut bytes = Vec::from_slice(alloc, b"\x0E!_")?;
+    for _ in 0..count {
+        bytes.extend_from_slice(b"&@@@@@@@@")?;
+    }
+    Ok(bytes)
+}
+
 #[test]
 fn the_longest_run(rt: HostRuntime) -> Result<(), Fail> {
     let alloc = rt.alloc();
     let longest = normalise(alloc, Budget::usual(), &long_run(alloc, 16_384)?);
-    assert_eq!(rt; longest.map_err(|_| AllocError)?.len(), 49_161);
+    assert_eq!(rt;
+        longest.map_err(|_| AllocError)?.as_slice(),
+        corners(alloc, 5_462)?.as_slice()
+    );
     let longer = normalise(alloc, Budget::usual(), &long_run(alloc, 16_385)?);
     let refusal = Refusal {
         fault: Fault::LongRun,
