@@ -1,7 +1,7 @@
-use Rattle.std.proofs.Common.{◌≡◌, ◌⊎◌, ◌∙◌, inl, inr, List, Option, Some, None, true, refl, sym, ap, option_map}
+use Rattle.std.proofs.Common.{◌≡◌, ◌⊎◌, ◌∙◌, inl, inr, List, Option, Some, None, true, refl, sym, ap, ap₂, subst, option_map}
 use Rattle.std.specs.Box.{box_value}
-use Rattle.std.specs.Prelude.{Box}
-use Rattle.clap.specs.Words.{HasKind, HasMatchesOf, Row, Text, fault_of, is_simple, is_simple_and_free, kind_of, subcommand_name_of, subcommand_rows}
+use Rattle.std.specs.Prelude.{Box, MatchOption, []}
+use Rattle.clap.specs.Words.{HasKind, HasMatchesOf, Row, Text, fault_of, is_simple, is_simple_and_free, kind_of, subcommand_name_of, subcommand_of, subcommand_rows}
 use Rattle.clap.specs.declared.error.kind.ErrorKind.{ErrorKind}
 use Rattle.clap.specs.declared.error.kind.ErrorKind.TheVariants as kind
 use Rattle.clap.specs.declared.parser.matches.ArgMatches.{ArgMatches}
@@ -9,9 +9,8 @@ use Rattle.clap.specs.declared.parser.matches.ArgMatches.TheViews.{out-ArgMatche
 use Rattle.clap.specs.declared.parser.matches.SubCommand.{SubCommand}
 use Rattle.clap.specs.declared.error.Error.{Error}
 use Rattle.clap.proofs.OnLiterals.{clap_on_literals}
-use Rattle.nap_cli.specs.declared.command.Action.{Action}
 use Rattle.nap_cli.specs.declared.command.Command.{Command}
-use Rattle.nap_cli.specs.CommandLine.{IsFault, Says, action_name, command_line}
+use Rattle.nap_cli.specs.CommandLine.{Chooses, IsFault, Says, action_name, command_line}
 
 pub line_is_simple : is_simple command_line ≡ true
 unfolding clap_on_literals
@@ -30,12 +29,73 @@ name_of_rows : {Z : Type 0} (o : Option (Box SubCommand Z)) → option_map (λ (
 name_of_rows None = refl
 name_of_rows (Some b) = refl
 
--- the name of the command that the words say
-said_name : (words : List Text) (m : ArgMatches) (c : Command) → HasMatchesOf command_line words m → Says words c → subcommand_name_of m ≡ Some (action_name c.action)
-said_name words m c has says = sym (name_of_rows (out-ArgMatches m).subcommand) ∙ ap (option_map (λ (p : Text × List Row). p.0)) ((has line_is_simple).1 ∙ says.entered)
+same_some : {A : Type 0} (a b : A) → Some a ≡ Some b → a ≡ b
+same_some a b h = let e : a ≡ b = cc in e
 
--- no command has the name that clap found, where it found one
-pub no_command_said : (words : List Text) (m : ArgMatches) (k : ErrorKind) → HasMatchesOf command_line words m → (k ≡ kind.OutOfMemory) ⊎ (k ≡ kind.MissingSubcommand)
-    → ((a : Action) → subcommand_name_of m ≡ Some (action_name a) → ⊥) → IsFault words k
-no_command_said words m k has (inl h) none = inl h
-no_command_said words m k has (inr h) none = inr (inr (h, λ c says. none c.action (said_name words m c has says)))
+some_pair : {A B : Type 0} (a x : A) (b y : B) → ◌≡◌ {A = Option (A × B)} (Some (a, b)) (Some (x, y)) → (a ≡ x) × (b ≡ y)
+some_pair {A} {B} a x b y e =
+    let left : A × B = (a, b) in
+    let right : A × B = (x, y) in
+    let same : left ≡ right = same_some left right e in
+    (ap (λ (p : A × B). p.0) same, ap (λ (p : A × B). p.1) same)
+
+some_by_parts : {A B : Type 0} (o : Option (A × B)) (a : A) (b : B) → option_map (λ (p : A × B). p.0) o ≡ Some a → option_map (λ (p : A × B). p.1) o ≡ Some b → o ≡ Some (a, b)
+some_by_parts None a b h k = let bad : ⊥ = cc in absurd bad
+some_by_parts (Some p) a b h k =
+    let x : p.0 ≡ a = cc in
+    let y : p.1 ≡ b = cc in
+    ap₂ (λ u v. Some (u, v)) x y
+
+none_by_part : {A B : Type 0} (o : Option (A × B)) → option_map (λ (p : A × B). p.0) o ≡ None → o ≡ None
+none_by_part None h = refl
+none_by_part (Some p) h = let bad : ⊥ = cc in absurd bad
+
+pub none_or_some : {A : Type 0} (a : A) → None ≡ Some a → ⊥
+none_or_some a h = let bad : ⊥ = cc in bad
+
+-- the name and the rows of the command that clap entered are those of the words
+pub entered_by : (words : List Text) (m : ArgMatches) (name : Text) (rows : List Row) → HasMatchesOf command_line words m → subcommand_name_of m ≡ Some name
+    → option_map (λ (p : Text × List Row). p.1) (subcommand_rows (out-ArgMatches m).subcommand) ≡ Some rows → subcommand_of command_line words ≡ Some (name, rows)
+entered_by words m name rows has named rowed =
+    sym (has line_is_simple).1 ∙ some_by_parts (subcommand_rows (out-ArgMatches m).subcommand) name rows (name_of_rows (out-ArgMatches m).subcommand ∙ named) rowed
+
+-- clap entered no command
+pub entered_none : (words : List Text) (m : ArgMatches) → HasMatchesOf command_line words m → subcommand_name_of m ≡ None → subcommand_of command_line words ≡ None
+entered_none words m has named = sym (has line_is_simple).1 ∙ none_by_part (subcommand_rows (out-ArgMatches m).subcommand) (name_of_rows (out-ArgMatches m).subcommand ∙ named)
+
+-- what clap found is that of no command
+pub nothing_chosen : (words : List Text) (name : Text) (rows : List Row) → subcommand_of command_line words ≡ Some (name, rows)
+    → ((c : Command) → action_name c.action ≡ name → Chooses rows c → ⊥) → (c : Command) → Says words c → ⊥
+nothing_chosen words name rows entered none c says =
+    let same = some_pair (action_name c.action) name says.rows rows (sym says.entered ∙ entered) in
+    none c same.0 (subst (λ (x : List Row). Chooses x c) same.1 says.chooses)
+
+pub nothing_entered : (words : List Text) → subcommand_of command_line words ≡ None → (c : Command) → Says words c → ⊥
+nothing_entered words entered c says = none_or_some (action_name c.action, says.rows) (sym entered ∙ says.entered)
+
+-- a command, or none, that has the options that clap found
+module _ (words : List Text) (m : ArgMatches) (name : Text) (rows : List Row) (has : HasMatchesOf command_line words m) (named : Some name ≡ subcommand_name_of m)
+    (rowed : Some rows ≡ option_map (λ (p : Text × List Row). p.1) (subcommand_rows (out-ArgMatches m).subcommand)) where
+  abbrev pub IsCommand : Option Command → Type 0
+  IsCommand r = MatchOption r ((c : Command) → action_name c.action ≡ name → Chooses rows c → ⊥) (λ c. (action_name c.action ≡ name) × Chooses rows c)
+
+  found : subcommand_of command_line words ≡ Some (name, rows)
+  found = entered_by words m name rows has (sym named) (sym rowed)
+
+  pub says_command : (r : Option Command) (c : Command) → fault_of command_line words ≡ [] → IsCommand r → r ≡ Some c → Says words c
+  says_command None c right h is = absurd (none_or_some c is)
+  says_command (Some k) c right h is = subst (Says words) (same_some k c is) (record {
+    right = right;
+    rows = rows;
+    entered = found ∙ ap (λ (t : Text). Some (t, rows)) (sym h.0);
+    chooses = h.1;
+  })
+
+  pub says_nothing : (r : Option Command) → IsCommand r → r ≡ None → (c : Command) → Says words c → ⊥
+  says_nothing None h is = nothing_chosen words name rows found h
+  says_nothing (Some k) h is = absurd (none_or_some k (sym is))
+
+-- the fault of words that say no command
+pub no_command_said : (words : List Text) (k : ErrorKind) → (k ≡ kind.OutOfMemory) ⊎ (k ≡ kind.MissingSubcommand) → ((c : Command) → Says words c → ⊥) → IsFault words k
+no_command_said words k (inl h) none = inl h
+no_command_said words k (inr h) none = inr (inr (h, none))

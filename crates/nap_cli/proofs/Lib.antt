@@ -1,3 +1,5 @@
-pub mod DeviceLemmas
 pub mod CommandLemmas
 pub mod CommandLineLemmas
+pub mod DeviceLemmas
+pub mod ExplainLemmas
+pub mod OptionLemmas

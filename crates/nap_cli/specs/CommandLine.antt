@@ -1,4 +1,5 @@
-use Rattle.std.specs.Prelude.{◌≡◌, ◌⊎◌, ℕ, true, false, List, [], ◌∷◌, Some, codes, pos}
+use Rattle.std.specs.Prelude.{◌≡◌, ◌⊎◌, ◌≤◌, ℕ, Bool, true, false, List, [], ◌∷◌, Some, codes, pos}
+use Rattle.std.specs.Str.Parse.{IsNumeral, digits_value, without_leading_plus}
 use Rattle.clap.specs.Words.{App, IsAmong, Row, Rule, Text, fault_of, new_app, new_rule, one_of, subcommand_of, with_rule, with_subcommand}
 use Rattle.clap.specs.declared.error.kind.ErrorKind.{ErrorKind}
 use Rattle.clap.specs.declared.error.kind.ErrorKind.TheVariants as kind
@@ -7,7 +8,7 @@ use Rattle.clap.specs.declared.builder.value_parser.ValueParser.TheVariants.{Sig
 use Rattle.nap_cli.specs.declared.command.Action.{Action}
 use Rattle.nap_cli.specs.declared.command.Action.TheVariants as action
 use Rattle.nap_cli.specs.declared.command.Command.{Command}
-use Rattle.nap_cli.specs.Devices.{Devices}
+use Rattle.nap_cli.specs.Devices.{Devices, Unread, outputs_of}
 use Rattle.nap_cli.specs.Commands.{Explains, Ran}
 
 -- The command line, as clap reads it.
@@ -45,20 +46,38 @@ action_name action.List = codes "list"
 action_name action.Check = codes "check"
 action_name action.Canon = codes "canon"
 
--- words that clap reads as this command; what they say of the budget is left open
+-- the text of an option that is there or not
+abbrev pub flag_text : Bool → Text
+flag_text true = codes "true"
+flag_text false = codes "false"
+
+-- a text of decimal digits, behind a plus or not, that write this number of bytes, which is a budget
+abbrev pub IsBudget : Text → ℕ → Type 0
+IsBudget text n =
+    IsNumeral 10 (without_leading_plus text) × (digits_value 10 (without_leading_plus text) ≡ n) × (n ≤ 16777216)
+
+-- what clap found of the options is that of this command
+pub record Chooses (rows : List Row) (c : Command) : Type 0 where
+  pub hex : one_of (codes "hex") rows ≡ Some (flag_text c.hex)
+  pub number : Text
+  pub found : one_of (codes "budget") rows ≡ Some number
+  pub budget : IsBudget number c.budget
+
+-- words that clap takes, and reads as this command
 pub record Says (words : List Text) (c : Command) : Type 0 where
+  pub right : fault_of command_line words ≡ []
   pub rows : List Row
   pub entered : subcommand_of command_line words ≡ Some (action_name c.action, rows)
-  pub with_hex : one_of (codes "hex") rows ≡ Some (codes "true") → c.hex ≡ true
-  pub without_hex : one_of (codes "hex") rows ≡ Some (codes "false") → c.hex ≡ false
+  pub chooses : Chooses rows c
 
 -- what clap finds in words that say no command: this kind of fault, or want of memory
 abbrev pub IsFault : List Text → ErrorKind → Type 0
 IsFault words k =
     (k ≡ kind.OutOfMemory) ⊎ (IsAmong k (fault_of command_line words) ⊎ ((k ≡ kind.MissingSubcommand) × ((c : Command) → Says words c → ⊥)))
 
--- The program ran from the devices before to those after: the command that the words say, or none, and what clap finds
--- in them was told.
+-- The program ran from the devices before to those after: the command that the words say; or none, and then nothing was
+-- read, and what clap finds in the words was told.
 abbrev pub Answers : List Text → Devices → Devices → ℕ → Type 0
 Answers words before after status =
-    ((c : Command) × Says words c × Ran c before after status) ⊎ ((k : ErrorKind) × IsFault words k × Explains k before.taken after.taken status)
+    ((c : Command) × Says words c × Ran c before after status)
+    ⊎ ((k : ErrorKind) × IsFault words k × Unread before after × Explains k (outputs_of before) (outputs_of after) status)

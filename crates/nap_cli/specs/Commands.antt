@@ -1,4 +1,4 @@
-use Rattle.std.specs.Prelude.{ℕ, ◌≡◌, ◌≢◌, ◌⊎◌, ◌==◌, ◌||◌, ◌-◌, not, Bool, true, false, List, [], ◌∷◌, ◌++◌, length, take, filter, flat_map, codes, decimal, Option, Some, Result, Ok, Err, IsErr}
+use Rattle.std.specs.Prelude.{ℕ, ◌≡◌, ◌≢◌, ◌⊎◌, ◌==◌, ◌||◌, ◌+◌, ◌-◌, ◌≤◌, not, Bool, true, false, List, [], ◌∷◌, ◌++◌, length, take, filter, flat_map, codes, decimal, Option, Some, Result, Ok, Err, IsErr}
 use Rattle.std.specs.Io.KnownBytes.{Appends, Consumes, IsAtEnd}
 use Rattle.hex.specs.Hex.{decode_of, encode_lower}
 use Rattle.clap.specs.declared.error.kind.ErrorKind.{ErrorKind}
@@ -13,11 +13,12 @@ use Rattle.nap_cli.specs.declared.answer.Verdict.TheVariants as verdict
 use Rattle.nap_cli.specs.declared.command.Action.{Action}
 use Rattle.nap_cli.specs.declared.command.Action.TheVariants as action
 use Rattle.nap_cli.specs.declared.command.Command.{Command}
+use Rattle.nap_cli.specs.declared.device.TheConstants.{READS}
 use Rattle.nap_cli.specs.declared.failure.Failure.{Failure}
 use Rattle.nap_cli.specs.declared.failure.Failure.TheVariants as failure
 use Rattle.nap_cli.specs.Lines.{line}
-use Rattle.nap_cli.specs.Failures.{exit_status, refusal_text, status_of, told_text}
-use Rattle.nap_cli.specs.Devices.{Devices, IsCutOff, Takes}
+use Rattle.nap_cli.specs.Failures.{exit_status, refusal_text, told_text}
+use Rattle.nap_cli.specs.Devices.{Devices, IsCutOff, Outputs, Takes}
 
 -- The stream that a command reads.
 
@@ -97,7 +98,7 @@ pub record AfterReading : Type 0 where
 
 -- why a command that read the bytes p prints nothing
 abbrev pub Fails : Command → List ℕ → AfterReading → Failure → Type 0
-Fails c p input failure.Read = IsCutOff input.failed input.reads
+Fails c p input failure.Read = IsCutOff input.failed input.reads p
 Fails c p input failure.Memory = Unit {0}
 Fails c p input f = IsAtEnd input.left × FailsOn c p f
 
@@ -133,23 +134,47 @@ pub record Ran (c : Command) (before after : Devices) (status : ℕ) : Type 0 wh
   pub read : Consumes before.left after.left p
   pub printed : Appends before.taken after.taken q
   pub told : Appends before.told after.told e
+  pub few : after.reads ≤ before.reads + READS
   pub ends : Ends c p (record { left = after.left; failed = after.input_failed; reads = after.reads - before.reads }) q after.output_failed ended
   pub tells : Tells e after.errors_failed ended
   pub status_is : status ≡ exit_status ended
 
--- the status of a text that was shown, or failed to be
-abbrev pub shown_status : Result (Unit {0}) Failure → ℕ
-shown_status (Ok done) = 0
-shown_status (Err f) = status_of f
+-- An output that had these bytes took help, which has this text, and the command ended so. Where the output failed, that
+-- is what is told, or there was no memory for its line; or there was none for the text.
+abbrev pub ShowsText : Option (List ℕ) → Option (List ℕ) → List ℕ → Result Verdict Failure → Type 0
+ShowsText old new text (Ok verdict.Accepted) = Appends old new text
+ShowsText old new text (Err (failure.Write taken)) = Takes old new text (Err (failure.Write taken))
+ShowsText old new text (Err failure.Memory) = (new ≡ old) ⊎ ((taken : ℕ) × Takes old new text (Err (failure.Write taken)))
+ShowsText old new text _ = ⊥
 
--- Help was shown: an output that had these bytes took its text, or failed. Or there was no memory for it.
-abbrev pub ShowsHelp : Option (List ℕ) → Option (List ℕ) → ℕ → Type 0
-ShowsHelp old new status =
-    ((text : List ℕ) × (shown : Result (Unit {0}) Failure) × Takes old new text shown × (status ≡ shown_status shown)) ⊎ ((new ≡ old) × (status ≡ 3))
+-- help was shown, or failed to be
+pub record ShowsHelp (before after : Outputs) (status : ℕ) : Type 0 where
+  pub text : List ℕ
+  pub e : List ℕ
+  pub ended : Result Verdict Failure
+  pub shown : ShowsText before.taken after.taken text ended
+  pub told : Appends before.told after.told e
+  pub tells : Tells e after.errors_failed ended
+  pub status_is : status ≡ exit_status ended
 
--- What comes of words that are no command, by what clap finds in them: help, or what is wrong, which goes to standard
--- error alone, or want of memory.
-abbrev pub Explains : ErrorKind → Option (List ℕ) → Option (List ℕ) → ℕ → Type 0
-Explains kind.DisplayHelp old new status = ShowsHelp old new status
-Explains kind.DisplayVersion old new status = ShowsHelp old new status
-Explains _ old new status = (new ≡ old) × ((status ≡ 2) ⊎ (status ≡ 3))
+-- There was no memory, which standard error tells; nothing was printed.
+pub record WantsMemory (before after : Outputs) (status : ℕ) : Type 0 where
+  pub printed : after.taken ≡ before.taken
+  pub e : List ℕ
+  pub told : Appends before.told after.told e
+  pub tells : Tells e after.errors_failed (Err failure.Memory)
+  pub status_is : status ≡ 3
+
+-- Standard error took what is wrong with the words, in clap's text, or a front of it; nothing was printed.
+pub record TellsWrong (before after : Outputs) (status : ℕ) : Type 0 where
+  pub printed : after.taken ≡ before.taken
+  pub e : List ℕ
+  pub told : Appends before.told after.told e
+  pub status_is : status ≡ 2
+
+-- what comes of words that are no command, by what clap finds in them: help, or want of memory, or what is wrong
+abbrev pub Explains : ErrorKind → Outputs → Outputs → ℕ → Type 0
+Explains kind.DisplayHelp before after status = ShowsHelp before after status
+Explains kind.DisplayVersion before after status = ShowsHelp before after status
+Explains kind.OutOfMemory before after status = WantsMemory before after status
+Explains _ before after status = TellsWrong before after status ⊎ WantsMemory before after status

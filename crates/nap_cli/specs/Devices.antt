@@ -2,6 +2,7 @@ use Rattle.std.specs.Prelude.{ℕ, ◌≡◌, ◌⊎◌, ◌≤◌, Bool, true, 
 use Rattle.std.specs.Io.KnownBytes.{Appends}
 use Rattle.nap_list.specs.declared.device.Inlet as inlet
 use Rattle.nap_list.specs.declared.device.Outlet as outlet
+use Rattle.nap_cli.specs.declared.device.TheConstants.{READS}
 use Rattle.nap_cli.specs.declared.failure.Failure.{Failure}
 use Rattle.nap_cli.specs.declared.failure.Failure.TheVariants as failure
 
@@ -27,13 +28,29 @@ devices i o e input output errors = record {
   errors_failed = e.failed errors;
 }
 
--- the most reads of a command
-abbrev pub read_limit : ℕ
-read_limit = 1048576
+-- What the two outputs of a command show: the bytes that they took, where they tell them, and whether standard error
+-- failed.
+pub record Outputs : Type 0 where
+  pub taken : Option (List ℕ)
+  pub told : Option (List ℕ)
+  pub errors_failed : Bool
 
--- Reading came to an end before the input did: the input failed, or was read as often as it may be.
-abbrev pub IsCutOff : Bool → ℕ → Type 0
-IsCutOff failed reads = (failed ≡ true) ⊎ (reads ≡ read_limit)
+abbrev pub outputs : {O E : Type 0} → outlet.Ghosts O → outlet.Ghosts E → O → E → Outputs
+outputs o e output errors = record { taken = o.taken output; told = e.taken errors; errors_failed = e.failed errors }
+
+abbrev pub outputs_of : Devices → Outputs
+outputs_of d = record { taken = d.taken; told = d.told; errors_failed = d.errors_failed }
+
+-- the input is as it was
+pub record Unread (before after : Devices) : Type 0 where
+  pub left : after.left ≡ before.left
+  pub reads : after.reads ≡ before.reads
+  pub failed : after.input_failed ≡ before.input_failed
+
+-- Reading came to an end before the input did: the input failed, or was read as often as it may be, and each of these
+-- reads gave a byte of p or more.
+abbrev pub IsCutOff : Bool → ℕ → List ℕ → Type 0
+IsCutOff failed reads p = (failed ≡ true) ⊎ ((reads ≡ READS) × (READS ≤ length p))
 
 -- an output that had these bytes took the whole text, or failed once it had taken so many bytes of it
 abbrev pub Takes : Option (List ℕ) → Option (List ℕ) → List ℕ → Result (Unit {0}) Failure → Type 0
@@ -41,8 +58,8 @@ Takes old new text (Ok done) = Appends old new text
 Takes old new text (Err (failure.Write taken)) = (taken ≤ length text) × Appends old new (take taken text)
 Takes old new text (Err _) = ⊥
 
--- why an input was not read to its end
-abbrev pub StopsReading : Bool → ℕ → Failure → Type 0
-StopsReading failed reads failure.Read = IsCutOff failed reads
-StopsReading failed reads failure.Memory = Unit {0}
-StopsReading failed reads _ = ⊥
+-- why an input of which the bytes p were read was not read to its end
+abbrev pub StopsReading : Bool → ℕ → List ℕ → Failure → Type 0
+StopsReading failed reads p failure.Read = IsCutOff failed reads p
+StopsReading failed reads p failure.Memory = Unit {0}
+StopsReading failed reads p _ = ⊥

@@ -2,7 +2,7 @@
 ghost use Rattle.std.specs.Prelude.{◌≡◌, ◌≢◌, ◌⊎◌, true, false, Some, IfErr, IfOk, MatchOption, codes, map, string_bytes};
 ghost use Rattle.clap.specs.Words.{app_of, found_of, kind_of, one_of, rows_of};
 ghost use Rattle.clap.specs.declared.builder.command.Command.TheViews.{out-Command as fields_of};
-ghost use Rattle.nap_cli.specs.CommandLine.{IsFault, Says, action_name, command_app, command_line};
+ghost use Rattle.nap_cli.specs.CommandLine.{Chooses, IsFault, Says, action_name, command_app, command_line};
 
 use clap::error::ErrorKind;
 use clap::{Arg, ArgAction, ArgMatches, Error, value_parser};
@@ -58,13 +58,14 @@ const CANON: &str = "canon";
 const ABOUT: &str = "naplps 0.1.0: reads NAPLPS pages and rewrites them in one canonical spelling.
 
 A page is read from standard input, as bytes or as hexadecimal text. What comes of it goes to standard output, and
-what goes wrong to standard error.";
+what goes wrong to standard error; 'check' prints a refusal as its answer.";
 
 const STATUSES: &str = "Statuses:
   0  accepted
-  1  refused: the number and the name of the fault, and the place of the byte, from 0
+  1  refused, as 'refused 10 Outside at 5': the number and the name of the fault, and the place of the byte, from 0.
+     'refused 23 Unbuilt' stands for what this version doesn't read, or has no canonical text for
   2  a wrong command line
-  3  a fault of reading or writing, bad hexadecimal text, or no memory
+  3  a fault of reading or writing, bad hexadecimal text, or no memory outside the reading of the page
 
 Example:
   echo '0E 26 52 40 40' | naplps list --hex";
@@ -83,7 +84,8 @@ prints
 const CHECK_HELP: &str =
     "Says whether the page is accepted, and with how many entries, or why it is refused";
 
-const CHECK_EXAMPLE: &str = "Statuses are those of 'naplps --help'.
+const CHECK_EXAMPLE: &str =
+    "A refusal is printed too, with the status 1. Statuses are those of 'naplps --help'.
 
 Example:
   echo '0E 26 52 40 40' | naplps check --hex
@@ -162,27 +164,26 @@ impl Command {
     {
         let mut program = program(alloc)?;
         let matches = program.try_get_matches_from_mut(words)?;
-        match matches.subcommand() {
-            Some((name, options)) => match Action::named(name) {
-                Some(action) => Ok(Command::with(action, options)),
-                None => Err(no_command(&mut program)),
-            },
+        let said = match matches.subcommand() {
+            Some((name, options)) => Command::named(name, options),
+            None => None,
+        };
+        match said {
+            Some(command) => Ok(command),
             None => Err(no_command(&mut program)),
         }
     }
 
-    fn with(action: Action, options: &ArgMatches<'_>) -> Command
-        ensures action { result.action ≡ action }
-        ensures with_hex { one_of (codes "hex") (rows_of (found_of options.now)) ≡ Some (codes "true") → result.hex ≡ true }
-        ensures without_hex { one_of (codes "hex") (rows_of (found_of options.now)) ≡ Some (codes "false") → result.hex ≡ false }
+    /// The command of this name with these options. clap has checked them, so that there is one.
+    fn named(name: &str, options: &ArgMatches<'_>) -> Option<Command>
+        ensures { MatchOption result
+            ((c : Command) → action_name c.action ≡ name.now → Chooses (rows_of (found_of options.now)) c → ⊥)
+            (λ c. (action_name c.action ≡ name.now) × Chooses (rows_of (found_of options.now)) c) }
     {
-        Command {
-            action,
-            hex: options.get_flag(HEX),
-            budget: options
-                .get_one::<u32>(BUDGET)
-                .and_then(Budget::new)
-                .unwrap_or(Budget::usual()),
-        }
+        Some(Command {
+            action: Action::named(name)?,
+            hex: options.get_one(HEX)?,
+            budget: Budget::new(options.get_one(BUDGET)?)?,
+        })
     }
 }

@@ -1,8 +1,9 @@
 // The program on its words.
-ghost use Rattle.std.specs.Prelude.{◌≡◌, ◌≢◌, ◌⊎◌, ◌-◌, ◌<◌, ◌^◌, ℕ, List, false, Err, MatchResult, map, string_bytes};
+ghost use Rattle.std.specs.Prelude.{◌≡◌, ◌≢◌, ◌⊎◌, ◌+◌, ◌-◌, ◌<◌, ◌≤◌, ◌^◌, ℕ, List, false, Err, MatchResult, map, string_bytes};
 ghost use Rattle.std.specs.Io.KnownBytes.{Appends, Consumes};
 ghost use Rattle.clap.specs.Values.{kind_of};
-ghost use Rattle.nap_cli.specs.Devices.{devices};
+ghost use Rattle.nap_cli.specs.declared.device.TheConstants.{READS};
+ghost use Rattle.nap_cli.specs.Devices.{devices, outputs};
 ghost use Rattle.nap_cli.specs.Commands.{AfterReading, Ends, Explains, Fails, Finds, Ran, Tells};
 ghost use Rattle.nap_cli.specs.CommandLine.{Answers};
 
@@ -36,7 +37,8 @@ fn tell<E: Outlet>(alloc: Global, failure: Failure, errors: &mut E) -> Failure
 /// What a command prints of its input.
 fn find<I: Inlet>(alloc: Global, command: &Command, input: &mut I) -> Result<Printout, Failure>
     requires { I.calls input.old < 2 ^ 63 }
-    ensures { let after : AfterReading = record { left = I.left input.new; failed = I.failed input.new; reads = I.calls input.new - I.calls input.old } in
+    ensures few { I.calls input.new ≤ I.calls input.old + READS }
+    ensures found { let after : AfterReading = record { left = I.left input.new; failed = I.failed input.new; reads = I.calls input.new - I.calls input.old } in
         (p : List ℕ) × Consumes (I.left input.old) (I.left input.new) p
         × MatchResult result (λ a. Finds command.now p after a.text.items a.verdict) (Fails command.now p after) }
 {
@@ -54,7 +56,8 @@ fn perform<I: Inlet, O: Outlet>(
 ) -> Result<Verdict, Failure>
     requires calls { I.calls input.old < 2 ^ 63 }
     requires works { O.failed output.old ≡ false }
-    ensures { let after : AfterReading = record { left = I.left input.new; failed = I.failed input.new; reads = I.calls input.new - I.calls input.old } in
+    ensures few { I.calls input.new ≤ I.calls input.old + READS }
+    ensures ends { let after : AfterReading = record { left = I.left input.new; failed = I.failed input.new; reads = I.calls input.new - I.calls input.old } in
         (p : List ℕ) × (q : List ℕ) × Consumes (I.left input.old) (I.left input.new) p × Appends (O.taken output.old) (O.taken output.new) q
         × Ends command.now p after q (O.failed output.new) result }
 {
@@ -95,7 +98,8 @@ pub fn execute<I: Inlet, O: Outlet, E: Outlet>(
 
 /// Help goes to the output. What is wrong with the words goes to standard error, and the output stays as it is.
 fn explain<O: Outlet, E: Outlet>(alloc: Global, error: Error, output: O, errors: &mut E) -> (O, u8)
-    ensures { Explains (kind_of error) (O.taken output) (O.taken result.0) result.1 }
+    ensures { let seen = outputs O.Outlet E.Outlet in
+        Explains (kind_of error) (seen output errors.old) (seen result.0 errors.new) result.1 }
 {
     let Ok(text) = error.to_string(alloc) else {
         return (output, tell(alloc, Failure::Memory, errors).status());
@@ -117,8 +121,7 @@ fn explain<O: Outlet, E: Outlet>(alloc: Global, error: Error, output: O, errors:
     }
 }
 
-/// The program on its words, those after its own name: the output again, and the exit status. The clause leaves out which
-/// budget the words say.
+/// The program on its words, those after its own name: the output again, and the exit status.
 pub fn run<I: Inlet, O: Outlet, E: Outlet>(
     alloc: Global,
     words: &[String],

@@ -8,4 +8,5 @@ invariant-loop g l = record {
   calls : g.I.Inlet.calls l.input ≡ g.I.Inlet.calls l.fn.input + l.counter;
   read : Consumes (g.I.Inlet.left l.fn.input) (g.I.Inlet.left l.input) l.bytes.items;
   small : length l.bytes.items ≤ 65536 * l.counter;
+  some : l.counter ≤ length l.bytes.items;
 }

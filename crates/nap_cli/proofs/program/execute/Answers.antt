@@ -5,7 +5,7 @@ use Rattle.nap_cli.proofs.program.execute.Goals as goal
 
 pub returns-in-Ok : goal.returns-in-Ok
 returns-in-Ok g c =
-    let h = c.in-Ok.ensures in
+    let h = c.in-Ok.ensures.ends in
     record {
       p = h.0;
       q = h.1;
@@ -14,6 +14,7 @@ returns-in-Ok g c =
       read = h.2;
       printed = h.3;
       told = Appends-nil (g.E.Outlet.taken c.args.errors.now);
+      few = c.perform.ensures.few;
       ends = h.4;
       tells = record { front = refl; all = λ _. refl };
       status_is = c.status.ensures;
@@ -21,7 +22,7 @@ returns-in-Ok g c =
 
 pub returns-in-Err : goal.returns-in-Err
 returns-in-Err g c =
-    let h = c.in-Err.ensures in
+    let h = c.in-Err.ensures.ends in
     let t = c.tell-told.ensures in
     record {
       p = h.0;
@@ -31,6 +32,7 @@ returns-in-Err g c =
       read = h.2;
       printed = h.3;
       told = t.told.1;
+      few = c.perform.ensures.few;
       ends = ends_told c.args.command.now h.0 _ h.1 _ c.in-Err.failure c.tell-told.result t.same h.4;
       tells = t.told.2;
       status_is = c.status-in-Err.ensures;

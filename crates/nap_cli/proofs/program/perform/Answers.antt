@@ -5,11 +5,11 @@ use Rattle.nap_cli.proofs.program.perform.Goals as goal
 
 pub returns-in-Ok : goal.returns-in-Ok
 returns-in-Ok g c =
-    let h = c.in-Ok.ensures in
+    let h = c.in-Ok.ensures.found in
     let write = c.in-Err-write_whole.ensures in
     let old = g.O.Outlet.taken c.args.output.now in
     let new = g.O.Outlet.taken c.write_whole.new.output in
     let fault = c.in-Err-write_whole.fault in
     let takes = subst (λ (text : List ℕ). Takes old new text (Err fault)) c.as_slice.ensures.value write.takes in
     let k = ends_amid c.args.command.now h.0 _ _ _ old new _ fault h.2 takes (write.failed ∙ ap (λ (x : Bool). x || true) c.requires.works) in
-    (h.0, k.0, h.1, k.1, k.2)
+    record { few = c.find.ensures.few; ends = (h.0, k.0, h.1, k.1, k.2) }
