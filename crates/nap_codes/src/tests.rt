@@ -1,76 +1,9 @@
 use crate::{
-    Code, CodeFault, CodeSet, Left, Lexer, Opcode, Row, Step, control0, control1, designate,
-    opcode_of,
+    CharSet, Code, CodeFault, CodeSet, Left, Lexer, Opcode, Row, Step, TextStep, control0,
+    control1, designate, opcode_of,
 };
 
-/// How often each kind of answer comes.
-#[derive(Clone, Copy, PartialEq, Eq, Debug, Drop)]
-struct Counts {
-    characters: u32,
-    opcodes: u32,
-    operands: u32,
-    other_codes: u32,
-    eighth_bit: u32,
-    bad_escape: u32,
-    shift_alone: u32,
-    bad_argument: u32,
-    left_out: u32,
-    shifted_code: u32,
-    half_read: u32,
-}
-
-impl Counts {
-    const NONE: Counts = Counts {
-        characters: 0,
-        opcodes: 0,
-        operands: 0,
-        other_codes: 0,
-        eighth_bit: 0,
-        bad_escape: 0,
-        shift_alone: 0,
-        bad_argument: 0,
-        left_out: 0,
-        shifted_code: 0,
-        half_read: 0,
-    };
-
-    fn code(&mut self, code: Code) {
-        let count = match code {
-            Code::Char(_, _) => &mut self.characters,
-            Code::Op(_) => &mut self.opcodes,
-            Code::Operand(_) => &mut self.operands,
-            _ => &mut self.other_codes,
-        };
-        *count = count.wrapping_add(1);
-    }
-
-    fn fault(&mut self, fault: CodeFault) {
-        let count = match fault {
-            CodeFault::EighthBit => &mut self.eighth_bit,
-            CodeFault::BadEscape => &mut self.bad_escape,
-            CodeFault::ShiftAlone => &mut self.shift_alone,
-            CodeFault::ShiftedCode => &mut self.shifted_code,
-            CodeFault::BadArgument => &mut self.bad_argument,
-            CodeFault::LeftOut(_) => &mut self.left_out,
-        };
-        *count = count.wrapping_add(1);
-    }
-
-    /// Counts the answers on these bytes, up to a fault.
-    fn stream(&mut self, bytes: &[u8]) {
-        let mut lexer = Lexer::new();
-        for byte in bytes {
-            match lexer.step(*byte) {
-                Step::More => {}
-                Step::Code(code) => self.code(code),
-                Step::Fault(fault) => return self.fault(fault),
-            }
-        }
-        if !lexer.at_rest() {
-            self.half_read = self.half_read.wrapping_add(1);
-        }
-    }
-}
+mod pairs;
 
 /// The last answer on these bytes up to a fault, and the index of its byte.
 fn last_answer(bytes: &[u8]) -> (Step, usize) {
@@ -85,42 +18,82 @@ fn last_answer(bytes: &[u8]) -> (Step, usize) {
     last
 }
 
+/// The fault on these bytes, and the index of its byte.
+fn fault_on(bytes: &[u8]) -> Option<(CodeFault, usize)> {
+    match last_answer(bytes) {
+        (Step::Fault(fault), index) => Some((fault, index)),
+        _ => None,
+    }
+}
+
+/// Whether a code is half read after these bytes.
+fn ends_within_a_code(bytes: &[u8]) -> bool {
+    let mut lexer = Lexer::new();
+    for byte in bytes {
+        lexer.step(*byte);
+    }
+    !lexer.at_rest()
+}
+
 #[test]
-fn faults_stand_at_their_bytes(rt: HostRuntime) {
+fn codes_wait_for_their_bytes(rt: HostRuntime) {
     assert_eq!(rt; last_answer(&[0x1B]), (Step::More, 0));
     assert_eq!(rt; last_answer(&[0x1D]), (Step::More, 0));
     assert_eq!(rt; last_answer(&[0x1C, 0x40]), (Step::More, 1));
+    assert_eq!(rt; last_answer(&[0x1B, 0x2A, 0x57, 0x19]), (Step::More, 3));
+    assert!(rt; ends_within_a_code(&[0x1B, 0x2A, 0x57, 0x19]));
+}
+
+#[test]
+fn faults_stand_at_their_bytes(rt: HostRuntime) {
+    assert_eq!(rt; fault_on(&[0x80]), Some((CodeFault::EighthBit, 0)));
+    assert_eq!(rt; fault_on(&[0x1B, 0x80]), Some((CodeFault::EighthBit, 1)));
+    assert_eq!(rt; fault_on(&[0x1B, 0x30]), Some((CodeFault::BadEscape, 1)));
     assert_eq!(rt;
-        last_answer(&[0x80]),
-        (Step::Fault(CodeFault::EighthBit), 0)
+        fault_on(&[0x1B, 0x2B, 0x20, 0x20, 0x7A]),
+        Some((CodeFault::BadEscape, 3))
+    );
+    assert_eq!(rt; fault_on(&[0x19, 0x0E]), Some((CodeFault::ShiftAlone, 1)));
+    assert_eq!(rt;
+        fault_on(&[0x1B, 0x2A, 0x57, 0x19, 0x26]),
+        Some((CodeFault::ShiftedCode, 4))
     );
     assert_eq!(rt;
-        last_answer(&[0x1B, 0x30]),
-        (Step::Fault(CodeFault::BadEscape), 1)
+        fault_on(&[0x1B, 0x2A, 0x57, 0x19, 0x39]),
+        Some((CodeFault::ShiftedCode, 4))
     );
     assert_eq!(rt;
-        last_answer(&[0x1B, 0x2B, 0x20, 0x20, 0x7A]),
-        (Step::Fault(CodeFault::BadEscape), 3)
+        fault_on(&[0x1C, 0x40, 0x05]),
+        Some((CodeFault::BadArgument, 2))
+    );
+}
+
+#[test]
+fn left_out_codes_have_their_names(rt: HostRuntime) {
+    assert_eq!(rt; fault_on(&[0x18]), Some((CodeFault::LeftOut(Left::Can), 0)));
+    assert_eq!(rt;
+        fault_on(&[0x1B, 0x42]),
+        Some((CodeFault::LeftOut(Left::Deft), 1))
     );
     assert_eq!(rt;
-        last_answer(&[0x19, 0x0E]),
-        (Step::Fault(CodeFault::ShiftAlone), 1)
+        fault_on(&[0x0E, 0x39]),
+        Some((CodeFault::LeftOut(Left::IncrementalPoint), 1))
+    );
+}
+
+#[test]
+fn codes_that_no_pair_of_bytes_has(rt: HostRuntime) {
+    assert_eq!(rt;
+        last_answer(&[0x1C, 0x40, 0x41]),
+        (Step::Code(Code::Step(TextStep::Aps(0x40, 0x41))), 2)
     );
     assert_eq!(rt;
-        last_answer(&[0x1B, 0x2A, 0x57, 0x19, 0x26]),
-        (Step::Fault(CodeFault::ShiftedCode), 4)
+        last_answer(&[0x1B, 0x2A, 0x7A, 0x19, 0x41]),
+        (Step::Code(Code::Call(0x41)), 4)
     );
     assert_eq!(rt;
-        last_answer(&[0x1C, 0x40, 0x05]),
-        (Step::Fault(CodeFault::BadArgument), 2)
-    );
-    assert_eq!(rt;
-        last_answer(&[0x18]),
-        (Step::Fault(CodeFault::LeftOut(Left::Can)), 0)
-    );
-    assert_eq!(rt;
-        last_answer(&[0x0E, 0x39]),
-        (Step::Fault(CodeFault::LeftOut(Left::IncrementalPoint)), 1)
+        last_answer(&[0x1B, 0x2B, 0x7B, 0x1D, 0x21]),
+        (Step::Code(Code::Char(CharSet::Drcs, 0x21)), 4)
     );
 }
 
@@ -144,44 +117,4 @@ fn tables_end_where_the_standard_does(rt: HostRuntime) {
     assert_eq!(rt; opcode_of(0x40), None);
     assert_eq!(rt; designate(0x2D, 0x7B), Some((1, CodeSet::Drcs)));
     assert_eq!(rt; designate(0x2D, 0x41), None);
-}
-
-#[test]
-fn pairs_of_bytes_count_as_the_standard_has_them(rt: HostRuntime) {
-    let mut alone = Counts::NONE;
-    let mut shifted_out = Counts::NONE;
-    for first in 0..=255 {
-        for second in 0..=255 {
-            alone.stream(&[first, second]);
-            shifted_out.stream(&[0x0E, first, second]);
-        }
-    }
-    let expected_alone = Counts {
-        characters: 36_288,
-        opcodes: 29,
-        operands: 64,
-        other_codes: 9_448,
-        eighth_bit: 48_768,
-        bad_escape: 86,
-        shift_alone: 64,
-        bad_argument: 32,
-        left_out: 1_140,
-        half_read: 593,
-        ..Counts::NONE
-    };
-    let expected_shifted_out = Counts {
-        characters: 288,
-        opcodes: 10_817,
-        operands: 23_872,
-        other_codes: 74_909,
-        eighth_bit: 48_384,
-        bad_escape: 86,
-        shift_alone: 64,
-        bad_argument: 32,
-        left_out: 2_247,
-        half_read: 581,
-        ..Counts::NONE
-    };
-    assert_eq!(rt; alone, expected_alone);
-    assert_eq!(rt; shifted_out, expected_shifted_out);
 }
