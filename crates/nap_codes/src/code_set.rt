@@ -1,3 +1,5 @@
+//! The code sets, the places that they stand at, and the escape sequences that designate them.
+
 ghost use Rattle.std.specs.Prelude.{◌≡◌};
 ghost use Rattle.nap_codes.specs.CodeSets.{after_control0, set_at, start_sets, with_set};
 ghost use Rattle.nap_codes.specs.Tables.{designation};

@@ -1,3 +1,5 @@
+//! The controls of the C0 set and of the C1 set, and what their arguments stand for.
+
 ghost use Rattle.std.specs.Prelude.{◌≡◌};
 ghost use Rattle.nap_codes.specs.Front.{argument_of, with_argument};
 ghost use Rattle.nap_codes.specs.Tables.{control0_rows, control1_rows, row_of};
@@ -9,11 +11,17 @@ use nap_values::Word;
 /// A move of the active position of text (format effectors of the C0 set).
 #[derive(Clone, Copy, PartialEq, Eq, Debug, Drop)]
 pub enum TextStep {
+    /// Active position backward.
     Apb,
+    /// Active position forward.
     Apf,
+    /// Active position down.
     Apd,
+    /// Active position up.
     Apu,
+    /// Active position return.
     Apr,
+    /// Active position home.
     Aph,
     /// Active position set, with its two bytes from `20` to `7F` as they are.
     Aps(u8, u8),

@@ -1,3 +1,5 @@
+//! The lexer, which cuts a stream into codes.
+
 ghost use Rattle.std.specs.Prelude.{◌≡◌, ◌↔◌, ◌≤◌, ◌<◌, [], ◌∷◌, IsTrue};
 ghost use Rattle.nap_codes.specs.CodeSets.{set_at, start_sets};
 ghost use Rattle.nap_codes.specs.Front.{argument_front, column_front, fault_of, final_front, front, gl_front, plain_code, single_shift_front, unfinished};

@@ -1,3 +1,5 @@
+//! The opcodes of the PDI set, and the names of the codes that are left out.
+
 ghost use Rattle.std.specs.Prelude.{◌≡◌};
 ghost use Rattle.nap_codes.specs.Tables.{left_out_opcode, opcode_rows, row_of};
 
