@@ -14,7 +14,9 @@ pub mod word;
 pub use colour::{Addr, Grb};
 pub use displacement::Move;
 pub use domain::Domain;
+pub use operand::{multi, single};
 pub use point::Point;
+pub use spelling::{put_addr, put_grb, put_move, put_point};
 pub use word::Word;
 
 #[cfg(test)]

@@ -1,6 +1,7 @@
-use crate::operand::{colour, multi, single};
-use crate::spelling::{put_addr, put_grb, put_move, put_point};
-use crate::{Addr, Domain, Grb, Move, Point, Word};
+use crate::operand::colour;
+use crate::{
+    Addr, Domain, Grb, Move, Point, Word, multi, put_addr, put_grb, put_move, put_point, single,
+};
 
 fn word(byte: u8) -> Word {
     Word::try_new(byte % 64).unwrap_or(Word::ZERO)
@@ -92,7 +93,7 @@ fn moves_between_points(rt: HostRuntime) {
 }
 
 #[test]
-fn keeps_to_bounds(rt: HostRuntime) {
+fn words_and_addresses_keep_to_their_range(rt: HostRuntime) {
     assert_eq!(rt;
         (Word::try_new(63).map(Word::get), Word::try_new(64)),
         (Some(63), None)
@@ -104,6 +105,10 @@ fn keeps_to_bounds(rt: HostRuntime) {
         ),
         (Some(16_777_215), None)
     );
+}
+
+#[test]
+fn points_and_displacements_keep_to_their_range(rt: HostRuntime) {
     assert_eq!(rt;
         (
             Point::try_new(8_388_607, 0).map(Point::x),
@@ -125,6 +130,10 @@ fn keeps_to_bounds(rt: HostRuntime) {
         ),
         (Some(8_388_607), None)
     );
+}
+
+#[test]
+fn colours_and_domains_keep_to_their_range(rt: HostRuntime) {
     assert_eq!(rt;
         (Grb::try_new(0, 65_535, 0), Grb::try_new(0, 0, 65_536)),
         (Some(Grb::new(0, 65_535, 0)), None)
