@@ -1,3 +1,5 @@
+//! Addresses of the colour map, and colours.
+
 ghost use Rattle.std.specs.Prelude.{◌≡◌, ◌<◌, ◌^◌, ◌↔◌, IsSome, IfSome};
 
 use std::marker::Model;
@@ -22,7 +24,7 @@ impl Addr {
     /// Each address is below this.
     pub const LIMIT: u32 = 16_777_216;
 
-    /// The address with this number.
+    /// The address with this number, None above 16,777,215.
     pub fn try_new(number: u32) -> Option<Addr>
         ensures found { IsSome result ↔ (number < 16777216) }
         ensures value { IfSome result (λ a. a ≡ number) }

@@ -1,3 +1,5 @@
+//! Displacements and sizes.
+
 ghost use Rattle.std.specs.Prelude.{◌≡◌, ◌≤ℤ◌, ◌<ℤ◌, ◌↔◌, pos, negsuc, IsSome, IfSome};
 
 use crate::point::Point;
@@ -32,7 +34,7 @@ impl Move {
     /// Each part is below this, and none is below its negative.
     pub const LIMIT: i32 = 8_388_608;
 
-    /// The displacement with these parts.
+    /// The displacement with these parts, None where one is below -8,388,608 or above 8,388,607.
     pub fn try_new(x: i32, y: i32) -> Option<Move>
         ensures found { IsSome result ↔ ((negsuc 8388607 ≤ℤ x) × (x <ℤ pos 8388608) × (negsuc 8388607 ≤ℤ y) × (y <ℤ pos 8388608)) }
         ensures value { IfSome result (λ m. m ≡ record { x = x; y = y }) }

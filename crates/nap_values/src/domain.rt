@@ -1,3 +1,5 @@
+//! The lengths of operands.
+
 ghost use Rattle.std.specs.Prelude.{◌≡◌, ◌≤◌, ◌↔◌, IsSome, IfSome};
 
 use std::marker::Model;
@@ -29,7 +31,7 @@ impl Domain {
         single: 1,
     };
 
-    /// The domain with these lengths.
+    /// The domain with these lengths, None where the first is outside 1 to 8 or the second outside 1 to 4.
     pub fn try_new(multi: u8, single: u8) -> Option<Domain>
         ensures found { IsSome result ↔ ((1 ≤ multi) × (multi ≤ 8) × (1 ≤ single) × (single ≤ 4)) }
         ensures value { IfSome result (λ d. d ≡ record { multi = multi; single = single }) }

@@ -1,3 +1,5 @@
+//! Reading of operands: the values that words spell.
+
 ghost use Rattle.std.specs.Prelude.{◌≡◌, ◌<◌, ◌≤◌, length};
 ghost use Rattle.nap_values.specs.Operands.{multi_of, single_of, colour_of};
 

@@ -1,3 +1,5 @@
+//! Points of the unit square.
+
 ghost use Rattle.std.specs.Prelude.{◌≡◌, ◌<◌, ◌≤ℤ◌, ◌<ℤ◌, ◌↔◌, pos, negsuc, IsSome, IfSome};
 
 use crate::displacement::Move;
@@ -32,7 +34,7 @@ impl Point {
     /// Each coordinate is below this.
     pub const LIMIT: u32 = 8_388_608;
 
-    /// The point with these coordinates.
+    /// The point with these coordinates, None where one is above 8,388,607.
     pub fn try_new(x: u32, y: u32) -> Option<Point>
         ensures found { IsSome result ↔ ((x < 8388608) × (y < 8388608)) }
         ensures value { IfSome result (λ p. p ≡ record { x = x; y = y }) }

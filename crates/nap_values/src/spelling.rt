@@ -1,3 +1,5 @@
+//! Spelling of values: the bytes of their longest operands.
+
 ghost use Rattle.std.specs.Prelude.{◌≡◌, ◌<◌};
 ghost use Rattle.nap_values.specs.Digits.{digits_of};
 ghost use Rattle.nap_values.specs.Spellings.{bytes_of, words_of_pairs, colour_word, move_bytes, point_bytes, addr_bytes, grb_bytes};

@@ -1,3 +1,5 @@
+//! The words that operands consist of.
+
 ghost use Rattle.std.specs.Prelude.{◌≡◌, ◌<◌, ◌≤◌, ◌-◌, ◌↔◌, IsSome, IfSome};
 
 use std::marker::Model;
@@ -25,7 +27,7 @@ impl Word {
     /// Each word is below this.
     pub const LIMIT: u8 = 64;
 
-    /// The word with this number, from 0 to 63.
+    /// The word with this number, None above 63.
     pub fn try_new(number: u8) -> Option<Word>
         ensures found { IsSome result ↔ (number < 64) }
         ensures value { IfSome result (λ word. word ≡ number) }
