@@ -1,3 +1,5 @@
+//! Streams whose codes and faults are known from outside, and the ends of the tables.
+
 use crate::{
     CharSet, Code, CodeFault, CodeSet, Left, Lexer, Opcode, Row, Step, TextStep, control0,
     control1, designate, opcode_of,
