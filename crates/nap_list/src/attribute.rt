@@ -1,4 +1,4 @@
-// What entries are drawn with.
+//! What entries are drawn with.
 use nap_codes::Size;
 use nap_values::{Addr, Grb, Move, Point, Word};
 

@@ -1,4 +1,4 @@
-// The entries of a display list.
+//! The entries of a display list.
 ghost use Rattle.std.specs.Prelude.{◌≡◌, ◌↔◌, IsTrue};
 ghost use Rattle.nap_list.specs.Entry.{IsCode, ink_values, hand_values, colour_alone, pen_alone, held, WellMade};
 
@@ -45,6 +45,7 @@ pub enum Entry {
         code: u8,
         hand: Hand,
     },
+    /// A move of the active position of text (format effectors). Only a terminal knows where the pen is then.
     TextMove {
         step: TextStep,
         hand: Hand,
@@ -66,6 +67,7 @@ pub enum Entry {
         delay: Word,
         colour: Colour,
     },
+    /// The end of blinking (BLINK without operands).
     BlinkEnd {
         colour: Colour,
     },
@@ -78,6 +80,7 @@ pub enum Entry {
     Wait(Word),
     Bell,
     Cursor(CursorKind),
+    /// The active field (FIELD), with the pen that stood before it. Only a terminal knows where the pen is then.
     Field {
         area: Area,
         pen: Pen,
@@ -88,6 +91,7 @@ pub enum Entry {
         second: Word,
         pen: Pen,
     },
+    /// The screen is cleared (CS). Holds the pen that stood before it; only a terminal knows where it is then.
     Clear {
         pen: Pen,
     },
@@ -95,6 +99,7 @@ pub enum Entry {
     GlyphStart(u8),
     /// The entries up to `DefEnd` draw this mask (DEF TEXTURE).
     MaskStart(Mask),
+    /// The end of the definition that is open. The values saved at its start stand again.
     DefEnd,
 }
 

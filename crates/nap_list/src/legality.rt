@@ -1,4 +1,4 @@
-// Which lists are legal.
+//! Which lists are legal.
 ghost use Rattle.std.specs.Prelude.{◌↔◌, ℕ, IsOk, IsErrOf};
 ghost use Rattle.nap_list.specs.State.{Legal, BreaksAt};
 

@@ -1,4 +1,4 @@
-// A growing list of points.
+//! A growing list of points.
 ghost use Rattle.std.specs.Prelude.{◌≡◌, [], ◌∷◌, ◌++◌, IfOk, OnOk, OnErr, nat_eq};
 ghost use Rattle.std.specs.Ordering.{on, eq_of_both};
 ghost use Rattle.std.specs.Cmp.Lexicographic.{pointwise};

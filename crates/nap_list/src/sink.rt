@@ -1,4 +1,4 @@
-// What takes entries, one after another.
+//! What takes entries, one after another.
 ghost use Rattle.std.specs.Prelude.{◌≡◌, List, [], ◌∷◌, ◌++◌, Bool, true, false, OnOk, IsErrOf};
 ghost use Rattle.std.proofs.Common.{sym, ap, ◌∙◌, append-nil, append_assoc};
 ghost use Rattle.nap_list.specs.declared.state.State.{State};

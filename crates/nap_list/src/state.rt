@@ -1,4 +1,4 @@
-// The state that a list of entries leaves.
+//! The state that a list of entries leaves.
 ghost use Rattle.std.specs.Prelude.{◌≡◌, ◌↔◌, IsTrue};
 ghost use Rattle.nap_list.specs.State.{start_texture, start_text, start_drawing, start, corner, PenFits, ColourFits, TextureFits, HeldFits, Comes, Fits, taking, with_pen, saved_values, reset, drawn, definition_after, last_after, after};
 

@@ -1,4 +1,4 @@
-// A reader of `std` as an inlet.
+//! A reader of `std` as an inlet.
 ghost use Rattle.std.specs.Prelude.{◌≡◌, ◌+◌, ◌-◌, ◌^◌, ◌<◌, ◌≤◌, ◌||◌, false, min, is_err};
 
 use crate::device::{DeviceFault, Inlet};

@@ -1,4 +1,4 @@
-// A writer of `std` as an outlet.
+//! A writer of `std` as an outlet.
 ghost use Rattle.std.specs.Prelude.{◌≡◌, ◌<◌, ◌≤◌, ◌||◌, false, length, IfOk, is_err};
 
 use crate::device::{DeviceFault, Outlet};
