@@ -1,4 +1,4 @@
-// An opcode acts.
+//! An opcode acts on its whole run, as the PDI opcodes have it.
 ghost use Rattle.std.specs.Prelude.{◌≡◌, ◌≤◌, length, true, false, OnOk, IfOk, IsErrOf};
 ghost use Rattle.nap_list.specs.Agreement.{StatesAgree};
 ghost use Rattle.nap_draw.specs.Rule.{rule, IsDrawn};
@@ -13,8 +13,9 @@ use nap_list::Sink;
 use nap_values::Word;
 use std::alloc::Global;
 
-/// Puts the entries that the opcode gives on its whole run, once all its checks have passed (PDI opcodes). The
-/// incremental opcodes are no part of our profile.
+/// Puts the entries that the opcode gives on its whole run, once all its checks have passed (PDI opcodes), and gives
+/// what they leave; the work that is passed stays as it was. A refused opcode puts nothing, but for want of memory or a
+/// sink that fails, where its first entries may stay. The incremental opcodes are no part of our profile.
 pub fn apply<S: Sink>(
     alloc: Global,
     work: &Work,

@@ -1,4 +1,4 @@
-// SELECT COLOR and SET COLOR.
+//! SELECT COLOR and SET COLOR: the colour modes and the colour map.
 ghost use Rattle.std.specs.Prelude.{◌≡◌};
 ghost use Rattle.nap_draw.specs.Operands.{addresses};
 ghost use Rattle.nap_draw.specs.Rule.{selected, rule};

@@ -1,4 +1,4 @@
-// DOMAIN.
+//! DOMAIN: the lengths of operands, and the logical pel.
 ghost use Rattle.std.specs.Prelude.{◌≡◌, ◌/◌, ◌%◌, ◌+◌};
 ghost use Rattle.nap_draw.specs.Rule.{domain_in, rule};
 ghost use Rattle.nap_draw.specs.Plans.{Plans};

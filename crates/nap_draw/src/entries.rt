@@ -1,4 +1,4 @@
-// The entries of an opcode, before they are put.
+//! The entries of an opcode, before they are put.
 ghost use Rattle.std.specs.Prelude.{◌≡◌, IsSome, None, option_map};
 ghost use Rattle.std.specs.Iterator.{item_count};
 ghost use Rattle.nap_draw.specs.Plans.{stroke, stroke_end, dots_left, strokes_left, pauses_left, blinks_left, entries_left, AreInside, listed, YieldsWhole};

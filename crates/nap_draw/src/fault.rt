@@ -1,3 +1,4 @@
+//! Why a code is refused.
 ghost use Rattle.std.specs.Prelude.{◌≡◌};
 ghost use Rattle.nap_draw.specs.declared.fault.DrawFault.TheVariants.{Memory};
 ghost use Rattle.nap_draw.specs.Draws.{fault_of};
@@ -5,7 +6,8 @@ ghost use Rattle.nap_draw.specs.Draws.{fault_of};
 use nap_list::SinkFault;
 use std::alloc::AllocError;
 
-/// Why a code is refused.
+/// Why a code is refused. Where several hold of an opcode, the first is answered of `ThreeD`, `Missing`, `ManyColours`,
+/// `NoAddress`, `ManyPoints`, `PenUnknown` and `Outside` (our profile).
 #[derive(Clone, Copy, PartialEq, Eq, Debug, Drop)]
 pub enum DrawFault {
     /// DOMAIN asks for three dimensions.
@@ -16,7 +18,7 @@ pub enum DrawFault {
     ManyColours,
     /// A point lies outside the unit square.
     Outside,
-    /// Drawing would go on from a pen whose place isn't known.
+    /// Drawing would go on from a pen whose place isn't known, as text, a field or a reset leaves it.
     PenUnknown,
     /// SET COLOR has no address to set, since RESET chose the colour.
     NoAddress,

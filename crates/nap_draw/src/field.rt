@@ -1,4 +1,4 @@
-// FIELD.
+//! FIELD: the whole unit screen, or a part of it.
 ghost use Rattle.std.specs.Prelude.{◌≡◌};
 ghost use Rattle.nap_draw.specs.Rule.{moves_of, part, area_of, rule};
 ghost use Rattle.nap_draw.specs.Plans.{Plans};

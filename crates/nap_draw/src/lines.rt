@@ -1,4 +1,4 @@
-// LINE and RECT.
+//! LINE and RECTANGLE, and their SET forms.
 ghost use Rattle.std.specs.Prelude.{◌≡◌, if◌then◌else◌};
 ghost use Rattle.nap_list.specs.Agreement.{InMode};
 ghost use Rattle.nap_draw.specs.Cursors.{spans_left};

@@ -1,4 +1,4 @@
-// RESET, TEXT and TEXTURE.
+//! RESET, TEXT and TEXTURE.
 ghost use Rattle.std.specs.Prelude.{◌≡◌, ◌%◌, ◌==◌, if◌then◌else◌, slice_get, unwrap_or, option_map};
 ghost use Rattle.std.specs.Option.{option_or};
 ghost use Rattle.nap_draw.specs.Rule.{start_domain, first_move, rule};

@@ -1,4 +1,4 @@
-// The operands of a run, one after another.
+//! The operands of a run, one after another (PDI operands).
 ghost use Rattle.std.specs.Prelude.{◌≡◌, length, List, Result, Err, IfOk, IfErr, slice_index, drop};
 ghost use Rattle.std.specs.Iterator.{YieldsFirst, item_count};
 ghost use Rattle.nap_values.specs.Coordinates.{Coordinates, Displacement};

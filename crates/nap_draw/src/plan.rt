@@ -1,4 +1,4 @@
-// What each opcode is to do.
+//! What each opcode is to do.
 ghost use Rattle.std.specs.Prelude.{◌≡◌, Some, None, false};
 ghost use Rattle.nap_list.specs.State.{Fits, after};
 ghost use Rattle.nap_list.specs.Agreement.{InMode};

@@ -1,4 +1,4 @@
-// POINT SET and POINT.
+//! POINT SET and POINT.
 ghost use Rattle.std.specs.Prelude.{◌≡◌, Some, None};
 ghost use Rattle.nap_list.specs.Agreement.{InMode};
 ghost use Rattle.nap_draw.specs.Cursors.{targets_left};

@@ -1,4 +1,4 @@
-// Putting the entries of an opcode into a sink.
+//! Putting the entries of an opcode into a sink.
 ghost use Rattle.std.specs.Prelude.{◌≡◌, List, Some, true, false, OnOk, IsErrOf, IsSome};
 ghost use Rattle.nap_list.specs.declared.entry.Entry.{Entry};
 ghost use Rattle.nap_list.specs.State.{walk, AllFit};

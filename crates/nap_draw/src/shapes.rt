@@ -1,4 +1,4 @@
-// ARC, POLY and their SET forms.
+//! ARC and POLYGON, and their SET forms.
 ghost use Rattle.std.specs.Prelude.{◌≡◌, ◌<◌, ◌≤◌, Some, IsSome, OnOk, IfOk, slice_get};
 ghost use Rattle.nap_list.specs.Agreement.{InMode};
 ghost use Rattle.nap_draw.specs.Geometry.{round, poly_points};

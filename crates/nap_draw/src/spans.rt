@@ -1,4 +1,4 @@
-// The spans that the operands of a run lead along.
+//! The spans that the operands of a run lead along.
 ghost use Rattle.std.specs.Prelude.{◌≡◌, ◌<◌, None, OnSome};
 ghost use Rattle.std.specs.Iterator.{at_most};
 ghost use Rattle.nap_list.specs.State.{corner};

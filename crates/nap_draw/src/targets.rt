@@ -1,4 +1,4 @@
-// The points that the operands of a run lead to.
+//! The points that the operands of a run lead to.
 ghost use Rattle.std.specs.Prelude.{◌≡◌};
 ghost use Rattle.std.specs.Iterator.{at_most};
 ghost use Rattle.nap_draw.specs.Cursors.{steps_left, steps_count, targets_left, targets_count, YieldsInside};

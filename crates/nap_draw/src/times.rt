@@ -1,4 +1,4 @@
-// WAIT and BLINK.
+//! WAIT and BLINK.
 ghost use Rattle.std.specs.Prelude.{◌≡◌};
 ghost use Rattle.nap_list.specs.Agreement.{InMode};
 ghost use Rattle.nap_draw.specs.Rule.{rule};

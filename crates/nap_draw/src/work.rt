@@ -1,3 +1,4 @@
+//! What the codes of a stream work on, and what an opcode leaves.
 ghost use Rattle.std.specs.Prelude.{◌≡◌, false, unwrap_or};
 ghost use Rattle.nap_list.specs.State.{with_pen_at};
 ghost use Rattle.nap_draw.specs.Rule.{start_work, pen_point, ink_of, with_drawing};
@@ -7,19 +8,22 @@ use crate::fault::DrawFault;
 use nap_list::{Base, Colour, Ink, Pen, State, TextLook, Texture};
 use nap_values::{Domain, Move, Point};
 
-/// What the codes of a stream work on: the lengths of operands, the values that stand, and the lengths that the end of
-/// the definition that is open puts back.
+/// What the codes of a stream work on.
 #[derive(PartialEq, Eq, Debug, Drop)]
 pub struct Work {
+    /// The lengths of operands (DOMAIN).
     pub domain: Domain,
+    /// The values that stand, also those that no entry has shown yet.
     pub state: State,
+    /// The lengths of operands that the end of the definition puts back, where one is open.
     pub saved: Domain,
 }
 
-/// What an opcode leaves: the work, and whether all macros are cleared.
+/// What an opcode leaves.
 #[derive(PartialEq, Eq, Debug, Drop)]
 pub struct Effects {
     pub work: Work,
+    /// Whether all macros are cleared, which RESET alone does.
     pub clears: bool,
 }
 
