@@ -1,90 +1,128 @@
-// Opcodes by hand, with the entries that the rules of the profile give.
-ghost use Rattle.std.specs.Prelude.{◌≡◌, ◌≤◌, length, vec_len, IfOk};
-ghost use Rattle.nap_list.specs.State.{start, walk};
-ghost use Rattle.nap_list.specs.Agreement.{StatesAgree};
+// Opcodes by hand, with the entries and the faults that the profile gives.
+ghost use Rattle.std.specs.Prelude.{◌≡◌, length, vec_len, IfOk, IsTrue};
 ghost use Rattle.nap_draw.specs.Rule.{IsDrawn};
 
 use crate::{DrawFault, Work, apply};
 use nap_codes::Opcode;
 use nap_list::{
-    Area, Base, CharSize, Colour, Definition, Drawing, Entry, Ink, LastChar, ListSink, Opened,
-    Origin, Pen, Points, State, TextLook, Texture,
+    Area, CharSize, Colour, Entry, Ink, ListSink, Origin, Pen, Points, TextLook, Texture,
 };
 use nap_values::{Addr, Grb, Move, Point, Word};
 use std::alloc::{AllocError, Global};
+use std::process::Abort;
 use std::test::Fail;
 
 const AT_START: Colour = Colour::Own(Origin::AtStart);
+
+const HALF: i32 = 4_194_304;
+
+/// What opcodes in turn give, up to the first that is refused.
+#[derive(Drop)]
+struct Answer {
+    work: Work,
+    list: Vec<Entry>,
+    fault: Option<DrawFault>,
+}
+
+/// Whether the profile has a rule of the opcode.
+fn has_rule(op: Opcode) -> bool
+    ensures { IsTrue result → IsDrawn op }
+{
+    match op {
+        Opcode::IncrementalPoint => false,
+        Opcode::IncrementalLine => false,
+        Opcode::IncrementalPolyFilled => false,
+        _ => true,
+    }
+}
 
 fn words(alloc: Global, bytes: &[u8]) -> Result<Vec<Word>, AllocError>
     ensures { IfOk result (λ words. vec_len words ≡ length bytes.now) }
 {
     let mut words = Vec::new(alloc);
     for byte in bytes {
-        words.push(Word::try_new(byte & 0x3F).unwrap_or(Word::ZERO))?;
+        words.push(word(byte & 0x3F))?;
     }
     Ok(words)
 }
 
-fn act(
+/// What the opcodes give from the start on, the operands of each as the bytes of a stream.
+fn answer_to(
+    rt: &impl Abort,
     alloc: Global,
-    work: Work,
-    op: Opcode,
-    bytes: &[u8],
-    mut sink: ListSink,
-) -> Result<(Work, ListSink), DrawFault>
-    requires agrees { StatesAgree work.state (walk start sink) }
-    requires few { length bytes.now ≤ 16384 }
-    requires drawn { IsDrawn op }
-    ensures { IfOk result (λ r. StatesAgree r.0.state (walk start r.1)) }
-{
-    let run = words(alloc, bytes)?;
-    let effects = apply(alloc, &work, op, &run, &mut sink)?;
-    Ok((effects.work, sink))
+    opcodes: &[(Opcode, &[u8])],
+) -> Result<Answer, AllocError> {
+    let mut work = Work::start();
+    let mut sink = ListSink::new(alloc);
+    for step in opcodes {
+        let (op, bytes) = *step;
+        assert!(rt; has_rule(op));
+        assert!(rt; bytes.len() <= 16_384);
+        let run = words(alloc, bytes)?;
+        match apply(alloc, &work, op, &run, &mut sink) {
+            Ok(effects) => work = effects.work,
+            Err(fault) => {
+                return Ok(Answer {
+                    work,
+                    list: sink.into_list(),
+                    fault: Some(fault),
+                });
+            }
+        }
+    }
+    Ok(Answer {
+        work,
+        list: sink.into_list(),
+        fault: None,
+    })
 }
 
-/// The entries of one opcode from the start, its operands as the bytes of a stream.
-fn list_of(alloc: Global, op: Opcode, bytes: &[u8]) -> Result<Vec<Entry>, DrawFault>
-    requires few { length bytes.now ≤ 16384 }
-    requires drawn { IsDrawn op }
-{
-    let (_work, sink) = act(alloc, Work::start(), op, bytes, ListSink::new(alloc))?;
-    Ok(sink.into_list())
+/// The opcodes give these entries.
+fn gives(
+    rt: &impl Abort,
+    alloc: Global,
+    opcodes: &[(Opcode, &[u8])],
+    want: &[Entry],
+) -> Result<(), AllocError> {
+    let answer = answer_to(rt, alloc, opcodes)?;
+    assert_eq!(rt; answer.fault, None, "by {opcodes:?}");
+    assert_eq!(rt; answer.list.as_slice(), want, "by {opcodes:?}");
+    Ok(())
 }
 
-/// The entries of two opcodes, one after the other.
-fn list_of_two(
+/// An opcode is refused, and those before it give these entries.
+fn refuses(
+    rt: &impl Abort,
     alloc: Global,
-    op: Opcode,
-    bytes: &[u8],
-    then: Opcode,
-    more: &[u8],
-) -> Result<Vec<Entry>, DrawFault>
-    requires few { length bytes.now ≤ 16384 }
-    requires drawn { IsDrawn op }
-    requires few_more { length more.now ≤ 16384 }
-    requires then_drawn { IsDrawn then }
-{
-    let (work, sink) = act(alloc, Work::start(), op, bytes, ListSink::new(alloc))?;
-    let (_work, sink) = act(alloc, work, then, more, sink)?;
-    Ok(sink.into_list())
+    opcodes: &[(Opcode, &[u8])],
+    want: &[Entry],
+    fault: DrawFault,
+) -> Result<(), AllocError> {
+    let answer = answer_to(rt, alloc, opcodes)?;
+    assert_eq!(rt; answer.fault, Some(fault), "by {opcodes:?}");
+    assert_eq!(rt; answer.list.as_slice(), want, "by {opcodes:?}");
+    Ok(())
 }
 
 /// The point this many quarters to the right and up.
-fn at(x: u32, y: u32) -> Point {
-    match (x, y) {
-        (0, 0) => Point::ORIGIN,
-        (1, 0) => quarters(2_097_152, 0),
-        (1, 1) => quarters(2_097_152, 2_097_152),
-        (2, 0) => quarters(4_194_304, 0),
-        (2, 1) => quarters(4_194_304, 2_097_152),
-        (2, 2) => quarters(4_194_304, 4_194_304),
-        _ => quarters(6_291_456, 6_291_456),
-    }
+fn at(x: u8, y: u8) -> Point {
+    Point::try_new(u32::from(x) * 2_097_152, u32::from(y) * 2_097_152).unwrap_or(Point::ORIGIN)
 }
 
-fn quarters(x: u32, y: u32) -> Point {
-    Point::try_new(x, y).unwrap_or(Point::ORIGIN)
+fn size(side: i32) -> Move {
+    Move::try_new(side, side).unwrap_or(Move::ZERO)
+}
+
+fn word(number: u8) -> Word {
+    Word::try_new(number).unwrap_or(Word::ZERO)
+}
+
+fn quarter() -> Addr {
+    Addr::try_new(1_048_576).unwrap()
+}
+
+fn pair() -> Colour {
+    Colour::Pair(quarter(), Addr::try_new(2_097_152).unwrap())
 }
 
 fn ink() -> Ink {
@@ -106,6 +144,15 @@ fn point(at: Point, colour: Colour) -> Entry {
     }
 }
 
+fn dot(x: u8, y: u8) -> Entry {
+    point(at(x, y), AT_START)
+}
+
+/// The point in the middle, in the colour.
+fn middle(colour: Colour) -> Entry {
+    point(at(2, 2), colour)
+}
+
 fn line(from: Point, to: Point) -> Entry {
     Entry::Line {
         from,
@@ -123,12 +170,21 @@ fn rect(filled: bool, from: Point, to: Point) -> Entry {
     }
 }
 
-fn way(alloc: Global, a: Point, b: Point, c: Point) -> Result<Points, AllocError> {
-    let mut points = Points::new(alloc);
-    points.push(a)?;
-    points.push(b)?;
-    points.push(c)?;
-    Ok(points)
+fn way(alloc: Global, points: &[Point]) -> Result<Points, AllocError> {
+    let mut way = Points::new(alloc);
+    for point in points {
+        way.push(*point)?;
+    }
+    Ok(way)
+}
+
+/// This many points at the origin.
+fn standstill(alloc: Global, count: usize) -> Result<Points, AllocError> {
+    let mut way = Points::new(alloc);
+    for _ in 0..count {
+        way.push(Point::ORIGIN)?;
+    }
+    Ok(way)
 }
 
 fn arc(filled: bool, points: Points) -> Entry {
@@ -154,13 +210,21 @@ fn field(area: Area) -> Entry {
     }
 }
 
-fn word(number: u8) -> Word {
-    Word::try_new(number).unwrap_or(Word::ZERO)
+fn part(from: Point, to: Point) -> Entry {
+    field(Area::Part { from, to })
 }
 
-fn half_blink(on: u8, off: u8, delay: u8) -> Entry {
+fn reset(first: u8, second: u8, pen: Pen) -> Entry {
+    Entry::Reset {
+        first: word(first),
+        second: word(second),
+        pen,
+    }
+}
+
+fn blink(on: u8, off: u8, delay: u8) -> Entry {
     Entry::Blink {
-        addr: Addr::try_new(1_048_576).unwrap(),
+        addr: quarter(),
         on: word(on),
         off: word(off),
         delay: word(delay),
@@ -168,261 +232,330 @@ fn half_blink(on: u8, off: u8, delay: u8) -> Entry {
     }
 }
 
-fn half_map() -> Entry {
+/// The red that SET COLOR gives by the word 18.
+fn red() -> Grb {
+    Grb::new(0, 49_152, 0)
+}
+
+fn red_map() -> Entry {
     Entry::Map {
-        addr: Addr::try_new(1_048_576).unwrap(),
-        grb: Grb::new(0, 49_152, 0),
+        addr: quarter(),
+        grb: red(),
     }
 }
 
 #[test]
-fn points_and_lines(rt: HostRuntime) -> Result<(), Fail> {
+fn points(rt: HostRuntime) -> Result<(), Fail> {
     let alloc = rt.alloc();
-    let list = list_of(alloc, Opcode::PointAbs, b"R@@I@@")?;
-    assert_eq!(rt;
-        list.as_slice(),
-        [point(at(2, 2), AT_START), point(at(1, 1), AT_START)].as_slice()
-    );
-    let list = list_of(alloc, Opcode::PointRel, b"R@@I@@")?;
-    assert_eq!(rt;
-        list.as_slice(),
-        [point(at(2, 2), AT_START), point(at(3, 3), AT_START)].as_slice()
-    );
-    let list = list_of(alloc, Opcode::LineAbs, b"R@@I@@")?;
-    assert_eq!(rt;
-        list.as_slice(),
-        [line(at(0, 0), at(2, 2)), line(at(2, 2), at(1, 1))].as_slice()
-    );
-    let list = list_of_two(alloc, Opcode::PointSetAbs, b"R@@", Opcode::LineRel, b"I@@")?;
-    assert_eq!(rt; list.as_slice(), [line(at(2, 2), at(3, 3))].as_slice());
-    let list = list_of_two(alloc, Opcode::PointSetRel, b"P@@", Opcode::LineAbs, b"R@@")?;
-    assert_eq!(rt; list.as_slice(), [line(at(2, 0), at(2, 2))].as_slice());
-    let list = list_of(alloc, Opcode::SetLineAbs, b"@@@R@@I@@R")?;
-    assert_eq!(rt;
-        list.as_slice(),
-        [line(at(0, 0), at(2, 2)), line(at(1, 1), at(2, 2))].as_slice()
-    );
-    let list = list_of(alloc, Opcode::SetLineRel, b"I@@I@@")?;
-    assert_eq!(rt; list.as_slice(), [line(at(1, 1), at(2, 2))].as_slice());
+    let down = [dot(2, 2), dot(1, 1)];
+    gives(&rt, alloc, &[(Opcode::PointAbs, b"R@@I@@")], &down)?;
+    let up = [dot(2, 2), dot(3, 3)];
+    gives(&rt, alloc, &[(Opcode::PointRel, b"R@@I@@")], &up)?;
+    let opcodes = [
+        (Opcode::PointSetRel, b"R@@".as_slice()),
+        (Opcode::PointRel, b"I@@"),
+    ];
+    gives(&rt, alloc, &opcodes, &[dot(3, 3)])?;
     Ok(())
 }
 
 #[test]
-fn rectangles_go_straight_across(rt: HostRuntime) -> Result<(), Fail> {
+fn lines_from_the_pen(rt: HostRuntime) -> Result<(), Fail> {
     let alloc = rt.alloc();
-    let list = list_of_two(
+    let joined = [line(at(0, 0), at(2, 2)), line(at(2, 2), at(1, 1))];
+    gives(&rt, alloc, &[(Opcode::LineAbs, b"R@@I@@")], &joined)?;
+    let opcodes = [
+        (Opcode::PointSetAbs, b"R@@".as_slice()),
+        (Opcode::LineRel, b"I@@"),
+    ];
+    gives(&rt, alloc, &opcodes, &[line(at(2, 2), at(3, 3))])?;
+    let opcodes = [
+        (Opcode::PointSetRel, b"P@@".as_slice()),
+        (Opcode::LineAbs, b"R@@"),
+    ];
+    gives(&rt, alloc, &opcodes, &[line(at(2, 0), at(2, 2))])?;
+    Ok(())
+}
+
+#[test]
+fn lines_from_points_of_their_own(rt: HostRuntime) -> Result<(), Fail> {
+    let alloc = rt.alloc();
+    let apart = [line(at(0, 0), at(2, 2)), line(at(1, 1), at(2, 2))];
+    gives(&rt, alloc, &[(Opcode::SetLineAbs, b"@@@R@@I@@R")], &apart)?;
+    let one = [line(at(1, 1), at(2, 2))];
+    gives(&rt, alloc, &[(Opcode::SetLineRel, b"I@@I@@")], &one)?;
+    Ok(())
+}
+
+#[test]
+fn rectangles_from_the_pen(rt: HostRuntime) -> Result<(), Fail> {
+    let alloc = rt.alloc();
+    let opcodes = [
+        (Opcode::RectOutlined, b"I@@I@@".as_slice()),
+        (Opcode::LineAbs, b"@@@"),
+    ];
+    let list = [
+        rect(false, at(0, 0), at(1, 1)),
+        rect(false, at(1, 0), at(2, 1)),
+        line(at(2, 0), at(0, 0)),
+    ];
+    gives(&rt, alloc, &opcodes, &list)?;
+    let filled = [rect(true, at(0, 0), at(1, 1))];
+    gives(&rt, alloc, &[(Opcode::RectFilled, b"I@@")], &filled)?;
+    Ok(())
+}
+
+#[test]
+fn rectangles_from_points_of_their_own(rt: HostRuntime) -> Result<(), Fail> {
+    let alloc = rt.alloc();
+    let outlined = [rect(false, at(1, 1), at(2, 2))];
+    gives(
+        &rt,
         alloc,
-        Opcode::RectOutlined,
-        b"I@@I@@",
-        Opcode::LineAbs,
-        b"@@@",
+        &[(Opcode::SetRectOutlined, b"I@@I@@")],
+        &outlined,
     )?;
-    assert_eq!(rt;
-        list.as_slice(),
-        [
-            rect(false, at(0, 0), at(1, 1)),
-            rect(false, at(1, 0), at(2, 1)),
-            line(at(2, 0), at(0, 0))
-        ]
-        .as_slice()
-    );
-    let list = list_of(alloc, Opcode::RectFilled, b"I@@")?;
-    assert_eq!(rt;
-        list.as_slice(),
-        [rect(true, at(0, 0), at(1, 1))].as_slice()
-    );
-    let list = list_of(alloc, Opcode::SetRectOutlined, b"I@@I@@")?;
-    assert_eq!(rt;
-        list.as_slice(),
-        [rect(false, at(1, 1), at(2, 2))].as_slice()
-    );
-    let list = list_of(alloc, Opcode::SetRectFilled, b"I@@I@@R@@I@@")?;
-    assert_eq!(rt;
-        list.as_slice(),
-        [
-            rect(true, at(1, 1), at(2, 2)),
-            rect(true, at(2, 2), at(3, 3))
-        ]
-        .as_slice()
-    );
+    let filled = [
+        rect(true, at(1, 1), at(2, 2)),
+        rect(true, at(2, 2), at(3, 3)),
+    ];
+    let operands = b"I@@I@@R@@I@@";
+    gives(&rt, alloc, &[(Opcode::SetRectFilled, operands)], &filled)?;
     Ok(())
 }
 
 #[test]
-fn arcs_and_polygons(rt: HostRuntime) -> Result<(), Fail> {
+fn an_arc_of_one_step_is_a_circle(rt: HostRuntime) -> Result<(), Fail> {
     let alloc = rt.alloc();
-    let points = way(alloc, at(0, 0), at(1, 1), at(0, 0))?;
-    let list = list_of(alloc, Opcode::ArcOutlined, b"I@@")?;
-    assert_eq!(rt; list.as_slice(), [arc(false, points)].as_slice());
-    let points = way(alloc, at(0, 0), at(1, 1), at(0, 0))?;
-    let list = list_of(alloc, Opcode::SetArcOutlined, b"@@@I@@\x7f@@")?;
-    assert_eq!(rt; list.as_slice(), [arc(false, points)].as_slice());
-    let points = way(alloc, at(0, 0), at(1, 1), at(2, 2))?;
-    let list = list_of(alloc, Opcode::PolyOutlined, b"I@@I@@")?;
-    assert_eq!(rt; list.as_slice(), [poly(false, points)].as_slice());
-    let points = way(alloc, at(1, 1), at(2, 2), at(3, 3))?;
-    let list = list_of(alloc, Opcode::SetPolyOutlined, b"I@@I@@I@@")?;
-    assert_eq!(rt; list.as_slice(), [poly(false, points)].as_slice());
+    let circle = [at(0, 0), at(1, 1), at(0, 0)];
+    for (op, bytes) in [
+        (Opcode::ArcOutlined, b"I@@".as_slice()),
+        (Opcode::SetArcOutlined, b"@@@I@@"),
+        (Opcode::SetArcOutlined, b"@@@I@@\x7f@@"),
+    ] {
+        let list = [arc(false, way(alloc, &circle)?)];
+        gives(&rt, alloc, &[(op, bytes)], &list)?;
+    }
     Ok(())
 }
 
 #[test]
-fn filled_shapes(rt: HostRuntime) -> Result<(), Fail> {
+fn arcs(rt: HostRuntime) -> Result<(), Fail> {
     let alloc = rt.alloc();
-    let points = way(alloc, at(0, 0), at(1, 1), at(2, 2))?;
-    let list = list_of(alloc, Opcode::ArcFilled, b"I@@I@@")?;
-    assert_eq!(rt; list.as_slice(), [arc(true, points)].as_slice());
-    let points = way(alloc, at(0, 0), at(1, 1), at(2, 2))?;
-    let list = list_of(alloc, Opcode::SetArcFilled, b"@@@I@@I@@")?;
-    assert_eq!(rt; list.as_slice(), [arc(true, points)].as_slice());
-    let points = way(alloc, at(0, 0), at(1, 1), at(2, 2))?;
-    let list = list_of(alloc, Opcode::PolyFilled, b"I@@I@@")?;
-    assert_eq!(rt; list.as_slice(), [poly(true, points)].as_slice());
-    let points = way(alloc, at(1, 1), at(2, 2), at(3, 3))?;
-    let list = list_of(alloc, Opcode::SetPolyFilled, b"I@@I@@I@@")?;
-    assert_eq!(rt; list.as_slice(), [poly(true, points)].as_slice());
+    let bow = [at(0, 0), at(1, 1), at(2, 2)];
+    let list = [arc(true, way(alloc, &bow)?)];
+    gives(&rt, alloc, &[(Opcode::ArcFilled, b"I@@I@@")], &list)?;
+    gives(&rt, alloc, &[(Opcode::SetArcFilled, b"@@@I@@I@@")], &list)?;
+    Ok(())
+}
+
+#[test]
+fn polygons_from_the_pen(rt: HostRuntime) -> Result<(), Fail> {
+    let alloc = rt.alloc();
+    let points = [at(0, 0), at(1, 1), at(2, 2)];
+    for (op, filled) in [(Opcode::PolyOutlined, false), (Opcode::PolyFilled, true)] {
+        let list = [poly(filled, way(alloc, &points)?)];
+        gives(&rt, alloc, &[(op, b"I@@I@@")], &list)?;
+    }
+    Ok(())
+}
+
+#[test]
+fn polygons_from_points_of_their_own(rt: HostRuntime) -> Result<(), Fail> {
+    let alloc = rt.alloc();
+    let points = [at(1, 1), at(2, 2), at(3, 3)];
+    for (op, filled) in [
+        (Opcode::SetPolyOutlined, false),
+        (Opcode::SetPolyFilled, true),
+    ] {
+        let list = [poly(filled, way(alloc, &points)?)];
+        gives(&rt, alloc, &[(op, b"I@@I@@I@@")], &list)?;
+    }
+    Ok(())
+}
+
+#[test]
+fn the_longest_polygon(rt: HostRuntime) -> Result<(), Fail> {
+    let alloc = rt.alloc();
+    let steps = [0x40; 1_025];
+    let list = [poly(false, standstill(alloc, 1_025)?)];
+    let lengths = (Opcode::Domain, b"@".as_slice());
+    let opcodes = [lengths, (Opcode::PolyOutlined, &steps[1..])];
+    gives(&rt, alloc, &opcodes, &list)?;
+    let opcodes = [lengths, (Opcode::PolyOutlined, &steps[..])];
+    refuses(&rt, alloc, &opcodes, &[], DrawFault::ManyPoints)?;
     Ok(())
 }
 
 #[test]
 fn fields(rt: HostRuntime) -> Result<(), Fail> {
     let alloc = rt.alloc();
-    let list = list_of(alloc, Opcode::Field, b"")?;
-    assert_eq!(rt; list.as_slice(), [field(Area::Whole)].as_slice());
-    let list = list_of(alloc, Opcode::Field, b"I@@")?;
-    let area = Area::Part {
-        from: at(0, 0),
-        to: at(1, 1),
-    };
-    assert_eq!(rt; list.as_slice(), [field(area)].as_slice());
-    let list = list_of(alloc, Opcode::Field, b"I@@R@@w@@")?;
-    let area = Area::Part {
-        from: at(1, 1),
-        to: at(3, 3),
-    };
-    assert_eq!(rt; list.as_slice(), [field(area)].as_slice());
+    let whole = [field(Area::Whole)];
+    gives(&rt, alloc, &[(Opcode::Field, b"")], &whole)?;
+    let from_pen = [part(at(0, 0), at(1, 1))];
+    gives(&rt, alloc, &[(Opcode::Field, b"I@@")], &from_pen)?;
+    let from_point = [part(at(1, 1), at(3, 3))];
+    gives(&rt, alloc, &[(Opcode::Field, b"I@@R@@w@@")], &from_point)?;
     Ok(())
 }
 
 #[test]
 fn times(rt: HostRuntime) -> Result<(), Fail> {
     let alloc = rt.alloc();
-    let list = list_of(alloc, Opcode::Wait, b"EF")?;
-    assert_eq!(rt;
-        list.as_slice(),
-        [Entry::Wait(word(5)), Entry::Wait(word(6))].as_slice()
-    );
-    let list = list_of(alloc, Opcode::Blink, b"D")?;
-    assert_eq!(rt; list.as_slice(), [half_blink(0, 0, 0)].as_slice());
-    let list = list_of(alloc, Opcode::Blink, b"DABC")?;
-    assert_eq!(rt; list.as_slice(), [half_blink(1, 2, 3)].as_slice());
-    let list = list_of(alloc, Opcode::Blink, b"")?;
-    assert_eq!(rt;
-        list.as_slice(),
-        [Entry::BlinkEnd { colour: AT_START }].as_slice()
-    );
+    let pauses = [Entry::Wait(word(5)), Entry::Wait(word(6))];
+    gives(&rt, alloc, &[(Opcode::Wait, b"EF")], &pauses)?;
+    gives(&rt, alloc, &[(Opcode::Blink, b"D")], &[blink(0, 0, 0)])?;
+    gives(&rt, alloc, &[(Opcode::Blink, b"DABC")], &[blink(1, 2, 3)])?;
+    let end = [Entry::BlinkEnd { colour: AT_START }];
+    gives(&rt, alloc, &[(Opcode::Blink, b"")], &end)?;
     Ok(())
 }
 
 #[test]
-fn colours(rt: HostRuntime) -> Result<(), Fail> {
+fn colours_of_mode_0(rt: HostRuntime) -> Result<(), Fail> {
     let alloc = rt.alloc();
-    let list = list_of_two(alloc, Opcode::SetColor, b"IR", Opcode::PointAbs, b"R")?;
+    let opcodes = [
+        (Opcode::SetColor, b"IR".as_slice()),
+        (Opcode::PointAbs, b"R"),
+    ];
     let direct = Colour::Direct(Grb::new(0, 12_288, 49_152));
-    assert_eq!(rt; list.as_slice(), [point(at(2, 2), direct)].as_slice());
-    let list = list_of_two(alloc, Opcode::SelectColor, b"D", Opcode::SetColor, b"R")?;
-    assert_eq!(rt; list.as_slice(), [half_map()].as_slice());
-    let list = list_of_two(alloc, Opcode::SelectColor, b"DH", Opcode::SetColor, b"R")?;
-    assert_eq!(rt; list.as_slice(), [half_map()].as_slice());
-    let list = list_of_two(alloc, Opcode::SetColor, b"R", Opcode::SelectColor, b"")?;
-    assert_eq!(rt; list.len(), 0);
+    gives(&rt, alloc, &opcodes, &[middle(direct)])?;
+    let opcodes = [
+        (Opcode::SetColor, b"R".as_slice()),
+        (Opcode::SelectColor, b"D"),
+        (Opcode::SelectColor, b""),
+        (Opcode::PointAbs, b"R"),
+    ];
+    gives(&rt, alloc, &opcodes, &[middle(Colour::Direct(red()))])?;
     Ok(())
 }
 
 #[test]
-fn attributes(rt: HostRuntime) -> Result<(), Fail> {
+fn colours_at_addresses(rt: HostRuntime) -> Result<(), Fail> {
     let alloc = rt.alloc();
-    let half = Move::try_new(4_194_304, 4_194_304).unwrap();
-    let list = list_of_two(alloc, Opcode::Texture, b"CR", Opcode::LineRel, b"I@@")?;
+    let opcodes = [
+        (Opcode::SelectColor, b"D".as_slice()),
+        (Opcode::SetColor, b"R"),
+        (Opcode::SelectColor, b""),
+        (Opcode::PointAbs, b"R"),
+    ];
+    gives(&rt, alloc, &opcodes, &[red_map(), middle(AT_START)])?;
+    let opcodes = [
+        (Opcode::SelectColor, b"DH".as_slice()),
+        (Opcode::SetColor, b"R"),
+        (Opcode::PointAbs, b"R"),
+    ];
+    gives(&rt, alloc, &opcodes, &[red_map(), middle(pair())])?;
+    Ok(())
+}
+
+#[test]
+fn textures(rt: HostRuntime) -> Result<(), Fail> {
+    let alloc = rt.alloc();
+    let opcodes = [
+        (Opcode::Texture, b"CR".as_slice()),
+        (Opcode::LineRel, b"I@@"),
+    ];
     let texture = Texture {
-        word: Word::try_new(3).unwrap(),
-        mask: Some(half),
+        word: word(3),
+        mask: Some(size(HALF)),
     };
     let drawn = Entry::Line {
         from: at(0, 0),
         to: at(1, 1),
         ink: Ink { texture, ..ink() },
     };
-    assert_eq!(rt; list.as_slice(), [drawn].as_slice());
-    let list = list_of_two(alloc, Opcode::Domain, b"DI", Opcode::PointAbs, b"R@")?;
-    let pel = Move::try_new(2_097_152, 2_097_152).unwrap();
-    assert_eq!(rt;
-        list.as_slice(),
-        [Entry::Point {
-            at: at(2, 2),
-            pel,
-            colour: AT_START
-        }]
-        .as_slice()
-    );
-    let list = list_of_two(alloc, Opcode::Reset, b"B\x7f", Opcode::PointAbs, b"R")?;
-    let (first, second) = (Word::try_new(2).unwrap(), Word::try_new(63).unwrap());
-    let reset = Entry::Reset {
-        first,
-        second,
-        pen: Pen::Start,
-    };
-    assert_eq!(rt;
-        list.as_slice(),
-        [reset, point(at(2, 2), Colour::Own(Origin::AfterReset))].as_slice()
-    );
-    assert_eq!(rt; list_of(alloc, Opcode::Text, b"ABR")?.len(), 0);
+    gives(&rt, alloc, &opcodes, &[drawn])?;
     Ok(())
 }
 
 #[test]
-fn refusals(rt: HostRuntime) -> Result<(), Fail> {
+fn lengths_of_operands(rt: HostRuntime) -> Result<(), Fail> {
     let alloc = rt.alloc();
-    assert_eq!(rt;
-        list_of(alloc, Opcode::Domain, b"`").err(),
-        Some(DrawFault::ThreeD)
-    );
-    assert_eq!(rt;
-        list_of(alloc, Opcode::PointSetAbs, b"").err(),
-        Some(DrawFault::Missing)
-    );
-    assert_eq!(rt;
-        list_of(alloc, Opcode::SetColor, b"").err(),
-        Some(DrawFault::Missing)
-    );
-    assert_eq!(rt;
-        list_of(alloc, Opcode::SetColor, b"@@@@").err(),
-        Some(DrawFault::ManyColours)
-    );
-    assert_eq!(rt;
-        list_of(alloc, Opcode::SetLineRel, b"I@@I@@R@@").err(),
-        Some(DrawFault::Missing)
-    );
-    assert_eq!(rt;
-        list_of(alloc, Opcode::SetArcOutlined, b"@@@I@@w@@").err(),
-        Some(DrawFault::Outside)
-    );
-    let refused = list_of_two(alloc, Opcode::Reset, b"D", Opcode::SetColor, b"R").err();
-    assert_eq!(rt; refused, Some(DrawFault::NoAddress));
-    let refused = list_of_two(alloc, Opcode::PointSetAbs, b"P@@", Opcode::LineRel, b"P@@").err();
-    assert_eq!(rt; refused, Some(DrawFault::Outside));
-    let many = [0x40; 1_025];
-    let refused = list_of_two(alloc, Opcode::Domain, b"@", Opcode::PolyOutlined, &many).err();
-    assert_eq!(rt; refused, Some(DrawFault::ManyPoints));
-    let list = list_of_two(
-        alloc,
-        Opcode::Domain,
-        b"@",
-        Opcode::PolyOutlined,
-        &many[1..],
-    )?;
-    assert_eq!(rt; list.len(), 1);
-    let refused = list_of_two(alloc, Opcode::Field, b"", Opcode::LineRel, b"@@@").err();
-    assert_eq!(rt; refused, Some(DrawFault::PenUnknown));
+    let opcodes = [
+        (Opcode::Domain, b"DI".as_slice()),
+        (Opcode::PointAbs, b"R@"),
+    ];
+    let drawn = Entry::Point {
+        at: at(2, 2),
+        pel: size(HALF / 2),
+        colour: AT_START,
+    };
+    gives(&rt, alloc, &opcodes, &[drawn])?;
+    Ok(())
+}
+
+#[test]
+fn resets(rt: HostRuntime) -> Result<(), Fail> {
+    let alloc = rt.alloc();
+    for (bytes, first, second, colour) in [
+        (b"A@".as_slice(), 1, 0, AT_START),
+        (b"@P", 0, 16, AT_START),
+        (b"B\x7f", 2, 63, Colour::Own(Origin::AfterReset)),
+    ] {
+        let opcodes = [(Opcode::Reset, bytes), (Opcode::PointAbs, b"R")];
+        let list = [reset(first, second, Pen::Start), middle(colour)];
+        gives(&rt, alloc, &opcodes, &list)?;
+    }
+    let opcodes = [
+        (Opcode::PointSetAbs, b"P@@".as_slice()),
+        (Opcode::Reset, b"@@"),
+    ];
+    gives(&rt, alloc, &opcodes, &[reset(0, 0, Pen::At(at(2, 0)))])?;
+    Ok(())
+}
+
+#[test]
+fn looks_of_text(rt: HostRuntime) -> Result<(), Fail> {
+    let alloc = rt.alloc();
+    let opcodes = [(Opcode::Text, b"ABR@@".as_slice()), (Opcode::Text, b"C")];
+    for (count, first) in [(1, 1), (2, 3)] {
+        let answer = answer_to(&rt, alloc, &opcodes[..count])?;
+        assert_eq!(rt; (answer.fault, answer.list.len()), (None, 0));
+        let look = TextLook {
+            first: word(first),
+            second: word(2),
+            size: CharSize::Given(size(HALF)),
+            reverse: false,
+            underline: false,
+            wrap: false,
+            scroll: false,
+        };
+        assert_eq!(rt; answer.work.state.drawing.text, look);
+    }
+    Ok(())
+}
+
+#[test]
+fn refusals_of_one_opcode(rt: HostRuntime) -> Result<(), Fail> {
+    let alloc = rt.alloc();
+    for (op, bytes, fault) in [
+        (Opcode::Domain, b"`".as_slice(), DrawFault::ThreeD),
+        (Opcode::PointSetAbs, b"", DrawFault::Missing),
+        (Opcode::SetColor, b"", DrawFault::Missing),
+        (Opcode::SetColor, b"@@@@", DrawFault::ManyColours),
+        (Opcode::SetLineRel, b"I@@I@@R@@", DrawFault::Missing),
+        (Opcode::SetArcOutlined, b"@@@I@@w@@", DrawFault::Outside),
+        (Opcode::PointAbs, b"R@@w@@", DrawFault::Outside),
+    ] {
+        refuses(&rt, alloc, &[(op, bytes)], &[], fault)?;
+    }
+    Ok(())
+}
+
+#[test]
+fn refusals_after_another_opcode(rt: HostRuntime) -> Result<(), Fail> {
+    let alloc = rt.alloc();
+    let opcodes = [(Opcode::Reset, b"D@".as_slice()), (Opcode::SetColor, b"R")];
+    let list = [reset(4, 0, Pen::Start)];
+    refuses(&rt, alloc, &opcodes, &list, DrawFault::NoAddress)?;
+    let opcodes = [
+        (Opcode::PointSetAbs, b"P@@".as_slice()),
+        (Opcode::LineRel, b"P@@"),
+    ];
+    refuses(&rt, alloc, &opcodes, &[], DrawFault::Outside)?;
+    let opcodes = [(Opcode::Field, b"".as_slice()), (Opcode::LineRel, b"@@@")];
+    let list = [field(Area::Whole)];
+    refuses(&rt, alloc, &opcodes, &list, DrawFault::PenUnknown)?;
     Ok(())
 }

@@ -1,0 +1,7 @@
+use Rattle.nap_list.specs.State.{walk}
+use Rattle.nap_list.proofs.Agreement.{start_agrees}
+use Rattle.nap_draw.proofs.tests.answer_to.Goals as goal
+
+pub loop-step-init : goal.loop-step-init
+unfolding walk
+loop-step-init g c = rw (c.start-work.ensures, c.new-sink.ensures) start_agrees
