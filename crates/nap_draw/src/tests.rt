@@ -117,12 +117,13 @@ fn word(number: u8) -> Word {
     Word::try_new(number).unwrap_or(Word::ZERO)
 }
 
-fn quarter() -> Addr {
+/// The address that the word 4 gives.
+fn address() -> Addr {
     Addr::try_new(1_048_576).unwrap()
 }
 
 fn pair() -> Colour {
-    Colour::Pair(quarter(), Addr::try_new(2_097_152).unwrap())
+    Colour::Pair(address(), Addr::try_new(2_097_152).unwrap())
 }
 
 fn ink() -> Ink {
@@ -179,7 +180,7 @@ fn way(alloc: Global, points: &[Point]) -> Result<Points, AllocError> {
 }
 
 /// This many points at the origin.
-fn standstill(alloc: Global, count: usize) -> Result<Points, AllocError> {
+fn origins(alloc: Global, count: usize) -> Result<Points, AllocError> {
     let mut way = Points::new(alloc);
     for _ in 0..count {
         way.push(Point::ORIGIN)?;
@@ -224,7 +225,7 @@ fn reset(first: u8, second: u8, pen: Pen) -> Entry {
 
 fn blink(on: u8, off: u8, delay: u8) -> Entry {
     Entry::Blink {
-        addr: quarter(),
+        addr: address(),
         on: word(on),
         off: word(off),
         delay: word(delay),
@@ -239,7 +240,7 @@ fn red() -> Grb {
 
 fn red_map() -> Entry {
     Entry::Map {
-        addr: quarter(),
+        addr: address(),
         grb: red(),
     }
 }
@@ -378,7 +379,7 @@ fn polygons_from_points_of_their_own(rt: HostRuntime) -> Result<(), Fail> {
 fn the_longest_polygon(rt: HostRuntime) -> Result<(), Fail> {
     let alloc = rt.alloc();
     let steps = [0x40; 1_025];
-    let list = [poly(false, standstill(alloc, 1_025)?)];
+    let list = [poly(false, origins(alloc, 1_025)?)];
     let lengths = (Opcode::Domain, b"@".as_slice());
     let opcodes = [lengths, (Opcode::PolyOutlined, &steps[1..])];
     gives(&rt, alloc, &opcodes, &list)?;
