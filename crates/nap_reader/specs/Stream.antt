@@ -15,6 +15,7 @@ use Rattle.nap_reader.specs.declared.fault.Fault.TheVariants as faults
 use Rattle.nap_reader.specs.declared.fault.Refusal.{Refusal}
 use Rattle.nap_reader.specs.declared.kind.Kind.{Kind}
 use Rattle.nap_reader.specs.declared.kind.Kind.TheVariants as kinds
+use Rattle.nap_reader.specs.declared.reader.TheConstants.{RUN_LIMIT}
 use Rattle.nap_reader.specs.Faults.{code_fault, draw_fault}
 use Rattle.nap_reader.specs.Kinds.{kind_of}
 use Rattle.nap_reader.specs.Course as course
@@ -75,7 +76,7 @@ closed_front m op place run (x ∷ xs) = drawn_front m place (x ∷ xs) (rule m.
 
 -- the most operand bytes of one opcode
 abbrev pub run_limit : ℕ
-run_limit = 16384
+run_limit = RUN_LIMIT
 
 -- an opcode on its run, and what stands behind the run
 abbrev pub run_front : Machine → Opcode → ℕ → List Placed → List Placed → Front

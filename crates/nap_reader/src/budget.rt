@@ -8,12 +8,13 @@ pub struct Budget(u32);
 
 impl Model for Budget {
     ghost use Rattle.std.specs.Prelude.{ℕ, ◌≤◌};
+    ghost use Rattle.nap_reader.specs.declared.budget.TheConstants.Budget.{MOST};
 
     ghost Value = { ℕ };
 
     ghost view = { λ b. b.0 };
 
-    ghost invariant = { λ b. b.0 ≤ 16777216 };
+    ghost invariant = { λ b. b.0 ≤ MOST };
 
     ghost inverse = { λ n. record { 0 = n } };
 }
@@ -27,7 +28,7 @@ impl Budget {
 
     /// The budget of this many bytes.
     pub fn new(bytes: u32) -> Option<Budget>
-        ensures found { IsSome result ↔ (bytes ≤ 16777216) }
+        ensures found { IsSome result ↔ (bytes ≤ Self.MOST) }
         ensures value { IfSome result (λ budget. budget ≡ bytes) }
     {
         if bytes <= Self::MOST {
@@ -39,7 +40,7 @@ impl Budget {
 
     /// The budget of a reading for which none is chosen.
     pub fn usual() -> Budget
-        ensures { result ≡ 1048576 }
+        ensures { result ≡ Self.USUAL }
     {
         Budget(Self::USUAL)
     }
@@ -47,7 +48,7 @@ impl Budget {
     /// The budget in bytes.
     pub fn get(self) -> u32
         ensures value { result ≡ self }
-        ensures most { result ≤ 16777216 }
+        ensures most { result ≤ Self.MOST }
     {
         self.0
     }

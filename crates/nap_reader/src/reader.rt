@@ -6,7 +6,8 @@ ghost use Rattle.std.proofs.Props.{props};
 ghost use Rattle.nap_list.specs.Agreement.{StatesAgree};
 ghost use Rattle.nap_reader.specs.Carried.{HasRule-prop, StatesAgree-prop};
 ghost use Rattle.nap_reader.specs.Held.{HasRule};
-ghost use Rattle.nap_reader.specs.Stream.{is_operand_byte};
+ghost use Rattle.nap_reader.specs.Stream.{is_operand_byte, run_limit};
+ghost use Rattle.nap_reader.specs.declared.budget.TheConstants.Budget.{MOST};
 
 use crate::budget::Budget;
 use crate::fault::{Fault, Refusal};
@@ -43,10 +44,10 @@ pub struct Reader<S: Sink> {
     turns: u64,
     charged: u64,
     sink: S,
-    ghost short: { vec_len run ≤ 16384 },
+    ghost short: { vec_len run ≤ run_limit },
     ghost rule: { HasRule open_run } by { HasRule-prop open_run },
     ghost within: { charged ≤ budget },
-    ghost small: { charged ≤ 16777216 },
+    ghost small: { charged ≤ MOST },
     ghost turned: { turns ≤ fed + charged },
     ghost agrees: { ForNone refusal (StatesAgree work.state (S.state sink)) } by { Prim.hlevel (props, StatesAgree-prop work.state (S.state sink)) },
 }
