@@ -1,5 +1,6 @@
 pub mod CourseLemmas
 pub mod StreamLemmas
+pub mod BreakingLemmas
 pub mod HeldLemmas
 pub mod LeadsLemmas
 pub mod ReadingLemmas

@@ -32,7 +32,8 @@ use Rattle.nap_reader.specs.Course as course
 use Rattle.nap_reader.specs.Course.{prepend, paused}
 use Rattle.nap_reader.specs.Faults.{code_fault, draw_fault}
 use Rattle.nap_reader.specs.Stream.{Placed, Machine, Outcome, bytes_of, words_of, is_operand, run_limit, refusal, drawn_front, code_front, front, outcome_from, placed_from, begun, with_drawn, with_run_by, with_run, with_definition, with_rest, with_end, ended_by, means}
-use Rattle.nap_reader.specs.Held.{IsHeld}
+use Rattle.nap_reader.specs.Breaking.{open_place}
+use Rattle.nap_reader.specs.Held.{IsHeld, run_place}
 use Rattle.nap_reader.specs.Taking.{cause_of, Has, Leads}
 use Rattle.nap_reader.specs.Reading.{Continues, ReachesBy, Ends}
 use Rattle.nap_reader.proofs.StreamLemmas.{bytes_of-append}
@@ -260,6 +261,30 @@ pub continues_machine : {S : Type 0} (g : Ghosts S) (s : S) (o : Outcome) (t : S
     Continues g s o t work lexer left open_run run [] → o.machine ≡ record { work = work; sets = lexer.sets; left = left }
 continues_machine g s o t work lexer left open_run run h =
     leads_machine g s t o _ h.rest h.leads (held_pauses work lexer left open_run run h.rest h.held)
+
+open_place_none : (o : Outcome) → codes.front o.machine.sets (bytes_of o.rest) ≡ codes.unfinished → open_place o ≡ None
+open_place_none o e = rw e refl
+
+open_place_open : (o : Outcome) (x : Placed) (xs : List Placed) (op : Opcode) (n : ℕ) (sets : CodeSets) → o.rest ≡ x ∷ xs →
+    codes.front o.machine.sets (bytes_of (x ∷ xs)) ≡ codes.whole (code.Op op) n sets → open_place o ≡ Some x.place
+open_place_open o x xs op n sets is e = rw (is, e) refl
+
+-- the open run of a reader is that of the outcome where nothing pends
+pub continues_open : {S : Type 0} (g : Ghosts S) (s : S) (o : Outcome) (t : S) (work : Work) (lexer : LexerState) (left : ℕ) (open_run : Option OpenRun) (run : List ℕ) →
+    Continues g s o t work lexer left open_run run [] → open_place o ≡ run_place open_run
+continues_open g s o t work lexer left None run h =
+    let pauses = held_pauses work lexer left None run h.rest h.held in
+    let machine_is = leads_machine g s t o _ h.rest h.leads pauses in
+    let rest_is = leads_rest g s t o _ h.rest h.leads pauses in
+    open_place_none o (rw (machine_is, rest_is, h.held.0) h.held.1)
+continues_open g s o t work lexer left (Some open_run) run h =
+    let pauses = held_pauses work lexer left (Some open_run) run h.rest h.held in
+    let i = h.held.0 in
+    let before : Outcome = prepend h.leads.done (paused (record { work = work; sets = lexer.sets; left = left }) h.rest) in
+    ap open_place (leads_paused g s t o _ h.rest h.leads pauses)
+    ∙ open_place_open before i.opcode i.operands open_run.op 1 lexer.sets i.is
+    (whole_stays lexer.sets (i.opcode.byte ∷ []) (bytes_of i.operands) (code.Op open_run.op) 1 lexer.sets i.names)
+    ∙ ap Some i.place
 
 -- more of the stream has come
 pub more_comes : {S : Type 0} (g : Ghosts S) (s : S) (budget : ℕ) (p q : List ℕ) (t : S) (work : Work) (lexer : LexerState) (left : ℕ) (open_run : Option OpenRun) (run : List ℕ) →

@@ -18,60 +18,70 @@ use Rattle.nap_reader.specs.Kinds.{kind_of}
 use Rattle.nap_reader.specs.Course as course
 use Rattle.nap_reader.specs.Course.{Lessens, Stays, onward, continue}
 use Rattle.nap_reader.specs.Stream.{Placed, Machine, Front, bytes_of, words_of, is_operand, run_length, run_limit, refusal, drawn_front, closed_front, run_front, opcode_front, code_front, place_at, front_by, front, left_of, outcome_from, placed_from, start_machine, begun}
-use Rattle.nap_reader.proofs.CourseLemmas.{outcome-front, outcome-append}
+use Rattle.nap_reader.proofs.CourseLemmas.{Keeps, outcome-front, outcome-keeps, outcome-append}
 
--- what is unread and left to charge after a front is below this number
-data Shrinks (k : ℕ) : Front → Type 0 where
-  pauses : Shrinks k course.pause
-  refuses : {r : Refusal} → Shrinks k (course.refuse r)
-  acts : {es : List Entry} {m : Machine} {xs : List Placed} → length xs + m.left < k → Shrinks k (course.act es m xs)
+-- what is unread after a front is below this number, and this is left to charge
+data Shrinks (k left : ℕ) : Front → Type 0 where
+  pauses : Shrinks k left course.pause
+  refuses : {r : Refusal} → Shrinks k left (course.refuse r)
+  acts : {es : List Entry} {m : Machine} {xs : List Placed} → length xs < k → m.left ≡ left → Shrinks k left (course.act es m xs)
 
-Shrinks-cond : {k : ℕ} (b : Bool) {x y : Front} → (b ≡ true → Shrinks k x) → (b ≡ false → Shrinks k y) → Shrinks k (cond b x y)
-Shrinks-cond {k} b {x} {y} f g = cond_both b x y (Shrinks k) f g
+Shrinks-cond : {k left : ℕ} (b : Bool) {x y : Front} → (b ≡ true → Shrinks k left x) → (b ≡ false → Shrinks k left y) → Shrinks k left (cond b x y)
+Shrinks-cond {k} {left} b {x} {y} f g = cond_both b x y (Shrinks k left) f g
 
-Shrinks-act : {k : ℕ} {es : List Entry} {m : Machine} {xs : List Placed} → Shrinks k (course.act es m xs) → length xs + m.left < k
-Shrinks-act (acts h) = h
+Shrinks-act : {k left : ℕ} {es : List Entry} {m : Machine} {xs : List Placed} → Shrinks k left (course.act es m xs) →
+    (length xs < k) × (m.left ≡ left)
+Shrinks-act (acts h same) = (h, same)
 
 drawn_front-Shrinks : (m : Machine) (place : ℕ) (rest : List Placed) (by : Result Drawn DrawFault) (k : ℕ) →
-    length rest + m.left < k → Shrinks k (drawn_front m place rest by)
-drawn_front-Shrinks m place rest (Ok drawn) k h = acts h
+    length rest < k → Shrinks k m.left (drawn_front m place rest by)
+drawn_front-Shrinks m place rest (Ok drawn) k h = acts h refl
 drawn_front-Shrinks m place rest (Err fault) k h = refuses
 
 closed_front-Shrinks : (m : Machine) (op : Opcode) (place : ℕ) (run rest : List Placed) (k : ℕ) →
-    length rest + m.left < k → Shrinks k (closed_front m op place run rest)
+    length rest < k → Shrinks k m.left (closed_front m op place run rest)
 closed_front-Shrinks m op place run [] k h = pauses
 closed_front-Shrinks m op place run (x ∷ xs) k h = drawn_front-Shrinks m place (x ∷ xs) (rule m.work op (words_of run)) k h
 
 opcode_front-Shrinks : (m : Machine) (op : Opcode) (place : ℕ) (xs : List Placed) (k : ℕ) →
-    length xs + m.left < k → Shrinks k (opcode_front m op place xs)
+    length xs < k → Shrinks k m.left (opcode_front m op place xs)
 opcode_front-Shrinks m op place xs k h =
     let run = take (run_length xs) xs in
     let rest = drop (run_length xs) xs in
-    let less : length rest + m.left < k = simp length-drop (omega arith) in
+    let less : length rest < k = simp length-drop (omega arith) in
     Shrinks-cond (ltb run_limit (length run)) (λ _. refuses) (λ _. closed_front-Shrinks m op place run rest k less)
 
 code_front-Shrinks : (m : Machine) (kind : Kind) (place : ℕ) (rest : List Placed) (k : ℕ) →
-    length rest + m.left < k → Shrinks k (code_front m kind place rest)
+    length rest < k → Shrinks k m.left (code_front m kind place rest)
 code_front-Shrinks m (kinds.Opens op) place rest k h = opcode_front-Shrinks m op place rest k h
 code_front-Shrinks m kinds.Strays place rest k h = refuses
-code_front-Shrinks m kinds.AddsNothing place rest k h = acts h
+code_front-Shrinks m kinds.AddsNothing place rest k h = acts h refl
 code_front-Shrinks m kinds.Unbuilt place rest k h = refuses
 
 front-Shrinks : (m : Machine) (xs : List Placed) (f : codes.Front) → codes.front m.sets (bytes_of xs) ≡ f →
-    Shrinks (length xs + m.left) (front_by m xs f)
+    Shrinks (length xs) m.left (front_by m xs f)
 front-Shrinks m xs codes.unfinished e = pauses
 front-Shrinks m xs (codes.refused fault i) e = refuses
 front-Shrinks m xs (codes.whole c n sets) e =
     let within = whole_length m.sets (bytes_of xs) c n sets e in
     let same : length (bytes_of xs) ≡ length xs = length-map xs _ in
-    code_front-Shrinks (record m { sets = sets }) (kind_of c) (place_at xs (n - 1)) (drop n xs) (length xs + m.left)
+    code_front-Shrinks (record m { sets = sets }) (kind_of c) (place_at xs (n - 1)) (drop n xs) (length xs)
     (simp length-drop (omega (arith, within.0, within.1, same)))
 
-pub front-lessens : Lessens front left_of
+front-acts : (m : Machine) (xs : List Placed) (es : List Entry) (m' : Machine) (ys : List Placed) → front m xs ≡ course.act es m' ys →
+    (length ys < length xs) × (m'.left ≡ m.left)
 unfolding front
-front-lessens m xs es m' ys e =
+front-acts m xs es m' ys e =
     let s = front-Shrinks m xs (codes.front m.sets (bytes_of xs)) refl in
     Shrinks-act (rw e at s)
+
+pub front-lessens : Lessens front left_of
+front-lessens m xs es m' ys e =
+    let k = front-acts m xs es m' ys e in
+    omega (arith, k.0, k.1)
+
+front-keeps : Keeps front left_of
+front-keeps m xs es m' ys e = (front-acts m xs es m' ys e).1
 
 -- the second is the first with more input behind it
 data Kept (q : List Placed) : Front → Front → Type 0 where
@@ -202,3 +212,7 @@ pub begun-append : (budget : ℕ) (p q : List ℕ) → begun budget (p ++ q) ≡
 begun-append budget p q =
     ap (outcome_from (start_machine budget)) (placed_from-append 0 p q ∙ ap (λ (m : ℕ). placed_from 0 p ++ placed_from m q) (omega arith))
     ∙ outcome_from-append (start_machine budget) (placed_from 0 p) (placed_from (length p) q)
+
+-- nothing is charged yet
+pub begun-left : (budget : ℕ) (p : List ℕ) → (begun budget p).machine.left ≡ budget
+begun-left budget p = outcome-keeps Machine Entry Refusal Placed front left_of left_of front-keeps (start_machine budget) (placed_from 0 p)

@@ -27,3 +27,8 @@ IsHeld rest None run lexer = (bytes_of rest ≡ lexer.half) × (codes.front lexe
 abbrev pub HasRule : Option OpenRun → Type 0
 HasRule None = ⊤
 HasRule (Some open_run) = IsDrawn open_run.op
+
+-- the place of the opcode whose run is open
+abbrev pub run_place : Option OpenRun → Option ℕ
+run_place None = None
+run_place (Some open_run) = Some open_run.place

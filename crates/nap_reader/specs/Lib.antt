@@ -4,6 +4,7 @@ pub mod Kinds
 pub mod Stream
 pub mod Held
 pub mod Taking
+pub mod Breaking
 pub mod Reading
 pub mod Carried
 pub mod Standing

@@ -1,9 +1,10 @@
-use Rattle.std.specs.Prelude.{◌≡◌, ◌-◌, ◌+◌, ◌<◌, ◌++◌, ℕ, List, [], Option, None, length, take}
+use Rattle.std.specs.Prelude.{◌≡◌, ◌-◌, ◌+◌, ◌<◌, ◌++◌, ℕ, List, [], Option, None, length, take, slice_index}
 use Rattle.nap_list.specs.declared.sink.Sink.{Ghosts}
 use Rattle.nap_reader.specs.declared.fault.Refusal.{Refusal}
 use Rattle.nap_reader.specs.declared.reader.Reader.{Reader}
 use Rattle.nap_reader.specs.Stream.{Placed, Outcome, begun}
-use Rattle.nap_reader.specs.Taking.{Has}
+use Rattle.nap_reader.specs.Breaking.{breaking_place}
+use Rattle.nap_reader.specs.Taking.{Has, IsOwn, BreaksAt}
 use Rattle.nap_reader.specs.Reading.{ReachesBy}
 
 -- A reader reaches an outcome by what pends.
@@ -39,17 +40,21 @@ pub record SameCounts {S : Type 0} {g : Ghosts S} (old new : Reader S g) : Type 
   pub charged : charged_of new ≡ charged_of old
 
 -- A reader stands for the sink that it was given and the bytes so far: its sink has taken what is known of them, and
--- what they mean with any bytes behind comes of what it holds.
+-- what they mean with any bytes behind comes of what it holds. What is left to charge is what the bytes leave, also
+-- where they are refused.
 pub record Stands {S : Type 0} {g : Ghosts S} (reader : Reader S g) (s : S) (p : List ℕ) : Type 0 where
   pub sink : Has g s (begun (budget_of reader) p) (sink_of reader) (refusal_of reader)
   pub reaches : Reaches reader s (begun (budget_of reader) p) []
   pub fed : refusal_of reader ≡ None → fed_of reader ≡ length p
-  pub left : refusal_of reader ≡ None → (begun (budget_of reader) p).machine.left ≡ budget_of reader - charged_of reader
+  pub left : IsOwn (refusal_of reader) → (begun (budget_of reader) p).machine.left ≡ budget_of reader - charged_of reader
 
--- The refusal came at the byte with this index: what was known before it had none.
+-- The refusal came at the byte with this index: what was known before it had none. One that isn't the stream's own has
+-- the place of that byte, or of the opcode that acted there.
 pub record StopsAt {S : Type 0} {g : Ghosts S} (old new : Reader S g) (piece : List ℕ) (i : ℕ) : Type 0 where
   pub within : i < length piece
   pub fed : fed_of new ≡ fed_of old + (i + 1)
   pub before : (s : S) (p : List ℕ) → Stands old s p → (begun (budget_of old) (p ++ take i piece)).refusal ≡ None
   pub there : (s : S) (p : List ℕ) → Stands old s p →
       Has g s (begun (budget_of old) (p ++ take (i + 1) piece)) (sink_of new) (refusal_of new)
+  pub place : (s : S) (p : List ℕ) → Stands old s p →
+      BreaksAt (refusal_of new) (breaking_place (begun (budget_of old) (p ++ take i piece)) (slice_index piece i) (length p + i))

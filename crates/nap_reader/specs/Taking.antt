@@ -1,4 +1,4 @@
-use Rattle.std.specs.Prelude.{◌≡◌, ◌⊎◌, ◌++◌, true, false, List, Option, Some, None}
+use Rattle.std.specs.Prelude.{◌≡◌, ◌≢◌, ◌⊎◌, ◌++◌, ℕ, true, false, List, Option, Some, None, ⊤}
 use Rattle.nap_list.specs.declared.sink.Sink.{Ghosts}
 use Rattle.nap_list.specs.declared.entry.Entry.{Entry}
 use Rattle.nap_draw.specs.Draws.{Cause, stream, memory, device, Puts, Breaks}
@@ -13,6 +13,16 @@ abbrev pub cause_of : Fault → Cause
 cause_of faults.Memory = memory
 cause_of faults.Sink = device
 cause_of _ = stream
+
+-- a refusal, where there is one, is the stream's own
+abbrev pub IsOwn : Option Refusal → Type 0
+IsOwn None = ⊤
+IsOwn (Some r) = cause_of r.fault ≡ stream
+
+-- a refusal that isn't the stream's own, where there is one, has this place
+abbrev pub BreaksAt : Option Refusal → ℕ → Type 0
+BreaksAt None place = ⊤
+BreaksAt (Some r) place = cause_of r.fault ≢ stream → r.place ≡ place
 
 -- A sink that was s has taken the entries of an outcome, where the answer is this refusal: all of them, and the refusal
 -- is the outcome's; some of the first, where memory is wanting; and the next one broke, where the sink's device failed.

@@ -54,7 +54,10 @@ pub struct Reader<S: Sink> {
 
 impl<S: Sink> Reader<S> {
     ghost use Rattle.nap_reader.specs.Stream.{Placed, Outcome, begun, is_operand, means, with_rest, with_run};
-    ghost use Rattle.nap_reader.specs.Taking.{Has};
+    ghost use Rattle.nap_draw.specs.Draws.{stream};
+    ghost use Rattle.nap_reader.specs.Breaking.{BreaksAtEnd, breaking_place_by};
+    ghost use Rattle.nap_reader.specs.Held.{run_place};
+    ghost use Rattle.nap_reader.specs.Taking.{BreaksAt, Has, IsOwn, cause_of};
     ghost use Rattle.nap_reader.specs.Reading.{CarriesWord, Ends, EndsBy};
     ghost use Rattle.nap_reader.specs.Standing.{Reaches, SameCounts, Stands, StopsAt, budget_of, charged_of, fed_of, refusal_of, sink_of, turns_of};
 
@@ -121,6 +124,7 @@ impl<S: Sink> Reader<S> {
         requires { self.old.refusal ≡ None }
         ensures reaches { (s : S) (o : Outcome) (pending : List Placed) →
             Reaches self.old s o (record { byte = byte; place = place } ∷ pending) → Reaches self.new s o pending }
+        ensures breaks { BreaksAt self.new.refusal (breaking_place_by (run_place self.old.open_run) byte place) }
         ensures failed { IfSome self.new.refusal (λ r. r.fault ≡ Fault.Sink → S.failed self.new.sink ≡ true) }
         ensures counts { SameCounts self.old self.new }
     {
@@ -145,6 +149,7 @@ impl<S: Sink> Reader<S> {
         requires opened { self.old.open_run ≡ Some open_run }
         ensures reaches { (s : S) (o : Outcome) (x : Placed) (pending : List Placed) → CarriesWord x word →
             x.place ≡ place → Reaches self.old s o (x ∷ pending) → Reaches self.new s o pending }
+        ensures breaks { BreaksAt self.new.refusal place }
         ensures failed { IfSome self.new.refusal (λ r. r.fault ≢ Fault.Sink) }
         ensures counts { SameCounts self.old self.new }
     {
@@ -174,6 +179,7 @@ impl<S: Sink> Reader<S> {
             Reaches self.old s o (x ∷ pending) → Reaches self.new s o (x ∷ pending) }
         ensures ends { (s : S) (p : List ℕ) → Stands self.old s p →
             EndsBy S.Sink s (with_run (begun (budget_of self.old) p)) self.new.sink self.new.work self.new.lexer.half self.new.refusal }
+        ensures breaks { BreaksAt self.new.refusal open_run.place }
         ensures closed { self.new.refusal ≡ None → self.new.open_run ≡ None }
         ensures failed { IfSome self.new.refusal (λ r. r.fault ≡ Fault.Sink → S.failed self.new.sink ≡ true) }
         ensures counts { SameCounts self.old self.new }
@@ -205,6 +211,7 @@ impl<S: Sink> Reader<S> {
         requires closed { self.old.open_run ≡ None }
         ensures reaches { (s : S) (o : Outcome) (pending : List Placed) →
             Reaches self.old s o (record { byte = byte; place = place } ∷ pending) → Reaches self.new s o pending }
+        ensures own { IsOwn self.new.refusal }
         ensures failed { IfSome self.new.refusal (λ r. r.fault ≢ Fault.Sink) }
         ensures counts { SameCounts self.old self.new }
     {
@@ -245,6 +252,7 @@ impl<S: Sink> Reader<S> {
         requires { self.old.refusal ≡ None }
         ensures ended { (s : S) (p : List ℕ) → Stands self.old s p →
             Has S.Sink s (means (budget_of self.old) p) self.new.sink self.new.refusal }
+        ensures breaks { IfSome self.new.refusal (λ r. cause_of r.fault ≢ stream → run_place self.old.open_run ≡ Some r.place) }
         ensures failed { IfSome self.new.refusal (λ r. r.fault ≡ Fault.Sink → S.failed self.new.sink ≡ true) }
     {
         match self.open_run {
@@ -264,6 +272,7 @@ impl<S: Sink> Reader<S> {
         requires { self.old.refusal ≡ None }
         ensures settled { (s : S) (o : Outcome) → Ends S.Sink s o self.old.sink self.old.work self.old.lexer.half →
             Has S.Sink s (with_rest o self.old.fed o.rest) self.new.sink self.new.refusal }
+        ensures own { IsOwn self.new.refusal }
         ensures failed { IfSome self.new.refusal (λ r. r.fault ≢ Fault.Sink) }
     {
         if !self.lexer.at_rest() {
@@ -289,6 +298,9 @@ impl<S: Sink> Reader<S> {
         ensures ok { IfOk result (λ t. (s : S) (p : List ℕ) → Stands self s p → Has S.Sink s (means (budget_of self) p) t None) }
         ensures err { IfErr result (λ e. (s : S) (p : List ℕ) → Stands self s p →
             Has S.Sink s (means (budget_of self) p) e.sink (Some e.refusal)) }
+        // What isn't the stream's own fault has the place of the opcode that acts at the end.
+        ensures breaks { IfErr result (λ e. refusal_of self ≡ None → (s : S) (p : List ℕ) → Stands self s p →
+            BreaksAtEnd (begun (budget_of self) p) e.refusal) }
         ensures latched { (r : Refusal) → refusal_of self ≡ Some r → result ≡ Err (record { sink = sink_of self; refusal = r }) }
         ensures failed { IfErr result (λ e. refusal_of self ≡ None → e.refusal.fault ≡ Fault.Sink → S.failed e.sink ≡ true) }
     {

@@ -1,5 +1,6 @@
 // Reads a whole stream.
 ghost use Rattle.std.specs.Prelude.{◌≡◌, ◌≢◌, ◌<◌, ◌^◌, None, Some, length, IfOk, IfErr};
+ghost use Rattle.nap_reader.specs.Breaking.{BreaksWithin};
 ghost use Rattle.nap_reader.specs.Stream.{means};
 
 use crate::budget::Budget;
@@ -14,6 +15,8 @@ pub fn read_all(alloc: Global, budget: Budget, bytes: &[u8]) -> Result<Vec<Entry
     ensures accepted { IfOk result (λ list. (means budget bytes.now).refusal ≡ None) }
     ensures list { IfOk result (λ list. list.items ≡ (means budget bytes.now).entries) }
     ensures refused { IfErr result (λ r. r.fault ≢ Fault.Memory → (means budget bytes.now).refusal ≡ Some r) }
+    // Want of memory has the place of a byte that was read, or of the opcode that acted there or at the end.
+    ensures breaks { IfErr result (λ r. r.fault ≡ Fault.Memory → BreaksWithin budget bytes.now r.place) }
 {
     let mut reader = Reader::new(alloc, budget, ListSink::new(alloc));
     reader.feed(bytes)?;

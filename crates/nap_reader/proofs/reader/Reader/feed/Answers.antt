@@ -1,9 +1,10 @@
-use Rattle.std.proofs.Common.{◌≡◌, ◌+◌, ℕ, List, ◌++◌, None, take, drop, get_or, subst, sym, ◌∙◌, ap, append_assoc, arith, refl}
+use Rattle.std.proofs.Common.{◌≡◌, ◌+◌, ℕ, List, ◌++◌, None, take, drop, get_or, subst, sym, ◌∙◌, ap, append_assoc, length, length-append, length-take, arith, refl}
 use Rattle.std.proofs.lemmas.List.{take_more, take-append-drop, take_all}
 use Rattle.nap_reader.specs.Stream.{begun}
-use Rattle.nap_reader.specs.Taking.{Has}
+use Rattle.nap_reader.specs.Breaking.{breaking_place}
+use Rattle.nap_reader.specs.Taking.{Has, BreaksAt}
 use Rattle.nap_reader.specs.Standing.{Stands}
-use Rattle.nap_reader.proofs.StandingLemmas.{one_more, stays}
+use Rattle.nap_reader.proofs.StandingLemmas.{one_more, stays, breaks_next}
 use Rattle.nap_reader.proofs.reader.Reader.feed.Goals as goal
 
 pub returns-in-Some-clause-stands : goal.returns-in-Some-clause-stands
@@ -57,6 +58,13 @@ returns-in-Some-refusal-clause-stops g c unrefused =
             let k = one_more _ c.turn.new.self (get_or piece i 0) now.fed c.loop-byte.invariant.live c.turn.ensures.counts refl c.turn.ensures.reaches s (p ++ take i piece) (st.fed c.loop-byte.invariant.live) st.reaches in
             let k' = subst (λ (q : List ℕ). Stands c.turn.new.self s q) (append_assoc p (take i piece) _ ∙ ap (λ (q : List ℕ). p ++ q) (sym (take_more piece i 0 c.loop-byte-test.true))) k in
             subst (λ (b : ℕ). Has g.S.Sink s (begun b (p ++ take (i + 1) piece)) c.turn.new.self.sink c.turn.new.self.refusal) (c.turn.ensures.counts.budget ∙ c.loop-byte.invariant.budget) k'.sink;
+        place = λ s p h.
+            let st = c.loop-byte.invariant.stands s p h in
+            let b = get_or piece i 0 in
+            let next = breaks_next now s (p ++ take i piece) b c.loop-byte.invariant.live st in
+            let same = ap (λ (n : ℕ). breaking_place (begun n (p ++ take i piece)) b (length (p ++ take i piece))) c.loop-byte.invariant.budget in
+            let all : length (p ++ take i piece) ≡ length p + i = omega (arith, length-append p (take i piece), length-take i piece, c.loop-byte-test.true) in
+            subst (BreaksAt c.turn.new.self.refusal) (next ∙ same ∙ ap (breaking_place (begun budget (p ++ take i piece)) b) all) c.turn.ensures.breaks;
       },
     )
 

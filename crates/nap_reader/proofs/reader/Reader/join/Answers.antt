@@ -1,4 +1,4 @@
-use Rattle.std.proofs.Common.{◌≡◌, ◌-◌, ◌∷◌, ◌++◌, [], ℕ, Option, subst, ap, ◌∙◌, arith}
+use Rattle.std.proofs.Common.{◌≡◌, ◌-◌, ◌∷◌, ◌++◌, [], ℕ, Option, refl, subst, ap, ◌∙◌, arith}
 use Rattle.nap_reader.specs.declared.reader.OpenRun.{OpenRun}
 use Rattle.nap_reader.specs.Reading.{Continues}
 use Rattle.nap_reader.proofs.ReadingLemmas.{continues, reaches, word_joins, word_too_many}
@@ -22,3 +22,6 @@ returns-in-Ok-clause-reaches g c s o x pending word place h =
     let run : c.push.new.self.items ≡ r.run.items ++ (x.byte - 64) ∷ [] = c.in-Ok.ensures.items ∙ ap (λ (w : ℕ). r.run.items ++ w ∷ []) word.1 in
     reaches g.S.Sink s o r.sink r.work r.lexer left r.open_run c.push.new.self.items pending r.refusal c.requires.live
     (rw (run, c.requires.opened) k)
+
+pub returns-then-len-ge-RUN_LIMIT-clause-breaks : goal.returns-then-len-ge-RUN_LIMIT-clause-breaks
+returns-then-len-ge-RUN_LIMIT-clause-breaks g c broke = absurd (broke refl)

@@ -3,6 +3,7 @@ use Rattle.nap_reader.specs.declared.reader.OpenRun.{OpenRun}
 use Rattle.nap_reader.specs.Stream.{Placed}
 use Rattle.nap_reader.specs.Reading.{Continues}
 use Rattle.nap_reader.proofs.ReadingLemmas.{continues, reaches, more_of, code_of, fault_of, code_goes_on, byte_refused, code_acts, code_strays, code_unbuilt, opens_drawn, run_opens}
+use Rattle.nap_reader.proofs.BreakingLemmas.{code_fault_own}
 use Rattle.nap_reader.proofs.reader.Reader.lex.Goals as goal
 
 pub returns-in-More-clause-reaches : goal.returns-in-More-clause-reaches
@@ -72,3 +73,6 @@ pub invariant_of-self-in-Opens-clause-rule : goal.invariant_of-self-in-Opens-cla
 invariant_of-self-in-Opens-clause-rule g c =
     let step = code_of _ c.args.self.now.lexer c.args.byte c.in-Code.code c.step.new.self c.in-Code.ensures.steps in
     opens_drawn _ _ c.in-Code.code step.0 step.1 c.in-Opens.op step.2 (sym c.in-Opens.ensures)
+
+pub returns-in-Fault-clause-own : goal.returns-in-Fault-clause-own
+returns-in-Fault-clause-own g c = rw c.from.ensures (code_fault_own c.in-Fault.fault)
