@@ -1,3 +1,4 @@
+//! How much a reading may be charged.
 ghost use Rattle.std.specs.Prelude.{◌≡◌, ◌≤◌, ◌↔◌, IsSome, IfSome};
 
 use std::marker::Model;

@@ -1,3 +1,4 @@
+//! Why a stream is refused, and where.
 ghost use Rattle.std.specs.Prelude.{◌≡◌};
 ghost use Rattle.nap_reader.specs.Faults.{number_of, name_of, code_fault, draw_fault};
 
@@ -7,26 +8,45 @@ use nap_draw::DrawFault;
 /// Why a stream is refused.
 #[derive(Clone, Copy, PartialEq, Eq, Debug, Drop)]
 pub enum Fault {
+    /// A byte `80` to `FF`.
     EighthBit,
+    /// An escape sequence that this profile doesn't have.
     BadEscape,
+    /// SS2 or SS3, and then a byte below `20`.
     ShiftAlone,
+    /// A code of the PDI set under a single shift, also an opcode that is left out.
     ShiftedCode,
+    /// An argument outside its range.
     BadArgument,
     /// A code that this profile leaves out by name.
     LeftOut(Left),
+    /// DOMAIN in three dimensions: b6 of its first word is set.
     ThreeD,
+    /// An opcode wholly lacks an operand that it needs.
     Missing,
+    /// SET COLOR with more than one operand.
     ManyColours,
+    /// A point of the opcode isn't in the square.
     Outside,
+    /// The opcode starts at the pen, which text, a field, a clearing or a reset has left.
     PenUnknown,
+    /// SET COLOR where the colour is that of a reset, with no address.
     NoAddress,
+    /// An operand byte past `RUN_LIMIT`.
     LongRun,
+    /// More displacements of one arc or polygon than its shape can hold.
     ManyPoints,
+    /// REPEAT or REPEAT TO EOL where the last entry isn't a character.
     NothingToRepeat,
+    /// A word with no run open.
     Stray,
+    /// A call or a presentation would pass the budget.
     Budget,
+    /// The bodies of the macros would pass their limit.
     Store,
+    /// The input ends inside a code.
     Cut,
+    /// The input ends inside a macro body or a definition.
     Unended,
     /// A growth was refused for want of memory.
     Memory,
@@ -134,9 +154,11 @@ impl From<DrawFault> for Fault {
     }
 }
 
-/// Why a stream is refused, and where: the offset of a byte of the input.
+/// Why a stream is refused, and where.
 #[derive(Clone, Copy, PartialEq, Eq, Debug, Drop)]
 pub struct Refusal {
+    /// Why.
     pub fault: Fault,
+    /// The offset of a byte of the input, or the input's length for what is found at its end.
     pub place: u64,
 }

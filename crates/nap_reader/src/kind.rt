@@ -1,4 +1,4 @@
-// What a reader does with a code.
+//! What a reader does with a code.
 ghost use Rattle.std.specs.Prelude.{◌≡◌};
 ghost use Rattle.nap_reader.specs.Kinds.{kind_of};
 

@@ -1,4 +1,4 @@
-// Laws of what a stream means, which no call can break.
+//! Laws of what a stream means, which no call can break.
 ghost use Rattle.nap_reader.specs.Laws.{AcceptedIsLegal, FrontAfterFront, MoreBytesKeepEntries, MoreBytesKeepRefusal, PiecesAgree};
 
 /// What a stream means is told front after front, with no bound on how many there are.

@@ -1,4 +1,4 @@
-// Reads a stream in pieces.
+//! Reads a stream in pieces.
 ghost use Rattle.std.specs.Prelude.{◌≡◌, ◌≢◌, ◌+◌, ◌-◌, ◌^◌, ◌<◌, ◌≤◌, ℕ, List, [], ◌∷◌, ◌++◌, Option, None, Some, Err, true, false, length, vec_len, OnOk, IfOk, IfErr, IfSome, MatchOption};
 ghost use Rattle.std.specs.Option.{ForNone};
 ghost use Rattle.nap_list.specs.State.{start};
@@ -392,6 +392,8 @@ fn operand(byte: u8) -> Option<Word>
 /// The sink as it stands, and why the reading stopped.
 #[derive(Debug, Drop)]
 pub struct Stopped<S> {
+    /// The sink, with what was put before the refusal.
     pub sink: S,
+    /// Why the reading stopped, and where.
     pub refusal: Refusal,
 }

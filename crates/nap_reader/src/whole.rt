@@ -1,4 +1,4 @@
-// Reads a whole stream.
+//! Reads a whole stream.
 ghost use Rattle.std.specs.Prelude.{◌≡◌, ◌≢◌, ◌<◌, ◌^◌, None, Some, length, IfOk, IfErr};
 ghost use Rattle.nap_reader.specs.Breaking.{BreaksWithin};
 ghost use Rattle.nap_reader.specs.Stream.{means};
