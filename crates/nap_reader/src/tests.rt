@@ -1,14 +1,14 @@
 // Streams by hand, with the lists, refusals and counts that the profile gives them.
-ghost use Rattle.std.specs.Prelude.{◌≡◌, ◌++◌, List};
+ghost use Rattle.std.specs.Prelude.{◌≡◌, ◌<◌, ◌++◌, List};
 ghost use Rattle.std.proofs.Common.{sym, ap, ◌∙◌, append-nil, append_assoc};
 ghost use Rattle.nap_list.specs.State.{start, walk};
 ghost use Rattle.nap_list.specs.declared.entry.Entry.{Entry};
 
-use crate::{Budget, Fault, Reader, Refusal, read_all};
+use crate::{Budget, Fault, RUN_LIMIT, Reader, Refusal, read_all};
 use nap_codes::{CodeFault, Left};
 use nap_draw::DrawFault;
-use nap_list::{Colour, Entry, Ink, ListSink, Origin, Sink, SinkFault, Texture};
-use nap_values::{Move, Point, Word};
+use nap_list::{Area, Colour, Entry, Ink, ListSink, Origin, Pen, Sink, SinkFault, Texture};
+use nap_values::{Addr, Grb, Move, Point, Word};
 use std::alloc::{AllocError, Global};
 use std::process::Abort;
 use std::test::Fail;
@@ -151,44 +151,161 @@ fn single_bytes<'a>(alloc: Global, bytes: &'a [u8]) -> Result<Vec<&'a [u8]>, All
     Ok(pieces)
 }
 
+/// The display list of a stream, or its refusal.
+fn read(rt: &impl Abort, alloc: Global, bytes: &[u8]) -> Result<Vec<Entry>, Refusal> {
+    assert!(rt; bytes.len() < 1 << 32);
+    read_all(alloc, Budget::usual(), bytes)
+}
+
 #[test]
 fn streams_say_the_same_in_every_cut(rt: HostRuntime) -> Result<(), Fail> {
     let alloc = rt.alloc();
-    let none: &[Entry] = &[];
     let middle = &[dot(4_194_304, 4_194_304)][..];
     let moved = &[dot(6_291_456, 6_291_456)][..];
     let diagonal = &[line(Point::ORIGIN, point(4_194_304, 4_194_304))][..];
-    let point_alone = Fault::LeftOut(Left::IncrementalPoint);
-    let rows = [
-        (b"".as_slice(), none, None, 0),
-        (b"\x0E!_", none, None, 3),
-        (b"\x0E&R@@", middle, None, 5),
-        (b"\x0E&R", middle, None, 3),
-        (b"\x0E!_&R@@@@@@@", middle, None, 12),
-        (b"\x0E%R@@'I@@", moved, None, 9),
-        (b"\x0E)R@@", diagonal, None, 5),
-        (b"\x1B+ z\x1D!", none, None, 6),
-        (b"\x0E$P@@)P@@", none, refusal(Fault::Outside, 5), 9),
-        (b"\x0E&R\x80", middle, refusal(Fault::EighthBit, 3), 4),
-        (b"\x80", none, refusal(Fault::EighthBit, 0), 1),
-        (b"\x0E@", none, refusal(Fault::Stray, 1), 2),
-        (b"\x0E!`", none, refusal(Fault::ThreeD, 1), 3),
-        (b"\x0E&", none, refusal(Fault::Missing, 1), 2),
-        (b"\x0E9", none, refusal(point_alone, 1), 2),
-        (b"A", none, refusal(Fault::Unbuilt, 0), 1),
-        (b"\x1B", none, refusal(Fault::Cut, 1), 1),
-        (b"\x1B0", none, refusal(Fault::BadEscape, 1), 2),
-        (b"\x1B+  z", none, refusal(Fault::BadEscape, 3), 4),
+    let rows: [(&[u8], &[Entry], u64); 8] = [
+        (b"", &[], 0),
+        (b"\x0E!_", &[], 3),
+        (b"\x0E&R@@", middle, 5),
+        (b"\x0E&R", middle, 3),
+        (b"\x0E!_&R@@@@@@@", middle, 12),
+        (b"\x0E%R@@'I@@", moved, 9),
+        (b"\x0E)R@@", diagonal, 5),
+        (b"\x1B+ z\x1D!", &[], 6),
     ];
-    for (bytes, list, refusal, fed) in rows {
+    for (bytes, list, fed) in rows {
         let row = Row {
             bytes,
             list,
-            refusal,
+            refusal: None,
             fed,
         };
         row.agrees_in_every_cut(&rt, alloc)?;
     }
+    Ok(())
+}
+
+#[test]
+fn refused_streams_say_the_same_in_every_cut(rt: HostRuntime) -> Result<(), Fail> {
+    let alloc = rt.alloc();
+    let none: &[Entry] = &[];
+    let middle = &[dot(4_194_304, 4_194_304)][..];
+    let point_alone = Fault::LeftOut(Left::IncrementalPoint);
+    let rows = [
+        (b"\x0E$P@@)P@@".as_slice(), none, Fault::Outside, 5, 9),
+        (b"\x0E&R\x80", middle, Fault::EighthBit, 3, 4),
+        (b"\x80", none, Fault::EighthBit, 0, 1),
+        (b"\x0E@", none, Fault::Stray, 1, 2),
+        (b"\x0E!`", none, Fault::ThreeD, 1, 3),
+        (b"\x0E&", none, Fault::Missing, 1, 2),
+        (b"\x0E9", none, point_alone, 1, 2),
+        (b"A", none, Fault::Unbuilt, 0, 1),
+        (b"\x1B", none, Fault::Cut, 1, 1),
+        (b"\x1B0", none, Fault::BadEscape, 1, 2),
+        (b"\x1B+  z", none, Fault::BadEscape, 3, 4),
+    ];
+    for (bytes, list, fault, place, fed) in rows {
+        let row = Row {
+            bytes,
+            list,
+            refusal: refusal(fault, place),
+            fed,
+        };
+        row.agrees_in_every_cut(&rt, alloc)?;
+    }
+    Ok(())
+}
+
+#[test]
+fn refused_opcodes_have_their_places(rt: HostRuntime) {
+    for (bytes, fault, place) in [
+        (b"\x0E.@@@I@@w@@".as_slice(), Fault::Outside, 1),
+        (b"\x0E$", Fault::Missing, 1),
+        (b"\x0E<", Fault::Missing, 1),
+        (b"\x0E<@@@@", Fault::ManyColours, 1),
+        (b"\x0E D@<R", Fault::NoAddress, 4),
+    ] {
+        let answer = read(&rt, rt.alloc(), bytes);
+        assert_eq!(rt; answer.err(), refusal(fault, place), "of {bytes:?}");
+    }
+}
+
+fn address(number: u32) -> Addr
+    requires { number < 16777216 }
+{
+    Addr::try_new(number).unwrap()
+}
+
+/// The middle of the square, in this colour.
+fn middle_in(colour: Colour) -> Entry {
+    Entry::Point {
+        at: point(4_194_304, 4_194_304),
+        pel: Move::ZERO,
+        colour,
+    }
+}
+
+#[test]
+fn colours_of_the_map(rt: HostRuntime) -> Result<(), Fail> {
+    let alloc = rt.alloc();
+    let addr = address(1_048_576);
+    let grb = Grb::new(0, 49_152, 0);
+    let pair = Colour::Pair(addr, address(2_097_152));
+    let own = &[Entry::Map { addr, grb }, middle_in(AT_START)];
+    let paired = &[Entry::Map { addr, grb }, middle_in(pair)];
+    for (bytes, list) in [(b"\x0E>D<R>&R", own), (b"\x0E>DH<R&R", paired)] {
+        let row = Row {
+            bytes,
+            list,
+            refusal: None,
+            fed: 8,
+        };
+        row.agrees_in_every_cut(&rt, alloc)?;
+    }
+    Ok(())
+}
+
+#[test]
+fn a_reset_and_a_field_hold_the_pen(rt: HostRuntime) -> Result<(), Fail> {
+    let alloc = rt.alloc();
+    let reset = Entry::Reset {
+        first: Word::try_new(1).unwrap(),
+        second: Word::ZERO,
+        pen: Pen::Start,
+    };
+    let field = Entry::Field {
+        area: Area::Whole,
+        pen: Pen::Start,
+    };
+    let row = Row {
+        bytes: b"\x0E A@&R",
+        list: &[reset, middle_in(AT_START)],
+        refusal: None,
+        fed: 6,
+    };
+    row.agrees_in_every_cut(&rt, alloc)?;
+    let row = Row {
+        bytes: b"\x0E8)@@@",
+        list: &[field],
+        refusal: refusal(Fault::PenUnknown, 2),
+        fed: 6,
+    };
+    row.agrees_in_every_cut(&rt, alloc)?;
+    Ok(())
+}
+
+#[test]
+fn the_longest_polygon(rt: HostRuntime) -> Result<(), Fail> {
+    let alloc = rt.alloc();
+    let mut bytes = Vec::from_slice(alloc, b"\x0E!@4")?;
+    for _ in 0..1_024 {
+        bytes.push(0x40)?;
+    }
+    let list = read(&rt, alloc, &bytes);
+    assert_eq!(rt; list.map(|list| list.len()), Ok(1));
+    bytes.push(0x40)?;
+    let answer = read(&rt, alloc, &bytes);
+    assert_eq!(rt; answer.err(), refusal(Fault::ManyPoints, 3));
     Ok(())
 }
 
@@ -336,7 +453,7 @@ fn a_sink_that_fails_stops_the_reading(rt: HostRuntime) {
 }
 
 #[test]
-fn budgets_and_names_of_faults(rt: HostRuntime) {
+fn budgets_have_a_limit(rt: HostRuntime) {
     for (bytes, want) in [
         (0, Some(0)),
         (16_777_216, Some(16_777_216)),
@@ -345,6 +462,14 @@ fn budgets_and_names_of_faults(rt: HostRuntime) {
         assert_eq!(rt; Budget::new(bytes).map(Budget::get), want);
     }
     assert_eq!(rt; Budget::usual().get(), 1_048_576);
+    assert_eq!(rt;
+        (Budget::MOST, Budget::USUAL, RUN_LIMIT),
+        (16_777_216, 1_048_576, 16_384)
+    );
+}
+
+#[test]
+fn faults_have_numbers_and_names(rt: HostRuntime) {
     for (fault, number, name) in [
         (Fault::from(CodeFault::EighthBit), 1, "EighthBit"),
         (Fault::LeftOut(Left::Can), 6, "LeftOut"),
