@@ -1,4 +1,4 @@
-use Rattle.std.proofs.Common.{ℕ, ◌-◌, ◌≡◌, ◌<◌, ◌≤◌, List, [], ◌∷◌, ◌++◌, length, true, false, Option, Some, None, Result, Ok, Err, refl, ap, sym, ◌∙◌, subst, arith, append-nil, length-append}
+use Rattle.std.proofs.Common.{ℕ, ◌-◌, ◌≡◌, ◌<◌, ◌≤◌, List, [], ◌∷◌, ◌++◌, length, true, false, Option, Some, None, is_some, Result, Ok, Err, refl, ap, sym, ◌∙◌, subst, arith, append-nil, length-append}
 use Rattle.nap_codes.specs.declared.code.Code.{Code}
 use Rattle.nap_codes.specs.declared.code.Code.TheVariants as code
 use Rattle.nap_codes.specs.declared.code.CodeFault.{CodeFault}
@@ -69,6 +69,14 @@ pub opens_drawn : (sets : CodeSets) (xs : List ℕ) (c : Code) (n : ℕ) (after 
     kind_of c ≡ kinds.Opens op → IsDrawn op
 opens_drawn sets xs c n after op e kind =
     drawn_of op (subst IsInRange (opcode_of_kind c op kind) (code_ranges sets xs c n after e))
+
+pub refusal_held : (r : Option Refusal) → is_some r ≡ true → (x : Refusal) × (r ≡ Some x)
+refusal_held (Some x) e = (x, refl)
+refusal_held None e = let bad : ⊥ = cc in absurd bad
+
+pub no_refusal : (r : Option Refusal) → is_some r ≡ false → r ≡ None
+no_refusal None e = refl
+no_refusal (Some x) e = let bad : ⊥ = cc in absurd bad
 
 -- a reader without a refusal
 module _ {S : Type 0} (g : Ghosts S) (s : S) (o : Outcome) (t : S) (work : Work) (lexer : LexerState) (left : ℕ) (open_run : Option OpenRun) (run : List ℕ) (pending : List Placed) where

@@ -134,9 +134,8 @@ impl<S: Sink> Reader<S> {
         };
         let Some(word) = operand(byte) else {
             self.close(open_run);
-            match self.refusal {
-                Some(_) => {}
-                None => self.lex(byte, place),
+            if self.refusal.is_none() {
+                self.lex(byte, place);
             }
             return;
         };
@@ -160,14 +159,11 @@ impl<S: Sink> Reader<S> {
             });
             return;
         }
-        match self.run.push(word) {
-            Ok(()) => {}
-            Err(_) => {
-                self.refusal = Some(Refusal {
-                    fault: Fault::Memory,
-                    place,
-                });
-            }
+        if self.run.push(word).is_err() {
+            self.refusal = Some(Refusal {
+                fault: Fault::Memory,
+                place,
+            });
         }
     }
 
@@ -259,9 +255,8 @@ impl<S: Sink> Reader<S> {
             None => self.settle(),
             Some(open_run) => {
                 self.close(open_run);
-                match self.refusal {
-                    Some(_) => {}
-                    None => self.settle(),
+                if self.refusal.is_none() {
+                    self.settle();
                 }
             }
         }
@@ -282,14 +277,11 @@ impl<S: Sink> Reader<S> {
             });
             return;
         }
-        match self.work.state.definition {
-            Some(_) => {
-                self.refusal = Some(Refusal {
-                    fault: Fault::Unended,
-                    place: self.fed,
-                });
-            }
-            None => {}
+        if self.work.state.definition.is_some() {
+            self.refusal = Some(Refusal {
+                fault: Fault::Unended,
+                place: self.fed,
+            });
         }
     }
 

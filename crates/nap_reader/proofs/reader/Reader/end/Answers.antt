@@ -3,25 +3,26 @@ use Rattle.nap_reader.specs.declared.reader.OpenRun.{OpenRun}
 use Rattle.nap_reader.specs.Stream.{begun, with_run}
 use Rattle.nap_reader.specs.Taking.{Has}
 use Rattle.nap_reader.specs.Reading.{Continues, EndsBy}
-use Rattle.nap_reader.proofs.ReadingLemmas.{continues, ends_still, means_settled, means_refused}
+use Rattle.nap_reader.proofs.ReadingLemmas.{refusal_held, no_refusal, continues, ends_still, means_settled, means_refused}
 use Rattle.nap_reader.proofs.reader.Reader.end.Goals as goal
 
-pub returns-in-Some-refusal-clause-ended : goal.returns-in-Some-refusal-clause-ended
-returns-in-Some-refusal-clause-ended g c s p h =
+pub returns-else-is_none-clause-ended : goal.returns-else-is_none-clause-ended
+returns-else-is_none-clause-ended g c s p h =
     let r = c.args.self.now in
     let u = c.close.new.self in
     let live = (subst (Has g.S.Sink s (begun r.budget p) r.sink) c.requires h.sink).0 in
-    let k = subst (EndsBy g.S.Sink s (with_run (begun r.budget p)) u.sink u.work u.lexer.half) c.in-Some-refusal.is (c.close.ensures.ends s p h) in
-    rw c.in-Some-refusal.is (means_refused r.budget p live g.S.Sink s u.sink c.in-Some-refusal.field-0 k)
+    let refused = refusal_held u.refusal c.if-is_none.ensures in
+    let k = subst (EndsBy g.S.Sink s (with_run (begun r.budget p)) u.sink u.work u.lexer.half) refused.1 (c.close.ensures.ends s p h) in
+    rw refused.1 (means_refused r.budget p live g.S.Sink s u.sink refused.0 k)
 
-pub returns-in-None-refusal-clause-ended : goal.returns-in-None-refusal-clause-ended
-returns-in-None-refusal-clause-ended g c s p h =
+pub returns-then-is_none-clause-ended : goal.returns-then-is_none-clause-ended
+returns-then-is_none-clause-ended g c s p h =
     let r = c.args.self.now in
     let u = c.close.new.self in
     let o = with_run (begun r.budget p) in
     let live = (subst (Has g.S.Sink s (begun r.budget p) r.sink) c.requires h.sink).0 in
-    let k = subst (EndsBy g.S.Sink s o u.sink u.work u.lexer.half) c.in-None-refusal.is (c.close.ensures.ends s p h) in
-    rw (means_settled r.budget p live k.has.0, ← (h.fed c.requires), ← c.close.ensures.counts.fed) (c.settle-in-None-refusal.ensures.settled s o k)
+    let k = subst (EndsBy g.S.Sink s o u.sink u.work u.lexer.half) (no_refusal u.refusal c.if-is_none.ensures) (c.close.ensures.ends s p h) in
+    rw (means_settled r.budget p live k.has.0, ← (h.fed c.requires), ← c.close.ensures.counts.fed) (c.settle-then-is_none.ensures.settled s o k)
 
 pub returns-in-None-clause-ended : goal.returns-in-None-clause-ended
 returns-in-None-clause-ended g c s p h =
