@@ -1,4 +1,4 @@
-use Rattle.std.proofs.Common.{◌≡◌, ◌≢◌, ◌⊎◌, ◌∙◌, inl, inr, ℕ, Bool, true, false, List, [], Option, Err, refl, sym, ap, subst}
+use Rattle.std.proofs.Common.{◌≡◌, ◌≢◌, ◌⊎◌, ◌∙◌, inl, inr, ℕ, List, [], Option, Err, refl, sym, ap, subst}
 use Rattle.std.specs.Io.KnownBytes.{Appends}
 use Rattle.clap.specs.declared.error.kind.ErrorKind.{ErrorKind}
 use Rattle.clap.specs.declared.error.kind.ErrorKind.TheVariants as kind
@@ -68,6 +68,3 @@ told_memory before after t status e printed told tells same is =
     either : (t ≡ failure.Memory) ⊎ (t ≡ failure.Memory) → t ≡ failure.Memory
     either (inl h) = h
     either (inr h) = h
-
-pub true_or_false : (b : Bool) → b ≡ false → b ≡ true → ⊥
-true_or_false b h k = let bad : ⊥ = cc in bad

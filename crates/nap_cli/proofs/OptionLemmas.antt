@@ -3,17 +3,12 @@ use Rattle.std.specs.Bool.{MatchBool}
 use Rattle.std.specs.Str.Parse.{IsNumeral, ParsesBool, ParsesUnsigned, digits_value, without_leading_plus}
 use Rattle.clap.specs.Words.{Text}
 use Rattle.nap_cli.specs.CommandLine.{IsBudget, flag_text}
+use Rattle.nap_cli.proofs.CommandLineLemmas.{none_or_some}
 
 -- What typed options say of the text that clap found.
 
-same_some : {A : Type 0} (a b : A) → Some a ≡ Some b → a ≡ b
-same_some a b h = let e : a ≡ b = cc in e
-
-some_not_none : {A : Type 0} (a : A) → Some a ≡ None → ⊥
-some_not_none a h = let bad : ⊥ = cc in bad
-
-pub false_not_true : false ≡ true → ⊥
-false_not_true h = let bad : ⊥ = cc in bad
+pub true_or_false : (b : Bool) → b ≡ false → b ≡ true → ⊥
+true_or_false b h k = let bad : ⊥ = cc in bad
 
 flag_is : (t : Text) (b : Bool) → MatchBool b (t ≡ codes "true") (t ≡ codes "false") → t ≡ flag_text b
 flag_is t true h = h
@@ -21,7 +16,7 @@ flag_is t false h = h
 
 -- a flag that was read is the one that the text names
 pub flag_read : (o : Option Text) (b : Bool) → (o ≡ None → Some b ≡ None) → ((t : Text) → o ≡ Some t → MatchBool b (t ≡ codes "true") (t ≡ codes "false")) → o ≡ Some (flag_text b)
-flag_read None b none value = absurd (some_not_none b (none refl))
+flag_read None b none value = absurd (none_or_some b (sym (none refl)))
 flag_read (Some t) b none value = ap Some (flag_is t b (value t refl))
 
 -- the number that a text of digits writes, where it fits
@@ -31,21 +26,21 @@ IsNumber t n = (IsNumeral 10 (without_leading_plus t) × (digits_value 10 (witho
 -- a number that was read is that of its digits
 pub number_read : (o : Option Text) (n : ℕ) → (o ≡ None → Some n ≡ None) → ((t : Text) → o ≡ Some t → IsNumber t n) → n ≤ 16777216 →
     (t : Text) × (o ≡ Some t) × IsBudget t n
-number_read None n none value most = absurd (some_not_none n (none refl))
+number_read None n none value most = absurd (none_or_some n (sym (none refl)))
 number_read (Some t) n none value most = let h = value t refl in (t, refl, (h.0.0, sym h.1, most))
 
 -- a budget is the number that was read
 pub number_same : (o : Option Text) (m : ℕ) → ((t : Text) → o ≡ Some t → IsNumber t m) → (t : Text) (n : ℕ) → o ≡ Some t → IsBudget t n → m ≤ 16777216
 number_same o m value t n is h = omega (arith, h.1, h.2, (value t is).1)
 
-module _ {E : Type 0} where
-  flag_isnt : (b : Bool) (e : E) → (flag_text b ≢ codes "true") × (flag_text b ≢ codes "false") → ⊥
-  flag_isnt true e h = h.0 refl
-  flag_isnt false e h = h.1 refl
+flag_isnt : (b : Bool) → (flag_text b ≢ codes "true") × (flag_text b ≢ codes "false") → ⊥
+flag_isnt true h = h.0 refl
+flag_isnt false h = h.1 refl
 
+module _ {E : Type 0} where
   -- a text that names a flag is read
   pub flag_unread : (o : Option Text) → ((t : Text) → o ≡ Some t → (e : E) × ParsesBool {E = E} t (Err e)) → (b : Bool) → o ≡ Some (flag_text b) → ⊥
-  flag_unread o value b is = let h = value (flag_text b) is in flag_isnt b h.0 h.1
+  flag_unread o value b is = flag_isnt b (value (flag_text b) is).1
 
   -- a budget is read
   pub number_unread : (o : Option Text) → ((t : Text) → o ≡ Some t → (e : E) × ParsesUnsigned {E = E} 32 10 t (Err e)) → (t : Text) (n : ℕ) → o ≡ Some t → IsBudget t n → ⊥

@@ -165,7 +165,7 @@ pub record WantsMemory (before after : Outputs) (status : ℕ) : Type 0 where
   pub tells : Tells e after.errors_failed (Err failure.Memory)
   pub status_is : status ≡ 3
 
--- Standard error took what is wrong with the words, in clap's text, or a front of it; nothing was printed.
+-- Nothing was printed. What standard error took of what is wrong with the words is left to clap.
 pub record TellsWrong (before after : Outputs) (status : ℕ) : Type 0 where
   pub printed : after.taken ≡ before.taken
   pub e : List ℕ

@@ -2,7 +2,8 @@ use Rattle.std.proofs.Common.{[], Ok, refl}
 use Rattle.std.proofs.KnownBytes.{Appends-nil}
 use Rattle.clap.specs.Values.{kind_of}
 use Rattle.nap_cli.specs.declared.answer.Verdict.TheVariants as verdict
-use Rattle.nap_cli.proofs.ExplainLemmas.{explains_help, explains_memory, told_memory, true_or_false}
+use Rattle.nap_cli.proofs.ExplainLemmas.{explains_help, explains_memory, told_memory}
+use Rattle.nap_cli.proofs.OptionLemmas.{true_or_false}
 use Rattle.nap_cli.proofs.program.explain.Goals as goal
 
 pub returns-in_default : goal.returns-in_default

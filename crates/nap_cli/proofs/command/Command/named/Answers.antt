@@ -1,8 +1,8 @@
-use Rattle.std.proofs.Common.{◌∙◌, codes, refl, sym, subst}
+use Rattle.std.proofs.Common.{◌∙◌, codes, false, refl, sym, subst}
 use Rattle.clap.specs.Words.{found_of}
 use Rattle.clap.proofs.WalkLemmas.{one_text-rows}
 use Rattle.nap_cli.specs.CommandLine.{IsBudget}
-use Rattle.nap_cli.proofs.OptionLemmas.{false_not_true, flag_read, flag_unread, number_read, number_unread, number_same}
+use Rattle.nap_cli.proofs.OptionLemmas.{flag_read, flag_unread, number_read, number_unread, number_same, true_or_false}
 use Rattle.nap_cli.proofs.command.Command.named.Goals as goal
 
 pub returns-in_err-get_one : goal.returns-in_err-get_one
@@ -21,7 +21,7 @@ returns-in_err-new c =
     let is = one_text-rows (found_of c.args.options.now) (codes "budget") in
     rw c.from_residual-in_err-new.ensures (λ k named chosen.
     let most = number_same _ _ (λ t e. (c.in_ok-get_one-2.ensures.value t e).0) chosen.number k.budget (is ∙ chosen.found) chosen.budget in
-    false_not_true (c.in_err-new.ensures.found.1 most))
+    true_or_false false refl (c.in_err-new.ensures.found.1 most))
 
 pub returns : goal.returns
 returns c =
