@@ -7,7 +7,9 @@ pub mod Fits
 pub mod Outlines
 pub mod Planning
 pub mod Puts
+pub mod RangeLemmas
 pub mod Singles
 pub mod Still
 pub mod Turns
+pub mod WalkRanges
 pub mod Walks

@@ -1,8 +1,10 @@
-use Rattle.std.specs.Prelude.{ℕ, ◌≡◌, List, Ok}
+use Rattle.std.specs.Prelude.{ℕ, ◌≡◌, List, Ok, All}
+use Rattle.nap_values.specs.Laws.{IsWord}
 use Rattle.nap_codes.specs.declared.opcode.Opcode.{Opcode}
 use Rattle.nap_list.specs.declared.state.State.{State}
 use Rattle.nap_list.specs.State.{AllFit, walk}
 use Rattle.nap_list.specs.Agreement.{StatesAgree}
+use Rattle.nap_list.specs.Range.{AllInRange, StateInRange}
 use Rattle.nap_draw.specs.declared.work.Work.{Work}
 use Rattle.nap_draw.specs.Rule.{Drawn, rule}
 
@@ -10,3 +12,8 @@ use Rattle.nap_draw.specs.Rule.{Drawn, rule}
 abbrev pub RuleFits : Type 0
 RuleFits = (work : Work) (op : Opcode) (run : List ℕ) (shown : State) (d : Drawn) → rule work op run ≡ Ok d → StatesAgree work.state shown →
     AllFit shown d.entries × StatesAgree d.work.state (walk shown d.entries)
+
+-- where the work's state is in range and the run's words are words, the entries of an opcode are in range, and so is the state that it leaves
+abbrev pub DrawnValuesAreInRange : Type 0
+DrawnValuesAreInRange = (work : Work) (op : Opcode) (run : List ℕ) (d : Drawn) → rule work op run ≡ Ok d → StateInRange work.state → All IsWord run →
+    AllInRange d.entries × StateInRange d.work.state
