@@ -7,3 +7,4 @@ pub mod ReadingLemmas
 pub mod StandingLemmas
 pub mod LawLemmas
 pub mod LegalLemmas
+pub mod RangeLemmas
