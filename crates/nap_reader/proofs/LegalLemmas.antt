@@ -11,7 +11,7 @@ use Rattle.nap_list.proofs.Walks.{walk-append, fit-append}
 use Rattle.nap_list.proofs.Agreement.{start_agrees}
 use Rattle.nap_draw.specs.declared.fault.DrawFault.{DrawFault}
 use Rattle.nap_draw.specs.Rule.{Drawn, rule}
-use Rattle.nap_draw.proofs.Fits.{rule_fits}
+use Rattle.nap_draw.proofs.PublicLaws.{rule_fits}
 use Rattle.nap_reader.specs.declared.fault.Refusal.{Refusal}
 use Rattle.nap_reader.specs.declared.kind.Kind.{Kind}
 use Rattle.nap_reader.specs.declared.kind.Kind.TheVariants as kinds
