@@ -1,14 +1,13 @@
 use Rattle.std.proofs.Common.{ℕ, zero, suc, ◌+◌, ◌-◌, ◌/◌, ◌≡◌, ◌++◌, eqb, List, [], ◌∷◌, map, take, drop, All, Bool, true, false, Option, Some, None, IfSome, option_map, Result, Ok, Err, IfOk, refl, subst, arith}
 use Rattle.std.specs.Option.{option_and_then, option_or}
 use Rattle.std.specs.Prelude.{slice_get, slice_index, unwrap_or, ok_or}
-use Rattle.std.proofs.Math.IntN.{+ℤ_idl}
 use Rattle.std.proofs.lemmas.Bool.{cond_both}
 use Rattle.std.proofs.lemmas.List.Elements.{All-nil, All-cons, All-head, All-tail, All-map, All-append, All-take, All-drop, All-weaker}
 use Rattle.nap_values.specs.Coordinates.{Coordinates, Displacement, IsInSquare, IsInRange, point_at, moved}
 use Rattle.nap_values.specs.Colours.{Components, HasSixteenBitParts}
 use Rattle.nap_values.specs.Operands.{multi_of, single_of, colour_of}
 use Rattle.nap_values.specs.Laws.{IsWord}
-use Rattle.nap_values.proofs.LawLemmas.{displacements_are_unique, values_are_in_range}
+use Rattle.nap_values.proofs.PublicLaws.{points_are_inside, displacements_are_unique, values_are_in_range}
 use Rattle.nap_codes.specs.declared.opcode.Opcode.{Opcode}
 use Rattle.nap_codes.specs.declared.opcode.Opcode.TheVariants as opcodes
 use Rattle.nap_list.specs.declared.attribute.Pen.{Pen}
@@ -72,18 +71,12 @@ word_ranged (word ∷ words) (suc i) all = word_ranged words i (All-tail IsWord 
 
 -- where operands lead
 
-point_inside : (m : Displacement) (p : Coordinates) → point_at m ≡ Some p → IsInSquare p
-unfolding point_at moved
-point_inside m p is =
-    let from_origin : moved (record { x = 0; y = 0 }) m ≡ Some p = rw (+ℤ_idl m.x, +ℤ_idl m.y) is in
-    (displacements_are_unique (record { x = 0; y = 0 }) p m from_origin).0
-
 point_at_ranged : (m : Displacement) → IfSome (point_at m) IsInSquare
 point_at_ranged m = at (point_at m) refl
   where
     at : (o : Option Coordinates) → point_at m ≡ o → IfSome o IsInSquare
     at None is = tt
-    at (Some p) is = point_inside m p is
+    at (Some p) is = (points_are_inside m p is).0
 
 moved_ranged : (p : Coordinates) (m : Displacement) → IfSome (moved p m) IsInSquare
 moved_ranged p m = at (moved p m) refl

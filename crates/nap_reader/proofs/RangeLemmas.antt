@@ -9,14 +9,14 @@ use Rattle.nap_codes.specs.declared.code.Code.TheVariants as code
 use Rattle.nap_codes.specs.declared.code_set.CodeSets.{CodeSets}
 use Rattle.nap_codes.specs.declared.opcode.Opcode.{Opcode}
 use Rattle.nap_codes.specs.Front as codes
-use Rattle.nap_codes.proofs.CodeRanges.{one_byte_opcode}
+use Rattle.nap_codes.proofs.PublicLaws.{one_byte_opcode}
 use Rattle.nap_list.specs.declared.entry.Entry.{Entry}
 use Rattle.nap_list.specs.declared.state.Opened.{Opened}
 use Rattle.nap_list.specs.State.{start}
 use Rattle.nap_list.specs.Range.{InRange, AllInRange, StateInRange}
 use Rattle.nap_draw.specs.declared.fault.DrawFault.{DrawFault}
 use Rattle.nap_draw.specs.Rule.{Drawn, rule}
-use Rattle.nap_draw.proofs.RangeLemmas.{drawn_values_are_in_range}
+use Rattle.nap_draw.proofs.PublicLaws.{drawn_values_are_in_range}
 use Rattle.nap_reader.specs.declared.fault.Fault.TheVariants as faults
 use Rattle.nap_reader.specs.declared.fault.Refusal.{Refusal}
 use Rattle.nap_reader.specs.declared.kind.Kind.{Kind}

@@ -11,9 +11,7 @@ use Rattle.nap_list.specs.declared.attribute.Texture.{Texture}
 use Rattle.nap_list.specs.declared.state.Drawing.{Drawing}
 use Rattle.nap_list.specs.declared.state.Opened.{Opened}
 use Rattle.nap_list.specs.declared.state.State.{State}
-use Rattle.nap_codes.specs.declared.opcode.Opcode.{Opcode}
-use Rattle.nap_codes.specs.declared.opcode.Opcode.TheVariants as opcodes
-use Rattle.nap_draw.specs.Rule.{IsDrawn}
+use Rattle.nap_draw.specs.Carried.{IsDrawn-prop}
 use Rattle.nap_reader.specs.declared.reader.OpenRun.{OpenRun}
 use Rattle.nap_reader.specs.Held.{HasRule}
 use Rattle.nap_list.specs.State.{PenFits, MaskFits, TextureFits}
@@ -75,12 +73,6 @@ StatesAgree-prop s shown = hlevel (
   Agrees-prop s.drawing shown.drawing,
   DefinitionsAgree-prop s.definition shown.definition,
 )
-
-IsDrawn-prop : (op : Opcode) → IsProp (IsDrawn op)
-IsDrawn-prop opcodes.IncrementalPoint = hlevel props
-IsDrawn-prop opcodes.IncrementalLine = hlevel props
-IsDrawn-prop opcodes.IncrementalPolyFilled = hlevel props
-IsDrawn-prop _ = hlevel props
 
 pub HasRule-prop : (open_run : Option OpenRun) → IsProp (HasRule open_run)
 HasRule-prop None = hlevel props

@@ -1,4 +1,4 @@
-use Rattle.nap_draw.proofs.RangeLemmas.{drawn_values_are_in_range}
+use Rattle.nap_draw.proofs.PublicLaws.{drawn_values_are_in_range}
 use Rattle.nap_draw.proofs.laws.drawn_values_are_in_range.Goals as goal
 
 pub returns : goal.returns
