@@ -1,4 +1,4 @@
-use Rattle.std.specs.Prelude.{Option, Some, None}
+use Rattle.std.specs.Prelude.{Option, Some, None, ⊤}
 use Rattle.std.proofs.Props.{props}
 use Rattle.nap_values.specs.Coordinates.{Displacement}
 use Rattle.nap_list.specs.declared.attribute.Base.{Base}
@@ -15,7 +15,6 @@ use Rattle.nap_codes.specs.declared.opcode.Opcode.{Opcode}
 use Rattle.nap_codes.specs.declared.opcode.Opcode.TheVariants as opcodes
 use Rattle.nap_draw.specs.Rule.{IsDrawn}
 use Rattle.nap_reader.specs.declared.reader.OpenRun.{OpenRun}
-use Rattle.nap_reader.specs.Held.{HasRule}
 use Rattle.nap_list.specs.State.{PenFits, MaskFits, TextureFits}
 use Rattle.nap_list.specs.Agreement.{BaseAgrees, ColourAgrees, InMode, Agrees, DefinitionsAgree, StatesAgree}
 
@@ -81,6 +80,11 @@ IsDrawn-prop opcodes.IncrementalPoint = hlevel props
 IsDrawn-prop opcodes.IncrementalLine = hlevel props
 IsDrawn-prop opcodes.IncrementalPolyFilled = hlevel props
 IsDrawn-prop _ = hlevel props
+
+-- the opcode of an open run has a rule
+abbrev pub HasRule : Option OpenRun → Type 0
+HasRule None = ⊤
+HasRule (Some open_run) = IsDrawn open_run.op
 
 pub HasRule-prop : (open_run : Option OpenRun) → IsProp (HasRule open_run)
 HasRule-prop None = hlevel props
