@@ -111,10 +111,10 @@ fn a_lexer_goes_on_after_a_fault(rt: HostRuntime) {
 
 #[test]
 fn tables_end_where_the_standard_does(rt: HostRuntime) {
-    assert_eq!(rt; control0(0x07), Some(Row::Whole(Code::Bell)));
-    assert_eq!(rt; control0(0x20), None);
-    assert_eq!(rt; control1(0x5F), Some(Row::Out(Left::Unprotect)));
-    assert_eq!(rt; control1(0x60), None);
+    assert!(rt; control0(0x07) == Some(Row::Whole(Code::Bell)));
+    assert!(rt; control0(0x20) == None);
+    assert!(rt; control1(0x5F) == Some(Row::Out(Left::Unprotect)));
+    assert!(rt; control1(0x60) == None);
     assert_eq!(rt; opcode_of(0x3F), Some(Opcode::Blink));
     assert_eq!(rt; opcode_of(0x40), None);
     assert_eq!(rt; designate(0x2D, 0x7B), Some((1, CodeSet::Drcs)));
