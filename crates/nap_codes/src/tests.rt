@@ -4,6 +4,7 @@ use crate::{
     CharSet, Code, CodeFault, CodeSet, Left, Lexer, Opcode, Row, Step, TextStep, control0,
     control1, designate, opcode_of,
 };
+use std::test::Fail;
 
 mod pairs;
 
@@ -84,6 +85,21 @@ fn left_out_codes_have_their_names(rt: HostRuntime) {
 }
 
 #[test]
+fn faults_tell_what_is_wrong(rt: HostRuntime) -> Result<(), Fail> {
+    let alloc = rt.alloc();
+    for (fault, want) in [
+        (CodeFault::EighthBit, "a byte has its eighth bit set"),
+        (CodeFault::BadEscape, "no such escape sequence"),
+        (CodeFault::BadArgument, "an argument is out of range"),
+        (CodeFault::LeftOut(Left::Deft), "DEFT MACRO is left out"),
+        (CodeFault::LeftOut(Left::Nsr), "NSR is left out"),
+    ] {
+        assert_eq!(rt; format!(in alloc; "{fault}")?.as_str(), want);
+    }
+    Ok(())
+}
+
+#[test]
 fn codes_that_no_pair_of_bytes_has(rt: HostRuntime) {
     assert_eq!(rt;
         last_answer(&[0x1C, 0x40, 0x41]),
@@ -101,7 +117,7 @@ fn codes_that_no_pair_of_bytes_has(rt: HostRuntime) {
 
 #[test]
 fn a_lexer_goes_on_after_a_fault(rt: HostRuntime) {
-    let mut lexer = Lexer::new();
+    let mut lexer = Lexer::default();
     assert_eq!(rt; lexer.step(0x1B), Step::More);
     assert_eq!(rt; lexer.step(0x30), Step::Fault(CodeFault::BadEscape));
     assert!(rt; !lexer.at_rest());
