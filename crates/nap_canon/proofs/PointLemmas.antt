@@ -6,7 +6,7 @@ use Rattle.nap_values.specs.Coordinates.{Coordinates, IsInSquare}
 use Rattle.nap_values.specs.Laws.{IsOperandByte}
 use Rattle.nap_values.specs.Spellings as spellings
 use Rattle.nap_values.specs.Spellings.{point_bytes}
-use Rattle.nap_values.proofs.LawLemmas.{points_spell_once}
+use Rattle.nap_values.proofs.PublicLaws.{points_spell_once}
 use Rattle.nap_codes.specs.declared.code.Code.TheVariants as code
 use Rattle.nap_codes.specs.declared.code_set.CodeSets.{CodeSets}
 use Rattle.nap_codes.specs.declared.code_set.GSet.TheVariants.{G1}

@@ -4,7 +4,7 @@ use Rattle.nap_codes.specs.declared.code.Code.TheVariants as code
 use Rattle.nap_codes.specs.declared.code_set.CodeSets.{CodeSets}
 use Rattle.nap_codes.specs.declared.opcode.Opcode.{Opcode}
 use Rattle.nap_codes.specs.Front as codes
-use Rattle.nap_codes.proofs.FrontLaws.{whole_stays}
+use Rattle.nap_codes.proofs.PublicLaws.{whole_stays}
 use Rattle.nap_list.specs.declared.entry.Entry.{Entry}
 use Rattle.nap_draw.specs.Rule.{Drawn, rule}
 use Rattle.nap_draw.specs.declared.fault.DrawFault.{DrawFault}

@@ -3,7 +3,7 @@ use Rattle.std.proofs.lemmas.List.{length-map, take_all, drop_all}
 use Rattle.nap_values.specs.Coordinates.{Coordinates, IsInSquare, point_at}
 use Rattle.nap_values.specs.Operands.{multi_of}
 use Rattle.nap_values.specs.Spellings.{words_of, point_bytes}
-use Rattle.nap_values.proofs.LawLemmas.{points_spell_once}
+use Rattle.nap_values.proofs.PublicLaws.{points_spell_once}
 use Rattle.nap_codes.specs.declared.opcode.Opcode.TheVariants as opcodes
 use Rattle.nap_list.specs.declared.entry.Entry.{Entry}
 use Rattle.nap_list.specs.declared.entry.Entry.TheVariants as entries

@@ -5,8 +5,7 @@ use Rattle.std.proofs.lemmas.Bool.{cond_both}
 use Rattle.std.proofs.lemmas.List.Elements.{All-nil, All-cons, All-map}
 use Rattle.nap_values.specs.Coordinates.{Coordinates, Displacement, IsInSquare, point_at, moved}
 use Rattle.nap_values.specs.Operands.{colour_of}
-use Rattle.nap_values.proofs.CoordinateLemmas.{point_with-back}
-use Rattle.nap_values.proofs.LawLemmas.{displacements_are_unique}
+use Rattle.nap_values.proofs.PublicLaws.{displacements_are_unique, points_are_inside}
 use Rattle.nap_values.specs.Colours.{Components}
 use Rattle.nap_codes.specs.declared.opcode.Opcode.{Opcode}
 use Rattle.nap_codes.specs.declared.opcode.Opcode.TheVariants as opcodes
@@ -39,8 +38,7 @@ goes_on None next inside rest = tt
 goes_on (Some p) next inside rest = one_more p (next p) (inside p refl) (rest p)
 
 point_inside : (m : Displacement) (p : Coordinates) → point_at m ≡ Some p → IsInSquare p
-unfolding point_at
-point_inside m p is = (point_with-back m.x m.y p is).0
+point_inside m p is = (points_are_inside m p is).0
 
 moved_inside : (p : Coordinates) (m : Displacement) (q : Coordinates) → moved p m ≡ Some q → IsInSquare q
 moved_inside p m q is = (displacements_are_unique p q m is).0

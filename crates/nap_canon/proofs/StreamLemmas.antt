@@ -1,7 +1,7 @@
 use Rattle.std.proofs.Common.{ℕ, ◌≡◌, ◌≢◌, ◌↔◌, List, length, Result, Err, Vec, Global, IsErrOf, refl, ap, sym, subst, inr, ◌∙◌}
 use Rattle.nap_list.specs.declared.entry.Entry.{Entry}
 use Rattle.nap_list.specs.State.{Legal, BreaksAt}
-use Rattle.nap_list.proofs.Breaks.{legal_never_breaks}
+use Rattle.nap_list.proofs.PublicLaws.{legal_never_breaks}
 use Rattle.nap_reader.specs.declared.fault.Fault.TheVariants as faults
 use Rattle.nap_reader.specs.Stream.{refusal}
 use Rattle.nap_reader.proofs.LegalLemmas.{accepted_is_legal}

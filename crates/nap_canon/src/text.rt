@@ -5,8 +5,7 @@ ghost use Rattle.nap_canon.specs.Text.{text, written, spelled, HasText, HaveText
 
 use crate::fault::CanonFault;
 use nap_list::{Colour, Entry, Origin, legal};
-use nap_values::Move;
-use nap_values::spelling::put_point;
+use nap_values::{Move, put_point};
 use std::alloc::{AllocError, Global};
 
 /// SO brings the opcodes into GL, and DOMAIN makes the operands eight words and four words long.

@@ -11,3 +11,4 @@ pub mod SpellingLaws
 pub mod CodeRanges
 pub mod LexedLemmas
 pub mod Rows
+pub mod PublicLaws

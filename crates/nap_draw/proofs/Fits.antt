@@ -21,7 +21,7 @@ use Rattle.nap_list.specs.declared.state.State.{State}
 use Rattle.nap_list.specs.Entry.{held, WellMade}
 use Rattle.nap_list.specs.State.{AllFit, Comes, TextureFits, MaskFits, with_colour, after, walk, with_pen_at}
 use Rattle.nap_list.specs.Agreement.{ColourAgrees, InMode, Holds, StatesAgree}
-use Rattle.nap_list.proofs.Agreement.{agreeing_fits}
+use Rattle.nap_list.proofs.PublicLaws.{agreeing_fits}
 use Rattle.nap_draw.specs.declared.work.Work.{Work}
 use Rattle.std.proofs.lemmas.Bool.Decides.{nat_tests}
 use Rattle.nap_draw.specs.declared.fault.DrawFault.{DrawFault}

@@ -5,7 +5,7 @@ use Rattle.nap_list.specs.declared.state.State.{State}
 use Rattle.nap_list.specs.declared.sink.SinkFault.{SinkFault}
 use Rattle.nap_list.specs.declared.sink.SinkFault.TheVariants.{Memory, Write}
 use Rattle.nap_list.specs.State.{Fits, AllFit, after, walk}
-use Rattle.nap_list.proofs.Walks.{walk_more, fit_rest}
+use Rattle.nap_list.proofs.PublicLaws.{walks_join, fits_join}
 use Rattle.nap_draw.specs.Draws.{Breaks, PutsAll}
 use Rattle.nap_draw.specs.Plans.{YieldsWhole}
 
@@ -14,11 +14,12 @@ pub next_fits : (s t : State) (list front rest : List Entry) (x : Entry) → lis
 unfolding AllFit
 next_fits s t list front rest x parts there fit =
     let all : AllFit s (front ++ x ∷ rest) = subst (λ (list : List Entry). AllFit s list) parts fit in
-    subst (λ (t : State). Fits t x) (sym there) (fit_rest s front (x ∷ rest) all).0
+    subst (λ (t : State). Fits t x) (sym there) ((fits_join s front (x ∷ rest)).0 all).1.0
 
 -- one entry more was put
 pub state_more : (s t u : State) (front : List Entry) (x : Entry) → t ≡ walk s front → u ≡ after t x → u ≡ walk s (front ++ x ∷ [])
-state_more s t u front x there is = is ∙ (ap (λ (t : State). after t x) there ∙ sym (walk_more s front x))
+unfolding walk
+state_more s t u front x there is = is ∙ (ap (λ (t : State). after t x) there ∙ sym (walks_join s front (x ∷ [])))
 
 -- an iterator's list, whole as it was, behind its first item
 pub turn_inside : {S A : Type 0} (left : S → Option (List A)) (s t : S) (x : A) → YieldsWhole left s (Some x) t → IsSome (left t)

@@ -13,7 +13,7 @@ use Rattle.nap_list.specs.declared.state.State.{State}
 use Rattle.nap_list.specs.Entry.{held, WellMade}
 use Rattle.nap_list.specs.State.{PenFits, MaskFits, Comes, Fits, after, walk}
 use Rattle.nap_list.specs.Agreement.{BaseAgrees, ColourAgrees, InMode, Agrees, StatesAgree, Holds}
-use Rattle.nap_list.proofs.Agreement.{agreeing_fits}
+use Rattle.nap_list.proofs.PublicLaws.{agreeing_fits}
 use Rattle.nap_draw.specs.declared.plan.Plan.{Plan}
 use Rattle.nap_draw.specs.declared.entries.Entries.TheVariants as kinds
 use Rattle.nap_draw.specs.declared.work.Work.{Work}

@@ -14,7 +14,7 @@ use Rattle.nap_list.specs.declared.state.State.{State}
 use Rattle.nap_list.specs.Entry.{held, WellMade}
 use Rattle.nap_list.specs.State.{AllFit, Comes, after, walk}
 use Rattle.nap_list.specs.Agreement.{InMode, Holds, StatesAgree}
-use Rattle.nap_list.proofs.Agreement.{agreeing_fits}
+use Rattle.nap_list.proofs.PublicLaws.{agreeing_fits}
 use Rattle.nap_draw.specs.Rule.{blink}
 use Rattle.nap_draw.proofs.Walks.{left_by}
 

@@ -8,7 +8,7 @@ use Rattle.nap_list.specs.declared.state.State.{State}
 use Rattle.nap_list.specs.Entry.{held, WellMade}
 use Rattle.nap_list.specs.State.{with_pen, with_pen_at, drawn, definition_after, last_after, after, walk, Comes, corner}
 use Rattle.nap_list.specs.Agreement.{InMode, Holds}
-use Rattle.nap_list.proofs.Agreement.{taking_nothing}
+use Rattle.nap_list.proofs.PublicLaws.{taking_nothing}
 use Rattle.nap_draw.specs.declared.entries.Figure.{Figure}
 use Rattle.nap_draw.specs.declared.entries.Figure.TheVariants as figures
 use Rattle.nap_draw.specs.declared.work.Work.{Work}

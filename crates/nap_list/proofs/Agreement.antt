@@ -18,8 +18,9 @@ use Rattle.nap_list.specs.declared.state.State.{State}
 use Rattle.nap_list.specs.declared.entry.Entry.{Entry}
 use Rattle.nap_list.specs.declared.entry.Entry.TheVariants as entries
 use Rattle.nap_list.specs.Entry.{held}
-use Rattle.nap_list.specs.State.{PenFits, ColourFits, MaskFits, TextureFits, HeldFits, Comes, base_shown, colour_code, taking, with_pen, with_pen_at, reset, saved_values, drawn, definition_after, start, start_texture}
+use Rattle.nap_list.specs.State.{PenFits, ColourFits, MaskFits, TextureFits, HeldFits, Comes, base_shown, colour_code, taking, with_pen, with_pen_at, reset, saved_values, drawn, definition_after, start_texture}
 use Rattle.nap_list.specs.Agreement.{BaseAgrees, ColourAgrees, InMode, Agrees, DefinitionsAgree, StatesAgree, Holds, AgreeingFits}
+use Rattle.nap_list.specs.Laws.{StartAgrees, TakingNothing}
 
 -- a value fits where it stands
 
@@ -220,7 +221,7 @@ agreeing_fits s shown e agree holds made comes =
     )
 
 -- the start agrees with itself
-pub start_agrees : StatesAgree start start
+pub start_agrees : StartAgrees
 start_agrees = record {
   drawing = record { pen = refl; base = refl; colour = tt; mode = refl; texture = refl };
   definition = tt;
@@ -240,7 +241,7 @@ base_stays (Some (colours.Pair a b)) d is h = refl
 base_stays (Some (colours.ByReset preset)) d is h = refl
 
 -- where all held values stand already, taking them changes nothing
-pub taking_nothing : (h : Held) (d : Drawing) → Holds h d → InMode d.base d.colour → taking d h ≡ d
+pub taking_nothing : TakingNothing
 taking_nothing h d holds mode =
     let p = is_unwrapped h.pen d.pen holds.pen in
     let q = is_unwrapped h.pel d.pel holds.pel in

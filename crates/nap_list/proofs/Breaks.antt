@@ -6,6 +6,7 @@ use Rattle.nap_list.specs.declared.entry.Entry.{Entry}
 use Rattle.nap_list.specs.declared.state.Opened.{Opened}
 use Rattle.nap_list.specs.declared.state.State.{State}
 use Rattle.nap_list.specs.State.{start, after, walk, AllFit, Fits, Legal, BreaksAt}
+use Rattle.nap_list.specs.Laws.{LegalNeverBreaks}
 
 -- A list goes wrong at one index at most, and a legal list at none: by the place along a walk, entry after entry.
 
@@ -72,7 +73,7 @@ misfit_at es i e s lt is state before misfit = inl (record {
 pub breaks_once : (es : List Entry) (i j : ℕ) → BreaksAt i es → BreaksAt j es → i ≡ j
 breaks_once es i j a b = once start es i j (along es i a) (along es j b)
 
-pub legal_never_breaks : (es : List Entry) (i : ℕ) → Legal es → BreaksAt i es → ⊥
+pub legal_never_breaks : LegalNeverBreaks
 legal_never_breaks es i legal breaks = never start es i legal.fit legal.ended (along es i breaks)
 
 -- the answers, from where the walk stopped

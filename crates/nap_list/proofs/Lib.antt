@@ -1,3 +1,4 @@
 pub mod Agreement
 pub mod Breaks
 pub mod Walks
+pub mod PublicLaws

@@ -1,7 +1,10 @@
-use Rattle.std.specs.Prelude.{◌≡◌, ◌↔◌, List, ◌++◌}
+use Rattle.std.specs.Prelude.{ℕ, ◌≡◌, ◌↔◌, List, ◌++◌}
 use Rattle.nap_list.specs.declared.entry.Entry.{Entry}
 use Rattle.nap_list.specs.declared.state.State.{State}
-use Rattle.nap_list.specs.State.{walk, AllFit}
+use Rattle.nap_list.specs.declared.attribute.Held.{Held}
+use Rattle.nap_list.specs.declared.state.Drawing.{Drawing}
+use Rattle.nap_list.specs.State.{start, taking, walk, AllFit, Legal, BreaksAt}
+use Rattle.nap_list.specs.Agreement.{InMode, StatesAgree, Holds}
 
 -- the walk of two lists joined is that of the second from where the first leads
 abbrev pub WalksJoin : Type 0
@@ -10,3 +13,15 @@ WalksJoin = (s : State) (xs ys : List Entry) → walk s (xs ++ ys) ≡ walk (wal
 -- two lists joined fit exactly where the first fits and the second fits from where it leads
 abbrev pub FitsJoin : Type 0
 FitsJoin = (s : State) (xs ys : List Entry) → AllFit s (xs ++ ys) ↔ (AllFit s xs × AllFit (walk s xs) ys)
+
+-- the start agrees with itself
+abbrev pub StartAgrees : Type 0
+StartAgrees = StatesAgree start start
+
+-- taking held values that all stand already changes nothing, where a colour of mode 0 is the base
+abbrev pub TakingNothing : Type 0
+TakingNothing = (h : Held) (d : Drawing) → Holds h d → InMode d.base d.colour → taking d h ≡ d
+
+-- a legal list goes wrong nowhere
+abbrev pub LegalNeverBreaks : Type 0
+LegalNeverBreaks = (es : List Entry) (index : ℕ) → Legal es → BreaksAt index es → ⊥

@@ -2,4 +2,5 @@ pub mod Agreement
 pub mod Device
 pub mod Entry
 pub mod Laws
+pub mod Propositions
 pub mod State

@@ -1,15 +1,13 @@
-//! Laws of walks, as contracts of functions that do nothing.
-ghost use Rattle.nap_list.specs.Laws.{WalksJoin, FitsJoin};
+//! Laws of states, walks and legal lists, as contracts of functions that do nothing.
+ghost use Rattle.nap_list.specs.Laws.{WalksJoin, FitsJoin, StartAgrees, TakingNothing, LegalNeverBreaks};
 ghost use Rattle.nap_list.specs.Agreement.{AgreeingFits};
 
 /// A walk goes on from where the list before it leads.
-#[tactic(auto, using(crate::proofs::Walks::walks_join))]
 pub fn walks_join()
     ensures { WalksJoin }
 {}
 
 /// A list fits exactly where each front of it does and the rest fits behind that front.
-#[tactic(auto, using(crate::proofs::Walks::fits_join))]
 pub fn fits_join()
     ensures { FitsJoin }
 {}
@@ -18,4 +16,19 @@ pub fn fits_join()
 /// puts fitting entries and keeps agreeing.
 pub fn agreeing_fits()
     ensures { AgreeingFits }
+{}
+
+/// A reader that starts with the start's values agrees with a list that has no entry yet.
+pub fn start_agrees()
+    ensures { StartAgrees }
+{}
+
+/// An entry whose values all stand already leaves the values as they are, before it has its effect.
+pub fn taking_nothing()
+    ensures { TakingNothing }
+{}
+
+/// No index is one where a legal list goes wrong.
+pub fn legal_never_breaks()
+    ensures { LegalNeverBreaks }
 {}

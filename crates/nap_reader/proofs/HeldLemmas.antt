@@ -10,7 +10,7 @@ use Rattle.nap_codes.specs.declared.code.CodeFault.{CodeFault}
 use Rattle.nap_codes.specs.declared.code_set.CodeSets.{CodeSets}
 use Rattle.nap_codes.specs.declared.opcode.Opcode.{Opcode}
 use Rattle.nap_codes.specs.Front as codes
-use Rattle.nap_codes.proofs.FrontLaws.{whole_stays, refused_stays}
+use Rattle.nap_codes.proofs.PublicLaws.{whole_stays, refused_stays}
 use Rattle.nap_draw.specs.Rule.{rule}
 use Rattle.nap_reader.specs.declared.fault.Fault.TheVariants as faults
 use Rattle.nap_reader.specs.declared.reader.OpenRun.{OpenRun}

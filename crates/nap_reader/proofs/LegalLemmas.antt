@@ -6,8 +6,7 @@ use Rattle.nap_list.specs.declared.state.Opened.{Opened}
 use Rattle.nap_list.specs.declared.state.State.{State}
 use Rattle.nap_list.specs.State.{start, walk, AllFit, Legal}
 use Rattle.nap_list.specs.Agreement.{DefinitionsAgree, StatesAgree}
-use Rattle.nap_list.proofs.Walks.{walk-append, fit-append}
-use Rattle.nap_list.proofs.Agreement.{start_agrees}
+use Rattle.nap_list.proofs.PublicLaws.{walks_join, fits_join, start_agrees}
 use Rattle.nap_draw.specs.declared.fault.DrawFault.{DrawFault}
 use Rattle.nap_draw.specs.Rule.{Drawn, rule}
 use Rattle.nap_draw.proofs.Fits.{rule_fits}
@@ -69,8 +68,8 @@ onward-Agreed next ih m xs shown (course.refuse r) agrees k = record { fit = tt;
 onward-Agreed next ih m xs shown (course.act es m' ys) agrees (acts fit after) =
     let rest = ih m' ys (walk shown es) after in
     record {
-      fit = fit-append shown es (next m' ys).entries fit rest.fit;
-      agrees = λ e. subst (StatesAgree (next m' ys).machine.work.state) (sym (walk-append shown es (next m' ys).entries)) (rest.agrees e);
+      fit = (fits_join shown es (next m' ys).entries).1 (fit, rest.fit);
+      agrees = λ e. subst (StatesAgree (next m' ys).machine.work.state) (sym (walks_join shown es (next m' ys).entries)) (rest.agrees e);
     }
 
 go-Agreed : (fuel : ℕ) (m : Machine) (xs : List Placed) (shown : State) → StatesAgree m.work.state shown → Agreed shown (go front fuel m xs)
@@ -90,8 +89,8 @@ with_drawn-Agreed : (o : Outcome) (place : ℕ) (op : Opcode) (run : List ℕ) (
 with_drawn-Agreed o place op run (Ok drawn) e none h =
     let k = rule_fits o.machine.work op run (walk start o.entries) drawn e (h.agrees none) in
     record {
-      fit = fit-append start o.entries drawn.entries h.fit k.0;
-      agrees = λ _. subst (StatesAgree drawn.work.state) (sym (walk-append start o.entries drawn.entries)) k.1;
+      fit = (fits_join start o.entries drawn.entries).1 (h.fit, k.0);
+      agrees = λ _. subst (StatesAgree drawn.work.state) (sym (walks_join start o.entries drawn.entries)) k.1;
     }
 with_drawn-Agreed o place op run (Err fault) e none h = record { fit = h.fit; agrees = λ e. cc }
 

@@ -11,7 +11,7 @@ use Rattle.nap_codes.specs.CodeSets.{start_sets}
 use Rattle.nap_codes.specs.Front as codes
 use Rattle.nap_codes.specs.declared.code.Step.TheVariants as steps
 use Rattle.nap_codes.specs.Lexer.{LexerState, StepsBy}
-use Rattle.nap_codes.proofs.CodeRanges.{code_ranges, one_byte_opcode}
+use Rattle.nap_codes.proofs.PublicLaws.{code_ranges, one_byte_opcode}
 use Rattle.nap_list.specs.declared.sink.Sink.{Ghosts}
 use Rattle.nap_draw.specs.declared.fault.DrawFault.{DrawFault}
 use Rattle.nap_draw.specs.declared.work.Effects.{Effects}

@@ -2,4 +2,4 @@ pub mod LoopLemmas
 pub mod DigitLemmas
 pub mod SpellingLemmas
 pub mod CoordinateLemmas
-pub mod LawLemmas
+pub mod PublicLaws

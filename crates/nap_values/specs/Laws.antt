@@ -56,3 +56,8 @@ DisplacementsLeadThere = (p q : Coordinates) → IsInSquare p → IsInSquare q �
 -- whatever leads to a point is the displacement to it
 abbrev pub DisplacementsAreUnique : Type 0
 DisplacementsAreUnique = (p q : Coordinates) (m : Displacement) → moved p m ≡ Some q → IsInSquare q × (displacement_to p q ≡ m)
+
+-- the point that far from the origin is in the square, and that far is the displacement to it
+abbrev pub PointsAreInside : Type 0
+PointsAreInside = (m : Displacement) (p : Coordinates) → point_at m ≡ Some p →
+    IsInSquare p × (displacement_to (record { x = 0; y = 0 }) p ≡ m)

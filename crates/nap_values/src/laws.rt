@@ -1,5 +1,5 @@
 //! Laws of the definitions, each proved as what a function of no effect ensures.
-ghost use Rattle.nap_values.specs.Laws.{MovesSpellOnce, PointsSpellOnce, AddressesSpellOnce, ColoursSpellOnce, MissingWordsAreZero, ValuesAreInRange, DisplacementsLeadThere, DisplacementsAreUnique};
+ghost use Rattle.nap_values.specs.Laws.{MovesSpellOnce, PointsSpellOnce, AddressesSpellOnce, ColoursSpellOnce, MissingWordsAreZero, ValuesAreInRange, DisplacementsLeadThere, DisplacementsAreUnique, PointsAreInside};
 
 /// Each displacement has one spelling of eight words.
 pub fn moves_spell_once()
@@ -39,4 +39,9 @@ pub fn displacements_lead_there()
 /// What leads from a point to another is the displacement from the one to the other.
 pub fn displacements_are_unique()
     ensures { DisplacementsAreUnique }
+{}
+
+/// A point at a displacement from the origin is in the square, and no other displacement leads there.
+pub fn points_are_inside()
+    ensures { PointsAreInside }
 {}

@@ -1,4 +1,4 @@
-use Rattle.nap_codes.proofs.FrontLaws.{earlier_unfinished, unfinished_before}
+use Rattle.nap_codes.proofs.PublicLaws.{earlier_unfinished, unfinished_before}
 use Rattle.nap_codes.proofs.laws.earlier_is_unfinished.Goals as goal
 
 pub returns-clause-whole : goal.returns-clause-whole

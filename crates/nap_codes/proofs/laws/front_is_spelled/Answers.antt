@@ -1,4 +1,4 @@
-use Rattle.nap_codes.proofs.SpellingLaws.{whole_is_spelled, refused_is_spelled, unfinished_is_prefix}
+use Rattle.nap_codes.proofs.PublicLaws.{whole_is_spelled, refused_is_spelled, unfinished_is_prefix}
 use Rattle.nap_codes.proofs.laws.front_is_spelled.Goals as goal
 
 pub returns-clause-whole : goal.returns-clause-whole

@@ -1,4 +1,4 @@
-use Rattle.nap_codes.proofs.FrontLaws.{whole_length, whole_taken, refused_index, refused_taken}
+use Rattle.nap_codes.proofs.PublicLaws.{whole_length, whole_taken, refused_index, refused_taken}
 use Rattle.nap_codes.proofs.laws.front_length.Goals as goal
 
 pub returns-clause-whole : goal.returns-clause-whole

@@ -1,4 +1,4 @@
-use Rattle.nap_codes.proofs.FrontLaws.{whole_stays, refused_stays}
+use Rattle.nap_codes.proofs.PublicLaws.{whole_stays, refused_stays}
 use Rattle.nap_codes.proofs.laws.front_stays.Goals as goal
 
 pub returns-clause-whole : goal.returns-clause-whole

@@ -1,4 +1,4 @@
-use Rattle.nap_codes.proofs.CodeRanges.{one_byte_opcode, one_byte_operand}
+use Rattle.nap_codes.proofs.PublicLaws.{one_byte_opcode, one_byte_operand}
 use Rattle.nap_codes.proofs.laws.one_byte_of_pdi.Goals as goal
 
 pub returns-clause-opcode : goal.returns-clause-opcode

@@ -1,5 +1,5 @@
 use Rattle.nap_list.specs.State.{walk}
-use Rattle.nap_list.proofs.Agreement.{start_agrees}
+use Rattle.nap_list.proofs.PublicLaws.{start_agrees}
 use Rattle.nap_draw.proofs.tests.answer_to.Goals as goal
 
 pub loop-step-init : goal.loop-step-init

@@ -1,4 +1,4 @@
-use Rattle.nap_list.proofs.Agreement.{agreeing_fits}
+use Rattle.nap_list.proofs.PublicLaws.{agreeing_fits}
 use Rattle.nap_list.proofs.laws.agreeing_fits.Goals as goal
 
 pub returns : goal.returns

@@ -1,4 +1,4 @@
-use Rattle.nap_values.proofs.LawLemmas.{colours_spell_once}
+use Rattle.nap_values.proofs.PublicLaws.{colours_spell_once}
 use Rattle.nap_values.proofs.laws.colours_spell_once.Goals as goal
 
 pub returns : goal.returns

@@ -1,4 +1,4 @@
-use Rattle.nap_values.proofs.LawLemmas.{displacements_lead_there}
+use Rattle.nap_values.proofs.PublicLaws.{displacements_lead_there}
 use Rattle.nap_values.proofs.laws.displacements_lead_there.Goals as goal
 
 pub returns : goal.returns

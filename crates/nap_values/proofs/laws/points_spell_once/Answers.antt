@@ -1,4 +1,4 @@
-use Rattle.nap_values.proofs.LawLemmas.{points_spell_once}
+use Rattle.nap_values.proofs.PublicLaws.{points_spell_once}
 use Rattle.nap_values.proofs.laws.points_spell_once.Goals as goal
 
 pub returns : goal.returns

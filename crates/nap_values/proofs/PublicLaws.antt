@@ -7,7 +7,7 @@ use Rattle.nap_values.specs.Colours.{Components}
 use Rattle.nap_values.specs.TwosComplement.{bits_of}
 use Rattle.nap_values.specs.Operands.{x_digit, y_digit, g_digit, r_digit, b_digit, multi_of, single_of, colour_of}
 use Rattle.nap_values.specs.Spellings.{bytes_of, words_of_pairs, words_of_triples, move_bytes, point_bytes, addr_bytes, grb_bytes}
-use Rattle.nap_values.specs.Laws.{IsWord, IsOnlySpelling, MovesSpellOnce, PointsSpellOnce, AddressesSpellOnce, ColoursSpellOnce, MissingWordsAreZero, ValuesAreInRange, DisplacementsLeadThere, DisplacementsAreUnique}
+use Rattle.nap_values.specs.Laws.{IsWord, IsOnlySpelling, MovesSpellOnce, PointsSpellOnce, AddressesSpellOnce, ColoursSpellOnce, MissingWordsAreZero, ValuesAreInRange, DisplacementsLeadThere, DisplacementsAreUnique, PointsAreInside}
 use Rattle.nap_values.proofs.DigitLemmas.{value_of-digits_of, digits_of-value_of, value_of-below, length-digits_of, digits_of-below, value_of-append-zeros}
 use Rattle.nap_values.proofs.SpellingLemmas.{words_of-bytes_of, bytes_of-operand_bytes, length-words_of_pairs, words_of_pairs-words, x_digits-words_of_pairs, y_digits-words_of_pairs, words_of_pairs-digits, x_digits-below, y_digits-below, length-words_of_triples, words_of_triples-words, digits-words_of_triples, words_of_triples-digits, g_digits-below, r_digits-below, b_digits-below}
 use Rattle.nap_values.proofs.CoordinateLemmas.{bits_of-signed_of, signed_of-bits_of, bits_of-below, signed_of-low, signed_of-high, point_with-in_square, point_with-back}
@@ -208,3 +208,11 @@ displacements_are_unique p q m is =
     let x_is : pos q.x -ℤ pos p.x ≡ m.x = omega (arith, ints, back.1) in
     let y_is : pos q.y -ℤ pos p.y ≡ m.y = omega (arith, ints, back.2) in
     (back.0, displacement_parts (displacement_to p q) m x_is y_is)
+
+pub points_are_inside : PointsAreInside
+unfolding point_at displacement_to
+points_are_inside m p is =
+    let back = point_with-back m.x m.y p is in
+    let x_is : pos p.x -ℤ pos 0 ≡ m.x = omega (arith, ints, back.1) in
+    let y_is : pos p.y -ℤ pos 0 ≡ m.y = omega (arith, ints, back.2) in
+    (back.0, displacement_parts (displacement_to (record { x = 0; y = 0 }) p) m x_is y_is)

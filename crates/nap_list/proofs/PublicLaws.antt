@@ -1,0 +1,25 @@
+use Rattle.nap_list.specs.Agreement.{AgreeingFits}
+use Rattle.nap_list.specs.Laws.{WalksJoin, FitsJoin, StartAgrees, TakingNothing, LegalNeverBreaks}
+use Rattle.nap_list.proofs.Walks as walks
+use Rattle.nap_list.proofs.Agreement as agreement
+use Rattle.nap_list.proofs.Breaks as breaks
+
+-- The laws that crates above cite.
+
+pub walks_join : WalksJoin
+walks_join = walks.walks_join
+
+pub fits_join : FitsJoin
+fits_join = walks.fits_join
+
+pub agreeing_fits : AgreeingFits
+agreeing_fits = agreement.agreeing_fits
+
+pub start_agrees : StartAgrees
+start_agrees = agreement.start_agrees
+
+pub taking_nothing : TakingNothing
+taking_nothing = agreement.taking_nothing
+
+pub legal_never_breaks : LegalNeverBreaks
+legal_never_breaks = breaks.legal_never_breaks

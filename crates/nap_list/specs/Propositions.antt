@@ -1,0 +1,72 @@
+use Rattle.std.specs.Prelude.{Option, Some, None}
+use Rattle.std.proofs.Props.{props}
+use Rattle.nap_values.specs.Coordinates.{Displacement}
+use Rattle.nap_list.specs.declared.attribute.Base.{Base}
+use Rattle.nap_list.specs.declared.attribute.Base.TheVariants as bases
+use Rattle.nap_list.specs.declared.attribute.Colour.{Colour}
+use Rattle.nap_list.specs.declared.attribute.Colour.TheVariants as colours
+use Rattle.nap_list.specs.declared.attribute.Pen.{Pen}
+use Rattle.nap_list.specs.declared.attribute.Pen.TheVariants as pens
+use Rattle.nap_list.specs.declared.attribute.Texture.{Texture}
+use Rattle.nap_list.specs.declared.state.Drawing.{Drawing}
+use Rattle.nap_list.specs.declared.state.Opened.{Opened}
+use Rattle.nap_list.specs.declared.state.State.{State}
+use Rattle.nap_list.specs.State.{PenFits, MaskFits, TextureFits}
+use Rattle.nap_list.specs.Agreement.{BaseAgrees, ColourAgrees, InMode, Agrees, DefinitionsAgree, StatesAgree}
+
+-- Each of these facts has one proof at most, so a value may carry it.
+
+pub PenFits-prop : (pen : Pen) (held : Option Pen) → IsProp (PenFits pen held)
+PenFits-prop pen None = hlevel props
+PenFits-prop pen (Some pens.Start) = hlevel props
+PenFits-prop pen (Some pens.After) = hlevel props
+PenFits-prop pen (Some (pens.At point)) = hlevel props
+
+pub MaskFits-prop : (texture : Texture) (mask : Option Displacement) → IsProp (MaskFits texture mask)
+MaskFits-prop texture None = hlevel props
+MaskFits-prop texture (Some mask) = hlevel props
+
+pub TextureFits-prop : (texture : Texture) (held : Option Texture) → IsProp (TextureFits texture held)
+TextureFits-prop texture None = hlevel props
+TextureFits-prop texture (Some wanted) = MaskFits-prop texture wanted.mask
+
+pub BaseAgrees-prop : (base shown : Base) → IsProp (BaseAgrees base shown)
+BaseAgrees-prop (bases.Own origin) shown = hlevel props
+BaseAgrees-prop (bases.Direct grb) shown = hlevel props
+
+pub ColourAgrees-prop : (colour shown : Colour) → IsProp (ColourAgrees colour shown)
+ColourAgrees-prop (colours.ByReset preset) shown = hlevel props
+ColourAgrees-prop (colours.Own origin) shown = hlevel props
+ColourAgrees-prop (colours.Direct grb) shown = hlevel props
+ColourAgrees-prop (colours.Front addr) shown = hlevel props
+ColourAgrees-prop (colours.Pair front back) shown = hlevel props
+
+pub InMode-prop : (base : Base) (colour : Colour) → IsProp (InMode base colour)
+InMode-prop base (colours.Own origin) = hlevel props
+InMode-prop base (colours.Direct grb) = hlevel props
+InMode-prop base (colours.ByReset preset) = hlevel props
+InMode-prop base (colours.Front addr) = hlevel props
+InMode-prop base (colours.Pair front back) = hlevel props
+
+pub Agrees-prop : (d shown : Drawing) → IsProp (Agrees d shown)
+Agrees-prop d shown = hlevel (
+  props,
+  PenFits-prop shown.pen (Some d.pen),
+  BaseAgrees-prop d.base shown.base,
+  ColourAgrees-prop d.colour shown.colour,
+  InMode-prop d.base d.colour,
+  TextureFits-prop shown.texture (Some d.texture),
+)
+
+pub DefinitionsAgree-prop : (opened shown : Option Opened) → IsProp (DefinitionsAgree opened shown)
+DefinitionsAgree-prop None None = hlevel props
+DefinitionsAgree-prop None (Some shown) = hlevel props
+DefinitionsAgree-prop (Some opened) None = hlevel props
+DefinitionsAgree-prop (Some opened) (Some shown) = hlevel (props, Agrees-prop opened.saved shown.saved)
+
+pub StatesAgree-prop : (s shown : State) → IsProp (StatesAgree s shown)
+StatesAgree-prop s shown = hlevel (
+  props,
+  Agrees-prop s.drawing shown.drawing,
+  DefinitionsAgree-prop s.definition shown.definition,
+)
