@@ -6,6 +6,7 @@ pub mod Ends
 pub mod Fits
 pub mod Outlines
 pub mod Planning
+pub mod PublicLaws
 pub mod Puts
 pub mod Singles
 pub mod Still

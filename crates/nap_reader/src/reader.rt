@@ -4,7 +4,8 @@ ghost use Rattle.std.specs.Option.{ForNone};
 ghost use Rattle.nap_list.specs.State.{start};
 ghost use Rattle.std.proofs.Props.{props};
 ghost use Rattle.nap_list.specs.Agreement.{StatesAgree};
-ghost use Rattle.nap_reader.specs.Carried.{HasRule, HasRule-prop, StatesAgree-prop};
+ghost use Rattle.nap_list.specs.Propositions.{StatesAgree-prop};
+ghost use Rattle.nap_reader.specs.Carried.{HasRule, HasRule-prop};
 ghost use Rattle.nap_reader.specs.Stream.{is_operand_byte, refusal, run_limit};
 ghost use Rattle.nap_reader.specs.declared.budget.TheConstants.Budget.{MOST};
 
