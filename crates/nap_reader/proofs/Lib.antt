@@ -8,3 +8,4 @@ pub mod LawLemmas
 pub mod BreakingLemmas
 pub mod StandingLemmas
 pub mod LegalLemmas
+pub mod RangeLemmas

@@ -1,6 +1,7 @@
 use Rattle.std.specs.Prelude.{◌≡◌, ◌+◌, ℕ, List, [], ◌∷◌, ◌++◌, Some, None, length}
 use Rattle.nap_list.specs.declared.entry.Entry.{Entry}
 use Rattle.nap_list.specs.State.{Legal}
+use Rattle.nap_list.specs.Range.{AllInRange}
 use Rattle.nap_reader.specs.declared.fault.Refusal.{Refusal}
 use Rattle.nap_reader.specs.Course.{continue, onward}
 use Rattle.nap_reader.specs.Stream.{Placed, Machine, Outcome, front, placed_from, outcome_from, begun, means}
@@ -36,3 +37,7 @@ PiecesAgree = (budget : ℕ) (pieces : List (List ℕ)) → in_pieces 0 (begun b
 -- An accepted stream has a legal list.
 abbrev pub AcceptedIsLegal : Type 0
 AcceptedIsLegal = (budget : ℕ) (p : List ℕ) → (means budget p).refusal ≡ None → Legal (means budget p).entries
+
+-- What is read is in range, so far and in the whole.
+abbrev pub ReadValuesAreInRange : Type 0
+ReadValuesAreInRange = (budget : ℕ) (p : List ℕ) → AllInRange (begun budget p).entries × AllInRange (means budget p).entries

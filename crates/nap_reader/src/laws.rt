@@ -1,5 +1,5 @@
 //! Laws of what a stream means, which no call can break.
-ghost use Rattle.nap_reader.specs.Laws.{AcceptedIsLegal, FrontAfterFront, MoreBytesKeepEntries, MoreBytesKeepRefusal, PiecesAgree};
+ghost use Rattle.nap_reader.specs.Laws.{AcceptedIsLegal, FrontAfterFront, MoreBytesKeepEntries, MoreBytesKeepRefusal, PiecesAgree, ReadValuesAreInRange};
 
 /// What a stream means is told front after front, with no bound on how many there are.
 pub fn front_after_front()
@@ -24,4 +24,9 @@ pub fn pieces_agree()
 /// The list of a stream that is accepted is legal.
 pub fn accepted_is_legal()
     ensures { AcceptedIsLegal }
+{}
+
+/// The points, colours and numbers of what is read are in the ranges of their types.
+pub fn read_values_are_in_range()
+    ensures { ReadValuesAreInRange }
 {}
