@@ -7,30 +7,45 @@ ghost use Rattle.nap_codes.specs.Tables.{designation};
 /// A set of codes that can be designated as G0, G1, G2 or G3 (code extension).
 #[derive(Clone, Copy, PartialEq, Eq, Debug, Drop)]
 pub enum CodeSet {
+    /// The primary characters: letters, digits and signs.
     Primary,
+    /// The supplementary characters: accents and further signs.
     Supplementary,
+    /// Opcodes and the words of their operands (picture description instructions).
     Pdi,
+    /// The mosaic characters, which are blocks.
     Mosaic,
+    /// Calls of macros.
     Macros,
+    /// The characters that a stream defines (DRCS).
     Drcs,
 }
 
 /// One of the four places for a code set (code extension).
 #[derive(Clone, Copy, PartialEq, Eq, Debug, Drop)]
 pub enum GSet {
+    /// The place of the primary characters at the start, and in GL there.
     G0,
+    /// The place of the PDI set at the start.
     G1,
+    /// The place of the supplementary characters at the start.
     G2,
+    /// The place of the mosaic characters at the start.
     G3,
 }
 
 /// The code sets in use: the four G sets, and which of them is in GL, where the bytes `20` to `7F` take their meaning.
 #[derive(Clone, Copy, PartialEq, Eq, Debug, Drop)]
 pub struct CodeSets {
+    /// The set that is G0.
     pub g0: CodeSet,
+    /// The set that is G1.
     pub g1: CodeSet,
+    /// The set that is G2.
     pub g2: CodeSet,
+    /// The set that is G3.
     pub g3: CodeSet,
+    /// Which of them is in GL.
     pub gl: GSet,
 }
 
@@ -121,8 +136,12 @@ pub fn designate(intermediate: u8, last: u8) -> Option<(u8, CodeSet)>
 /// A set whose codes are characters.
 #[derive(Clone, Copy, PartialEq, Eq, Debug, Drop)]
 pub enum CharSet {
+    /// The primary characters: letters, digits and signs.
     Primary,
+    /// The supplementary characters: accents and further signs.
     Supplementary,
+    /// The mosaic characters, which are blocks.
     Mosaic,
+    /// The characters that a stream defines (DRCS).
     Drcs,
 }

@@ -30,32 +30,44 @@ pub enum TextStep {
 /// A character size that has a name of its own (C1 set).
 #[derive(Clone, Copy, PartialEq, Eq, Debug, Drop)]
 pub enum Size {
+    /// SMALL TEXT.
     Small,
+    /// MED TEXT.
     Medium,
+    /// NORMAL TEXT, the size at the start.
     Normal,
+    /// DOUBLE HEIGHT.
     Tall,
+    /// DOUBLE SIZE.
     Double,
 }
 
 /// A texture mask that a stream can define (C1 set).
 #[derive(Clone, Copy, PartialEq, Eq, Debug, Drop)]
 pub enum Mask {
+    /// Mask A, by the argument `41`.
     A,
+    /// Mask B, by the argument `42`.
     B,
+    /// Mask C, by the argument `43`.
     C,
+    /// Mask D, by the argument `44`.
     D,
 }
 
 /// How the cursor shows (C1 set).
 #[derive(Clone, Copy, PartialEq, Eq, Debug, Drop)]
 pub enum CursorKind {
+    /// It shows, flashing.
     Flash,
+    /// It shows.
     Steady,
+    /// It doesn't show.
     Off,
 }
 
 /// What the argument of a control stands for (C1 set).
-#[derive(Clone, Copy, PartialEq, Eq, Debug, Drop)]
+#[derive(Clone, Copy, PartialEq, Eq, Drop)]
 pub(crate) enum Argument {
     /// The name of a macro.
     Macro,
@@ -63,13 +75,14 @@ pub(crate) enum Argument {
     ShownMacro,
     /// The code of a character.
     Glyph,
+    /// Which mask is defined.
     Mask,
     /// How often a character is repeated.
     Count,
 }
 
 /// A row of the tables of control codes.
-#[derive(Clone, Copy, PartialEq, Eq, Debug, Drop)]
+#[derive(Clone, Copy, PartialEq, Eq, Drop)]
 pub enum Row {
     /// The byte is a whole code.
     Whole(Code),

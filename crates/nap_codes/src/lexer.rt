@@ -15,7 +15,7 @@ use std::marker::Model;
 
 /// Cuts codes out of a stream, one byte at a time. It keeps the code sets, and what it has read of a code that isn't
 /// whole yet; contracts see it as both of these, the second as the bytes that were read.
-#[derive(Clone, Debug, Drop)]
+#[derive(Clone, Drop)]
 pub struct Lexer {
     sets: CodeSets,
     half: Half,
@@ -34,9 +34,11 @@ impl Model for Lexer {
 }
 
 /// What was read of a code that isn't whole yet.
-#[derive(Clone, Copy, PartialEq, Eq, Debug, Drop)]
+#[derive(Clone, Copy, PartialEq, Eq, Drop)]
 enum Half {
+    /// No byte.
     Nothing,
+    /// ESC.
     Escape,
     /// ESC and a control of the C1 set, whose argument comes next.
     Control(Argument),
@@ -44,18 +46,24 @@ enum Half {
     Designation(u8),
     /// These two and one `20`.
     SpacedDesignation(u8),
+    /// SS2.
     SingleShift2,
+    /// SS3.
     SingleShift3,
+    /// APS.
     Position,
     /// APS and the first byte of the position.
     PositionRow(u8),
 }
 
 /// What a byte makes of a half-read code.
-#[derive(Clone, Copy, PartialEq, Eq, Debug, Drop)]
+#[derive(Clone, Copy, Drop)]
 enum Turn {
+    /// More of it is read now.
     More(Half),
+    /// It is this code, which leaves these code sets.
     Code(Code, CodeSets),
+    /// The byte is refused.
     Fault(CodeFault),
 }
 
@@ -104,6 +112,15 @@ impl Lexer {
             }
             Turn::Fault(fault) => Step::Fault(fault),
         }
+    }
+}
+
+impl Default for Lexer {
+    ghost is_default = { λ l. l ≡ record { sets = start_sets; half = [] } };
+
+    /// A lexer at the start of a stream.
+    fn default() -> Lexer {
+        Lexer::new()
     }
 }
 

@@ -1,12 +1,12 @@
 //! The codes of a stream: code sets, controls and opcodes.
 #![tactic(auto)]
 
-pub mod code;
-pub mod code_set;
-pub mod control;
+mod code;
+mod code_set;
+mod control;
 pub mod laws;
-pub mod lexer;
-pub mod opcode;
+mod lexer;
+mod opcode;
 
 pub use code::{Code, CodeFault, Step};
 pub use code_set::{CharSet, CodeSet, CodeSets, GSet, designate};

@@ -3,57 +3,103 @@
 ghost use Rattle.std.specs.Prelude.{◌≡◌};
 ghost use Rattle.nap_codes.specs.Tables.{left_out_opcode, opcode_rows, row_of};
 
+use std::fmt;
+
 /// An opcode of the PDI set, by its name in the standard.
 #[derive(Clone, Copy, PartialEq, Eq, Debug, Drop)]
 pub enum Opcode {
+    /// Puts parts of the drawing state back (RESET).
     Reset,
+    /// The lengths of operands, and the pel (DOMAIN).
     Domain,
+    /// How characters look (TEXT).
     Text,
+    /// How lines and areas are filled in (TEXTURE).
     Texture,
+    /// The pen goes to points.
     PointSetAbs,
+    /// The pen goes on by displacements.
     PointSetRel,
+    /// Points.
     PointAbs,
+    /// Points by displacements from the pen, each from the one before it.
     PointRel,
+    /// Lines from the pen to points in turn.
     LineAbs,
+    /// Lines from the pen by displacements in turn.
     LineRel,
+    /// Lines from one point to another.
     SetLineAbs,
+    /// Lines from a point by a displacement.
     SetLineRel,
+    /// An arc from the pen.
     ArcOutlined,
+    /// A filled arc from the pen.
     ArcFilled,
+    /// An arc from a point.
     SetArcOutlined,
+    /// A filled arc from a point.
     SetArcFilled,
+    /// Rectangles from the pen.
     RectOutlined,
+    /// Filled rectangles from the pen.
     RectFilled,
+    /// Rectangles from a point each.
     SetRectOutlined,
+    /// Filled rectangles from a point each.
     SetRectFilled,
+    /// A polygon from the pen.
     PolyOutlined,
+    /// A filled polygon from the pen.
     PolyFilled,
+    /// A polygon from a point.
     SetPolyOutlined,
+    /// A filled polygon from a point.
     SetPolyFilled,
+    /// The active field (FIELD).
     Field,
+    /// Left out of this profile.
     IncrementalPoint,
+    /// Left out of this profile.
     IncrementalLine,
+    /// Left out of this profile.
     IncrementalPolyFilled,
+    /// A colour by its parts, to draw with or for the colour map (SET COLOR).
     SetColor,
+    /// Pauses (WAIT).
     Wait,
+    /// The colour to draw with, by addresses of the colour map (SELECT COLOR).
     SelectColor,
+    /// Blink processes, or their end (BLINK).
     Blink,
 }
 
 /// A code that this profile leaves out by name.
 #[derive(Clone, Copy, PartialEq, Eq, Debug, Drop)]
 pub enum Left {
+    /// CAN of the C0 set.
     Can,
+    /// SDC of the C0 set.
     Sdc,
+    /// NSR of the C0 set.
     Nsr,
+    /// DEFT MACRO of the C1 set.
     Deft,
+    /// UNPROTECT of the C1 set.
     Unprotect,
+    /// EDC1 of the C1 set.
     Edc1,
+    /// EDC2 of the C1 set.
     Edc2,
+    /// EDC3 of the C1 set.
     Edc3,
+    /// EDC4 of the C1 set.
     Edc4,
+    /// INCREMENTAL POINT of the PDI set.
     IncrementalPoint,
+    /// INCREMENTAL LINE of the PDI set.
     IncrementalLine,
+    /// INCREMENTAL POLY FILLED of the PDI set.
     IncrementalPoly,
 }
 
@@ -69,6 +115,25 @@ impl Opcode {
             Opcode::IncrementalPolyFilled => Some(Left::IncrementalPoly),
             _ => None,
         }
+    }
+}
+
+impl fmt::Display for Left {
+    fn fmt<W: fmt::Write>(&self, f: &mut fmt::Formatter<W>) -> fmt::Result {
+        f.write_str(match self {
+            Left::Can => "CAN",
+            Left::Sdc => "SDC",
+            Left::Nsr => "NSR",
+            Left::Deft => "DEFT MACRO",
+            Left::Unprotect => "UNPROTECT",
+            Left::Edc1 => "EDC1",
+            Left::Edc2 => "EDC2",
+            Left::Edc3 => "EDC3",
+            Left::Edc4 => "EDC4",
+            Left::IncrementalPoint => "INCREMENTAL POINT",
+            Left::IncrementalLine => "INCREMENTAL LINE",
+            Left::IncrementalPoly => "INCREMENTAL POLY FILLED",
+        })
     }
 }
 

@@ -4,6 +4,7 @@ use crate::{
     CharSet, Code, CodeFault, CodeSet, Left, Lexer, Opcode, Row, Step, TextStep, control0,
     control1, designate, opcode_of,
 };
+use std::test::Fail;
 
 mod pairs;
 
@@ -84,6 +85,21 @@ fn left_out_codes_have_their_names(rt: HostRuntime) {
 }
 
 #[test]
+fn faults_tell_what_is_wrong(rt: HostRuntime) -> Result<(), Fail> {
+    let alloc = rt.alloc();
+    for (fault, want) in [
+        (CodeFault::EighthBit, "a byte has its eighth bit set"),
+        (CodeFault::BadEscape, "no such escape sequence"),
+        (CodeFault::BadArgument, "an argument is out of range"),
+        (CodeFault::LeftOut(Left::Deft), "DEFT MACRO is left out"),
+        (CodeFault::LeftOut(Left::Nsr), "NSR is left out"),
+    ] {
+        assert_eq!(rt; format!(in alloc; "{fault}")?.as_str(), want);
+    }
+    Ok(())
+}
+
+#[test]
 fn codes_that_no_pair_of_bytes_has(rt: HostRuntime) {
     assert_eq!(rt;
         last_answer(&[0x1C, 0x40, 0x41]),
@@ -101,7 +117,7 @@ fn codes_that_no_pair_of_bytes_has(rt: HostRuntime) {
 
 #[test]
 fn a_lexer_goes_on_after_a_fault(rt: HostRuntime) {
-    let mut lexer = Lexer::new();
+    let mut lexer = Lexer::default();
     assert_eq!(rt; lexer.step(0x1B), Step::More);
     assert_eq!(rt; lexer.step(0x30), Step::Fault(CodeFault::BadEscape));
     assert!(rt; !lexer.at_rest());
@@ -111,10 +127,10 @@ fn a_lexer_goes_on_after_a_fault(rt: HostRuntime) {
 
 #[test]
 fn tables_end_where_the_standard_does(rt: HostRuntime) {
-    assert_eq!(rt; control0(0x07), Some(Row::Whole(Code::Bell)));
-    assert_eq!(rt; control0(0x20), None);
-    assert_eq!(rt; control1(0x5F), Some(Row::Out(Left::Unprotect)));
-    assert_eq!(rt; control1(0x60), None);
+    assert!(rt; control0(0x07) == Some(Row::Whole(Code::Bell)));
+    assert!(rt; control0(0x20) == None);
+    assert!(rt; control1(0x5F) == Some(Row::Out(Left::Unprotect)));
+    assert!(rt; control1(0x60) == None);
     assert_eq!(rt; opcode_of(0x3F), Some(Opcode::Blink));
     assert_eq!(rt; opcode_of(0x40), None);
     assert_eq!(rt; designate(0x2D, 0x7B), Some((1, CodeSet::Drcs)));

@@ -11,8 +11,7 @@ use crate::plan::Plan;
 use crate::work::{Effects, Work};
 use nap_codes::Opcode;
 use nap_list::{Base, Colour, Entry};
-use nap_values::operand::colour;
-use nap_values::{Addr, Domain, Grb, Word};
+use nap_values::{Addr, Domain, Grb, Word, colour};
 
 pub(crate) fn select_color<'a>(mut work: Work, run: &[Word]) -> Result<Plan<'a>, DrawFault>
     ensures { Plans (rule work Opcode.SelectColor run.now) result }

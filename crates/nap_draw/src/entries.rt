@@ -7,8 +7,7 @@ use crate::operands::word_at;
 use crate::spans::{Span, Spans, corner};
 use crate::targets::Targets;
 use nap_list::{Colour, Entry, Ink};
-use nap_values::operand::single;
-use nap_values::{Domain, Point, Word};
+use nap_values::{Domain, Point, Word, single};
 
 /// Points that are still to be drawn.
 #[derive(Drop)]

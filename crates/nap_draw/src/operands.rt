@@ -10,8 +10,7 @@ ghost use Rattle.nap_draw.specs.Cursors.{moves_left, moves_count, addresses_left
 
 use crate::fault::DrawFault;
 use crate::work::Work;
-use nap_values::operand::{multi, single};
-use nap_values::{Addr, Domain, Move, Point, Word};
+use nap_values::{Addr, Domain, Move, Point, Word, multi, single};
 
 /// The multi-value operands of a run that are still to be read.
 #[derive(Drop)]

@@ -9,7 +9,7 @@ use nap_list::{Base, Colour, Ink, Pen, State, TextLook, Texture};
 use nap_values::{Domain, Move, Point};
 
 /// What the codes of a stream work on.
-#[derive(PartialEq, Eq, Debug, Drop)]
+#[derive(PartialEq, Eq, Drop)]
 pub struct Work {
     /// The lengths of operands (DOMAIN).
     pub domain: Domain,
@@ -20,7 +20,7 @@ pub struct Work {
 }
 
 /// What an opcode leaves.
-#[derive(PartialEq, Eq, Debug, Drop)]
+#[derive(PartialEq, Eq, Drop)]
 pub struct Effects {
     /// What the codes behind it work on.
     pub work: Work,

@@ -3,6 +3,8 @@ ghost use Rattle.std.specs.Prelude.{◌≡◌, ◌+◌, ◌-◌, ◌^◌, ◌<�
 ghost use Rattle.std.specs.Io.KnownBytes.{Keeps, ReadConsumes, WriteAppends};
 ghost use Rattle.std.specs.Io.{ReadsAtMost, WritesAtMost};
 
+use thiserror::Error;
+
 mod source;
 mod target;
 
@@ -10,7 +12,8 @@ pub use source::Source;
 pub use target::Target;
 
 /// A device failed. Why is the device's own matter.
-#[derive(Clone, Copy, PartialEq, Eq, Debug, Drop)]
+#[derive(Clone, Copy, PartialEq, Eq, Debug, Drop, Error)]
+#[error("the device failed")]
 pub struct DeviceFault;
 
 /// Where the bytes of a stream come from.

@@ -10,89 +10,131 @@ use nap_values::{Addr, Grb, Move, Point, Word};
 /// One act of drawing, with the values that it depends on and with absolute points.
 #[derive(PartialEq, Eq, Debug, Drop)]
 pub enum Entry {
+    /// A point, as large as the pel.
     Point {
+        /// Where it is.
         at: Point,
+        /// The size of the drawing point.
         pel: Move,
+        /// Its colour.
         colour: Colour,
     },
+    /// A straight line.
     Line {
+        /// Where it begins.
         from: Point,
+        /// Where it ends, and the pen with it.
         to: Point,
+        /// What it is drawn with.
         ink: Ink,
     },
     /// An arc through its points in turn, with 3 to `SHAPE_POINTS` of them.
     Arc {
+        /// Whether its inside is filled, too.
         filled: bool,
+        /// The start, what it goes through, and the end.
         points: Points,
+        /// What it is drawn with.
         ink: Ink,
     },
     /// A rectangle by two opposite corners.
     Rect {
+        /// Whether its inside is filled, too.
         filled: bool,
+        /// The corner that it begins at.
         from: Point,
+        /// The corner opposite to it.
         to: Point,
+        /// What it is drawn with.
         ink: Ink,
     },
     /// A polygon that closes itself, with 2 to `SHAPE_POINTS` points.
     Poly {
+        /// Whether its inside is filled, too.
         filled: bool,
+        /// The start, and the further corners.
         points: Points,
+        /// What it is drawn with.
         ink: Ink,
     },
     /// A character by its code in the set, from `20` to `7F`.
     Char {
+        /// The set that the code is of.
         set: CharSet,
+        /// The byte of the character.
         code: u8,
+        /// What it is drawn with.
         hand: Hand,
     },
     /// A move of the active position of text (format effectors). Only a terminal knows where the pen is then.
     TextMove {
+        /// Which move it is.
         step: TextStep,
+        /// What characters are drawn with there.
         hand: Hand,
     },
     /// The character before it, repeated to the end of the line (REPEAT TO EOL).
     ToEol {
+        /// What the characters are drawn with.
         hand: Hand,
     },
     /// A new colour at an address of the colour map (SET COLOR).
     Map {
+        /// The address.
         addr: Addr,
+        /// The colour that stands there from here on.
         grb: Grb,
     },
     /// A blink process from the colour to the one at the address, with its times in tenths of a second.
     Blink {
+        /// The address of the colour that it blinks to.
         addr: Addr,
+        /// The time on.
         on: Word,
+        /// The time off.
         off: Word,
+        /// The delay before it.
         delay: Word,
+        /// The colour that it blinks from.
         colour: Colour,
     },
     /// The end of blinking (BLINK without operands).
     BlinkEnd {
+        /// The colour that stands there.
         colour: Colour,
     },
     /// BLINK START or BLINK STOP of the C1 set.
     BlinkMark {
+        /// Whether it is BLINK START.
         on: bool,
+        /// The colour that stands there.
         colour: Colour,
     },
     /// A pause in tenths of a second.
     Wait(Word),
+    /// The bell.
     Bell,
+    /// How the cursor shows from here on.
     Cursor(CursorKind),
-    /// The active field (FIELD), with the pen that stood before it. Only a terminal knows where the pen is then.
+    /// The active field (FIELD). Only a terminal knows where the pen is then.
     Field {
+        /// The part of the square that it is.
         area: Area,
+        /// The pen that stood before it.
         pen: Pen,
     },
-    /// RESET with both of its words.
+    /// RESET with both of its words. Only a terminal knows where the pen is then.
     Reset {
+        /// The first word.
         first: Word,
+        /// The second word.
         second: Word,
+        /// The pen that stood before it.
         pen: Pen,
     },
-    /// The screen is cleared (CS). Holds the pen that stood before it; only a terminal knows where it is then.
+    /// The screen is cleared (CS). Only a terminal knows where the pen is then.
     Clear {
+        /// The pen that stood before it.
         pen: Pen,
     },
     /// The entries up to `DefEnd` draw the glyph of this code, from `20` to `7F` (DEF DRCS).

@@ -1,14 +1,14 @@
 //! Display lists: their entries, the state that an entry leaves, which lists are legal, and both ends of a stream.
 #![tactic(auto)]
 
-pub mod attribute;
-pub mod device;
-pub mod entry;
+mod attribute;
+mod device;
+mod entry;
 pub mod laws;
-pub mod legality;
-pub mod points;
-pub mod sink;
-pub mod state;
+mod legality;
+mod points;
+mod sink;
+mod state;
 
 pub use attribute::{
     Area, Base, CharSize, Colour, Hand, Held, Ink, Origin, Pen, Preset, TextLook, Texture,
@@ -18,7 +18,7 @@ pub use entry::Entry;
 pub use legality::legal;
 pub use points::{Points, SHAPE_POINTS};
 pub use sink::{ListSink, Sink, SinkFault};
-pub use state::{Definition, Drawing, LastChar, Opened, State};
+pub use state::{Definition, Drawing, LastChar, Opened, State, corner};
 
 #[cfg(test)]
 mod tests;

@@ -10,13 +10,16 @@ use crate::entry::Entry;
 use crate::state::State;
 use std::alloc::{AllocError, AllocFailed, Global};
 use std::marker::Model;
+use thiserror::Error;
 
 /// Why an entry was not taken.
-#[derive(Clone, Copy, PartialEq, Eq, Debug, Drop)]
+#[derive(Clone, Copy, PartialEq, Eq, Debug, Drop, Error)]
 pub enum SinkFault {
     /// There was no memory for it.
+    #[error("no memory")]
     Memory,
     /// The device behind the sink failed.
+    #[error("the device failed")]
     Write,
 }
 
@@ -73,7 +76,7 @@ pub trait Sink {
 }
 
 /// Keeps the entries in memory, and fails for want of it alone.
-#[derive(Debug, Drop)]
+#[derive(Drop)]
 pub struct ListSink {
     list: Vec<Entry>,
 }

@@ -8,42 +8,57 @@ use nap_codes::{CharSet, Mask, Size};
 use nap_values::{Move, Point, Word};
 
 /// The values that stand, which the next entry may hold.
-#[derive(Clone, Copy, PartialEq, Eq, Debug, Drop)]
+#[derive(Clone, Copy, PartialEq, Eq, Drop)]
 pub struct Drawing {
+    /// Where drawing goes on from.
     pub pen: Pen,
+    /// The size of the drawing point.
     pub pel: Move,
+    /// The colour of mode 0.
     pub base: Base,
+    /// The colour to draw with.
     pub colour: Colour,
+    /// How lines and areas are filled in.
     pub texture: Texture,
+    /// How characters look.
     pub text: TextLook,
 }
 
-/// What is being defined: the glyph of a code, or a mask.
-#[derive(Clone, Copy, PartialEq, Eq, Debug, Drop)]
+/// What is being defined.
+#[derive(Clone, Copy, PartialEq, Eq, Drop)]
 pub enum Definition {
+    /// The glyph of this code.
     Glyph(u8),
+    /// This mask.
     Mask(Mask),
 }
 
 /// A definition that isn't ended, with the values at its start.
-#[derive(Clone, Copy, PartialEq, Eq, Debug, Drop)]
+#[derive(Clone, Copy, PartialEq, Eq, Drop)]
 pub struct Opened {
+    /// What the entries up to its end draw.
     pub what: Definition,
+    /// The values that stand again after it.
     pub saved: Drawing,
 }
 
 /// A character, without what it was drawn with.
-#[derive(Clone, Copy, PartialEq, Eq, Debug, Drop)]
+#[derive(Clone, Copy, PartialEq, Eq, Drop)]
 pub struct LastChar {
+    /// The set that its code is of.
     pub set: CharSet,
+    /// The byte of the character.
     pub code: u8,
 }
 
-/// What a list of entries leaves: the values, the definition that is open, and the last entry where it was a character.
-#[derive(PartialEq, Eq, Debug, Drop)]
+/// What a list of entries leaves.
+#[derive(PartialEq, Eq, Drop)]
 pub struct State {
+    /// The values that stand.
     pub drawing: Drawing,
+    /// The definition that is open.
     pub definition: Option<Opened>,
+    /// The last entry, where it was a character.
     pub last: Option<LastChar>,
 }
 
@@ -175,7 +190,8 @@ impl Drawing {
     }
 }
 
-fn corner(from: Point, to: Point) -> Point
+/// Where a rectangle between two opposite corners leaves the pen: straight across from the first.
+pub fn corner(from: Point, to: Point) -> Point
     ensures { result ≡ corner from to }
 {
     Point::try_new(to.x(), from.y()).unwrap()

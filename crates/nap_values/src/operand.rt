@@ -3,7 +3,7 @@
 ghost use Rattle.std.specs.Prelude.{◌≡◌, ◌<◌, ◌≤◌, length};
 ghost use Rattle.nap_values.specs.Operands.{multi_of, single_of, colour_of};
 
-use crate::colour::{Addr, Grb};
+use crate::colours::{Addr, Grb};
 use crate::displacement::Move;
 use crate::twos_complement::{MODULUS, signed};
 use crate::word::Word;

@@ -5,7 +5,7 @@ ghost use Rattle.nap_values.specs.Coordinates.{IsInSquare};
 ghost use Rattle.nap_values.specs.Digits.{digits_of};
 ghost use Rattle.nap_values.specs.Spellings.{bytes_of, words_of_pairs, colour_word, move_bytes, point_bytes, addr_bytes, grb_bytes};
 
-use crate::colour::{Addr, Grb};
+use crate::colours::{Addr, Grb};
 use crate::displacement::Move;
 use crate::point::Point;
 use crate::twos_complement::{MODULUS, bits};

@@ -1,8 +1,8 @@
 //! Values whose words and bytes are known from outside, and the ends of the ranges.
 
-use crate::operand::colour;
 use crate::{
-    Addr, Domain, Grb, Move, Point, Word, multi, put_addr, put_grb, put_move, put_point, single,
+    Addr, Domain, Grb, Move, Point, Word, colour, multi, put_addr, put_grb, put_move, put_point,
+    single,
 };
 
 fn word(byte: u8) -> Word {

@@ -3,8 +3,8 @@ use super::samples::{
     AFTER_RESET, AT_START, BY_THREE, BY_TWO, arc, blink, blink_mark, blue, clear, dot, field, hand,
     letter, line, masked, middle, new_colour, polygon, quarter, rectangle, reset, to_eol, word,
 };
-use crate::{Colour, Entry, Pen, SHAPE_POINTS, legal};
-use nap_codes::{CursorKind, Mask, TextStep};
+use crate::{Colour, Entry, Pen, legal};
+use nap_codes::{CharSet, CursorKind, Mask, TextStep};
 use std::test::Fail;
 
 fn alone(entry: Entry) -> Result<(), usize> {
@@ -60,25 +60,44 @@ fn codes_of_glyphs_are_in_range(rt: HostRuntime) {
 }
 
 #[test]
-fn bytes_of_a_position_are_in_range(rt: HostRuntime) {
-    for (second, want) in [(0x20, Ok(())), (0x1F, Err(0))] {
-        let step = Entry::TextMove {
-            step: TextStep::Aps(0x40, second),
+fn codes_of_characters_are_in_range(rt: HostRuntime) {
+    for (code, want) in [
+        (0x1F, Err(0)),
+        (0x20, Ok(())),
+        (0x7F, Ok(())),
+        (0x80, Err(0)),
+    ] {
+        let entry = Entry::Char {
+            set: CharSet::Mosaic,
+            code,
             hand: hand(Pen::Start),
         };
-        assert_eq!(rt; alone(step), want, "a second byte {second}");
+        assert_eq!(rt; alone(entry), want, "code {code}");
+    }
+}
+
+#[test]
+fn bytes_of_a_position_are_in_range(rt: HostRuntime) {
+    for (first, second, want) in [
+        (0x20, 0x7F, Ok(())),
+        (0x7F, 0x20, Ok(())),
+        (0x1F, 0x40, Err(0)),
+        (0x80, 0x40, Err(0)),
+        (0x40, 0x1F, Err(0)),
+        (0x40, 0x80, Err(0)),
+    ] {
+        let step = Entry::TextMove {
+            step: TextStep::Aps(first, second),
+            hand: hand(Pen::Start),
+        };
+        assert_eq!(rt; alone(step), want, "bytes {first} and {second}");
     }
 }
 
 #[test]
 fn points_of_an_arc_are_in_range(rt: HostRuntime) -> Result<(), Fail> {
     let alloc = rt.alloc();
-    for (count, want) in [
-        (2, Err(0)),
-        (3, Ok(())),
-        (SHAPE_POINTS, Ok(())),
-        (1_026, Err(0)),
-    ] {
+    for (count, want) in [(2, Err(0)), (3, Ok(())), (1_025, Ok(())), (1_026, Err(0))] {
         assert_eq!(rt; alone(arc(alloc, count)?), want, "{count} points");
     }
     Ok(())

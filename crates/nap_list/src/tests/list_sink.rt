@@ -25,6 +25,15 @@ fn points_keep_their_order(rt: HostRuntime) -> Result<(), Fail> {
 }
 
 #[test]
+fn room_for_points_is_taken_at_once(rt: HostRuntime) -> Result<(), Fail> {
+    let alloc = rt.alloc();
+    let room = Points::with_capacity(alloc, 1_025)?;
+    assert!(rt; room.as_slice().is_empty());
+    assert!(rt; Points::with_capacity(alloc, usize::MAX).is_err());
+    Ok(())
+}
+
+#[test]
 fn shapes_are_equal_by_their_points(rt: HostRuntime) -> Result<(), Fail> {
     let alloc = rt.alloc();
     assert_eq!(rt; polygon(alloc, 2)?, polygon(alloc, 2)?);

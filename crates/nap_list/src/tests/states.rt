@@ -99,7 +99,7 @@ fn the_end_of_a_definition_puts_the_values_back(rt: HostRuntime) {
         definition: None,
         last: None,
     };
-    assert_eq!(rt; left_by(&entries), Some(want));
+    assert!(rt; left_by(&entries) == Some(want));
 }
 
 #[test]
@@ -112,7 +112,7 @@ fn a_new_colour_of_the_map_selects_it(rt: HostRuntime) {
         definition: None,
         last: None,
     };
-    assert_eq!(rt; left_by(&[new_colour()]), Some(want));
+    assert!(rt; left_by(&[new_colour()]) == Some(want));
 }
 
 fn changed() -> Drawing {
@@ -172,13 +172,13 @@ fn a_reset_puts_back_what_its_bits_name(rt: HostRuntime) {
         ..only_moved()
     };
     let left = [after_reset(1, 0), after_reset(0, 1), after_reset(0, 8)];
-    assert_eq!(rt; left, [Some(pel), Some(text), Some(texture)]);
+    assert!(rt; left == [Some(pel), Some(text), Some(texture)]);
 }
 
 #[test]
 fn other_bits_of_a_reset_only_move_the_pen(rt: HostRuntime) {
     let left = [after_reset(0, 0), after_reset(0x38, 0x36)];
-    assert_eq!(rt; left, [Some(only_moved()); 2]);
+    assert!(rt; left == [Some(only_moved()); 2]);
 }
 
 #[test]
@@ -197,5 +197,5 @@ fn a_reset_chooses_colours_by_its_code(rt: HostRuntime) {
         ..only_moved()
     };
     let left = [after_reset(2, 0), after_reset(4, 0), after_reset(6, 0)];
-    assert_eq!(rt; left, [Some(own), Some(two), Some(three)]);
+    assert!(rt; left == [Some(own), Some(two), Some(three)]);
 }
