@@ -9,3 +9,4 @@ pub mod BreakingLemmas
 pub mod StandingLemmas
 pub mod LegalLemmas
 pub mod RangeLemmas
+pub mod PublicLaws

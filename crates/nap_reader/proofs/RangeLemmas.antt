@@ -1,5 +1,5 @@
 use Rattle.std.proofs.Common.{ℕ, zero, suc, ◌+◌, ◌-◌, ◌<◌, ◌≡◌, ◌++◌, List, [], ◌∷◌, length, take, drop, All, Bool, true, false, cond, ltb, Option, Some, None, Result, Ok, Err, refl, sym, subst, ap, ◌∙◌, arith, append-nil}
-use Rattle.std.specs.Prelude.{⊤, nat_lt}
+use Rattle.std.specs.Prelude.{⊤, IfSome}
 use Rattle.std.proofs.lemmas.Bool.{cond_both}
 use Rattle.std.proofs.lemmas.Bool.Decides.{nat_tests}
 use Rattle.std.proofs.lemmas.List.{take-append-drop}
@@ -24,7 +24,8 @@ use Rattle.nap_reader.specs.declared.kind.Kind.TheVariants as kinds
 use Rattle.nap_reader.specs.Kinds.{kind_of}
 use Rattle.nap_reader.specs.Course as course
 use Rattle.nap_reader.specs.Course.{go, outcome, onward}
-use Rattle.nap_reader.specs.Stream.{Placed, Machine, Outcome, Front, bytes_of, words_of, is_operand, is_operand_byte, run_length, run_limit, drawn_front, closed_front, run_front, opcode_front, code_front, place_at, front_by, front, refusal, placed_from, start_machine, begun, with_drawn, with_run_by, with_run, with_definition, with_rest, with_end, ended_by}
+use Rattle.nap_reader.specs.Stream as model
+use Rattle.nap_reader.specs.Stream.{Placed, Machine, Unfinished, Outcome, Front, half_read, bytes_of, words_of, is_operand, is_operand_byte, run_length, run_limit, drawn_front, closed_front, run_front, opcode_front, code_front, place_at, front_by, front, refusal, placed_from, start_machine, begun, with_drawn, with_run_by, with_run, with_definition, with_code, with_end, ended_by}
 use Rattle.nap_reader.specs.Laws.{ReadValuesAreInRange}
 use Rattle.nap_reader.proofs.StreamLemmas.{front-lessens}
 
@@ -48,8 +49,13 @@ run_words (x ∷ xs) = at (is_operand x) refl (run_words xs)
 
 -- what stands at the front
 
+-- an open run is of words
+abbrev UnfinishedRanged : Unfinished → Type 0
+UnfinishedRanged (model.open_run op place run) = All IsWord run
+UnfinishedRanged _ = ⊤
+
 abbrev FrontRanged : Front → Type 0
-FrontRanged course.pause = ⊤
+FrontRanged (course.pause u) = UnfinishedRanged u
 FrontRanged (course.refuse r) = ⊤
 FrontRanged (course.act es m xs) = AllInRange es × StateInRange m.work.state
 
@@ -60,7 +66,7 @@ drawn_ranged m op place run rest (Err fault) is r words = tt
 
 closed_ranged : (m : Machine) (op : Opcode) (place : ℕ) (run rest : List Placed) → StateInRange m.work.state → All IsWord (words_of run) →
     FrontRanged (closed_front m op place run rest)
-closed_ranged m op place run [] r words = tt
+closed_ranged m op place run [] r words = words
 closed_ranged m op place run (x ∷ xs) r words = drawn_ranged m op place (words_of run) (x ∷ xs) (rule m.work op (words_of run)) refl r words
 
 code_ranged : (m : Machine) (kind : Kind) (place : ℕ) (rest : List Placed) → StateInRange m.work.state → FrontRanged (code_front m kind place rest)
@@ -71,8 +77,12 @@ code_ranged m kinds.Strays place rest r = tt
 code_ranged m kinds.AddsNothing place rest r = (All-nil InRange, r)
 code_ranged m kinds.Unbuilt place rest r = tt
 
+half_ranged : (bytes : List ℕ) → UnfinishedRanged (half_read bytes)
+half_ranged [] = tt
+half_ranged (b ∷ bs) = tt
+
 by_ranged : (m : Machine) (xs : List Placed) (f : codes.Front) → StateInRange m.work.state → FrontRanged (front_by m xs f)
-by_ranged m xs codes.unfinished r = tt
+by_ranged m xs codes.unfinished r = half_ranged (bytes_of xs)
 by_ranged m xs (codes.refused fault i) r = tt
 by_ranged m xs (codes.whole c n sets) r = code_ranged (record m { sets = sets }) (kind_of c) (place_at xs (n - 1)) (drop n xs) r
 
@@ -80,27 +90,27 @@ front_ranged : (m : Machine) (xs : List Placed) → StateInRange m.work.state �
 unfolding front
 front_ranged m xs r = by_ranged m xs (codes.front m.sets (bytes_of xs)) r
 
--- An outcome's entries are in range, and its state is. Where it has no refusal, it waits.
+-- An outcome's entries are in range, its state is, and so is what is unfinished.
 record Ranged (o : Outcome) : Type 0 where
   pub entries : AllInRange o.entries
   pub state : StateInRange o.machine.work.state
-  pub waits : o.refusal ≡ None → front o.machine o.rest ≡ course.pause
+  pub unfinished : IfSome o.unfinished UnfinishedRanged
 
-onward_ranged : (next : Machine → List Placed → Outcome) (m : Machine) (xs : List Placed) (f : Front) → front m xs ≡ f → StateInRange m.work.state →
+onward_ranged : (next : Machine → List Placed → Outcome) (m : Machine) (xs : List Placed) (f : Front) → StateInRange m.work.state →
     FrontRanged f → ((es : List Entry) (m' : Machine) (ys : List Placed) → f ≡ course.act es m' ys → StateInRange m'.work.state → Ranged (next m' ys)) →
     Ranged (onward next m xs f)
-onward_ranged next m xs course.pause is r new each = record { entries = All-nil InRange; state = r; waits = λ _. is }
-onward_ranged next m xs (course.refuse fault) is r new each = record { entries = All-nil InRange; state = r; waits = λ e. let bad : ⊥ = cc in absurd bad }
-onward_ranged next m xs (course.act es m' ys) is r new each =
+onward_ranged next m xs (course.pause u) r new each = record { entries = All-nil InRange; state = r; unfinished = new }
+onward_ranged next m xs (course.refuse fault) r new each = record { entries = All-nil InRange; state = r; unfinished = tt }
+onward_ranged next m xs (course.act es m' ys) r new each =
     let rest = each es m' ys refl new.1 in
-    record { entries = All-append InRange es (next m' ys).entries new.0 rest.entries; state = rest.state; waits = rest.waits }
+    record { entries = All-append InRange es (next m' ys).entries new.0 rest.entries; state = rest.state; unfinished = rest.unfinished }
 
-go_ranged : (fuel : ℕ) (m : Machine) (xs : List Placed) → length xs + m.left < fuel → StateInRange m.work.state → Ranged (go front fuel m xs)
+go_ranged : (fuel : ℕ) (m : Machine) (xs : List Placed) → StateInRange m.work.state → Ranged (go front fuel m xs)
 unfolding go
-go_ranged zero m xs enough r = absurd (omega arith)
-go_ranged (suc fuel) m xs enough r =
-    onward_ranged (go front fuel) m xs (front m xs) refl r (front_ranged m xs r)
-    (λ es m' ys is there. let less = front-lessens m xs es m' ys is in go_ranged fuel m' ys (omega arith) there)
+go_ranged zero m xs r = record { entries = All-nil InRange; state = r; unfinished = tt }
+go_ranged (suc fuel) m xs r =
+    onward_ranged (go front fuel) m xs (front m xs) r (front_ranged m xs r)
+    (λ es m' ys is there. go_ranged fuel m' ys there)
 
 start_ranged : StateInRange start
 start_ranged = record {
@@ -118,37 +128,7 @@ start_ranged = record {
 
 begun_ranged : (budget : ℕ) (p : List ℕ) → Ranged (begun budget p)
 unfolding outcome
-begun_ranged budget p = go_ranged (suc (length (placed_from 0 p) + budget)) (start_machine budget) (placed_from 0 p) (omega arith) start_ranged
-
--- The run of an opcode that waits is all operand bytes.
-
-never_waits : (b : Bool) (r : Refusal) (m : Machine) (place : ℕ) (rest : List Placed) (by : Result Drawn DrawFault) →
-    cond b (course.refuse r) (drawn_front m place rest by) ≡ course.pause → ⊥
-never_waits true r m place rest by is = cc
-never_waits false r m place rest (Ok drawn) is = cc
-never_waits false r m place rest (Err fault) is = cc
-
-waiting_run : (m : Machine) (op : Opcode) (place : ℕ) (run : List Placed) → opcode_front m op place run ≡ course.pause → All IsWord (words_of run)
-waiting_run m op place run is = at (drop (run_length run) run) refl
-  where
-    at : (rest : List Placed) → drop (run_length run) run ≡ rest → All IsWord (words_of run)
-    at [] none =
-        let whole : take (run_length run) run ++ drop (run_length run) run ≡ run = take-append-drop (run_length run) run in
-        let all : take (run_length run) run ≡ run = sym (append-nil (take (run_length run) run)) ∙ (ap (λ (zs : List Placed). take (run_length run) run ++ zs) (sym none) ∙ whole) in
-        subst (λ (zs : List Placed). All IsWord (words_of zs)) all (run_words run)
-    at (y ∷ ys) more =
-        let acts = subst (λ (zs : List Placed). run_front m op place (take (run_length run) run) zs ≡ course.pause) more is in
-        absurd (never_waits (nat_lt run_limit (length (take (run_length run) run))) (refusal faults.LongRun place) m place (y ∷ ys)
-        (rule m.work op (words_of (take (run_length run) run))) acts)
-
-open_words : (m : Machine) (op : Opcode) (n : ℕ) (sets : CodeSets) (x : Placed) (run : List Placed) →
-    codes.front m.sets (bytes_of (x ∷ run)) ≡ codes.whole (code.Op op) n sets → front m (x ∷ run) ≡ course.pause → All IsWord (words_of run)
-unfolding front
-open_words m op n sets x run is waits =
-    let one = one_byte_opcode m.sets (bytes_of (x ∷ run)) op n sets is in
-    let found = subst (λ (f : codes.Front). front_by m (x ∷ run) f ≡ course.pause) is waits in
-    let short = subst (λ (k : ℕ). front_by m (x ∷ run) (codes.whole (code.Op op) k sets) ≡ course.pause) one.0 found in
-    waiting_run (record m { sets = sets }) op x.place run short
+begun_ranged budget p = go_ranged (suc (length (placed_from 0 p) + budget)) (start_machine budget) (placed_from 0 p) start_ranged
 
 -- the end
 
@@ -158,31 +138,29 @@ with_drawn_ranged o op place run (Ok drawn) is r words =
     All-append InRange o.entries drawn.entries r.entries (drawn_values_are_in_range o.machine.work op run drawn is r.state words).0
 with_drawn_ranged o op place run (Err fault) is r words = r.entries
 
-with_run_ranged : (o : Outcome) → Ranged o → o.refusal ≡ None → AllInRange (with_run o).entries
-with_run_ranged o r none = at (codes.front o.machine.sets (bytes_of o.rest)) o.rest refl (r.waits none)
-  where
-    at : (f : codes.Front) (xs : List Placed) → codes.front o.machine.sets (bytes_of xs) ≡ f → front o.machine xs ≡ course.pause →
-        AllInRange (with_run_by o f xs).entries
-    at (codes.whole (code.Op op) n sets) (x ∷ run) is waits =
-        with_drawn_ranged o op x.place (words_of run) (rule o.machine.work op (words_of run)) refl r (open_words o.machine op n sets x run is waits)
-    at (codes.whole (code.Op op) n sets) [] is waits = r.entries
-    at _ xs is waits = r.entries
+with_run_ranged : (o : Outcome) (u : Option Unfinished) → IfSome u UnfinishedRanged → Ranged o → AllInRange (with_run_by o u).entries
+with_run_ranged o (Some (model.open_run op place run)) words r = with_drawn_ranged o op place run (rule o.machine.work op run) refl r words
+with_run_ranged o (Some model.nothing) words r = r.entries
+with_run_ranged o (Some (model.half_code bytes)) words r = r.entries
+with_run_ranged o None words r = r.entries
 
 with_definition-entries : (o : Outcome) (n : ℕ) (opened : Option Opened) → (with_definition o n opened).entries ≡ o.entries
 with_definition-entries o n None = refl
 with_definition-entries o n (Some opened) = refl
 
-with_rest-entries : (o : Outcome) (n : ℕ) (rest : List Placed) → (with_rest o n rest).entries ≡ o.entries
-with_rest-entries o n [] = with_definition-entries o n o.machine.work.state.definition
-with_rest-entries o n (x ∷ xs) = refl
+with_code-entries : (o : Outcome) (n : ℕ) (u : Option Unfinished) → (with_code o n u).entries ≡ o.entries
+with_code-entries o n (Some (model.half_code bytes)) = refl
+with_code-entries o n (Some model.nothing) = with_definition-entries o n o.machine.work.state.definition
+with_code-entries o n (Some (model.open_run op place run)) = with_definition-entries o n o.machine.work.state.definition
+with_code-entries o n None = with_definition-entries o n o.machine.work.state.definition
 
 with_end-entries : (o : Outcome) (n : ℕ) (r : Option Refusal) → (with_end o n r).entries ≡ o.entries
-with_end-entries o n None = with_rest-entries o n o.rest
+with_end-entries o n None = with_code-entries o n o.unfinished
 with_end-entries o n (Some r) = refl
 
 ended_ranged : (o : Outcome) (n : ℕ) (r : Option Refusal) → o.refusal ≡ r → Ranged o → AllInRange (ended_by o n r).entries
 ended_ranged o n (Some r) is ranged = ranged.entries
-ended_ranged o n None is ranged = subst AllInRange (sym (with_end-entries (with_run o) n (with_run o).refusal)) (with_run_ranged o ranged is)
+ended_ranged o n None is ranged = subst AllInRange (sym (with_end-entries (with_run o) n (with_run o).refusal)) (with_run_ranged o o.unfinished ranged.unfinished ranged)
 
 pub read_values_are_in_range : ReadValuesAreInRange
 read_values_are_in_range budget p =

@@ -14,7 +14,7 @@ use Rattle.nap_reader.specs.declared.fault.Fault.TheVariants as faults
 use Rattle.nap_reader.specs.declared.fault.Refusal.{Refusal}
 use Rattle.nap_reader.specs.declared.kind.Kind.{Kind}
 use Rattle.nap_reader.specs.declared.kind.Kind.TheVariants as kinds
-use Rattle.nap_reader.specs.declared.reader.TheConstants.{RUN_LIMIT}
+use Rattle.nap_draw.specs.declared.act.TheConstants.{RUN_LIMIT}
 use Rattle.nap_reader.specs.Faults.{code_fault, draw_fault}
 use Rattle.nap_reader.specs.Kinds.{kind_of}
 use Rattle.nap_reader.specs.Course as course

@@ -1,9 +1,15 @@
 //! Laws of what a stream means, which no call can break.
-ghost use Rattle.nap_reader.specs.Laws.{AcceptedIsLegal, FrontAfterFront, MoreBytesKeepEntries, MoreBytesKeepRefusal, PiecesAgree, ReadValuesAreInRange};
+ghost use Rattle.nap_reader.specs.Laws.{AcceptedIsLegal, FrontAfterFront, MoreBytesKeepEntries, MoreBytesKeepRefusal, PiecesAgree, ReadValuesAreInRange, RunActs, RunWaits};
 
 /// What a stream means is told front after front, with no bound on how many there are.
 pub fn front_after_front()
     ensures { FrontAfterFront }
+{}
+
+/// An opcode acts by its rule once a byte comes behind its run that is no operand byte, and waits until then.
+pub fn opcodes_take_their_runs()
+    ensures acts { RunActs }
+    ensures waits { RunWaits }
 {}
 
 /// More bytes behind a stream change no entry that it has given: its entries come first in those of the longer stream.

@@ -13,13 +13,10 @@ use crate::budget::Budget;
 use crate::fault::{Fault, Refusal};
 use crate::kind::Kind;
 use nap_codes::{Lexer, Opcode, Step};
-use nap_draw::{Work, apply};
+use nap_draw::{RUN_LIMIT, Work, apply};
 use nap_list::Sink;
 use nap_values::Word;
 use std::alloc::Global;
-
-/// The most operand bytes of one opcode (our profile).
-pub const RUN_LIMIT: usize = 16_384;
 
 /// An opcode whose operands are still coming.
 #[derive(Clone, Copy, Drop)]

@@ -1,4 +1,4 @@
-use Rattle.nap_reader.proofs.RangeLemmas.{read_values_are_in_range}
+use Rattle.nap_reader.proofs.PublicLaws.{read_values_are_in_range}
 use Rattle.nap_reader.proofs.laws.read_values_are_in_range.Goals as goal
 
 pub returns : goal.returns
