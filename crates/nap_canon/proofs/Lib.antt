@@ -6,3 +6,4 @@ pub mod ReadLemmas
 pub mod PointLemmas
 pub mod CanonicalLaws
 pub mod StreamLemmas
+pub mod PublicLaws

@@ -1,10 +1,10 @@
 //! The canonical text of display lists and of streams.
 #![tactic(auto)]
 
-pub mod fault;
+mod fault;
 pub mod laws;
-pub mod stream;
-pub mod text;
+mod stream;
+mod text;
 
 pub use fault::CanonFault;
 pub use stream::normalise;

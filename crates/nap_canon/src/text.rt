@@ -2,6 +2,7 @@
 ghost use Rattle.std.specs.Prelude.{◌≡◌, ◌↔◌, ◌∷◌, ◌++◌, ℕ, IsTrue, IsNone, IsErrOf, All, IfOk, OnOk, Some};
 ghost use Rattle.nap_list.specs.State.{Legal, BreaksAt};
 ghost use Rattle.nap_list.specs.Range.{InRange, AllInRange};
+ghost use Rattle.nap_canon.specs.Laws.{IsReadAs};
 ghost use Rattle.nap_canon.specs.Text.{text, written, spelled, HasText, HaveText, LacksText};
 
 use crate::fault::CanonFault;
@@ -83,6 +84,7 @@ pub fn canon(alloc: Global, entries: &[Entry]) -> Result<Vec<u8>, CanonFault>
     ensures built { IfOk result (λ bytes. HaveText entries.now) }
     ensures range { IfOk result (λ bytes. AllInRange entries.now) }
     ensures text { IfOk result (λ bytes. bytes.items ≡ text entries.now) }
+    ensures read_back { IfOk result (λ bytes. (budget : ℕ) → IsReadAs budget bytes.items entries.now) }
     // Want of memory is of the text: the list is legal, and has one.
     ensures memory { IsErrOf result CanonFault.Memory → Legal entries.now × HaveText entries.now }
 {

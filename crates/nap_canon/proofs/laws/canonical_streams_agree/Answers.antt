@@ -1,4 +1,4 @@
-use Rattle.nap_canon.proofs.CanonicalLaws.{canonical_streams_agree}
+use Rattle.nap_canon.proofs.PublicLaws.{canonical_streams_agree}
 use Rattle.nap_canon.proofs.laws.canonical_streams_agree.Goals as goal
 
 pub returns : goal.returns

@@ -1,4 +1,4 @@
-use Rattle.nap_canon.proofs.CanonicalLaws.{text_is_read}
+use Rattle.nap_canon.proofs.PublicLaws.{text_is_read}
 use Rattle.nap_canon.proofs.laws.text_is_read.Goals as goal
 
 pub returns : goal.returns

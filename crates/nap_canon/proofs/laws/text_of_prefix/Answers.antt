@@ -1,4 +1,4 @@
-use Rattle.nap_canon.proofs.CanonicalLaws.{text_of_prefix}
+use Rattle.nap_canon.proofs.PublicLaws.{text_of_prefix}
 use Rattle.nap_canon.proofs.laws.text_of_prefix.Goals as goal
 
 pub returns : goal.returns

@@ -1,7 +1,11 @@
-use Rattle.std.proofs.Common.{◌≡◌, Err, None, refl, ap, ◌∙◌}
+use Rattle.std.proofs.Common.{◌≡◌, ℕ, List, Err, None, refl, ap, sym, subst, ◌∙◌}
+use Rattle.nap_list.specs.Range.{AllInRange}
 use Rattle.std.proofs.lemmas.Result.{err_from_is_err_and}
 use Rattle.nap_canon.specs.declared.fault.CanonFault.TheVariants.{Memory}
 use Rattle.nap_canon.proofs.FaultLemmas.{illegal_there, illegal_nowhere, never_breaks, unbuilt_there, unbuilt_nowhere}
+use Rattle.nap_canon.specs.Laws.{IsReadAs}
+use Rattle.nap_canon.proofs.CanonicalLaws.{text_is_read}
+use Rattle.nap_canon.specs.Text.{HaveText}
 use Rattle.nap_canon.proofs.text.canon.Goals as goal
 
 pub returns-in-Err-clause-illegal : goal.returns-in-Err-clause-illegal
@@ -34,3 +38,9 @@ returns-clause-illegal c =
 pub returns-clause-unbuilt : goal.returns-clause-unbuilt
 returns-clause-unbuilt c =
     unbuilt_nowhere c.args.entries.now _ None (λ j is. cc) (λ j some. cc) c.in_default-first_without_text.ensures.some
+
+pub returns-clause-read_back : goal.returns-clause-read_back
+returns-clause-read_back c budget =
+    let built : HaveText c.args.entries.now = c.in_default-first_without_text.ensures.none.0 refl in
+    let range : AllInRange c.args.entries.now = λ k d within. c.in_ok-bytes.ensures.range k d within (built k d within) in
+    subst (λ (bytes : List ℕ). IsReadAs budget bytes c.args.entries.now) (sym c.in_ok-bytes.ensures.text) (text_is_read budget c.args.entries.now built range)
