@@ -1,11 +1,11 @@
 use Rattle.std.proofs.Common.{ℕ, ◌≡◌, ◌↔◌, List, ap, sym, ◌∙◌, subst}
 use Rattle.nap_reader.specs.Stream.{Outcome}
+use Rattle.nap_reader.proofs.PublicLaws.{read_values_are_in_range}
 use Rattle.nap_canon.specs.Text.{text, HaveText}
 use Rattle.nap_canon.specs.Streams.{list_of, IsCanonicalOf}
 use Rattle.nap_canon.specs.Laws.{IsReadAs, TextIsRead, TextOfPrefix, CanonicalStreamsAgree}
 use Rattle.nap_canon.proofs.TextLemmas.{text-append, built_front}
 use Rattle.nap_canon.proofs.PointLemmas.{means_text}
-use Rattle.nap_canon.proofs.ReaderFacts.{read_values_are_in_range}
 
 pub text_is_read : TextIsRead
 text_is_read budget es built inside =

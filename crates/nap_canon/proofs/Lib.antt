@@ -6,4 +6,3 @@ pub mod ReadLemmas
 pub mod PointLemmas
 pub mod CanonicalLaws
 pub mod StreamLemmas
-pub mod ReaderFacts

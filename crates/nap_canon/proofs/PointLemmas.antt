@@ -20,10 +20,10 @@ use Rattle.nap_list.specs.State.{walk}
 use Rattle.nap_draw.specs.declared.work.Work.{Work}
 use Rattle.nap_draw.specs.Rule.{rule, drawn}
 use Rattle.nap_reader.specs.Course as course
+use Rattle.nap_reader.specs.Laws.{IsRun}
 use Rattle.nap_reader.specs.Stream.{Placed, Machine, bytes_of, words_of, run_limit, front, placed_from, start_machine, means}
 use Rattle.nap_canon.specs.Text.{pieces, written, text, HasText, HaveText}
 use Rattle.nap_canon.proofs.RuleLemmas.{IsPlain, with_entries, header_work, header_rule, header_plain, plain_point, point_plain, point_rule}
-use Rattle.nap_canon.proofs.ReaderFacts.{IsRun}
 use Rattle.nap_canon.proofs.ReadLemmas.{Reads, settled, reads_nothing, reads_act, BeginsAnew, reads_run, means_settled}
 
 -- bytes with their places

@@ -1,22 +1,21 @@
-use Rattle.std.proofs.Common.{ℕ, ◌≡◌, List, [], ◌∷◌, ◌++◌, length, false, None, Result, Ok, Err, refl, ap, sym, subst, ◌∙◌, append_assoc, append-nil}
+use Rattle.std.proofs.Common.{ℕ, ◌≡◌, List, [], ◌∷◌, ◌++◌, length, false, Option, None, Some, Result, Ok, Err, refl, ap, sym, subst, ◌∙◌, append_assoc, append-nil}
 use Rattle.std.specs.Prelude.{⊤}
-use Rattle.nap_codes.specs.declared.code.Code.TheVariants as code
 use Rattle.nap_codes.specs.declared.code_set.CodeSets.{CodeSets}
 use Rattle.nap_codes.specs.declared.opcode.Opcode.{Opcode}
 use Rattle.nap_codes.specs.Front as codes
-use Rattle.nap_codes.proofs.PublicLaws.{whole_stays}
 use Rattle.nap_list.specs.declared.entry.Entry.{Entry}
 use Rattle.nap_draw.specs.Rule.{Drawn, rule}
 use Rattle.nap_draw.specs.declared.fault.DrawFault.{DrawFault}
 use Rattle.nap_reader.specs.Course as course
 use Rattle.nap_reader.specs.Course.{prepend, paused, onward}
-use Rattle.nap_reader.specs.Stream.{Placed, Machine, Outcome, bytes_of, words_of, is_operand, front, drawn_front, outcome_from, with_run, with_run_by, with_drawn, with_definition, with_end, placed_from, start_machine, means, ended, ended_by}
-use Rattle.nap_canon.proofs.ReaderFacts.{front_after_front, IsRun, run_acts, run_waits}
+use Rattle.nap_reader.specs.Laws.{IsRun}
+use Rattle.nap_reader.specs.Stream.{Placed, Machine, Outcome, Unfinished, nothing, open_run, words_of, is_operand, front, drawn_front, outcome_from, with_run, with_run_by, with_drawn, with_definition, with_end, placed_from, start_machine, means, ended, ended_by}
+use Rattle.nap_reader.proofs.PublicLaws.{front_after_front, run_acts, run_waits}
 
 -- What comes of a list once an open run at its end has acted.
 
 abbrev pub settled : List Entry → Machine → Outcome
-settled es m = record { entries = es; refusal = None; machine = m; rest = [] }
+settled es m = record { entries = es; refusal = None; unfinished = Some nothing; machine = m; rest = [] }
 
 -- these entries, and this machine
 pub record Reads (m : Machine) (xs : List Placed) (es : List Entry) (after : Machine) : Type 0 where
@@ -30,14 +29,12 @@ with_drawn-prepend : (es : List Entry) (o : Outcome) (place : ℕ) (by : Result 
 with_drawn-prepend es o place (Ok drawn) = rw append_assoc refl
 with_drawn-prepend es o place (Err fault) = refl
 
-with_run_by-prepend : (es : List Entry) (o : Outcome) (f : codes.Front) (xs : List Placed) →
-    with_run_by (prepend es o) f xs ≡ prepend es (with_run_by o f xs)
-with_run_by-prepend es o (codes.whole (code.Op op) n sets) [] = refl
-with_run_by-prepend es o (codes.whole (code.Op op) n sets) (x ∷ run) = with_drawn-prepend es o x.place (rule o.machine.work op (words_of run))
-with_run_by-prepend es o _ xs = refl
+with_run_by-prepend : (es : List Entry) (o : Outcome) (u : Option Unfinished) → with_run_by (prepend es o) u ≡ prepend es (with_run_by o u)
+with_run_by-prepend es o (Some (open_run op place run)) = with_drawn-prepend es o place (rule o.machine.work op run)
+with_run_by-prepend es o _ = refl
 
 with_run-prepend : (es : List Entry) (o : Outcome) → with_run (prepend es o) ≡ prepend es (with_run o)
-with_run-prepend es o = with_run_by-prepend es o (codes.front o.machine.sets (bytes_of o.rest)) o.rest
+with_run-prepend es o = with_run_by-prepend es o o.unfinished
 
 -- no bytes
 
@@ -45,17 +42,14 @@ no_code : (sets : CodeSets) → codes.front sets [] ≡ codes.unfinished
 unfolding codes.front
 no_code sets = refl
 
-nothing_pauses : (m : Machine) → outcome_from m [] ≡ paused m []
+nothing_read : (m : Machine) → outcome_from m [] ≡ settled [] m
 unfolding front
-nothing_pauses m =
-    let none : front m [] ≡ course.pause = rw (no_code m.sets) refl in
+nothing_read m =
+    let none : front m [] ≡ course.pause nothing = rw (no_code m.sets) refl in
     front_after_front m [] ∙ ap (onward outcome_from m []) none
 
 pub reads_nothing : (m : Machine) → Reads m [] [] m
-reads_nothing m = record {
-  going = ap (λ (o : Outcome). o.refusal) (nothing_pauses m);
-  acts = ap with_run (nothing_pauses m) ∙ ap (λ (f : codes.Front). with_run_by (paused m []) f []) (no_code m.sets);
-}
+reads_nothing m = record { going = ap (λ (o : Outcome). o.refusal) (nothing_read m); acts = ap with_run (nothing_read m) }
 
 -- a code that acts
 pub reads_act : (m : Machine) (xs : List Placed) (ds : List Entry) (next : Machine) (ys : List Placed) (es : List Entry) (after : Machine) →
@@ -69,22 +63,15 @@ reads_act m xs ds next ys es after e rest =
 
 -- an opcode whose run reaches the end
 
-last_acts : (m : Machine) (x : Placed) (operands : List Placed) (op : Opcode) (drawn : Drawn) → IsRun m.sets op x operands →
-    rule m.work op (words_of operands) ≡ Ok drawn →
-    with_run (paused m (x ∷ operands)) ≡ settled drawn.entries (record m { work = drawn.work })
-last_acts m x operands op drawn run by =
-    let found = whole_stays m.sets (x.byte ∷ []) (bytes_of operands) (code.Op op) 1 m.sets run.names in
-    ap (λ (f : codes.Front). with_run_by (paused m (x ∷ operands)) f (x ∷ operands)) found
-    ∙ ap (with_drawn (paused m (x ∷ operands)) x.place) by
-
 reads_last : (m : Machine) (x : Placed) (operands : List Placed) (op : Opcode) (drawn : Drawn) → IsRun m.sets op x operands →
     rule m.work op (words_of operands) ≡ Ok drawn → Reads m (x ∷ operands) drawn.entries (record m { work = drawn.work })
 reads_last m x operands op drawn run by =
-    let is : outcome_from m (x ∷ operands) ≡ paused m (x ∷ operands) =
+    let waiting : Outcome = paused m (x ∷ operands) (Some (open_run op x.place (words_of operands))) in
+    let is : outcome_from m (x ∷ operands) ≡ waiting =
     front_after_front m (x ∷ operands) ∙ ap (onward outcome_from m (x ∷ operands)) (run_waits m op x operands run) in
     record {
       going = ap (λ (o : Outcome). o.refusal) is;
-      acts = ap with_run is ∙ last_acts m x operands op drawn run by;
+      acts = ap with_run is ∙ ap (with_drawn waiting x.place) by;
     }
 
 -- no operand byte comes first

@@ -4,11 +4,11 @@ use Rattle.nap_list.specs.State.{Legal, BreaksAt}
 use Rattle.nap_list.proofs.PublicLaws.{legal_never_breaks}
 use Rattle.nap_reader.specs.declared.fault.Fault.TheVariants as faults
 use Rattle.nap_reader.specs.Stream.{refusal}
+use Rattle.nap_reader.proofs.PublicLaws.{accepted_is_legal}
 use Rattle.nap_canon.specs.declared.fault.CanonFault.{CanonFault}
 use Rattle.nap_canon.specs.declared.fault.CanonFault.TheVariants as canon_faults
 use Rattle.nap_canon.specs.Text.{text, HaveText, LacksText}
 use Rattle.nap_canon.specs.Streams.{IsAccepted, list_of, IsCanonicalOf, IsRefusedBy, fault_of}
-use Rattle.nap_canon.proofs.ReaderFacts.{accepted_is_legal}
 use Rattle.nap_canon.proofs.LackLemmas.{built_never_lacks}
 
 -- the text of the list that was read is the canonical stream
