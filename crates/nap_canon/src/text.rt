@@ -80,6 +80,7 @@ pub fn canon(alloc: Global, entries: &[Entry]) -> Result<Vec<u8>, CanonFault>
     ensures legal { IfOk result (λ bytes. Legal entries.now) }
     ensures built { IfOk result (λ bytes. HaveText entries.now) }
     ensures text { IfOk result (λ bytes. bytes.items ≡ text entries.now) }
+    ensures memory { IsErrOf result CanonFault.Memory → HaveText entries.now }
 {
     if let Err(index) = legal(entries) {
         return Err(CanonFault::Illegal(index));
