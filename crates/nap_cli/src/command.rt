@@ -1,4 +1,4 @@
-// The commands, and how the words of a command line say them.
+//! The commands, and how the words of a command line say them.
 ghost use Rattle.std.specs.Prelude.{◌≡◌, ◌≢◌, ◌⊎◌, false, IfErr, IfOk, MatchOption, map, string_bytes};
 ghost use Rattle.clap.specs.Words.{app_of, found_of, kind_of, rows_of};
 ghost use Rattle.clap.specs.declared.builder.command.Command.TheViews.{out-Command as fields_of};
@@ -37,9 +37,11 @@ impl Action {
 /// A command with its options.
 #[derive(Clone, Copy, PartialEq, Eq, Debug, Drop)]
 pub struct Command {
+    /// What is done with the stream.
     pub action: Action,
     /// Streams are hexadecimal text.
     pub hex: bool,
+    /// How many bytes of macro bodies the stream may be charged with.
     pub budget: Budget,
 }
 

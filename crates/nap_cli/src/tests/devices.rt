@@ -1,4 +1,4 @@
-// Inputs and outputs that fail.
+//! Inputs and outputs that fail.
 use super::words_of;
 use crate::run;
 use nap_list::{Source, Target};

@@ -1,4 +1,4 @@
-// How the words of a command line are read.
+//! How the words of a command line are read.
 use super::{POINT, answer, words_of};
 use crate::command::Command;
 use std::alloc::{AllocError, Global};
