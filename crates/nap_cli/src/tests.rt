@@ -5,6 +5,8 @@ use std::alloc::{AllocError, Global};
 
 mod commands;
 mod devices;
+mod flushes;
+mod help;
 mod words;
 
 const POINT: &[u8] = b"0E 26 52 40 40";

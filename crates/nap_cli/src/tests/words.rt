@@ -34,24 +34,6 @@ fn wrong_words_print_nothing(rt: HostRuntime) -> Result<(), Fail> {
     Ok(())
 }
 
-#[test]
-fn help_is_printed(rt: HostRuntime) -> Result<(), Fail> {
-    let alloc = rt.alloc();
-    for words in [
-        ["--help", "--hex"],
-        ["help", "list"],
-        ["list", "--help"],
-        ["check", "--help"],
-        ["canon", "-h"],
-    ] {
-        let (help, told, status) = answer(alloc, &words, b"")?;
-        assert!(rt; !help.is_empty());
-        assert!(rt; told.is_empty());
-        assert_eq!(rt; status, 0);
-    }
-    Ok(())
-}
-
 // The budget and whether streams are hexadecimal text, where the words say a command.
 fn options(alloc: Global, words: &[&str]) -> Result<Option<(u32, bool)>, AllocError> {
     let words = words_of(alloc, words)?;
