@@ -101,11 +101,11 @@ FailsOn c p _ = ⊥
 abbrev pub Fails : Command → List ℕ → Reading → Failure → Type 0
 Fails c p input failure.Read = IsCutOff input p
 Fails c p input failure.Memory = NoneFailed input
-Fails c p input f = IsReadWhole input × FailsOn c p f
+Fails c p input f = IsReadWhole input p × FailsOn c p f
 
 -- a command found what it prints of the bytes p
 abbrev pub Finds : Command → List ℕ → Reading → List ℕ → Verdict → Type 0
-Finds c p input q v = IsReadWhole input × Prints c p q v
+Finds c p input q v = IsReadWhole input p × Prints c p q v
 
 -- q is a front of what a command prints of the bytes p, which is nothing where it fails
 abbrev pub IsPartly : Command → List ℕ → Reading → List ℕ → Type 0

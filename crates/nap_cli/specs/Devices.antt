@@ -101,9 +101,11 @@ pub record ReadTooOften (r : Reading) (p : List ℕ) : Type 0 where
 abbrev pub IsCutOff : Reading → List ℕ → Type 0
 IsCutOff r p = ReadFailed r p ⊎ ReadTooOften r p
 
--- the input was read to its end, and no read failed
-abbrev pub IsReadWhole : Reading → Type 0
-IsReadWhole r = NoneFailed r × IsAtEnd r.left
+-- The bytes p were read, which was all; no read failed, and each but the last gave a byte.
+pub record IsReadWhole (r : Reading) (p : List ℕ) : Type 0 where
+  pub none_failed : NoneFailed r
+  pub end : IsAtEnd r.left
+  pub gave : r.reads ≤ length p + 1
 
 -- why a reading of the bytes p came to no answer: it was cut off, or there was no memory
 abbrev pub StopsReading : Reading → List ℕ → Failure → Type 0

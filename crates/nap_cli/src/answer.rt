@@ -14,7 +14,7 @@ use std::alloc::{AllocError, Global};
 use std::fmt::Write;
 
 /// What a printed answer says of the stream.
-#[derive(Clone, Copy, PartialEq, Eq, Debug, Drop)]
+#[derive(Clone, Copy, PartialEq, Eq, Drop)]
 pub enum Verdict {
     /// It was accepted.
     Accepted,
@@ -23,7 +23,7 @@ pub enum Verdict {
 }
 
 /// What a command prints, and what that says of the stream.
-#[derive(Debug, Drop)]
+#[derive(Drop)]
 pub struct Printout {
     /// The bytes to print.
     pub text: Vec<u8>,

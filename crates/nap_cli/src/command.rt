@@ -10,7 +10,7 @@ use nap_reader::Budget;
 use std::alloc::{AllocError, Global};
 
 /// What a command does with the stream that it reads.
-#[derive(Clone, Copy, PartialEq, Eq, Debug, Drop)]
+#[derive(Clone, Copy, PartialEq, Eq, Drop)]
 pub enum Action {
     /// Prints a line for each entry.
     List,
@@ -35,7 +35,7 @@ impl Action {
 }
 
 /// A command with its options.
-#[derive(Clone, Copy, PartialEq, Eq, Debug, Drop)]
+#[derive(Clone, Copy, PartialEq, Eq, Drop)]
 pub struct Command {
     /// What is done with the stream.
     pub action: Action,

@@ -19,7 +19,7 @@ pub fn read_whole<I: Inlet>(alloc: Global, input: &mut I) -> Result<Vec<u8>, Fai
     requires { I.calls input.old < 2 ^ 63 }
     ensures read { let seen = reading I.Inlet input.old input.new in
         (p : List ℕ) × Consumes (I.left input.old) (I.left input.new) p
-        × MatchResult result (λ bytes. (bytes.items ≡ p) × IsReadWhole seen) (StopsReading seen p) }
+        × MatchResult result (λ bytes. (bytes.items ≡ p) × IsReadWhole seen p) (StopsReading seen p) }
     ensures few { I.calls input.new ≤ I.calls input.old + READS }
     ensures small { IfOk result (λ bytes. length bytes.items < 2 ^ 63) }
 {
