@@ -223,8 +223,8 @@ impl<S: Sink> Reader<S> {
         ensures failed { IfErr result (λ r. self.old.refusal ≡ None → r.fault ≡ Fault.Sink → S.failed self.new.sink ≡ true) }
         ensures clear { OnOk result (S.failed self.old.sink ≡ false → S.failed self.new.sink ≡ false) }
     {
-        if let Some(refusal) = self.refusal {
-            return Err(refusal);
+        if let Some(latched) = self.refusal {
+            return Err(latched);
         }
         let Some(open_run) = self.open_run else {
             return self.settle();

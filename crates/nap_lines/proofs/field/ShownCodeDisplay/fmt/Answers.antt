@@ -1,7 +1,7 @@
 use Rattle.std.proofs.Common.{arith, false}
 use Rattle.std.proofs.Output.{has_written_of_eq}
 use Rattle.std.proofs.lemmas.Fmt.{hex_byte}
-use Rattle.nap_cli.proofs.field.ShownCodeDisplay.fmt.Goals as goal
+use Rattle.nap_lines.proofs.field.ShownCodeDisplay.fmt.Goals as goal
 
 pub returns-clause-writes : goal.returns-clause-writes
 returns-clause-writes g c =

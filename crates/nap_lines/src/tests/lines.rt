@@ -1,4 +1,4 @@
-// Lines of entries of each kind, as another reading of the profile prints them.
+//! Lines of entries of each kind, as another reading of the profile prints them.
 use crate::line_of;
 use nap_codes::{CharSet, CursorKind, Mask, Size, TextStep};
 use nap_list::{

@@ -1,6 +1,6 @@
-// The line of an entry.
+//! The line of an entry.
 ghost use Rattle.std.specs.Prelude.{◌≡◌, Some, IfOk, string_bytes};
-ghost use Rattle.nap_cli.specs.Lines.{line};
+ghost use Rattle.nap_lines.specs.Lines.{line};
 
 use crate::field::{Shown, ShownCode, fill_name, mark_name};
 use nap_list::Entry;

@@ -1,7 +1,7 @@
 use Rattle.std.proofs.Common.{take}
 use Rattle.std.specs.Fmt.{HasWritten, IsPlainFormatter}
-use Rattle.nap_cli.specs.Lines.{points_text}
-use Rattle.nap_cli.proofs.field.ShownPointsDisplay.fmt.Given as goal
+use Rattle.nap_lines.specs.Lines.{points_text}
+use Rattle.nap_lines.proofs.field.ShownPointsDisplay.fmt.Given as goal
 
 abbrev pub invariant-loop-point : goal.invariant-loop-point
 invariant-loop-point g l =
