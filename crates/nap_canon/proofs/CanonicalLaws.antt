@@ -1,11 +1,11 @@
 use Rattle.std.proofs.Common.{ℕ, ◌≡◌, ◌↔◌, List, ap, sym, ◌∙◌, subst}
 use Rattle.nap_reader.specs.Stream.{Outcome}
+use Rattle.nap_reader.proofs.PublicLaws.{read_values_are_in_range}
 use Rattle.nap_canon.specs.Text.{text, HaveText}
 use Rattle.nap_canon.specs.Streams.{list_of, IsCanonicalOf}
 use Rattle.nap_canon.specs.Laws.{IsReadAs, TextIsRead, TextOfPrefix, CanonicalStreamsAgree}
 use Rattle.nap_canon.proofs.TextLemmas.{text-append, built_front}
 use Rattle.nap_canon.proofs.PointLemmas.{means_text}
-use Rattle.nap_canon.proofs.InsideLemmas.{read_points_are_inside}
 
 pub text_is_read : TextIsRead
 text_is_read budget es built inside =
@@ -23,7 +23,7 @@ text_of_prefix es fs built = (built_front es fs built, text-append es fs)
 pub read_as : (budget other : ℕ) (c p : List ℕ) → IsCanonicalOf budget c p → IsReadAs other c (list_of budget p)
 read_as budget other c p canonical =
     subst (λ (bytes : List ℕ). IsReadAs other bytes (list_of budget p)) (sym canonical.text_is)
-    (text_is_read other (list_of budget p) canonical.built (read_points_are_inside budget p))
+    (text_is_read other (list_of budget p) canonical.built (read_values_are_in_range budget p).1)
 
 pub equal_texts : (budget other : ℕ) (c p d q : List ℕ) → IsCanonicalOf budget c p → IsCanonicalOf other d q →
     (c ≡ d) ↔ (list_of budget p ≡ list_of other q)

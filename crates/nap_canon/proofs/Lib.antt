@@ -4,7 +4,5 @@ pub mod FaultLemmas
 pub mod RuleLemmas
 pub mod ReadLemmas
 pub mod PointLemmas
-pub mod RulesInside
-pub mod InsideLemmas
 pub mod CanonicalLaws
 pub mod StreamLemmas

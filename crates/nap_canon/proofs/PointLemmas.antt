@@ -1,6 +1,4 @@
-use Rattle.std.proofs.Common.{ℕ, suc, ◌+◌, ◌-◌, ◌≡◌, ◌≤◌, List, [], ◌∷◌, ◌++◌, length, All, true, false, refl, ap, sym, subst, ◌∙◌, arith}
-use Rattle.std.proofs.lemmas.Bool.Decides.{nat_tests}
-use Rattle.std.proofs.lemmas.List.{length-map}
+use Rattle.std.proofs.Common.{ℕ, suc, ◌+◌, ◌≡◌, ◌≤◌, List, [], ◌∷◌, ◌++◌, length, All, false, refl, ap, sym, subst, ◌∙◌, arith}
 use Rattle.std.proofs.lemmas.List.Elements.{All-nil, All-cons, All-head, All-tail}
 use Rattle.nap_values.specs.Coordinates.{Coordinates, IsInSquare}
 use Rattle.nap_values.specs.Laws.{IsOperandByte}
@@ -17,14 +15,14 @@ use Rattle.nap_codes.specs.Tables.{row_of, control0_rows, opcode_rows, left_out_
 use Rattle.nap_codes.specs.Front as codes
 use Rattle.nap_list.specs.declared.entry.Entry.{Entry}
 use Rattle.nap_list.specs.declared.entry.Entry.TheVariants as entries
+use Rattle.nap_list.specs.Range.{InRange, AllInRange}
 use Rattle.nap_list.specs.State.{walk}
 use Rattle.nap_draw.specs.declared.work.Work.{Work}
-use Rattle.nap_draw.specs.Rule.{drawn}
+use Rattle.nap_draw.specs.Rule.{rule, drawn}
 use Rattle.nap_reader.specs.Course as course
-use Rattle.nap_reader.specs.Held.{IsOpenRun}
-use Rattle.nap_reader.specs.Stream.{Placed, Machine, words_of, is_operand_byte, run_length, run_limit, front, placed_from, start_machine, means}
-use Rattle.nap_reader.proofs.StreamLemmas.{placed_from-append}
-use Rattle.nap_canon.specs.Text.{pieces, written, text, HasText, HaveText, IsInside, AreInside}
+use Rattle.nap_reader.specs.Laws.{IsRun}
+use Rattle.nap_reader.specs.Stream.{Placed, Machine, bytes_of, words_of, run_limit, front, placed_from, start_machine, means}
+use Rattle.nap_canon.specs.Text.{pieces, written, text, HasText, HaveText}
 use Rattle.nap_canon.proofs.RuleLemmas.{IsPlain, with_entries, header_work, header_rule, header_plain, plain_point, point_plain, point_rule}
 use Rattle.nap_canon.proofs.ReadLemmas.{Reads, settled, reads_nothing, reads_act, BeginsAnew, reads_run, means_settled}
 
@@ -35,29 +33,32 @@ unfolding placed_from
 words_of-placed n [] = refl
 words_of-placed n (b ∷ bytes) = rw (words_of-placed (suc n) bytes) refl
 
-operand_byte : (b : ℕ) → IsOperandByte b → is_operand_byte b ≡ true
-operand_byte b h = grind (arith, nat_tests)
-
-run_length-placed : (n : ℕ) (bytes : List ℕ) → All IsOperandByte bytes → run_length (placed_from n bytes) ≡ length (placed_from n bytes)
+bytes_of-placed : (n : ℕ) (bytes : List ℕ) → bytes_of (placed_from n bytes) ≡ bytes
 unfolding placed_from
-run_length-placed n [] all = refl
-run_length-placed n (b ∷ bytes) all =
-    rw (operand_byte b (All-head IsOperandByte b bytes all), run_length-placed (suc n) bytes (All-tail IsOperandByte b bytes all)) (omega arith)
+bytes_of-placed n [] = refl
+bytes_of-placed n (b ∷ bytes) = ap (λ (bs : List ℕ). b ∷ bs) (bytes_of-placed (suc n) bytes)
+
+length-placed : (n : ℕ) (bytes : List ℕ) → length (placed_from n bytes) ≡ length bytes
+unfolding placed_from
+length-placed n [] = refl
+length-placed n (b ∷ bytes) = ap suc (length-placed (suc n) bytes)
+
+placed_from-append : (n : ℕ) (xs ys : List ℕ) → placed_from n (xs ++ ys) ≡ placed_from n xs ++ placed_from (n + length xs) ys
+unfolding placed_from
+placed_from-append n [] ys = ap (λ (k : ℕ). placed_from k ys) (omega arith)
+placed_from-append n (x ∷ xs) ys =
+    let places : suc n + length xs ≡ n + suc (length xs) = omega arith in
+    ap (λ (zs : List Placed). record { byte = x; place = n } ∷ zs)
+    (placed_from-append (suc n) xs ys ∙ ap (λ (k : ℕ). placed_from (suc n) xs ++ placed_from k ys) places)
 
 -- an opcode and the bytes of its operands are a run
 spelled_run : (n : ℕ) (opcode : ℕ) (operands : List ℕ) (op : Opcode) (sets : CodeSets) →
     codes.front sets (opcode ∷ []) ≡ codes.whole (code.Op op) 1 sets → All IsOperandByte operands → length operands ≤ run_limit →
-    IsOpenRun (placed_from n (opcode ∷ operands)) (record { op = op; place = n }) (spellings.words_of operands) sets
-unfolding placed_from
+    IsRun sets op (record { byte = opcode; place = n }) (placed_from (suc n) operands)
 spelled_run n opcode operands op sets names all few = record {
-  opcode = record { byte = opcode; place = n };
-  operands = placed_from (suc n) operands;
-  is = refl;
-  place = refl;
   names = names;
-  words = words_of-placed (suc n) operands;
-  all = run_length-placed (suc n) operands all;
-  short = omega (arith, few, length-map operands (λ byte. byte - 64));
+  carriers = subst (All IsOperandByte) (sym (bytes_of-placed (suc n) operands)) all;
+  few = omega (arith, few, length-placed (suc n) operands);
 }
 
 -- the code sets behind the header: the opcodes are in GL
@@ -104,13 +105,13 @@ begins_anew n (e ∷ es) built =
 point_read : (m : Machine) (n : ℕ) (p : Coordinates) (xs : List Placed) (es : List Entry) (after : Machine) → m.sets ≡ opcode_sets →
     IsPlain m.work → IsInSquare p → BeginsAnew xs → Reads (drawn_machine m (plain_point p ∷ [])) xs es after →
     Reads m (placed_from n (0x26 ∷ point_bytes p) ++ xs) (plain_point p ∷ es) after
+unfolding placed_from
 point_read m n p xs es after sets plain inside anew behind =
     let spelled = points_spell_once p inside in
     let names = subst (λ (s : CodeSets). codes.front s (0x26 ∷ []) ≡ codes.whole (code.Op opcodes.PointAbs) 1 s) (sym sets) point_names in
-    reads_run m (placed_from n (0x26 ∷ point_bytes p)) (record { op = opcodes.PointAbs; place = n }) (spellings.words_of (point_bytes p))
-    (drawn m.work (plain_point p ∷ [])) xs es after
+    reads_run m (record { byte = 0x26; place = n }) (placed_from (suc n) (point_bytes p)) opcodes.PointAbs (drawn m.work (plain_point p ∷ [])) xs es after
     (spelled_run n 0x26 (point_bytes p) opcodes.PointAbs m.sets names spelled.carriers (omega (arith, spelled.size_is)))
-    (point_rule m.work p plain inside) anew behind
+    (ap (rule m.work opcodes.PointAbs) (words_of-placed (suc n) (point_bytes p)) ∙ point_rule m.work p plain inside) anew behind
 
 -- one point more, and the others where it leaves the machine
 one_point_read : (m : Machine) (n : ℕ) (p : Coordinates) (es : List Entry) → m.sets ≡ opcode_sets → IsPlain m.work → IsInSquare p → HaveText es →
@@ -123,7 +124,7 @@ one_point_read m n p es sets plain inside built behind =
     subst (λ (xs : List Placed). Reads m xs (plain_point p ∷ es) (drawn_machine m (plain_point p ∷ es))) (sym parts)
     (point_read m n p (placed_from next (written (pieces es))) es (drawn_machine m (plain_point p ∷ es)) sets plain inside (begins_anew next es built) behind)
 
-points_read : (m : Machine) (n : ℕ) (es : List Entry) → m.sets ≡ opcode_sets → IsPlain m.work → HaveText es → AreInside es →
+points_read : (m : Machine) (n : ℕ) (es : List Entry) → m.sets ≡ opcode_sets → IsPlain m.work → HaveText es → AllInRange es →
     Reads m (placed_from n (written (pieces es))) es (drawn_machine m es)
 unfolding pieces written placed_from walk
 points_read m n [] sets plain built inside = reads_nothing m
@@ -131,10 +132,10 @@ points_read m n (e ∷ es) sets plain built inside =
     let point = plain_entry e (All-head HasText e es built) in
     let others : HaveText es = All-tail HasText e es built in
     let p = point.0 in
-    let first : IsInside (plain_point p) = subst IsInside point.1 (All-head IsInside e es inside) in
+    let first : InRange (plain_point p) = subst InRange point.1 (All-head InRange e es inside) in
     subst (λ (x : Entry). Reads m (placed_from n (written (pieces (x ∷ es)))) (x ∷ es) (drawn_machine m (x ∷ es))) (sym point.1)
-    (one_point_read m n p es sets plain first others
-    (points_read (drawn_machine m (plain_point p ∷ [])) (n + length (0x26 ∷ point_bytes p)) es sets (point_plain m.work p plain) others (All-tail IsInside e es inside)))
+    (one_point_read m n p es sets plain first.0 others
+    (points_read (drawn_machine m (plain_point p ∷ [])) (n + length (0x26 ∷ point_bytes p)) es sets (point_plain m.work p plain) others (All-tail InRange e es inside)))
 
 -- drawing points leaves what they are drawn with
 plain_along : (work : Work) (es : List Entry) → IsPlain work → HaveText es → IsPlain (with_entries work es)
@@ -146,7 +147,7 @@ plain_along work (e ∷ es) plain built =
     subst (λ (x : Entry). IsPlain (with_entries work (x ∷ []))) (sym point.1) (point_plain work point.0 plain) in
     plain_along (with_entries work (e ∷ [])) es one (All-tail HasText e es built)
 
-text_reads : (budget : ℕ) (es : List Entry) → HaveText es → AreInside es →
+text_reads : (budget : ℕ) (es : List Entry) → HaveText es → AllInRange es →
     Reads (start_machine budget) (placed_from 0 (text es)) es (drawn_machine (header_machine budget) es)
 unfolding placed_from
 text_reads budget es built inside =
@@ -156,12 +157,12 @@ text_reads budget es built inside =
     let run = spelled_run 1 0x21 (0x5F ∷ []) opcodes.Domain opcode_sets domain_names all short in
     reads_act (start_machine budget) (placed_from 0 (text es)) [] (record (start_machine budget) { sets = opcode_sets }) (placed_from 1 (0x21 ∷ 0x5F ∷ written (pieces es))) es (drawn_machine (header_machine budget) es)
     (shift_acts budget (0x21 ∷ 0x5F ∷ written (pieces es)))
-    (reads_run (record (start_machine budget) { sets = opcode_sets }) (placed_from 1 (0x21 ∷ 0x5F ∷ [])) (record { op = opcodes.Domain; place = 1 }) (31 ∷ [])
+    (reads_run (record (start_machine budget) { sets = opcode_sets }) (record { byte = 0x21; place = 1 }) (placed_from 2 (0x5F ∷ [])) opcodes.Domain
     (record { entries = []; work = header_work; clears = false }) (placed_from 3 (written (pieces es))) es (drawn_machine (header_machine budget) es)
     run header_rule (begins_anew 3 es built) points)
 
 -- what a text means: its list, and nothing is charged
-pub means_text : (budget : ℕ) (es : List Entry) → HaveText es → AreInside es → means budget (text es) ≡ settled es (drawn_machine (header_machine budget) es)
+pub means_text : (budget : ℕ) (es : List Entry) → HaveText es → AllInRange es → means budget (text es) ≡ settled es (drawn_machine (header_machine budget) es)
 means_text budget es built inside =
     means_settled budget (text es) es (drawn_machine (header_machine budget) es) (text_reads budget es built inside)
     (plain_along header_work es header_plain built).definition

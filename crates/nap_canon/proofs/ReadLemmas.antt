@@ -1,25 +1,21 @@
-use Rattle.std.proofs.Common.{ℕ, ◌≡◌, List, [], ◌∷◌, ◌++◌, length, false, None, Result, Ok, Err, refl, ap, sym, subst, ◌∙◌, append_assoc, append-nil}
+use Rattle.std.proofs.Common.{ℕ, ◌≡◌, List, [], ◌∷◌, ◌++◌, length, false, Option, None, Some, Result, Ok, Err, refl, ap, sym, subst, ◌∙◌, append_assoc, append-nil}
 use Rattle.std.specs.Prelude.{⊤}
-use Rattle.nap_codes.specs.declared.code.Code.TheVariants as code
 use Rattle.nap_codes.specs.declared.code_set.CodeSets.{CodeSets}
 use Rattle.nap_codes.specs.declared.opcode.Opcode.{Opcode}
 use Rattle.nap_codes.specs.Front as codes
-use Rattle.nap_codes.proofs.PublicLaws.{whole_stays}
 use Rattle.nap_list.specs.declared.entry.Entry.{Entry}
 use Rattle.nap_draw.specs.Rule.{Drawn, rule}
 use Rattle.nap_draw.specs.declared.fault.DrawFault.{DrawFault}
-use Rattle.nap_reader.specs.declared.reader.OpenRun.{OpenRun}
 use Rattle.nap_reader.specs.Course as course
 use Rattle.nap_reader.specs.Course.{prepend, paused, onward}
-use Rattle.nap_reader.specs.Held.{IsOpenRun}
-use Rattle.nap_reader.specs.Stream.{Placed, Machine, Outcome, bytes_of, words_of, is_operand, front, drawn_front, outcome_from, with_run, with_run_by, with_drawn, with_definition, with_end, placed_from, start_machine, means, ended, ended_by}
-use Rattle.nap_reader.proofs.StreamLemmas.{outcome_from-front}
-use Rattle.nap_reader.proofs.HeldLemmas.{front_run, open_run_pauses}
+use Rattle.nap_reader.specs.Laws.{IsRun}
+use Rattle.nap_reader.specs.Stream.{Placed, Machine, Outcome, Unfinished, nothing, open_run, words_of, is_operand, front, drawn_front, outcome_from, with_run, with_run_by, with_drawn, with_definition, with_end, placed_from, start_machine, means, ended, ended_by}
+use Rattle.nap_reader.proofs.PublicLaws.{front_after_front, run_acts, run_waits}
 
 -- What comes of a list once an open run at its end has acted.
 
 abbrev pub settled : List Entry → Machine → Outcome
-settled es m = record { entries = es; refusal = None; machine = m; rest = [] }
+settled es m = record { entries = es; refusal = None; unfinished = Some nothing; machine = m; rest = [] }
 
 -- these entries, and this machine
 pub record Reads (m : Machine) (xs : List Placed) (es : List Entry) (after : Machine) : Type 0 where
@@ -33,14 +29,12 @@ with_drawn-prepend : (es : List Entry) (o : Outcome) (place : ℕ) (by : Result 
 with_drawn-prepend es o place (Ok drawn) = rw append_assoc refl
 with_drawn-prepend es o place (Err fault) = refl
 
-with_run_by-prepend : (es : List Entry) (o : Outcome) (f : codes.Front) (xs : List Placed) →
-    with_run_by (prepend es o) f xs ≡ prepend es (with_run_by o f xs)
-with_run_by-prepend es o (codes.whole (code.Op op) n sets) [] = refl
-with_run_by-prepend es o (codes.whole (code.Op op) n sets) (x ∷ run) = with_drawn-prepend es o x.place (rule o.machine.work op (words_of run))
-with_run_by-prepend es o _ xs = refl
+with_run_by-prepend : (es : List Entry) (o : Outcome) (u : Option Unfinished) → with_run_by (prepend es o) u ≡ prepend es (with_run_by o u)
+with_run_by-prepend es o (Some (open_run op place run)) = with_drawn-prepend es o place (rule o.machine.work op run)
+with_run_by-prepend es o _ = refl
 
 with_run-prepend : (es : List Entry) (o : Outcome) → with_run (prepend es o) ≡ prepend es (with_run o)
-with_run-prepend es o = with_run_by-prepend es o (codes.front o.machine.sets (bytes_of o.rest)) o.rest
+with_run-prepend es o = with_run_by-prepend es o o.unfinished
 
 -- no bytes
 
@@ -48,49 +42,36 @@ no_code : (sets : CodeSets) → codes.front sets [] ≡ codes.unfinished
 unfolding codes.front
 no_code sets = refl
 
-nothing_pauses : (m : Machine) → outcome_from m [] ≡ paused m []
+nothing_read : (m : Machine) → outcome_from m [] ≡ settled [] m
 unfolding front
-nothing_pauses m =
-    let none : front m [] ≡ course.pause = rw (no_code m.sets) refl in
-    outcome_from-front m [] ∙ ap (onward outcome_from m []) none
+nothing_read m =
+    let none : front m [] ≡ course.pause nothing = rw (no_code m.sets) refl in
+    front_after_front m [] ∙ ap (onward outcome_from m []) none
 
 pub reads_nothing : (m : Machine) → Reads m [] [] m
-reads_nothing m = record {
-  going = ap (λ (o : Outcome). o.refusal) (nothing_pauses m);
-  acts = ap with_run (nothing_pauses m) ∙ ap (λ (f : codes.Front). with_run_by (paused m []) f []) (no_code m.sets);
-}
+reads_nothing m = record { going = ap (λ (o : Outcome). o.refusal) (nothing_read m); acts = ap with_run (nothing_read m) }
 
 -- a code that acts
 pub reads_act : (m : Machine) (xs : List Placed) (ds : List Entry) (next : Machine) (ys : List Placed) (es : List Entry) (after : Machine) →
     front m xs ≡ course.act ds next ys → Reads next ys es after → Reads m xs (ds ++ es) after
 reads_act m xs ds next ys es after e rest =
-    let is : outcome_from m xs ≡ prepend ds (outcome_from next ys) = outcome_from-front m xs ∙ ap (onward outcome_from m xs) e in
+    let is : outcome_from m xs ≡ prepend ds (outcome_from next ys) = front_after_front m xs ∙ ap (onward outcome_from m xs) e in
     record {
       going = ap (λ (o : Outcome). o.refusal) is ∙ rest.going;
       acts = ap with_run is ∙ (with_run-prepend ds (outcome_from next ys) ∙ ap (prepend ds) rest.acts);
     }
 
 -- an opcode whose run reaches the end
-run_acts : (m : Machine) (x : Placed) (operands : List Placed) (op : Opcode) (drawn : Drawn) →
-    codes.front m.sets (x.byte ∷ []) ≡ codes.whole (code.Op op) 1 m.sets → rule m.work op (words_of operands) ≡ Ok drawn →
-    with_run (paused m (x ∷ operands)) ≡ settled drawn.entries (record m { work = drawn.work })
-run_acts m x operands op drawn names by =
-    let found = whole_stays m.sets (x.byte ∷ []) (bytes_of operands) (code.Op op) 1 m.sets names in
-    ap (λ (f : codes.Front). with_run_by (paused m (x ∷ operands)) f (x ∷ operands)) found
-    ∙ ap (with_drawn (paused m (x ∷ operands)) x.place) by
 
-reads_last : (m : Machine) (rest : List Placed) (open_run : OpenRun) (run : List ℕ) (drawn : Drawn) →
-    IsOpenRun rest open_run run m.sets → rule m.work open_run.op run ≡ Ok drawn →
-    Reads m rest drawn.entries (record m { work = drawn.work })
-reads_last m rest open_run run drawn h by =
-    let is : outcome_from m rest ≡ paused m rest =
-    outcome_from-front m rest ∙ ap (onward outcome_from m rest) (open_run_pauses m rest open_run run h) in
+reads_last : (m : Machine) (x : Placed) (operands : List Placed) (op : Opcode) (drawn : Drawn) → IsRun m.sets op x operands →
+    rule m.work op (words_of operands) ≡ Ok drawn → Reads m (x ∷ operands) drawn.entries (record m { work = drawn.work })
+reads_last m x operands op drawn run by =
+    let waiting : Outcome = paused m (x ∷ operands) (Some (open_run op x.place (words_of operands))) in
+    let is : outcome_from m (x ∷ operands) ≡ waiting =
+    front_after_front m (x ∷ operands) ∙ ap (onward outcome_from m (x ∷ operands)) (run_waits m op x operands run) in
     record {
       going = ap (λ (o : Outcome). o.refusal) is;
-      acts =
-          ap with_run is
-          ∙ (ap (λ (xs : List Placed). with_run (paused m xs)) h.is
-          ∙ run_acts m h.opcode h.operands open_run.op drawn h.names (ap (rule m.work open_run.op) h.words ∙ by));
+      acts = ap with_run is ∙ ap (with_drawn waiting x.place) by;
     }
 
 -- no operand byte comes first
@@ -99,20 +80,20 @@ BeginsAnew [] = ⊤
 BeginsAnew (x ∷ xs) = is_operand x ≡ false
 
 -- an opcode with its run, and what is behind it
-pub reads_run : (m : Machine) (rest : List Placed) (open_run : OpenRun) (run : List ℕ) (drawn : Drawn) (xs : List Placed) (es : List Entry) (after : Machine) →
-    IsOpenRun rest open_run run m.sets → rule m.work open_run.op run ≡ Ok drawn → BeginsAnew xs →
-    Reads (record m { work = drawn.work }) xs es after → Reads m (rest ++ xs) (drawn.entries ++ es) after
-reads_run m rest open_run run drawn [] es after h by anew behind =
+pub reads_run : (m : Machine) (x : Placed) (operands : List Placed) (op : Opcode) (drawn : Drawn) (xs : List Placed) (es : List Entry) (after : Machine) →
+    IsRun m.sets op x operands → rule m.work op (words_of operands) ≡ Ok drawn → BeginsAnew xs →
+    Reads (record m { work = drawn.work }) xs es after → Reads m ((x ∷ operands) ++ xs) (drawn.entries ++ es) after
+reads_run m x operands op drawn [] es after run by anew behind =
     let none = reads_nothing (record m { work = drawn.work }) in
     let same : settled [] (record m { work = drawn.work }) ≡ settled es after = sym none.acts ∙ behind.acts in
-    let last = reads_last m rest open_run run drawn h by in
-    subst (λ (ys : List Placed). Reads m ys (drawn.entries ++ es) after) (sym (append-nil rest))
-    (subst (λ (ds : List Entry). Reads m rest (drawn.entries ++ ds) after) (ap (λ (o : Outcome). o.entries) same)
-    (subst (λ (n : Machine). Reads m rest (drawn.entries ++ []) n) (ap (λ (o : Outcome). o.machine) same)
-    (subst (λ (ds : List Entry). Reads m rest ds (record m { work = drawn.work })) (sym (append-nil drawn.entries)) last)))
-reads_run m rest open_run run drawn (x ∷ xs) es after h by anew behind =
-    reads_act m (rest ++ x ∷ xs) drawn.entries (record m { work = drawn.work }) (x ∷ xs) es after
-    (front_run m rest open_run run x xs h anew ∙ ap (drawn_front m open_run.place (x ∷ xs)) by)
+    let last = reads_last m x operands op drawn run by in
+    subst (λ (ys : List Placed). Reads m ys (drawn.entries ++ es) after) (sym (append-nil (x ∷ operands)))
+    (subst (λ (ds : List Entry). Reads m (x ∷ operands) (drawn.entries ++ ds) after) (ap (λ (o : Outcome). o.entries) same)
+    (subst (λ (n : Machine). Reads m (x ∷ operands) (drawn.entries ++ []) n) (ap (λ (o : Outcome). o.machine) same)
+    (subst (λ (ds : List Entry). Reads m (x ∷ operands) ds (record m { work = drawn.work })) (sym (append-nil drawn.entries)) last)))
+reads_run m x operands op drawn (y ∷ ys) es after run by anew behind =
+    reads_act m ((x ∷ operands) ++ y ∷ ys) drawn.entries (record m { work = drawn.work }) (y ∷ ys) es after
+    (run_acts m op x operands y ys run anew ∙ ap (drawn_front m x.place (y ∷ ys)) by)
     behind
 
 -- the end of a stream

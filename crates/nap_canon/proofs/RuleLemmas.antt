@@ -1,5 +1,5 @@
-use Rattle.std.proofs.Common.{ℕ, ◌≡◌, List, [], ◌∷◌, length, map, take, drop, false, None, Some, Ok, refl, ap, ◌∙◌, arith}
-use Rattle.std.proofs.lemmas.List.{length-map, take_all, drop_all}
+use Rattle.std.proofs.Common.{ℕ, ◌≡◌, List, [], ◌∷◌, length, map, false, None, Some, Ok, refl, ap, sym, ◌∙◌, append-nil, arith}
+use Rattle.std.proofs.lemmas.List.{length-map}
 use Rattle.nap_values.specs.Coordinates.{Coordinates, IsInSquare, point_at}
 use Rattle.nap_values.specs.Operands.{multi_of}
 use Rattle.nap_values.specs.Spellings.{words_of, point_bytes}
@@ -12,7 +12,7 @@ use Rattle.nap_draw.specs.declared.work.Work.{Work}
 use Rattle.nap_draw.specs.Operands.{operands, moves}
 use Rattle.nap_draw.specs.Geometry.{points_at}
 use Rattle.nap_draw.specs.Rule.{rule, drawn, start_work}
-use Rattle.nap_draw.proofs.Cuts.{operands-front, operands_none}
+use Rattle.nap_draw.proofs.PublicLaws.{whole_operand_first, no_operands}
 
 -- What the rules of drawing do with the pieces of canonical text.
 
@@ -49,11 +49,8 @@ point_plain work p plain = record { multi = plain.multi; pel = refl; colour = re
 -- eight words are one operand
 one_operand : (words : List ℕ) → length words ≡ 8 → moves 8 words ≡ multi_of words ∷ []
 one_operand words eight =
-    let front = rw eight at (operands-front 8 words (omega arith) (omega arith)) in
-    let all : take 8 words ≡ words = take_all 8 words (omega arith) in
-    let none : drop 8 words ≡ [] = drop_all 8 words (omega arith) in
-    let one : operands 8 words ≡ words ∷ [] = front ∙ rw (all, none, operands_none 8 [] refl) refl in
-    ap (map multi_of) one
+    let first = whole_operand_first 8 words [] (omega arith) eight in
+    ap (λ (ws : List ℕ). moves 8 ws) (sym (append-nil words)) ∙ (ap (map multi_of) first ∙ ap (λ (os : List (List ℕ)). multi_of words ∷ map multi_of os) (no_operands 8))
 
 one_point : (words : List ℕ) (p : Coordinates) → point_at (multi_of words) ≡ Some p → points_at (multi_of words ∷ []) ≡ Some (p ∷ [])
 unfolding points_at

@@ -4,7 +4,7 @@ use Rattle.nap_list.specs.State.{Legal, BreaksAt}
 use Rattle.nap_list.proofs.PublicLaws.{legal_never_breaks}
 use Rattle.nap_reader.specs.declared.fault.Fault.TheVariants as faults
 use Rattle.nap_reader.specs.Stream.{refusal}
-use Rattle.nap_reader.proofs.LegalLemmas.{accepted_is_legal}
+use Rattle.nap_reader.proofs.PublicLaws.{accepted_is_legal}
 use Rattle.nap_canon.specs.declared.fault.CanonFault.{CanonFault}
 use Rattle.nap_canon.specs.declared.fault.CanonFault.TheVariants as canon_faults
 use Rattle.nap_canon.specs.Text.{text, HaveText, LacksText}

@@ -1,7 +1,8 @@
 use Rattle.std.specs.Prelude.{ℕ, ◌≡◌, ◌↔◌, List, ◌++◌}
 use Rattle.nap_list.specs.declared.entry.Entry.{Entry}
+use Rattle.nap_list.specs.Range.{AllInRange}
 use Rattle.nap_reader.specs.Stream.{means}
-use Rattle.nap_canon.specs.Text.{text, written, pieces, HaveText, AreInside}
+use Rattle.nap_canon.specs.Text.{text, written, pieces, HaveText}
 use Rattle.nap_canon.specs.Streams.{IsAccepted, list_of, IsCanonicalOf}
 
 -- the stream is accepted with this list, and nothing is charged for it
@@ -10,13 +11,9 @@ pub record IsReadAs (budget : ℕ) (p : List ℕ) (es : List Entry) : Type 0 whe
   pub list : list_of budget p ≡ es
   pub uncharged : (means budget p).machine.left ≡ budget
 
--- The text of a list is read as that list.
+-- The text of a list is read as that list. `canon` ensures both of what is asked of the list.
 abbrev pub TextIsRead : Type 0
-TextIsRead = (budget : ℕ) (es : List Entry) → HaveText es → AreInside es → IsReadAs budget (text es) es
-
--- The points of a list that was read are in the square.
-abbrev pub ReadPointsAreInside : Type 0
-ReadPointsAreInside = (budget : ℕ) (p : List ℕ) → AreInside (list_of budget p)
+TextIsRead = (budget : ℕ) (es : List Entry) → HaveText es → AllInRange es → IsReadAs budget (text es) es
 
 -- The first entries of a list with a text have one, and the text begins with it.
 abbrev pub TextOfPrefix : Type 0

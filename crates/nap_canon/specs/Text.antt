@@ -1,5 +1,4 @@
-use Rattle.std.specs.Prelude.{ℕ, ◌≡◌, List, [], ◌∷◌, ◌++◌, length, All, ⊤}
-use Rattle.nap_values.specs.Coordinates.{IsInSquare}
+use Rattle.std.specs.Prelude.{ℕ, ◌≡◌, List, [], ◌∷◌, ◌++◌, length, All}
 use Rattle.nap_values.specs.Spellings.{point_bytes}
 use Rattle.nap_list.specs.declared.entry.Entry.{Entry}
 use Rattle.nap_list.specs.declared.entry.Entry.TheVariants as entries
@@ -41,15 +40,6 @@ HasText _ = ⊥
 -- Canonical text is built for each entry.
 abbrev pub HaveText : List Entry → Type 0
 HaveText es = All HasText es
-
--- Where the entry is a point, it is one of the square.
-abbrev pub IsInside : Entry → Type 0
-IsInside (entries.Point at pel colour) = IsInSquare at
-IsInside _ = ⊤
-
--- Each point is one of the square.
-abbrev pub AreInside : List Entry → Type 0
-AreInside es = All IsInside es
 
 -- the entry at this index is the first for which canonical text isn't built
 pub record LacksText (index : ℕ) (es : List Entry) : Type 0 where

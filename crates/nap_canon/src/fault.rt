@@ -1,3 +1,4 @@
+//! Why a display list has no canonical text.
 ghost use Rattle.std.specs.Prelude.{◌≡◌};
 ghost use Rattle.nap_canon.specs.declared.fault.CanonFault.TheVariants.{Memory};
 

@@ -1,14 +1,9 @@
-//! What holds of canonical text, each law as what a function of no effect ensures.
-ghost use Rattle.nap_canon.specs.Laws.{TextIsRead, ReadPointsAreInside, TextOfPrefix, CanonicalStreamsAgree};
+//! Laws of canonical text and of canonical streams, as contracts of functions that do nothing.
+ghost use Rattle.nap_canon.specs.Laws.{TextIsRead, TextOfPrefix, CanonicalStreamsAgree};
 
 /// Reading the text of a list gives the list back, and charges nothing.
 pub fn text_is_read()
     ensures { TextIsRead }
-{}
-
-/// The points of a list that was read are in the square, so its text is read as that list.
-pub fn read_points_are_inside()
-    ensures { ReadPointsAreInside }
 {}
 
 /// The first entries of a list have a text, with which that of the list begins.

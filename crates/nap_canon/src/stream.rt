@@ -1,7 +1,7 @@
-// The canonical stream of a stream.
+//! The canonical stream of a stream.
 ghost use Rattle.std.specs.Prelude.{◌≡◌, ◌≢◌, ◌↔◌, ◌<◌, ◌^◌, ℕ, List, length, IfOk, IfErr};
 ghost use Rattle.nap_reader.specs.Stream.{refusal};
-ghost use Rattle.nap_canon.specs.Streams.{list_of, IsCanonicalOf, IsRefusedBy, fault_of};
+ghost use Rattle.nap_canon.specs.Streams.{list_of, IsCanonicalOf, IsRefusedBy, LacksMemoryAt, fault_of};
 ghost use Rattle.nap_canon.specs.Laws.{IsReadAs};
 
 use crate::fault::CanonFault;
@@ -34,6 +34,7 @@ pub fn normalise(alloc: Global, budget: Budget, bytes: &[u8]) -> Result<Vec<u8>,
     ensures equal { IfOk result (λ c. (other : ℕ) (d q : List ℕ) → IsCanonicalOf other d q →
         (c.items ≡ d) ↔ (list_of budget bytes.now ≡ list_of other q)) }
     ensures refused { IfErr result (λ r. r.fault ≢ Fault.Memory → IsRefusedBy budget bytes.now r) }
+    ensures memory { IfErr result (λ r. r.fault ≡ Fault.Memory → LacksMemoryAt budget bytes.now r.place) }
 {
     let list = read_all(alloc, budget, bytes)?;
     match canon(alloc, &list) {

@@ -1,4 +1,4 @@
-// Lists and streams by hand, with the bytes that the profile gives them.
+//! Lists and streams by hand, with the bytes that the profile gives them.
 use crate::{CanonFault, canon, normalise};
 use nap_list::{Colour, Entry, Origin};
 use nap_reader::{Budget, Fault, Refusal};

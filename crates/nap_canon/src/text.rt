@@ -1,6 +1,7 @@
-// The canonical text of a display list.
-ghost use Rattle.std.specs.Prelude.{◌≡◌, ◌↔◌, ◌∷◌, ◌++◌, ℕ, IsTrue, IsNone, IsErrOf, IfOk, OnOk, Some};
+//! The canonical text of a display list.
+ghost use Rattle.std.specs.Prelude.{◌≡◌, ◌↔◌, ◌∷◌, ◌++◌, ℕ, IsTrue, IsNone, IsErrOf, All, IfOk, OnOk, Some};
 ghost use Rattle.nap_list.specs.State.{Legal, BreaksAt};
+ghost use Rattle.nap_list.specs.Range.{InRange, AllInRange};
 ghost use Rattle.nap_canon.specs.Text.{text, written, spelled, HasText, HaveText, LacksText};
 
 use crate::fault::CanonFault;
@@ -52,7 +53,8 @@ fn write_piece(text: &mut Vec<u8>, opcode: u8, operands: &[u8]) -> Result<(), Al
 /// Writes the spelling of an entry.
 #[tactic(auto, unfolding(crate::specs::Text::written))]
 fn write_entry(text: &mut Vec<u8>, entry: &Entry) -> Result<(), AllocError>
-    ensures { OnOk result (text.new.items ≡ text.old.items ++ written (spelled entry.now)) }
+    ensures text { OnOk result (text.new.items ≡ text.old.items ++ written (spelled entry.now)) }
+    ensures range { OnOk result (HasText entry.now → InRange entry.now) }
 {
     match entry {
         Entry::Point { at, .. } => write_piece(text, POINT_ABS, &put_point(*at)),
@@ -62,7 +64,8 @@ fn write_entry(text: &mut Vec<u8>, entry: &Entry) -> Result<(), AllocError>
 
 /// Writes the header and each entry.
 fn write(alloc: Global, entries: &[Entry]) -> Result<Vec<u8>, AllocError>
-    ensures { IfOk result (λ bytes. bytes.items ≡ text entries.now) }
+    ensures text { IfOk result (λ bytes. bytes.items ≡ text entries.now) }
+    ensures range { OnOk result (All (λ e. HasText e → InRange e) entries.now) }
 {
     let mut bytes = Vec::with_capacity(alloc, HEADER.len() + LONGEST * entries.len())?;
     bytes.extend_from_slice(&HEADER)?;
@@ -78,7 +81,10 @@ pub fn canon(alloc: Global, entries: &[Entry]) -> Result<Vec<u8>, CanonFault>
     ensures unbuilt { (index : ℕ) → IsErrOf result (CanonFault.Unbuilt index) ↔ (Legal entries.now × LacksText index entries.now) }
     ensures legal { IfOk result (λ bytes. Legal entries.now) }
     ensures built { IfOk result (λ bytes. HaveText entries.now) }
+    ensures range { IfOk result (λ bytes. AllInRange entries.now) }
     ensures text { IfOk result (λ bytes. bytes.items ≡ text entries.now) }
+    // Want of memory is of the text: the list is legal, and has one.
+    ensures memory { IsErrOf result CanonFault.Memory → Legal entries.now × HaveText entries.now }
 {
     if let Err(index) = legal(entries) {
         return Err(CanonFault::Illegal(index));

@@ -1,6 +1,7 @@
-use Rattle.std.proofs.Common.{◌≡◌, ℕ, ◌+◌, ◌-◌, List, Option, take, drop, take-add, length, length-drop, arith, subst, sym}
+use Rattle.std.proofs.Common.{◌≡◌, ◌∙◌, ◌||◌, Bool, false, ℕ, ◌+◌, ◌-◌, List, Option, take, drop, take-add, length, length-drop, arith, subst, sym}
 use Rattle.std.proofs.lemmas.List.{take_all}
 use Rattle.std.specs.Io.KnownBytes.{Appends}
+use Rattle.std.proofs.Math.Bool.{or-false}
 use Rattle.std.proofs.KnownBytes.{Appends-trans}
 
 -- what a write takes of the rest joins what was taken before it
@@ -10,3 +11,7 @@ taken_more a b c i n xs h k = subst (Appends a c) (sym (take-add i n xs)) (Appen
 -- the piece from i on is the rest
 pub rest_of : (i : ℕ) (xs : List ℕ) → take (length xs - i) (drop i xs) ≡ drop i xs
 rest_of i xs = take_all (length xs - i) (drop i xs) (omega (arith, length-drop i xs))
+
+-- a call that doesn't fail leaves the flag
+pub flag_stays : (first before after : Bool) → before ≡ first → after ≡ (before || false) → after ≡ first
+flag_stays first before after h k = k ∙ (or-false before ∙ h)

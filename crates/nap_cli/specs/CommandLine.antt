@@ -1,10 +1,11 @@
-use Rattle.std.specs.Prelude.{◌≡◌, ◌⊎◌, ◌≤◌, ℕ, Bool, true, false, List, [], ◌∷◌, Some, codes, pos}
+use Rattle.std.specs.Prelude.{◌≡◌, ◌⊎◌, ◌≤◌, ℕ, Bool, true, false, List, [], ◌∷◌, Some, codes, decimal, pos}
 use Rattle.std.specs.Str.Parse.{IsNumeral, digits_value, without_leading_plus}
 use Rattle.clap.specs.Words.{App, IsAmong, Row, Rule, Text, fault_of, new_app, new_rule, one_of, subcommand_of, with_rule, with_subcommand}
 use Rattle.clap.specs.declared.error.kind.ErrorKind.{ErrorKind}
 use Rattle.clap.specs.declared.error.kind.ErrorKind.TheVariants as kind
 use Rattle.clap.specs.declared.builder.ArgAction.TheVariants.{SetTrue}
 use Rattle.clap.specs.declared.builder.value_parser.ValueParser.TheVariants.{Signed}
+use Rattle.nap_reader.specs.declared.budget.TheConstants.Budget.{MOST, USUAL}
 use Rattle.nap_cli.specs.declared.command.Action.{Action}
 use Rattle.nap_cli.specs.declared.command.Action.TheVariants as action
 use Rattle.nap_cli.specs.declared.command.Command.{Command}
@@ -17,18 +18,18 @@ use Rattle.nap_cli.specs.Commands.{Explains, Ran}
 abbrev pub hex_rule : Rule
 hex_rule = record (new_rule (codes "hex")) { long = Some (codes "hex"); action = Some SetTrue }
 
--- `--budget N`, a number from 0 to 16777216
-abbrev pub budget_rule : Rule
-budget_rule = record (new_rule (codes "budget")) {
+-- `--budget N`, a number from 0 to the greatest budget, and with this text where it isn't given
+abbrev pub budget_rule : Text → Rule
+budget_rule usual = record (new_rule (codes "budget")) {
   long = Some (codes "budget");
   value_names = 1;
-  parser = Some (Signed (pos 0) (pos 16777216));
-  defaults = codes "1048576" ∷ [];
+  parser = Some (Signed (pos 0) (pos MOST));
+  defaults = usual ∷ [];
 }
 
 -- a command with both options
-abbrev pub command_app : Text → App
-command_app name = with_rule (with_rule (new_app name) hex_rule) budget_rule
+abbrev pub command_app : Text → Text → App
+command_app usual name = with_rule (with_rule (new_app name) hex_rule) (budget_rule usual)
 
 -- the program, of which a command is required, and whose words begin with it
 abbrev pub program_app : App
@@ -36,10 +37,14 @@ program_app = record (new_app (codes "naplps")) {
   top = record (new_app (codes "naplps")).top { no_binary_name = true; subcommand_required = true };
 }
 
+abbrev pub command_line_by : Text → App
+command_line_by usual =
+    with_subcommand (with_subcommand (with_subcommand program_app (command_app usual (codes "list")).top) (command_app usual (codes "check")).top)
+    (command_app usual (codes "canon")).top
+
+-- the command line, with the usual budget where none is given
 abbrev pub command_line : App
-command_line =
-    with_subcommand (with_subcommand (with_subcommand program_app (command_app (codes "list")).top) (command_app (codes "check")).top)
-    (command_app (codes "canon")).top
+command_line = command_line_by (decimal USUAL)
 
 abbrev pub action_name : Action → Text
 action_name action.List = codes "list"
@@ -54,7 +59,7 @@ flag_text false = codes "false"
 -- a text of decimal digits, behind a plus or not, that write this number of bytes, which is a budget
 abbrev pub IsBudget : Text → ℕ → Type 0
 IsBudget text n =
-    IsNumeral 10 (without_leading_plus text) × (digits_value 10 (without_leading_plus text) ≡ n) × (n ≤ 16777216)
+    IsNumeral 10 (without_leading_plus text) × (digits_value 10 (without_leading_plus text) ≡ n) × (n ≤ MOST)
 
 -- what clap found of the options is that of this command
 pub record Chooses (rows : List Row) (c : Command) : Type 0 where

@@ -1,5 +1,5 @@
-use Rattle.std.specs.Prelude.{ℕ, ◌≡◌, ◌≢◌, ◌⊎◌, ◌==◌, ◌||◌, ◌+◌, ◌-◌, ◌≤◌, not, Bool, true, false, List, [], ◌∷◌, ◌++◌, length, take, filter, flat_map, codes, decimal, Option, Some, Result, Ok, Err, IsErr}
-use Rattle.std.specs.Io.KnownBytes.{Appends, Consumes, IsAtEnd}
+use Rattle.std.specs.Prelude.{ℕ, ◌≡◌, ◌≢◌, ◌⊎◌, ◌==◌, ◌||◌, ◌+◌, ◌≤◌, not, Bool, true, false, List, [], ◌∷◌, ◌++◌, length, take, filter, flat_map, codes, decimal, Some, Result, Ok, Err, IsErr}
+use Rattle.std.specs.Io.KnownBytes.{Appends, Consumes}
 use Rattle.hex.specs.Hex.{decode_of, encode_lower}
 use Rattle.clap.specs.declared.error.kind.ErrorKind.{ErrorKind}
 use Rattle.clap.specs.declared.error.kind.ErrorKind.TheVariants as kind
@@ -7,7 +7,8 @@ use Rattle.nap_list.specs.declared.entry.Entry.{Entry}
 use Rattle.nap_reader.specs.declared.fault.Fault.TheVariants as fault
 use Rattle.nap_reader.specs.declared.fault.Refusal.{Refusal}
 use Rattle.nap_reader.specs.Stream.{means}
-use Rattle.nap_canon.specs.Streams.{IsAccepted, list_of, IsCanonicalOf, IsRefusedBy}
+use Rattle.nap_reader.specs.Breaking.{BreaksWithin}
+use Rattle.nap_canon.specs.Streams.{IsAccepted, list_of, IsCanonicalOf, IsRefusedBy, LacksMemoryAt}
 use Rattle.nap_cli.specs.declared.answer.Verdict.{Verdict}
 use Rattle.nap_cli.specs.declared.answer.Verdict.TheVariants as verdict
 use Rattle.nap_cli.specs.declared.command.Action.{Action}
@@ -16,9 +17,9 @@ use Rattle.nap_cli.specs.declared.command.Command.{Command}
 use Rattle.nap_cli.specs.declared.device.TheConstants.{READS}
 use Rattle.nap_cli.specs.declared.failure.Failure.{Failure}
 use Rattle.nap_cli.specs.declared.failure.Failure.TheVariants as failure
-use Rattle.nap_cli.specs.Lines.{line}
+use Rattle.nap_lines.specs.Lines.{line}
 use Rattle.nap_cli.specs.Failures.{exit_status, refusal_text, told_text}
-use Rattle.nap_cli.specs.Devices.{Devices, IsCutOff, Outputs, Takes}
+use Rattle.nap_cli.specs.Devices.{Devices, IsCutOff, IsReadWhole, NoneFailed, Outputs, Reading, Takes, Unprinted, reading_of}
 
 -- The stream that a command reads.
 
@@ -53,9 +54,15 @@ abbrev pub RefusedBy : Action → ℕ → List ℕ → Refusal → Type 0
 RefusedBy action.Canon budget stream r = IsRefusedBy budget stream r
 RefusedBy _ budget stream r = (means budget stream).refusal ≡ Some r
 
--- The refusal is that of the stream. One for want of memory may come anywhere.
-abbrev pub IsRefusal : Command → List ℕ → Refusal → Type 0
-IsRefusal c stream r = r.fault ≢ fault.Memory → RefusedBy c.action c.budget stream r
+-- the places of a stream where an action can lack memory
+abbrev pub LacksMemory : Action → ℕ → List ℕ → ℕ → Type 0
+LacksMemory action.Canon budget stream place = LacksMemoryAt budget stream place
+LacksMemory _ budget stream place = BreaksWithin budget stream place
+
+-- The refusal is that of the stream. One for want of memory has a place where an act of the stream can lack it.
+pub record IsRefusal (c : Command) (stream : List ℕ) (r : Refusal) : Type 0 where
+  pub refused : r.fault ≢ fault.Memory → RefusedBy c.action c.budget stream r
+  pub memory : r.fault ≡ fault.Memory → LacksMemory c.action c.budget stream r.place
 
 -- what an action prints of a stream, with its verdict: only `check` prints a refusal
 abbrev pub PrintsBy : Action → Command → List ℕ → List ℕ → Verdict → Type 0
@@ -90,40 +97,40 @@ FailsOn c p _ = ⊥
 
 -- How a command ends.
 
--- what an input shows after a command: the bytes left, whether it failed, and how often it was read
-pub record AfterReading : Type 0 where
-  pub left : Option (List ℕ)
-  pub failed : Bool
-  pub reads : ℕ
-
 -- why a command that read the bytes p prints nothing
-abbrev pub Fails : Command → List ℕ → AfterReading → Failure → Type 0
-Fails c p input failure.Read = IsCutOff input.failed input.reads p
-Fails c p input failure.Memory = Unit {0}
-Fails c p input f = IsAtEnd input.left × FailsOn c p f
+abbrev pub Fails : Command → List ℕ → Reading → Failure → Type 0
+Fails c p input failure.Read = IsCutOff input p
+Fails c p input failure.Memory = NoneFailed input
+Fails c p input f = IsReadWhole input p × FailsOn c p f
 
 -- a command found what it prints of the bytes p
-abbrev pub Finds : Command → List ℕ → AfterReading → List ℕ → Verdict → Type 0
-Finds c p input q v = IsAtEnd input.left × Prints c p q v
+abbrev pub Finds : Command → List ℕ → Reading → List ℕ → Verdict → Type 0
+Finds c p input q v = IsReadWhole input p × Prints c p q v
 
--- q is nothing, or a front of what the command prints
-abbrev pub IsPartly : Command → List ℕ → AfterReading → List ℕ → Type 0
-IsPartly c p input q = (q ≡ []) ⊎ ((whole : List ℕ) × (v : Verdict) × Finds c p input whole v × (take (length q) whole ≡ q))
+-- q is a front of what a command prints of the bytes p, which is nothing where it fails
+abbrev pub IsPartly : Command → List ℕ → Reading → List ℕ → Type 0
+IsPartly c p input q =
+    ((whole : List ℕ) × (v : Verdict) × Finds c p input whole v × (take (length q) whole ≡ q)) ⊎ ((f : Failure) × Fails c p input f × (q ≡ []))
 
--- A command read the bytes p and printed q, and ended so. Where the output failed, that is what is told, or there was no
--- memory for its line.
-abbrev pub Ends : Command → List ℕ → AfterReading → List ℕ → Bool → Result Verdict Failure → Type 0
+-- A command read the bytes p and printed q, and ended so. The output failed exactly where that is how it ended.
+abbrev pub Ends : Command → List ℕ → Reading → List ℕ → Bool → Result Verdict Failure → Type 0
 Ends c p input q false (Ok v) = Finds c p input q v
 Ends c p input q true (Ok v) = ⊥
 Ends c p input q false (Err f) = (q ≡ []) × Fails c p input f
 Ends c p input q true (Err (failure.Write taken)) = (taken ≡ length q) × IsPartly c p input q
-Ends c p input q true (Err failure.Memory) = IsPartly c p input q
 Ends c p input q true (Err _) = ⊥
 
--- standard error took e where a command ended so: all of the line, unless it failed
-pub record Tells (e : List ℕ) (failed : Bool) (ended : Result Verdict Failure) : Type 0 where
-  pub front : take (length e) (told_text ended) ≡ e
-  pub all : failed ≡ false → e ≡ told_text ended
+-- what is told of how a command ended: that, or that there was no memory for the line of a failure
+abbrev pub IsToldAs : Result Verdict Failure → Result Verdict Failure → Type 0
+IsToldAs ended said = (said ≡ ended) ⊎ (IsErr ended × (said ≡ Err failure.Memory))
+
+-- Standard error took e where a command ended so: all of the line, unless it failed. The exit status is of what was told.
+pub record Tells (e : List ℕ) (failed : Bool) (ended : Result Verdict Failure) (status : ℕ) : Type 0 where
+  pub said : Result Verdict Failure
+  pub told_as : IsToldAs ended said
+  pub front : take (length e) (told_text said) ≡ e
+  pub all : failed ≡ false → e ≡ told_text said
+  pub status_is : status ≡ exit_status said
 
 -- A command ran from the devices before to those after, with this exit status: it read the bytes p, printed q and told e.
 pub record Ran (c : Command) (before after : Devices) (status : ℕ) : Type 0 where
@@ -135,39 +142,36 @@ pub record Ran (c : Command) (before after : Devices) (status : ℕ) : Type 0 wh
   pub printed : Appends before.taken after.taken q
   pub told : Appends before.told after.told e
   pub few : after.reads ≤ before.reads + READS
-  pub ends : Ends c p (record { left = after.left; failed = after.input_failed; reads = after.reads - before.reads }) q after.output_failed ended
-  pub tells : Tells e after.errors_failed ended
-  pub status_is : status ≡ exit_status ended
+  pub ends : Ends c p (reading_of before after) q after.output_failed ended
+  pub tells : Tells e after.errors_failed ended status
 
--- An output that had these bytes took help, which has this text, and the command ended so. Where the output failed, that
--- is what is told, or there was no memory for its line; or there was none for the text.
-abbrev pub ShowsText : Option (List ℕ) → Option (List ℕ) → List ℕ → Result Verdict Failure → Type 0
-ShowsText old new text (Ok verdict.Accepted) = Appends old new text
-ShowsText old new text (Err (failure.Write taken)) = Takes old new text (Err (failure.Write taken))
-ShowsText old new text (Err failure.Memory) = (new ≡ old) ⊎ ((taken : ℕ) × Takes old new text (Err (failure.Write taken)))
-ShowsText old new text _ = ⊥
+-- The output took help, which has this text, and the command ended so: all was taken and sent on; or the output failed,
+-- and had taken the first bytes; or there was no memory for the text.
+abbrev pub ShowsText : Outputs → Outputs → List ℕ → Result Verdict Failure → Type 0
+ShowsText before after text (Ok verdict.Accepted) = Takes before.taken after.taken text (Ok tt) × (after.failed ≡ before.failed)
+ShowsText before after text (Err (failure.Write taken)) = Takes before.taken after.taken text (Err (failure.Write taken)) × (after.failed ≡ true)
+ShowsText before after text (Err failure.Memory) = Unprinted before after
+ShowsText before after text _ = ⊥
 
 -- help was shown, or failed to be
 pub record ShowsHelp (before after : Outputs) (status : ℕ) : Type 0 where
   pub text : List ℕ
   pub e : List ℕ
   pub ended : Result Verdict Failure
-  pub shown : ShowsText before.taken after.taken text ended
+  pub shown : ShowsText before after text ended
   pub told : Appends before.told after.told e
-  pub tells : Tells e after.errors_failed ended
-  pub status_is : status ≡ exit_status ended
+  pub tells : Tells e after.errors_failed ended status
 
 -- There was no memory, which standard error tells; nothing was printed.
 pub record WantsMemory (before after : Outputs) (status : ℕ) : Type 0 where
-  pub printed : after.taken ≡ before.taken
+  pub unprinted : Unprinted before after
   pub e : List ℕ
   pub told : Appends before.told after.told e
-  pub tells : Tells e after.errors_failed (Err failure.Memory)
-  pub status_is : status ≡ 3
+  pub tells : Tells e after.errors_failed (Err failure.Memory) status
 
 -- Nothing was printed. What standard error took of what is wrong with the words is left to clap.
 pub record TellsWrong (before after : Outputs) (status : ℕ) : Type 0 where
-  pub printed : after.taken ≡ before.taken
+  pub unprinted : Unprinted before after
   pub e : List ℕ
   pub told : Appends before.told after.told e
   pub status_is : status ≡ 2

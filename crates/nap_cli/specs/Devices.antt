@@ -1,5 +1,5 @@
-use Rattle.std.specs.Prelude.{ℕ, ◌≡◌, ◌⊎◌, ◌≤◌, Bool, true, List, Option, Result, Ok, Err, length, take}
-use Rattle.std.specs.Io.KnownBytes.{Appends}
+use Rattle.std.specs.Prelude.{ℕ, ◌≡◌, ◌⊎◌, ◌+◌, ◌-◌, ◌<◌, ◌≤◌, Bool, true, List, Option, Result, Ok, Err, length, take}
+use Rattle.std.specs.Io.KnownBytes.{Appends, IsAtEnd}
 use Rattle.nap_list.specs.declared.device.Inlet as inlet
 use Rattle.nap_list.specs.declared.device.Outlet as outlet
 use Rattle.nap_cli.specs.declared.device.TheConstants.{READS}
@@ -28,18 +28,23 @@ devices i o e input output errors = record {
   errors_failed = e.failed errors;
 }
 
--- What the two outputs of a command show: the bytes that they took, where they tell them, and whether standard error
--- failed.
+-- What the two outputs of a command show: the bytes that they took, where they tell them, and which of them failed.
 pub record Outputs : Type 0 where
   pub taken : Option (List ℕ)
+  pub failed : Bool
   pub told : Option (List ℕ)
   pub errors_failed : Bool
 
 abbrev pub outputs : {O E : Type 0} → outlet.Ghosts O → outlet.Ghosts E → O → E → Outputs
-outputs o e output errors = record { taken = o.taken output; told = e.taken errors; errors_failed = e.failed errors }
+outputs o e output errors = record {
+  taken = o.taken output;
+  failed = o.failed output;
+  told = e.taken errors;
+  errors_failed = e.failed errors;
+}
 
 abbrev pub outputs_of : Devices → Outputs
-outputs_of d = record { taken = d.taken; told = d.told; errors_failed = d.errors_failed }
+outputs_of d = record { taken = d.taken; failed = d.output_failed; told = d.told; errors_failed = d.errors_failed }
 
 -- the input is as it was
 pub record Unread (before after : Devices) : Type 0 where
@@ -47,19 +52,69 @@ pub record Unread (before after : Devices) : Type 0 where
   pub reads : after.reads ≡ before.reads
   pub failed : after.input_failed ≡ before.input_failed
 
--- Reading came to an end before the input did: the input failed, or was read as often as it may be, and each of these
--- reads gave a byte of p or more.
-abbrev pub IsCutOff : Bool → ℕ → List ℕ → Type 0
-IsCutOff failed reads p = (failed ≡ true) ⊎ ((reads ≡ READS) × (READS ≤ length p))
+-- the output is as it was
+pub record Unprinted (before after : Outputs) : Type 0 where
+  pub taken : after.taken ≡ before.taken
+  pub failed : after.failed ≡ before.failed
+
+-- What an input shows of having been read for a while: the bytes left, whether it failed before and by now, and how
+-- often it was read since.
+pub record Reading : Type 0 where
+  pub left : Option (List ℕ)
+  pub failed_before : Bool
+  pub failed : Bool
+  pub reads : ℕ
+
+abbrev pub reading : {I : Type 0} → inlet.Ghosts I → I → I → Reading
+reading i before after = record {
+  left = i.left after;
+  failed_before = i.failed before;
+  failed = i.failed after;
+  reads = i.calls after - i.calls before;
+}
+
+abbrev pub reading_of : Devices → Devices → Reading
+reading_of before after = record {
+  left = after.left;
+  failed_before = before.input_failed;
+  failed = after.input_failed;
+  reads = after.reads - before.reads;
+}
+
+-- no read failed: the flag of the input is what it was
+abbrev pub NoneFailed : Reading → Type 0
+NoneFailed r = r.failed ≡ r.failed_before
+
+-- a read failed, and each before it gave a byte of p or more
+pub record ReadFailed (r : Reading) (p : List ℕ) : Type 0 where
+  pub failed : r.failed ≡ true
+  pub some : 0 < r.reads
+  pub gave : r.reads ≤ length p + 1
+
+-- the input was read as often as it may be, no read failed, and each gave a byte of p or more
+pub record ReadTooOften (r : Reading) (p : List ℕ) : Type 0 where
+  pub none_failed : NoneFailed r
+  pub often : r.reads ≡ READS
+  pub gave : READS ≤ length p
+
+-- reading came to an end before the input did
+abbrev pub IsCutOff : Reading → List ℕ → Type 0
+IsCutOff r p = ReadFailed r p ⊎ ReadTooOften r p
+
+-- The bytes p were read, which was all; no read failed, and each but the last gave a byte.
+pub record IsReadWhole (r : Reading) (p : List ℕ) : Type 0 where
+  pub none_failed : NoneFailed r
+  pub end : IsAtEnd r.left
+  pub gave : r.reads ≤ length p + 1
+
+-- why a reading of the bytes p came to no answer: it was cut off, or there was no memory
+abbrev pub StopsReading : Reading → List ℕ → Failure → Type 0
+StopsReading r p failure.Read = IsCutOff r p
+StopsReading r p failure.Memory = NoneFailed r
+StopsReading r p _ = ⊥
 
 -- an output that had these bytes took the whole text, or failed once it had taken so many bytes of it
 abbrev pub Takes : Option (List ℕ) → Option (List ℕ) → List ℕ → Result (Unit {0}) Failure → Type 0
 Takes old new text (Ok done) = Appends old new text
 Takes old new text (Err (failure.Write taken)) = (taken ≤ length text) × Appends old new (take taken text)
 Takes old new text (Err _) = ⊥
-
--- why an input of which the bytes p were read was not read to its end
-abbrev pub StopsReading : Bool → ℕ → List ℕ → Failure → Type 0
-StopsReading failed reads p failure.Read = IsCutOff failed reads p
-StopsReading failed reads p failure.Memory = Unit {0}
-StopsReading failed reads p _ = ⊥

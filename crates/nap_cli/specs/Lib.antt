@@ -1,4 +1,3 @@
-pub mod Lines
 pub mod Failures
 pub mod Devices
 pub mod Commands

@@ -1,29 +1,33 @@
-// What a command prints.
+//! What a command prints.
 ghost use Rattle.std.specs.Prelude.{◌≡◌, ◌<◌, ◌^◌, ◌++◌, ◌∷◌, [], true, IfOk, length, MatchResult};
 ghost use Rattle.nap_cli.specs.Failures.{refusal_text, verdict_status};
 ghost use Rattle.nap_cli.specs.Commands.{FailsOn, FailsToSpell, Denies, IsStream, Prints, PrintsBy, canon_text, count_line, is_blank, lines};
 
 use crate::command::{Action, Command};
 use crate::failure::Failure;
-use crate::field::Shown;
 use hex::FromHexError;
 use nap_canon::normalise;
+use nap_lines::Shown;
 use nap_list::Entry;
 use nap_reader::{Refusal, read_all};
 use std::alloc::{AllocError, Global};
 use std::fmt::Write;
 
 /// What a printed answer says of the stream.
-#[derive(Clone, Copy, PartialEq, Eq, Debug, Drop)]
+#[derive(Clone, Copy, PartialEq, Eq, Drop)]
 pub enum Verdict {
+    /// It was accepted.
     Accepted,
+    /// It was refused.
     Refused,
 }
 
 /// What a command prints, and what that says of the stream.
-#[derive(Debug, Drop)]
+#[derive(Drop)]
 pub struct Printout {
+    /// The bytes to print.
     pub text: Vec<u8>,
+    /// What they say of the stream.
     pub verdict: Verdict,
 }
 

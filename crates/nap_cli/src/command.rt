@@ -1,8 +1,8 @@
-// The commands, and how the words of a command line say them.
-ghost use Rattle.std.specs.Prelude.{◌≡◌, ◌≢◌, ◌⊎◌, false, IfErr, IfOk, MatchOption, map, string_bytes};
+//! The commands, and how the words of a command line say them.
+ghost use Rattle.std.specs.Prelude.{◌≡◌, ◌≢◌, ◌⊎◌, false, IfErr, IfOk, MatchOption, decimal, map, string_bytes};
 ghost use Rattle.clap.specs.Words.{app_of, found_of, kind_of, rows_of};
 ghost use Rattle.clap.specs.declared.builder.command.Command.TheViews.{out-Command as fields_of};
-ghost use Rattle.nap_cli.specs.CommandLine.{Chooses, IsFault, Says, action_name, command_app, command_line};
+ghost use Rattle.nap_cli.specs.CommandLine.{Chooses, IsFault, Says, action_name, command_app, command_line_by};
 
 use clap::error::ErrorKind;
 use clap::{Arg, ArgAction, ArgMatches, Error, value_parser};
@@ -10,7 +10,7 @@ use nap_reader::Budget;
 use std::alloc::{AllocError, Global};
 
 /// What a command does with the stream that it reads.
-#[derive(Clone, Copy, PartialEq, Eq, Debug, Drop)]
+#[derive(Clone, Copy, PartialEq, Eq, Drop)]
 pub enum Action {
     /// Prints a line for each entry.
     List,
@@ -35,11 +35,13 @@ impl Action {
 }
 
 /// A command with its options.
-#[derive(Clone, Copy, PartialEq, Eq, Debug, Drop)]
+#[derive(Clone, Copy, PartialEq, Eq, Drop)]
 pub struct Command {
+    /// What is done with the stream.
     pub action: Action,
     /// Streams are hexadecimal text.
     pub hex: bool,
+    /// How many bytes of macro bodies the stream may be charged with.
     pub budget: Budget,
 }
 
@@ -104,14 +106,36 @@ Example:
 prints
   0e215f265240404040404040";
 
+/// The texts of `--budget` that name its limits.
+#[derive(Drop)]
+struct BudgetTexts {
+    usual: String,
+    help: String,
+}
+
+impl BudgetTexts {
+    fn new(alloc: Global) -> Result<BudgetTexts, AllocError>
+        ensures { IfOk result (λ texts. string_bytes texts.usual ≡ decimal Budget.USUAL) }
+    {
+        Ok(BudgetTexts {
+            usual: Budget::USUAL.to_string(alloc)?,
+            help: format!(in alloc;
+                "How many bytes of macro bodies the page may be charged with, from 0 to {}",
+                Budget::MOST
+            )?,
+        })
+    }
+}
+
 /// One command of the program, with the options that each has.
 fn subcommand<'a>(
     alloc: Global,
+    texts: &'a BudgetTexts,
     name: &'a str,
     about: &'a str,
     example: &'a str,
 ) -> Result<clap::Command<'a>, AllocError>
-    ensures app { IfOk result (λ c. app_of c ≡ command_app name.entry.now) }
+    ensures app { IfOk result (λ c. app_of c ≡ command_app (string_bytes texts.entry.now.usual) name.entry.now) }
     ensures local { IfOk result (λ c. (fields_of c).has_globals ≡ false) }
 {
     let hex = Arg::new(alloc, HEX)
@@ -121,9 +145,9 @@ fn subcommand<'a>(
     let budget = Arg::new(alloc, BUDGET)
         .long(BUDGET)
         .value_name("N")
-        .value_parser(value_parser!(u32).range(0..=16_777_216))
-        .default_value("1048576")
-        .help("How many bytes of macro bodies the page may be charged with, from 0 to 16777216");
+        .value_parser(value_parser!(u32).range(0..=i64::from(Budget::MOST)))
+        .default_value(texts.usual.as_str())
+        .help(texts.help.as_str());
     clap::Command::new(alloc, name)
         .about(about)
         .after_help(example)
@@ -132,8 +156,8 @@ fn subcommand<'a>(
 }
 
 /// The whole command line.
-fn program<'a>(alloc: Global) -> Result<clap::Command<'a>, AllocError>
-    ensures { IfOk result (λ c. app_of c ≡ command_line) }
+fn program<'a>(alloc: Global, texts: &'a BudgetTexts) -> Result<clap::Command<'a>, AllocError>
+    ensures { IfOk result (λ c. app_of c ≡ command_line_by (string_bytes texts.entry.now.usual)) }
 {
     clap::Command::new(alloc, PROGRAM)
         .bin_name(PROGRAM)?
@@ -141,9 +165,9 @@ fn program<'a>(alloc: Global) -> Result<clap::Command<'a>, AllocError>
         .after_help(STATUSES)
         .no_binary_name(true)
         .subcommand_required(true)
-        .subcommand(subcommand(alloc, LIST, LIST_HELP, LIST_EXAMPLE)?)?
-        .subcommand(subcommand(alloc, CHECK, CHECK_HELP, CHECK_EXAMPLE)?)?
-        .subcommand(subcommand(alloc, CANON, CANON_HELP, CANON_EXAMPLE)?)
+        .subcommand(subcommand(alloc, texts, LIST, LIST_HELP, LIST_EXAMPLE)?)?
+        .subcommand(subcommand(alloc, texts, CHECK, CHECK_HELP, CHECK_EXAMPLE)?)?
+        .subcommand(subcommand(alloc, texts, CANON, CANON_HELP, CANON_EXAMPLE)?)
 }
 
 /// What clap says where words say no command.
@@ -162,7 +186,8 @@ impl Command {
         ensures said { IfOk result (λ c. Says (map string_bytes words.now) c) }
         ensures fault { IfErr result (λ e. IsFault (map string_bytes words.now) (kind_of e)) }
     {
-        let mut program = program(alloc)?;
+        let texts = BudgetTexts::new(alloc)?;
+        let mut program = program(alloc, &texts)?;
         let matches = program.try_get_matches_from_mut(words)?;
         let said = match matches.subcommand() {
             Some((name, options)) => Command::named(name, options),

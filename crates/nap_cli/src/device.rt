@@ -1,8 +1,8 @@
-// Whole inputs and whole outputs.
+//! Whole inputs and whole outputs.
 ghost use Rattle.std.specs.Prelude.{◌≡◌, ◌+◌, ◌-◌, ◌^◌, ◌<◌, ◌≤◌, ◌||◌, ℕ, List, IfOk, IsErrOf, OnOk, is_err, length, MatchResult};
-ghost use Rattle.std.specs.Io.KnownBytes.{Consumes, IsAtEnd};
+ghost use Rattle.std.specs.Io.KnownBytes.{Consumes};
 ghost use Rattle.nap_cli.specs.declared.device.TheConstants.{READS};
-ghost use Rattle.nap_cli.specs.Devices.{IsCutOff, Takes, StopsReading};
+ghost use Rattle.nap_cli.specs.Devices.{IsReadWhole, StopsReading, Takes, reading};
 
 use crate::failure::Failure;
 use nap_list::{Inlet, Outlet};
@@ -17,9 +17,9 @@ pub const READS: u64 = 1_048_576;
 /// Reads an input to its end.
 pub fn read_whole<I: Inlet>(alloc: Global, input: &mut I) -> Result<Vec<u8>, Failure>
     requires { I.calls input.old < 2 ^ 63 }
-    ensures read { (p : List ℕ) × Consumes (I.left input.old) (I.left input.new) p
-        × MatchResult result (λ bytes. (bytes.items ≡ p) × IsAtEnd (I.left input.new))
-        (StopsReading (I.failed input.new) (I.calls input.new - I.calls input.old) p) }
+    ensures read { let seen = reading I.Inlet input.old input.new in
+        (p : List ℕ) × Consumes (I.left input.old) (I.left input.new) p
+        × MatchResult result (λ bytes. (bytes.items ≡ p) × IsReadWhole seen p) (StopsReading seen p) }
     ensures few { I.calls input.new ≤ I.calls input.old + READS }
     ensures small { IfOk result (λ bytes. length bytes.items < 2 ^ 63) }
 {

@@ -1,21 +1,21 @@
-// Why a command fails.
+//! Why a command fails.
 ghost use Rattle.std.specs.Prelude.{◌≡◌, Some, IfOk, string_bytes, ◌++◌, ◌∷◌, []};
 ghost use Rattle.nap_cli.specs.declared.failure.Failure.TheVariants.{Memory, Refused};
 ghost use Rattle.nap_cli.specs.Failures.{left_text, fault_text, failure_text, status_of};
 
-use crate::field::Shown;
 use nap_codes::Left;
 use nap_reader::{Fault, Refusal};
 use std::alloc::{AllocError, Global};
 use std::fmt::{Display, Formatter, Result as FmtResult, Write};
 
-/// Why a command fails.
-#[derive(Clone, Copy, PartialEq, Eq, Debug, Drop)]
+///! Why a command fails.
+#[derive(Clone, Copy, PartialEq, Eq, Drop)]
 pub enum Failure {
     /// The input failed, or was read too often.
     Read,
     /// The input isn't hexadecimal text.
     Hex,
+    /// The stream was refused.
     Refused(Refusal),
     /// The output failed once it had taken this many bytes.
     Write(u64),
@@ -54,11 +54,15 @@ impl Failure {
     pub fn line(self, alloc: Global) -> Result<String, AllocError>
         ensures { IfOk result (λ s. string_bytes s ≡ failure_text self ++ 10 ∷ []) }
     {
-        format!(in alloc; "{}\n", Shown(&self))
+        format!(in alloc; "{self}\n")
     }
 }
 
-impl Display for Shown<'_, Left> {
+/// The name of a value of another crate, as a line tells it.
+#[derive(Drop)]
+struct Named<'a, T>(&'a T);
+
+impl Display for Named<'_, Left> {
     ghost output = { λ s. Some (left_text s.0.now) };
 
     fn fmt<W: Write>(&self, f: &mut Formatter<W>) -> FmtResult {
@@ -79,29 +83,29 @@ impl Display for Shown<'_, Left> {
     }
 }
 
-impl Display for Shown<'_, Fault> {
+impl Display for Named<'_, Fault> {
     ghost output = { λ s. Some (fault_text s.0.now) };
 
     fn fmt<W: Write>(&self, f: &mut Formatter<W>) -> FmtResult {
         match self.0 {
-            Fault::LeftOut(left) => write!(f, "LeftOut {}", Shown(left)),
+            Fault::LeftOut(left) => write!(f, "LeftOut {}", Named(left)),
             fault => f.write_str(fault.name()),
         }
     }
 }
 
-impl Display for Shown<'_, Failure> {
-    ghost output = { λ s. Some (failure_text s.0.now) };
+impl Display for Failure {
+    ghost output = { λ failure. Some (failure_text failure) };
 
     fn fmt<W: Write>(&self, f: &mut Formatter<W>) -> FmtResult {
-        match self.0 {
+        match self {
             Failure::Read => write!(f, "read fault"),
             Failure::Hex => write!(f, "hex fault"),
             Failure::Refused(refusal) => write!(
                 f,
                 "refused {} {} at {}",
                 refusal.fault.number(),
-                Shown(&refusal.fault),
+                Named(&refusal.fault),
                 refusal.place
             ),
             Failure::Write(taken) => write!(f, "write fault after {taken} bytes"),

@@ -1,19 +1,17 @@
 //! naplps: reads NAPLPS pages and rewrites them in one canonical spelling.
 #![tactic(auto)]
 
-pub mod answer;
-pub mod command;
-pub mod device;
-pub mod failure;
-pub mod field;
-pub mod line;
-pub mod program;
+mod answer;
+mod command;
+mod device;
+mod failure;
+mod program;
 #[cfg(test)]
 mod tests;
 
-pub use line::line_of;
+pub use nap_lines::line_of;
 use nap_list::{Source, Target};
-pub use program::run;
+pub use program::{execute, run};
 use std::process::ExitCode;
 use std::{env, io};
 

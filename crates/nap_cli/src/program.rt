@@ -1,10 +1,10 @@
-// The program on its words.
-ghost use Rattle.std.specs.Prelude.{◌≡◌, ◌≢◌, ◌⊎◌, ◌+◌, ◌-◌, ◌<◌, ◌≤◌, ◌^◌, ℕ, List, false, Err, MatchResult, map, string_bytes};
+//! The program on its words.
+ghost use Rattle.std.specs.Prelude.{◌≡◌, ◌+◌, ◌<◌, ◌≤◌, ◌^◌, ℕ, List, false, Err, MatchResult, map, string_bytes};
 ghost use Rattle.std.specs.Io.KnownBytes.{Appends, Consumes};
 ghost use Rattle.clap.specs.Values.{kind_of};
 ghost use Rattle.nap_cli.specs.declared.device.TheConstants.{READS};
-ghost use Rattle.nap_cli.specs.Devices.{devices, outputs};
-ghost use Rattle.nap_cli.specs.Commands.{AfterReading, Ends, Explains, Fails, Finds, Ran, Tells};
+ghost use Rattle.nap_cli.specs.Devices.{devices, outputs, reading};
+ghost use Rattle.nap_cli.specs.Commands.{Ends, Explains, Fails, Finds, Ran, Tells};
 ghost use Rattle.nap_cli.specs.CommandLine.{Answers};
 
 use crate::answer::{Printout, Verdict, answer};
@@ -16,20 +16,19 @@ use clap::error::ErrorKind;
 use nap_list::{Inlet, Outlet};
 use std::alloc::{AllocError, Global};
 
-/// Tells of a failure on standard error, and answers the one that was told: `Memory` where there was none for the line.
-/// Whether standard error takes it makes no difference.
-fn tell<E: Outlet>(alloc: Global, failure: Failure, errors: &mut E) -> Failure
-    ensures told { (e : List ℕ) × Appends (E.taken errors.old) (E.taken errors.new) e × Tells e (E.failed errors.new) (Err result) }
-    ensures same { (result ≡ failure) ⊎ (result ≡ Failure.Memory) }
+/// Tells of a failure on standard error, or that there was no memory for its line, and answers the exit status of what
+/// was told. Whether standard error takes it makes no difference.
+fn tell<E: Outlet>(alloc: Global, failure: Failure, errors: &mut E) -> u8
+    ensures { (e : List ℕ) × Appends (E.taken errors.old) (E.taken errors.new) e × Tells e (E.failed errors.new) (Err failure) result }
 {
     match failure.line(alloc) {
         Ok(line) => {
             let _ = write_whole(errors, line.as_bytes());
-            failure
+            failure.status()
         }
         Err(AllocError) => {
             let _ = write_whole(errors, b"no memory\n");
-            Failure::Memory
+            Failure::Memory.status()
         }
     }
 }
@@ -38,9 +37,9 @@ fn tell<E: Outlet>(alloc: Global, failure: Failure, errors: &mut E) -> Failure
 fn find<I: Inlet>(alloc: Global, command: &Command, input: &mut I) -> Result<Printout, Failure>
     requires { I.calls input.old < 2 ^ 63 }
     ensures few { I.calls input.new ≤ I.calls input.old + READS }
-    ensures found { let after : AfterReading = record { left = I.left input.new; failed = I.failed input.new; reads = I.calls input.new - I.calls input.old } in
+    ensures found { let seen = reading I.Inlet input.old input.new in
         (p : List ℕ) × Consumes (I.left input.old) (I.left input.new) p
-        × MatchResult result (λ a. Finds command.now p after a.text.items a.verdict) (Fails command.now p after) }
+        × MatchResult result (λ a. Finds command.now p seen a.text.items a.verdict) (Fails command.now p seen) }
 {
     let bytes = read_whole(alloc, input)?;
     answer(alloc, command, bytes)
@@ -57,9 +56,9 @@ fn perform<I: Inlet, O: Outlet>(
     requires calls { I.calls input.old < 2 ^ 63 }
     requires works { O.failed output.old ≡ false }
     ensures few { I.calls input.new ≤ I.calls input.old + READS }
-    ensures ends { let after : AfterReading = record { left = I.left input.new; failed = I.failed input.new; reads = I.calls input.new - I.calls input.old } in
+    ensures ends { let seen = reading I.Inlet input.old input.new in
         (p : List ℕ) × (q : List ℕ) × Consumes (I.left input.old) (I.left input.new) p × Appends (O.taken output.old) (O.taken output.new) q
-        × Ends command.now p after q (O.failed output.new) result }
+        × Ends command.now p seen q (O.failed output.new) result }
 {
     match find(alloc, command, input) {
         Ok(answer) => match write_whole(output, answer.text.as_slice()) {
@@ -90,8 +89,8 @@ pub fn execute<I: Inlet, O: Outlet, E: Outlet>(
     match perform(alloc, command, input, &mut output) {
         Ok(verdict) => (output, verdict.status()),
         Err(failure) => {
-            let told = tell(alloc, failure, errors);
-            (output, told.status())
+            let status = tell(alloc, failure, errors);
+            (output, status)
         }
     }
 }
@@ -102,10 +101,10 @@ fn explain<O: Outlet, E: Outlet>(alloc: Global, error: Error, output: O, errors:
         Explains (kind_of error) (seen output errors.old) (seen result.0 errors.new) result.1 }
 {
     let Ok(text) = error.to_string(alloc) else {
-        return (output, tell(alloc, Failure::Memory, errors).status());
+        return (output, tell(alloc, Failure::Memory, errors));
     };
     if error.kind() == ErrorKind::OutOfMemory {
-        return (output, tell(alloc, Failure::Memory, errors).status());
+        return (output, tell(alloc, Failure::Memory, errors));
     }
     if error.use_stderr() {
         let _ = write_whole(errors, text.as_bytes());
@@ -115,7 +114,7 @@ fn explain<O: Outlet, E: Outlet>(alloc: Global, error: Error, output: O, errors:
     match write_whole(&mut output, text.as_bytes()) {
         Ok(()) => (output, 0),
         Err(failure) => {
-            let status = tell(alloc, failure, errors).status();
+            let status = tell(alloc, failure, errors);
             (output, status)
         }
     }

@@ -1,11 +1,12 @@
-// The program on its words, with inputs and outputs that also fail.
+//! The program on its words, with inputs and outputs that also fail.
 use crate::run;
 use nap_list::{Source, Target};
 use std::alloc::{AllocError, Global};
 
 mod commands;
 mod devices;
-mod lines;
+mod flushes;
+mod help;
 mod words;
 
 const POINT: &[u8] = b"0E 26 52 40 40";

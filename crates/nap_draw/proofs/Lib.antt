@@ -6,8 +6,11 @@ pub mod Ends
 pub mod Fits
 pub mod Outlines
 pub mod Planning
+pub mod PublicLaws
 pub mod Puts
+pub mod RangeLemmas
 pub mod Singles
 pub mod Still
 pub mod Turns
+pub mod WalkRanges
 pub mod Walks

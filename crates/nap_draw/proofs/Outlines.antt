@@ -1,4 +1,4 @@
-use Rattle.std.proofs.Common.{◌≡◌, suc, ◌<◌, ◌≤◌, List, [], ◌∷◌, length, Bool, false, ltb, Option, Some, None, Result, Ok, Err, refl, sym, ◌∙◌, ap, subst, arith}
+use Rattle.std.proofs.Common.{◌-◌, ◌≡◌, suc, ◌<◌, ◌≤◌, List, [], ◌∷◌, length, Bool, false, ltb, Option, Some, None, Result, Ok, Err, refl, sym, ◌∙◌, ap, subst, arith}
 use Rattle.std.specs.Option.{option_map, option_and_then}
 use Rattle.nap_values.specs.Coordinates.{Coordinates, Displacement, moved, point_at}
 use Rattle.std.proofs.lemmas.Bool.Decides.{nat_tests}
@@ -40,7 +40,7 @@ mapped_some : {A B : Type 0} (f : A → B) (o : Option A) (y : B) → option_map
 mapped_some f None y is = let bad : ⊥ = cc in absurd bad
 mapped_some f (Some x) y is = (x, refl, cc)
 
-pub poly_made : (p : Coordinates) (ms : List Displacement) (ps : List Coordinates) → 0 < length ms → length ms ≤ 1024 → poly_points p ms ≡ Some ps →
+pub poly_made : (p : Coordinates) (ms : List Displacement) (ps : List Coordinates) → 0 < length ms → length ms ≤ SHAPE_POINTS - 1 → poly_points p ms ≡ Some ps →
     (2 ≤ length ps) × (length ps ≤ SHAPE_POINTS)
 poly_made p ms ps some few is =
     let made = mapped_some (λ qs. p ∷ qs) (reached p ms) ps is in
@@ -48,12 +48,12 @@ poly_made p ms ps some few is =
     let l = ap length made.2 in
     (omega (arith, n, l), omega (arith, n, l))
 
-round_length : (p : Coordinates) (qs : List Coordinates) → 0 < length qs → length qs ≤ 1024 → (3 ≤ length (round (p ∷ qs))) × (length (round (p ∷ qs)) ≤ SHAPE_POINTS)
+round_length : (p : Coordinates) (qs : List Coordinates) → 0 < length qs → length qs ≤ SHAPE_POINTS - 1 → (3 ≤ length (round (p ∷ qs))) × (length (round (p ∷ qs)) ≤ SHAPE_POINTS)
 round_length p [] some few = absurd (omega arith)
 round_length p (q ∷ []) some few = (omega arith, omega arith)
 round_length p (q ∷ r ∷ qs) some few = (omega arith, omega arith)
 
-pub arc_made : (p : Coordinates) (ms : List Displacement) (ps : List Coordinates) → 0 < length ms → length ms ≤ 1024 → arc_points p ms ≡ Some ps →
+pub arc_made : (p : Coordinates) (ms : List Displacement) (ps : List Coordinates) → 0 < length ms → length ms ≤ SHAPE_POINTS - 1 → arc_points p ms ≡ Some ps →
     (3 ≤ length ps) × (length ps ≤ SHAPE_POINTS)
 arc_made p ms ps some few is =
     let made = mapped_some (λ qs. round (p ∷ qs)) (reached p ms) ps is in
@@ -68,7 +68,7 @@ holds_shape outlines.Poly filled d ps = record { pen = tt; pel = refl; colour = 
 
 -- a shape of the values that stand fits them
 pub shape_fits : (s : State) (shape : Shape) (filled : Bool) (p : Coordinates) (ms : List Displacement) (ps : List Coordinates) → InMode s.drawing.base s.drawing.colour →
-    0 < length ms → length ms ≤ 1024 → shape_points shape p ms ≡ Some ps → Fits s (shape_on shape filled s.drawing ps)
+    0 < length ms → length ms ≤ SHAPE_POINTS - 1 → shape_points shape p ms ≡ Some ps → Fits s (shape_on shape filled s.drawing ps)
 shape_fits s outlines.Arc filled p ms ps mode some few is = own_fits s _ mode (holds_shape outlines.Arc filled s.drawing ps) (arc_made p ms ps some few is) (λ t. tt)
 shape_fits s outlines.Poly filled p ms ps mode some few is = own_fits s _ mode (holds_shape outlines.Poly filled s.drawing ps) (poly_made p ms ps some few is) (λ t. tt)
 
@@ -83,17 +83,17 @@ shape_short work shape filled p ms end is = at shape (reached p ms) refl is
     at outlines.Arc (Some qs) h is = (_, ap (λ o. draws_one work (shape_on outlines.Arc filled) (option_map (λ qs. round (p ∷ qs)) o)) h)
     at outlines.Poly (Some qs) h is = (_, ap (λ o. draws_one work (shape_on outlines.Poly filled) (option_map (λ qs. p ∷ qs) o)) h)
 
-few_ok : (ms : List Displacement) → length ms ≤ 1024 → few_of ms ≡ Ok ms
-few_ok ms few = let test : ltb 1024 (length ms) ≡ false = grind (arith, nat_tests) in rw test refl
+few_ok : (ms : List Displacement) → length ms ≤ SHAPE_POINTS - 1 → few_of ms ≡ Ok ms
+few_ok ms few = let test : ltb (SHAPE_POINTS - 1) (length ms) ≡ false = grind (arith, nat_tests) in rw test refl
 
 -- a plan of a shape from the pen on
 pub pen_on : (work : Work) (entry : Drawing → List Coordinates → Entry) (points : Coordinates → List Displacement → Option (List Coordinates)) (xs ms : List Displacement)
-    (p : Coordinates) (r : Result Plan DrawFault) → ms ≡ xs → 0 < length ms → length ms ≤ 1024 → pen_point work.state.drawing.pen ≡ Ok p →
+    (p : Coordinates) (r : Result Plan DrawFault) → ms ≡ xs → 0 < length ms → length ms ≤ SHAPE_POINTS - 1 → pen_point work.state.drawing.pen ≡ Ok p →
     Plans (draws_one work entry (points p ms)) r →
     Plans (and_then (some_of xs) (λ ms. and_then (few_of ms) (λ ms. and_then (pen_point work.state.drawing.pen) (λ p. draws_one work entry (points p ms))))) r
 pen_on work entry points [] ms p r is some few pen plan = let none = ap length is in absurd (omega arith)
 pen_on work entry points (x ∷ xs) ms p r is some few pen plan =
-    let n : length (x ∷ xs) ≤ 1024 = subst (λ (ms : List Displacement). length ms ≤ 1024) is few in
+    let n : length (x ∷ xs) ≤ SHAPE_POINTS - 1 = subst (λ (ms : List Displacement). length ms ≤ SHAPE_POINTS - 1) is few in
     let f : List Displacement → Result Drawn DrawFault = λ ms. and_then (pen_point work.state.drawing.pen) (λ p. draws_one work entry (points p ms)) in
     let by : and_then (few_of (x ∷ xs)) f ≡ draws_one work entry (points p ms) =
     ap (λ ms. and_then ms f) (few_ok (x ∷ xs) n) ∙ (ap (λ q. and_then q (λ p. draws_one work entry (points p (x ∷ xs)))) pen ∙ ap (λ ms. draws_one work entry (points p ms)) (sym is)) in
@@ -101,7 +101,7 @@ pen_on work entry points (x ∷ xs) ms p r is some few pen plan =
 
 -- a plan of a shape from a point on
 pub point_on : (work : Work) (entry : Drawing → List Coordinates → Entry) (points : Coordinates → List Displacement → Option (List Coordinates)) (xs ms : List Displacement)
-    (m : Displacement) (p : Coordinates) (r : Result Plan DrawFault) → xs ≡ m ∷ ms → 0 < length ms → length ms ≤ 1024 → point_at m ≡ Some p →
+    (m : Displacement) (p : Coordinates) (r : Result Plan DrawFault) → xs ≡ m ∷ ms → 0 < length ms → length ms ≤ SHAPE_POINTS - 1 → point_at m ≡ Some p →
     Plans (draws_one work entry (points p ms)) r →
     Plans (and_then (first_of xs) (λ (m, ms). and_then (few_of ms) (λ ms. draws_one work entry (option_and_then (λ p. points p ms) (point_at m))))) r
 point_on work entry points xs [] m p r is some few at plan = absurd (omega arith)

@@ -1,12 +1,33 @@
-use Rattle.std.specs.Prelude.{ℕ, ◌≡◌, List, Ok}
+use Rattle.std.specs.Prelude.{ℕ, ◌≡◌, ◌≤◌, List, [], ◌∷◌, ◌++◌, None, Ok, All, length}
+use Rattle.nap_values.specs.Laws.{IsWord}
 use Rattle.nap_codes.specs.declared.opcode.Opcode.{Opcode}
+use Rattle.nap_codes.specs.Tables.{left_out_opcode}
 use Rattle.nap_list.specs.declared.state.State.{State}
 use Rattle.nap_list.specs.State.{AllFit, walk}
 use Rattle.nap_list.specs.Agreement.{StatesAgree}
+use Rattle.nap_list.specs.Range.{AllInRange, StateInRange}
 use Rattle.nap_draw.specs.declared.work.Work.{Work}
-use Rattle.nap_draw.specs.Rule.{Drawn, rule}
+use Rattle.nap_draw.specs.Operands.{operands}
+use Rattle.nap_draw.specs.Rule.{Drawn, IsDrawn, rule}
 
 -- where the work's state agrees with the one shown, the entries of an opcode fit one after another, and the states agree again
 abbrev pub RuleFits : Type 0
 RuleFits = (work : Work) (op : Opcode) (run : List ℕ) (shown : State) (d : Drawn) → rule work op run ≡ Ok d → StatesAgree work.state shown →
     AllFit shown d.entries × StatesAgree d.work.state (walk shown d.entries)
+
+-- where the work's state is in range and the run's words are words, the entries of an opcode are in range, and so is the state that it leaves
+abbrev pub DrawnValuesAreInRange : Type 0
+DrawnValuesAreInRange = (work : Work) (op : Opcode) (run : List ℕ) (d : Drawn) → rule work op run ≡ Ok d → StateInRange work.state → All IsWord run →
+    AllInRange d.entries × StateInRange d.work.state
+
+-- an opcode that is not left out has a rule
+abbrev pub OpcodesAreDrawn : Type 0
+OpcodesAreDrawn = (op : Opcode) → left_out_opcode op ≡ None → IsDrawn op
+
+-- a whole operand at the front of a run is the first one, and the others are those of the rest
+abbrev pub WholeOperandFirst : Type 0
+WholeOperandFirst = (k : ℕ) (operand rest : List ℕ) → 1 ≤ k → length operand ≡ k → operands k (operand ++ rest) ≡ operand ∷ operands k rest
+
+-- no words have no operands
+abbrev pub NoOperands : Type 0
+NoOperands = (k : ℕ) → operands k [] ≡ []

@@ -1,4 +1,4 @@
-use Rattle.std.specs.Prelude.{ℕ, ◌+◌, ◌/◌, ◌%◌, ◌==◌, Bool, true, false, nat_lt, length, List, [], ◌∷◌, map, slice_get, slice_index, take, drop, Option, Some, None, option_map, option_and_then, ok_or, unwrap_or, ⊤, Result, Ok, Err, if◌then◌else◌}
+use Rattle.std.specs.Prelude.{ℕ, ◌+◌, ◌-◌, ◌/◌, ◌%◌, ◌==◌, Bool, true, false, nat_lt, length, List, [], ◌∷◌, map, slice_get, slice_index, take, drop, Option, Some, None, option_map, option_and_then, ok_or, unwrap_or, ⊤, Result, Ok, Err, if◌then◌else◌}
 use Rattle.std.specs.Option.{option_or}
 use Rattle.nap_values.specs.Coordinates.{Coordinates, Displacement, point_at}
 use Rattle.nap_values.specs.Colours.{Components}
@@ -19,6 +19,7 @@ use Rattle.nap_list.specs.declared.attribute.Area.TheVariants as areas
 use Rattle.nap_list.specs.declared.entry.Entry.{Entry}
 use Rattle.nap_list.specs.declared.entry.Entry.TheVariants as entries
 use Rattle.nap_list.specs.declared.state.Drawing.{Drawing}
+use Rattle.nap_list.specs.declared.points.TheConstants.{SHAPE_POINTS}
 use Rattle.nap_list.specs.State.{start, walk, with_colour, with_pen_at}
 use Rattle.nap_draw.specs.declared.work.Work.{Work}
 use Rattle.nap_draw.specs.declared.fault.DrawFault.{DrawFault}
@@ -146,9 +147,9 @@ first_of [] = Err faults.Missing
 first_of (x ∷ []) = Err faults.Missing
 first_of (x ∷ y ∷ ys) = Ok (x, y ∷ ys)
 
--- at most 1,024 displacements (our profile)
+-- at most as many displacements as lead on to all the points that a shape may have (our profile)
 abbrev pub few_of : List Displacement → Result (List Displacement) DrawFault
-few_of ms = if nat_lt 1024 (length ms) then Err faults.ManyPoints else Ok ms
+few_of ms = if nat_lt (SHAPE_POINTS - 1) (length ms) then Err faults.ManyPoints else Ok ms
 
 -- a shape from the pen on
 abbrev pub shape_from_pen : Work → List ℕ → (Drawing → List Coordinates → Entry) → (Coordinates → List Displacement → Option (List Coordinates)) → Result Drawn DrawFault

@@ -13,6 +13,9 @@ use nap_list::Sink;
 use nap_values::Word;
 use std::alloc::Global;
 
+/// The most operand words of one opcode (our profile).
+pub const RUN_LIMIT: usize = 16_384;
+
 /// Puts the entries that the opcode gives on its whole run, once all its checks have passed (PDI opcodes), and gives
 /// what they leave; the work that is passed stays as it was. A refused opcode puts nothing, but for want of memory or a
 /// sink that fails, where its first entries may stay. The incremental opcodes are no part of our profile.
@@ -24,7 +27,7 @@ pub fn apply<S: Sink>(
     sink: &mut S,
 ) -> Result<Effects, DrawFault>
     requires agrees { StatesAgree work.now.state (S.state sink.old) }
-    requires few { length run.now ≤ 16384 }
+    requires few { length run.now ≤ RUN_LIMIT }
     requires drawn { IsDrawn op }
     ensures draws { Draws S.took S.broke S.failed (rule work.now op run.now) sink.old sink.new result }
     ensures agree { IfOk result (λ effects. StatesAgree effects.work.state (S.state sink.new)) }

@@ -1,7 +1,27 @@
 //! Laws of the rules, over their definitions alone.
-ghost use Rattle.nap_draw.specs.Laws.{RuleFits};
+ghost use Rattle.nap_draw.specs.Laws.{RuleFits, DrawnValuesAreInRange, OpcodesAreDrawn, WholeOperandFirst, NoOperands};
 
 /// The entries of an opcode fit where the states agree, which they do again after it.
 pub fn rule_fits()
     ensures { RuleFits }
+{}
+
+/// The values that an opcode draws with, and those that it leaves, are in the ranges of their types.
+pub fn drawn_values_are_in_range()
+    ensures { DrawnValuesAreInRange }
+{}
+
+/// Each opcode that is not left out has a rule.
+pub fn opcodes_are_drawn()
+    ensures { OpcodesAreDrawn }
+{}
+
+/// A run is cut into operands from its front.
+pub fn whole_operand_first()
+    ensures { WholeOperandFirst }
+{}
+
+/// A run of no words has no operands.
+pub fn no_operands()
+    ensures { NoOperands }
 {}

@@ -5,7 +5,7 @@ mod act;
 mod colours;
 mod domain;
 mod entries;
-pub mod fault;
+mod fault;
 mod field;
 pub mod laws;
 mod lines;
@@ -18,9 +18,9 @@ mod shapes;
 mod spans;
 mod targets;
 mod times;
-pub mod work;
+mod work;
 
-pub use act::apply;
+pub use act::{RUN_LIMIT, apply};
 pub use fault::DrawFault;
 pub use work::{Effects, Work};
 

@@ -10,7 +10,6 @@ ghost use Rattle.nap_draw.specs.Cursors.{moves_left, moves_count, addresses_left
 
 use crate::fault::DrawFault;
 use crate::work::Work;
-use nap_list::Pen;
 use nap_values::{Addr, Domain, Move, Point, Word, multi, single};
 
 /// The multi-value operands of a run that are still to be read.
@@ -49,11 +48,7 @@ pub(crate) fn start(work: &Work, run: &[Word]) -> Result<Point, DrawFault>
     ensures err { IfErr result (λ fault. (cause_of fault ≡ stream) × ((f : Coordinates → List Displacement → Result Drawn DrawFault) → from_pen work.now run.now f ≡ Err fault)) }
 {
     some_operand(work, run)?;
-    match work.state.drawing.pen {
-        Pen::At(point) => Ok(point),
-        Pen::Start => Ok(Point::ORIGIN),
-        Pen::After => Err(DrawFault::PenUnknown),
-    }
+    work.pen_point()
 }
 
 impl<'a> Moves<'a> {

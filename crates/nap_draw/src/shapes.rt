@@ -1,5 +1,5 @@
 //! ARC and POLYGON, and their SET forms.
-ghost use Rattle.std.specs.Prelude.{◌≡◌, ◌<◌, ◌≤◌, Some, IsSome, OnOk, IfOk, slice_get};
+ghost use Rattle.std.specs.Prelude.{◌≡◌, ◌-◌, ◌<◌, ◌≤◌, Some, IsSome, OnOk, IfOk, slice_get};
 ghost use Rattle.nap_list.specs.Agreement.{InMode};
 ghost use Rattle.nap_draw.specs.Geometry.{round, poly_points};
 ghost use Rattle.nap_draw.specs.Cursors.{moves_left, steps_left, steps_count};
@@ -11,7 +11,7 @@ use crate::operands::Moves;
 use crate::plan::Plan;
 use crate::targets::{Steps, Targets};
 use crate::work::Work;
-use nap_list::{Entry, Ink, Points};
+use nap_list::{Entry, Ink, Points, SHAPE_POINTS};
 use nap_values::{Point, Word};
 use std::alloc::{AllocError, Global};
 
@@ -22,8 +22,8 @@ pub(crate) enum Shape {
     Poly,
 }
 
-/// The most displacements of a shape (our profile).
-const MOST_STEPS: usize = 1_024;
+/// The most displacements of a shape: its points, but for the one that they go on from.
+const MOST_STEPS: usize = SHAPE_POINTS - 1;
 
 /// A shape from the pen on.
 pub(crate) fn shape_from_pen<'a>(
@@ -86,7 +86,7 @@ fn draw<'a>(
 ) -> Result<Plan<'a>, DrawFault>
     requires mode { InMode work.state.drawing.base work.state.drawing.colour }
     requires some { 0 < steps_count steps.now }
-    requires few { steps_count steps.now ≤ 1024 }
+    requires few { steps_count steps.now ≤ SHAPE_POINTS - 1 }
     ensures { Plans (draws_one work (shape_on shape filled) (shape_points shape steps.now.from (moves_left steps.now.moves))) result }
 {
     let targets = Targets::After(steps.copy());
@@ -117,7 +117,7 @@ impl Shape {
     /// The points of the shape, none of which is outside the square.
     fn points(self, alloc: Global, steps: &Steps<'_>) -> Result<Points, AllocError>
         requires inside { IsSome (steps_left steps.now) }
-        requires few { steps_count steps.now ≤ 1024 }
+        requires few { steps_count steps.now ≤ SHAPE_POINTS - 1 }
         ensures { IfOk result (λ points. shape_points self steps.now.from (moves_left steps.now.moves) ≡ Some points) }
     {
         let mut points = trace(alloc, steps)?;
@@ -132,7 +132,7 @@ impl Shape {
 /// The point of the steps, and those that they lead to.
 fn trace(alloc: Global, steps: &Steps<'_>) -> Result<Points, AllocError>
     requires inside { IsSome (steps_left steps.now) }
-    requires few { steps_count steps.now ≤ 1024 }
+    requires few { steps_count steps.now ≤ SHAPE_POINTS - 1 }
     ensures { IfOk result (λ points. poly_points steps.now.from (moves_left steps.now.moves) ≡ Some points) }
 {
     let mut points = Points::with_capacity(alloc, steps.moves.len() + 2)?;

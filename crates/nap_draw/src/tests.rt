@@ -1,8 +1,8 @@
-// Opcodes by hand, with the entries and the faults that the profile gives.
+//! Opcodes by hand, with the entries and the faults that the profile gives.
 ghost use Rattle.std.specs.Prelude.{◌≡◌, length, vec_len, IfOk, IsTrue};
 ghost use Rattle.nap_draw.specs.Rule.{IsDrawn};
 
-use crate::{DrawFault, Work, apply};
+use crate::{DrawFault, RUN_LIMIT, Work, apply};
 use nap_codes::Opcode;
 use nap_list::{
     Area, CharSize, Colour, Entry, Ink, ListSink, Origin, Pen, Points, TextLook, Texture,
@@ -12,6 +12,11 @@ use std::alloc::{AllocError, Global};
 use std::process::Abort;
 use std::test::Fail;
 
+mod faults;
+mod limits;
+mod resets;
+mod sinks;
+
 const AT_START: Colour = Colour::Own(Origin::AtStart);
 
 const HALF: i32 = 4_194_304;
@@ -20,6 +25,8 @@ const HALF: i32 = 4_194_304;
 #[derive(Drop)]
 struct Answer {
     work: Work,
+    /// Whether the last of them cleared all macros.
+    clears: bool,
     list: Vec<Entry>,
     fault: Option<DrawFault>,
 }
@@ -53,17 +60,22 @@ fn answer_to(
     opcodes: &[(Opcode, &[u8])],
 ) -> Result<Answer, AllocError> {
     let mut work = Work::start();
+    let mut clears = false;
     let mut sink = ListSink::new(alloc);
     for step in opcodes {
         let (op, bytes) = *step;
         assert!(rt; has_rule(op));
-        assert!(rt; bytes.len() <= 16_384);
+        assert!(rt; bytes.len() <= RUN_LIMIT);
         let run = words(alloc, bytes)?;
         match apply(alloc, &work, op, &run, &mut sink) {
-            Ok(effects) => work = effects.work,
+            Ok(effects) => {
+                work = effects.work;
+                clears = effects.clears;
+            }
             Err(fault) => {
                 return Ok(Answer {
                     work,
+                    clears: false,
                     list: sink.into_list(),
                     fault: Some(fault),
                 });
@@ -72,6 +84,7 @@ fn answer_to(
     }
     Ok(Answer {
         work,
+        clears,
         list: sink.into_list(),
         fault: None,
     })
@@ -175,15 +188,6 @@ fn way(alloc: Global, points: &[Point]) -> Result<Points, AllocError> {
     let mut way = Points::new(alloc);
     for point in points {
         way.push(*point)?;
-    }
-    Ok(way)
-}
-
-/// This many points at the origin.
-fn origins(alloc: Global, count: usize) -> Result<Points, AllocError> {
-    let mut way = Points::new(alloc);
-    for _ in 0..count {
-        way.push(Point::ORIGIN)?;
     }
     Ok(way)
 }
@@ -376,19 +380,6 @@ fn polygons_from_points_of_their_own(rt: HostRuntime) -> Result<(), Fail> {
 }
 
 #[test]
-fn the_longest_polygon(rt: HostRuntime) -> Result<(), Fail> {
-    let alloc = rt.alloc();
-    let steps = [0x40; 1_025];
-    let list = [poly(false, origins(alloc, 1_025)?)];
-    let lengths = (Opcode::Domain, b"@".as_slice());
-    let opcodes = [lengths, (Opcode::PolyOutlined, &steps[1..])];
-    gives(&rt, alloc, &opcodes, &list)?;
-    let opcodes = [lengths, (Opcode::PolyOutlined, &steps[..])];
-    refuses(&rt, alloc, &opcodes, &[], DrawFault::ManyPoints)?;
-    Ok(())
-}
-
-#[test]
 fn fields(rt: HostRuntime) -> Result<(), Fail> {
     let alloc = rt.alloc();
     let whole = [field(Area::Whole)];
@@ -487,26 +478,6 @@ fn lengths_of_operands(rt: HostRuntime) -> Result<(), Fail> {
 }
 
 #[test]
-fn resets(rt: HostRuntime) -> Result<(), Fail> {
-    let alloc = rt.alloc();
-    for (bytes, first, second, colour) in [
-        (b"A@".as_slice(), 1, 0, AT_START),
-        (b"@P", 0, 16, AT_START),
-        (b"B\x7f", 2, 63, Colour::Own(Origin::AfterReset)),
-    ] {
-        let opcodes = [(Opcode::Reset, bytes), (Opcode::PointAbs, b"R")];
-        let list = [reset(first, second, Pen::Start), middle(colour)];
-        gives(&rt, alloc, &opcodes, &list)?;
-    }
-    let opcodes = [
-        (Opcode::PointSetAbs, b"P@@".as_slice()),
-        (Opcode::Reset, b"@@"),
-    ];
-    gives(&rt, alloc, &opcodes, &[reset(0, 0, Pen::At(at(2, 0)))])?;
-    Ok(())
-}
-
-#[test]
 fn looks_of_text(rt: HostRuntime) -> Result<(), Fail> {
     let alloc = rt.alloc();
     let opcodes = [(Opcode::Text, b"ABR@@".as_slice()), (Opcode::Text, b"C")];
@@ -524,39 +495,5 @@ fn looks_of_text(rt: HostRuntime) -> Result<(), Fail> {
         };
         assert_eq!(rt; answer.work.state.drawing.text, look);
     }
-    Ok(())
-}
-
-#[test]
-fn refusals_of_one_opcode(rt: HostRuntime) -> Result<(), Fail> {
-    let alloc = rt.alloc();
-    for (op, bytes, fault) in [
-        (Opcode::Domain, b"`".as_slice(), DrawFault::ThreeD),
-        (Opcode::PointSetAbs, b"", DrawFault::Missing),
-        (Opcode::SetColor, b"", DrawFault::Missing),
-        (Opcode::SetColor, b"@@@@", DrawFault::ManyColours),
-        (Opcode::SetLineRel, b"I@@I@@R@@", DrawFault::Missing),
-        (Opcode::SetArcOutlined, b"@@@I@@w@@", DrawFault::Outside),
-        (Opcode::PointAbs, b"R@@w@@", DrawFault::Outside),
-    ] {
-        refuses(&rt, alloc, &[(op, bytes)], &[], fault)?;
-    }
-    Ok(())
-}
-
-#[test]
-fn refusals_after_another_opcode(rt: HostRuntime) -> Result<(), Fail> {
-    let alloc = rt.alloc();
-    let opcodes = [(Opcode::Reset, b"D@".as_slice()), (Opcode::SetColor, b"R")];
-    let list = [reset(4, 0, Pen::Start)];
-    refuses(&rt, alloc, &opcodes, &list, DrawFault::NoAddress)?;
-    let opcodes = [
-        (Opcode::PointSetAbs, b"P@@".as_slice()),
-        (Opcode::LineRel, b"P@@"),
-    ];
-    refuses(&rt, alloc, &opcodes, &[], DrawFault::Outside)?;
-    let opcodes = [(Opcode::Field, b"".as_slice()), (Opcode::LineRel, b"@@@")];
-    let list = [field(Area::Whole)];
-    refuses(&rt, alloc, &opcodes, &list, DrawFault::PenUnknown)?;
     Ok(())
 }

@@ -3,4 +3,5 @@ pub mod Device
 pub mod Entry
 pub mod Laws
 pub mod Propositions
+pub mod Range
 pub mod State

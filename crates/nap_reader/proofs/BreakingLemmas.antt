@@ -1,14 +1,20 @@
-use Rattle.std.proofs.Common.{ℕ, ◌+◌, ◌≡◌, ◌≢◌, ◌<◌, List, [], ◌++◌, length, take, slice_index, Option, Some, refl, ap, sym, ◌∙◌, subst, inl, arith}
+use Rattle.std.proofs.Common.{ℕ, ◌≡◌, ◌≢◌, List, [], ◌∷◌, ◌++◌, length, true, false, Some, refl, ap, sym, ◌∙◌, subst, inl, inr, append-nil}
+use Rattle.nap_list.specs.declared.sink.Sink.{Ghosts}
+use Rattle.nap_list.specs.declared.entry.Entry.{Entry}
 use Rattle.nap_codes.specs.declared.code.CodeFault.{CodeFault}
 use Rattle.nap_codes.specs.declared.code.CodeFault.TheVariants as code_faults
-use Rattle.nap_draw.specs.Draws.{stream}
+use Rattle.nap_draw.specs.Draws.{Cause, stream, memory, device}
 use Rattle.nap_reader.specs.declared.fault.Fault.{Fault}
 use Rattle.nap_reader.specs.declared.fault.Fault.TheVariants as faults
 use Rattle.nap_reader.specs.declared.fault.Refusal.{Refusal}
-use Rattle.nap_reader.specs.Breaking.{breaking_place, BreaksWithin}
+use Rattle.nap_reader.specs.declared.reader.OpenRun.{OpenRun}
 use Rattle.nap_reader.specs.Faults.{code_fault}
-use Rattle.nap_reader.specs.Stream.{begun}
-use Rattle.nap_reader.specs.Taking.{cause_of, BreaksAt}
+use Rattle.nap_reader.specs.Stream.{Outcome, is_operand_byte, refusal, begun}
+use Rattle.nap_reader.specs.Breaking.{cause_of, closed_by, CanBreakAt, BreaksAt, BreaksInRun}
+use Rattle.nap_reader.specs.Holding.{Holding, Continues, ClosesInto}
+use Rattle.nap_reader.proofs.EndLemmas.{open_place_is}
+use Rattle.nap_reader.proofs.LeadsLemmas.{leads_taken}
+use Rattle.nap_reader.proofs.LawLemmas.{more_bytes_keep_entries}
 
 -- a fault of a code is the stream's own
 pub code_fault_own : (fault : CodeFault) → cause_of (code_fault fault) ≡ stream
@@ -23,17 +29,47 @@ code_fault_own (code_faults.LeftOut _) = refl
 pub no_memory_own : (fault : Fault) → fault ≡ faults.Memory → cause_of fault ≢ stream
 no_memory_own fault e own = let bad = sym (ap cause_of e) ∙ own in cc
 
--- a refusal at a byte of a stream that was fed whole
-pub breaks_within : (budget fed_budget : ℕ) (p : List ℕ) (refused : Option Refusal) (r : Refusal) (i : ℕ) → fed_budget ≡ budget → refused ≡ Some r →
-    i < length p → BreaksAt refused (breaking_place (begun fed_budget ([] ++ take i p)) (slice_index p i) (length {A = ℕ} [] + i)) →
-    r.fault ≡ faults.Memory → BreaksWithin budget p r.place
-breaks_within budget fed_budget p refused r i same answered within breaks wants =
-    let at : ℕ = breaking_place (begun fed_budget ([] ++ take i p)) (slice_index p i) (length {A = ℕ} [] + i) in
-    let is = subst (λ (x : Option Refusal). BreaksAt x at) answered breaks in
-    let first : length {A = ℕ} [] + i ≡ i = omega arith in
-    inl (
-      i,
-      within,
-      is (no_memory_own r.fault wants) ∙ ap (breaking_place (begun fed_budget (take i p)) (slice_index p i)) first
-          ∙ ap (λ (b : ℕ). breaking_place (begun b (take i p)) (slice_index p i) i) same,
-    )
+-- what is neither want of memory nor a failed device is the stream's own
+pub own_cause : (fault : Fault) → (fault ≡ faults.Memory → ⊥) → (fault ≡ faults.Sink → ⊥) → cause_of fault ≡ stream
+own_cause faults.Memory no_memory no_device = absurd (no_memory refl)
+own_cause faults.Sink no_memory no_device = absurd (no_device refl)
+own_cause _ no_memory no_device = refl
+
+closed_by_operand : (o : Outcome) (b : ℕ) → is_operand_byte b ≡ true → closed_by o b ≡ o
+closed_by_operand o b word = rw word refl
+
+-- the run that a byte joins could not grow
+pub growth_breaks : {S : Type 0} (g : Ghosts S) (s : S) (budget : ℕ) (p : List ℕ) (b : ℕ) (t : S) (h : Holding) (open_run : OpenRun) →
+    h.open_run ≡ Some open_run → is_operand_byte b ≡ true → Continues g s (begun budget p) t h [] →
+    BreaksAt g s budget p b t (refusal faults.Memory (length p))
+growth_breaks g s budget p b t h open_run is word k =
+    let more = more_bytes_keep_entries budget p (b ∷ []) in
+    let same = ap (λ (o : Outcome). o.entries) (closed_by_operand (begun budget p) b word) in
+    inr (record {
+      place = refl;
+      brings = inl (word, rw (open_place_is g s (begun budget p) t h k open_run is) refl);
+      part = record {
+        more = more.0;
+        adds = more.1 ∙ ap (λ (es : List Entry). es ++ more.0) (sym same);
+        part = ([], more.0, refl, subst (λ (es : List Entry). g.took s es t) (sym (append-nil (closed_by (begun budget p) b).entries ∙ same)) (leads_taken g s (begun budget p) t h k));
+      };
+    })
+
+-- the opcode breaks whose run a byte ends
+pub run_breaks : {S : Type 0} (g : Ghosts S) (s : S) (budget : ℕ) (p : List ℕ) (b : ℕ) (t : S) (r : Refusal) (cause : Cause) →
+    is_operand_byte b ≡ false → cause ≢ stream → ClosesInto g s budget p t r cause → BreaksAt g s budget p b t r
+run_breaks g s budget p b t r stream other broke h = absurd (broke refl)
+run_breaks g s budget p b t r memory other broke h = inl (other, h)
+run_breaks g s budget p b t r device other broke h = inl (other, h)
+
+pub in_run : {S : Type 0} (g : Ghosts S) (s : S) (budget : ℕ) (p : List ℕ) (t : S) (r : Refusal) (cause : Cause) →
+    cause ≢ stream → ClosesInto g s budget p t r cause → BreaksInRun g s budget p t r
+in_run g s budget p t r stream broke h = absurd (broke refl)
+in_run g s budget p t r memory broke h = h
+in_run g s budget p t r device broke h = h
+
+-- where it breaks
+pub breaks_there : {S : Type 0} (g : Ghosts S) (s : S) (budget : ℕ) (p : List ℕ) (b : ℕ) (t : S) (r : Refusal) →
+    BreaksAt g s budget p b t r → CanBreakAt budget p b r.place
+breaks_there g s budget p b t r (inl h) = inl (h.0, h.1.place)
+breaks_there g s budget p b t r (inr h) = inr (h.place, h.brings)

@@ -17,8 +17,9 @@ use Rattle.nap_reader.specs.declared.reader.OpenRun.{OpenRun}
 use Rattle.nap_reader.specs.Kinds.{kind_of}
 use Rattle.nap_reader.specs.Course as course
 use Rattle.nap_reader.specs.Faults.{code_fault}
-use Rattle.nap_reader.specs.Stream.{Placed, Machine, bytes_of, words_of, is_operand, run_length, run_limit, refusal, drawn_front, opcode_front, code_front, place_at, front}
-use Rattle.nap_reader.specs.Held.{IsOpenRun}
+use Rattle.nap_reader.specs.Stream as model
+use Rattle.nap_reader.specs.Stream.{Placed, Machine, half_read, bytes_of, words_of, is_operand, run_length, run_limit, refusal, drawn_front, opcode_front, code_front, place_at, front_by, front}
+use Rattle.nap_reader.specs.Holding.{IsOpenRun}
 use Rattle.nap_reader.proofs.StreamLemmas.{bytes_of-append, words_of-append}
 
 -- a list, cut behind one of its bytes
@@ -129,7 +130,7 @@ front_long m rest open_run run x pending h word many =
 
 -- An open run waits for more.
 pub open_run_pauses : (m : Machine) (rest : List Placed) (open_run : OpenRun) (run : List ℕ) → IsOpenRun rest open_run run m.sets →
-    front m rest ≡ course.pause
+    front m rest ≡ course.pause (model.open_run open_run.op open_run.place run)
 open_run_pauses m rest open_run run h =
     let none : drop (length h.operands) (h.operands ++ []) ≡ [] =
     ap (drop (length h.operands)) (append-nil h.operands) ∙ drop_of_length-le h.operands {i = length h.operands} (omega arith) in
@@ -138,13 +139,14 @@ open_run_pauses m rest open_run run h =
     ap (take (length h.operands)) (append-nil h.operands) ∙ take_all (length h.operands) h.operands (omega arith) in
     ap (front m) (sym (append-nil rest))
     ∙ opcode_first m rest open_run run [] h
-    ∙ rw (all, none, taken, short_run rest open_run run m.sets h) refl
+    ∙ rw (all, none, taken, short_run rest open_run run m.sets h, h.words) refl
 
 -- A half-read code waits for more.
 pub half_read_pauses : (m : Machine) (rest : List Placed) (half : List ℕ) → bytes_of rest ≡ half →
-    codes.front m.sets half ≡ codes.unfinished → front m rest ≡ course.pause
+    codes.front m.sets half ≡ codes.unfinished → front m rest ≡ course.pause (half_read half)
 unfolding front
-half_read_pauses m rest half is e = rw (is, e) refl
+half_read_pauses m rest half is e =
+    ap (front_by m rest) (ap (codes.front m.sets) is ∙ e) ∙ ap (λ (bs : List ℕ). course.pause (half_read bs)) is
 
 -- an opcode opens a run
 pub opens_run : (x : Placed) (op : Opcode) (sets : CodeSets) → codes.front sets (x.byte ∷ []) ≡ codes.whole (code.Op op) 1 sets →

@@ -1,5 +1,4 @@
 use Rattle.std.proofs.Common.{ℕ, zero, suc, ◌≡◌, List, [], ◌∷◌, length, Bool, true, false, cond, Option, Some, None, Result, Ok, Err, refl, sym, subst, ltb, take}
-use Rattle.nap_codes.specs.declared.code.Code.TheVariants as code
 use Rattle.nap_codes.specs.declared.opcode.Opcode.{Opcode}
 use Rattle.nap_codes.specs.Front as codes
 use Rattle.nap_list.specs.declared.entry.Entry.{Entry}
@@ -10,19 +9,20 @@ use Rattle.nap_list.specs.Agreement.{DefinitionsAgree, StatesAgree}
 use Rattle.nap_list.proofs.PublicLaws.{walks_join, fits_join, start_agrees}
 use Rattle.nap_draw.specs.declared.fault.DrawFault.{DrawFault}
 use Rattle.nap_draw.specs.Rule.{Drawn, rule}
-use Rattle.nap_draw.proofs.Fits.{rule_fits}
+use Rattle.nap_draw.proofs.PublicLaws.{rule_fits}
 use Rattle.nap_reader.specs.declared.fault.Refusal.{Refusal}
 use Rattle.nap_reader.specs.declared.kind.Kind.{Kind}
 use Rattle.nap_reader.specs.declared.kind.Kind.TheVariants as kinds
 use Rattle.nap_reader.specs.Kinds.{kind_of}
 use Rattle.nap_reader.specs.Course as course
 use Rattle.nap_reader.specs.Course.{onward, go, outcome}
-use Rattle.nap_reader.specs.Stream.{Placed, Machine, Front, Outcome, bytes_of, words_of, run_length, run_limit, drawn_front, closed_front, code_front, front_by, front, placed_from, start_machine, begun, with_drawn, with_run_by, with_run, with_definition, with_rest, with_end, ended_by}
+use Rattle.nap_reader.specs.Stream as model
+use Rattle.nap_reader.specs.Stream.{Placed, Machine, Unfinished, Front, Outcome, bytes_of, words_of, run_length, run_limit, drawn_front, closed_front, code_front, front_by, front, placed_from, start_machine, begun, with_drawn, with_run_by, with_run, with_definition, with_code, with_end, ended_by}
 use Rattle.nap_reader.specs.Laws.{AcceptedIsLegal}
 
 -- From a machine whose state agrees with the state shown, the entries at a front fit, and the states agree again.
 data Agreeing (shown : State) : Front → Type 0 where
-  pauses : Agreeing shown course.pause
+  pauses : {u : Unfinished} → Agreeing shown (course.pause u)
   refuses : {r : Refusal} → Agreeing shown (course.refuse r)
   acts : {es : List Entry} {m : Machine} {xs : List Placed} → AllFit shown es → StatesAgree m.work.state (walk shown es) →
       Agreeing shown (course.act es m xs)
@@ -63,7 +63,7 @@ pub record Agreed (shown : State) (o : Outcome) : Type 0 where
 onward-Agreed : (next : Machine → List Placed → Outcome) → ((m : Machine) (xs : List Placed) (shown : State) → StatesAgree m.work.state shown → Agreed shown (next m xs)) →
     (m : Machine) (xs : List Placed) (shown : State) (f : Front) → StatesAgree m.work.state shown → Agreeing shown f → Agreed shown (onward next m xs f)
 unfolding walk AllFit
-onward-Agreed next ih m xs shown course.pause agrees k = record { fit = tt; agrees = λ _. agrees }
+onward-Agreed next ih m xs shown (course.pause u) agrees k = record { fit = tt; agrees = λ _. agrees }
 onward-Agreed next ih m xs shown (course.refuse r) agrees k = record { fit = tt; agrees = λ e. cc }
 onward-Agreed next ih m xs shown (course.act es m' ys) agrees (acts fit after) =
     let rest = ih m' ys (walk shown es) after in
@@ -94,12 +94,11 @@ with_drawn-Agreed o place op run (Ok drawn) e none h =
     }
 with_drawn-Agreed o place op run (Err fault) e none h = record { fit = h.fit; agrees = λ e. cc }
 
-with_run-Agreed : (o : Outcome) (f : codes.Front) (rest : List Placed) → o.refusal ≡ None → Agreed start o → Agreed start (with_run_by o f rest)
-with_run-Agreed o (codes.whole (code.Op op) n sets) (x ∷ run) none h = with_drawn-Agreed o x.place op (words_of run) _ refl none h
-with_run-Agreed o (codes.whole (code.Op op) n sets) [] none h = h
-with_run-Agreed o (codes.whole _ n sets) rest none h = h
-with_run-Agreed o codes.unfinished rest none h = h
-with_run-Agreed o (codes.refused fault i) rest none h = h
+with_run-Agreed : (o : Outcome) (u : Option Unfinished) → o.refusal ≡ None → Agreed start o → Agreed start (with_run_by o u)
+with_run-Agreed o (Some (model.open_run op place run)) none h = with_drawn-Agreed o place op run _ refl none h
+with_run-Agreed o (Some model.nothing) none h = h
+with_run-Agreed o (Some (model.half_code bytes)) none h = h
+with_run-Agreed o None none h = h
 
 nothing_shown : (opened shown : Option Opened) → opened ≡ None → DefinitionsAgree opened shown → shown ≡ None
 nothing_shown None None e h = refl
@@ -114,20 +113,22 @@ legal_at_end o n None e none h accepted = record {
 }
 legal_at_end o n (Some opened) e none h accepted = cc
 
-legal_with_rest : (o : Outcome) (n : ℕ) (rest : List Placed) → o.refusal ≡ None → Agreed start o → (with_rest o n rest).refusal ≡ None →
-    Legal (with_rest o n rest).entries
-legal_with_rest o n [] none h accepted = legal_at_end o n o.machine.work.state.definition refl none h accepted
-legal_with_rest o n (x ∷ xs) none h accepted = cc
+legal_with_code : (o : Outcome) (n : ℕ) (u : Option Unfinished) → o.refusal ≡ None → Agreed start o → (with_code o n u).refusal ≡ None →
+    Legal (with_code o n u).entries
+legal_with_code o n (Some (model.half_code bytes)) none h accepted = cc
+legal_with_code o n (Some model.nothing) none h accepted = legal_at_end o n o.machine.work.state.definition refl none h accepted
+legal_with_code o n (Some (model.open_run op place run)) none h accepted = legal_at_end o n o.machine.work.state.definition refl none h accepted
+legal_with_code o n None none h accepted = legal_at_end o n o.machine.work.state.definition refl none h accepted
 
 legal_with_end : (o : Outcome) (n : ℕ) (r : Option Refusal) → o.refusal ≡ r → Agreed start o → (with_end o n r).refusal ≡ None →
     Legal (with_end o n r).entries
 legal_with_end o n (Some r) e h accepted = cc
-legal_with_end o n None e h accepted = legal_with_rest o n o.rest e h accepted
+legal_with_end o n None e h accepted = legal_with_code o n o.unfinished e h accepted
 
 legal_ended : (o : Outcome) (n : ℕ) (r : Option Refusal) → o.refusal ≡ r → Agreed start o → (ended_by o n r).refusal ≡ None → Legal (ended_by o n r).entries
 legal_ended o n (Some r) e h accepted = cc
 legal_ended o n None e h accepted =
-    legal_with_end (with_run o) n (with_run o).refusal refl (with_run-Agreed o (codes.front o.machine.sets (bytes_of o.rest)) o.rest e h) accepted
+    legal_with_end (with_run o) n (with_run o).refusal refl (with_run-Agreed o o.unfinished e h) accepted
 
 pub accepted_is_legal : AcceptedIsLegal
 accepted_is_legal budget p accepted = legal_ended (begun budget p) (length p) (begun budget p).refusal refl (begun-Agreed budget p) accepted

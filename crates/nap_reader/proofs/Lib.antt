@@ -1,9 +1,12 @@
 pub mod CourseLemmas
 pub mod StreamLemmas
-pub mod BreakingLemmas
 pub mod HeldLemmas
 pub mod LeadsLemmas
 pub mod ReadingLemmas
-pub mod StandingLemmas
+pub mod EndLemmas
 pub mod LawLemmas
+pub mod BreakingLemmas
+pub mod StandingLemmas
 pub mod LegalLemmas
+pub mod RangeLemmas
+pub mod PublicLaws

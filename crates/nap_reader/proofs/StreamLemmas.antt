@@ -17,12 +17,12 @@ use Rattle.nap_reader.specs.declared.kind.Kind.TheVariants as kinds
 use Rattle.nap_reader.specs.Kinds.{kind_of}
 use Rattle.nap_reader.specs.Course as course
 use Rattle.nap_reader.specs.Course.{Lessens, Stays, onward, continue}
-use Rattle.nap_reader.specs.Stream.{Placed, Machine, Front, bytes_of, words_of, is_operand, run_length, run_limit, refusal, drawn_front, closed_front, run_front, opcode_front, code_front, place_at, front_by, front, left_of, outcome_from, placed_from, start_machine, begun}
+use Rattle.nap_reader.specs.Stream.{Placed, Machine, Unfinished, Front, bytes_of, words_of, is_operand, run_length, run_limit, refusal, drawn_front, closed_front, run_front, opcode_front, code_front, place_at, front_by, front, left_of, outcome_from, placed_from, start_machine, begun}
 use Rattle.nap_reader.proofs.CourseLemmas.{Keeps, outcome-front, outcome-keeps, outcome-append}
 
 -- what is unread after a front is below this number, and this is left to charge
 data Shrinks (k left : ℕ) : Front → Type 0 where
-  pauses : Shrinks k left course.pause
+  pauses : {u : Unfinished} → Shrinks k left (course.pause u)
   refuses : {r : Refusal} → Shrinks k left (course.refuse r)
   acts : {es : List Entry} {m : Machine} {xs : List Placed} → length xs < k → m.left ≡ left → Shrinks k left (course.act es m xs)
 
@@ -85,7 +85,7 @@ front-keeps m xs es m' ys e = (front-acts m xs es m' ys e).1
 
 -- the second is the first with more input behind it
 data Kept (q : List Placed) : Front → Front → Type 0 where
-  kept_pause : {f : Front} → Kept q course.pause f
+  kept_pause : {u : Unfinished} {f : Front} → Kept q (course.pause u) f
   kept_refusal : {r : Refusal} → Kept q (course.refuse r) (course.refuse r)
   kept_act : {es : List Entry} {m : Machine} {xs ys : List Placed} → ys ≡ xs ++ q → Kept q (course.act es m xs) (course.act es m ys)
 
@@ -194,11 +194,11 @@ front-stays = record {
 
 -- what comes of a list is what its front gives, and then what comes of the rest
 pub outcome_from-front : (m : Machine) (xs : List Placed) → outcome_from m xs ≡ onward outcome_from m xs (front m xs)
-outcome_from-front = outcome-front Machine Entry Refusal Placed front left_of front-lessens
+outcome_from-front = outcome-front Machine Entry Refusal Unfinished Placed front left_of front-lessens
 
 -- what comes of a list in two pieces
 pub outcome_from-append : (m : Machine) (xs ys : List Placed) → outcome_from m (xs ++ ys) ≡ continue outcome_from (outcome_from m xs) ys
-outcome_from-append = outcome-append Machine Entry Refusal Placed front left_of front-lessens front-stays
+outcome_from-append = outcome-append Machine Entry Refusal Unfinished Placed front left_of front-lessens front-stays
 
 pub placed_from-append : (n : ℕ) (p q : List ℕ) → placed_from n (p ++ q) ≡ placed_from n p ++ placed_from (n + length p) q
 unfolding placed_from
@@ -215,4 +215,4 @@ begun-append budget p q =
 
 -- nothing is charged yet
 pub begun-left : (budget : ℕ) (p : List ℕ) → (begun budget p).machine.left ≡ budget
-begun-left budget p = outcome-keeps Machine Entry Refusal Placed front left_of left_of front-keeps (start_machine budget) (placed_from 0 p)
+begun-left budget p = outcome-keeps Machine Entry Refusal Unfinished Placed front left_of left_of front-keeps (start_machine budget) (placed_from 0 p)

@@ -1,37 +1,77 @@
-use Rattle.std.specs.Prelude.{◌≡◌, ◌≢◌, ◌<◌, ◌⊎◌, ℕ, List, ◌∷◌, Option, Some, None, if◌then◌else◌, length, take, slice_index}
-use Rattle.nap_codes.specs.declared.code.Code.TheVariants as code
-use Rattle.nap_codes.specs.Front as codes
-use Rattle.nap_draw.specs.Draws.{stream}
+use Rattle.std.specs.Prelude.{◌≡◌, ◌≢◌, ◌<◌, ◌⊎◌, ◌++◌, ℕ, true, false, List, [], ◌∷◌, Option, Some, None, IsSome, if◌then◌else◌, length, take, slice_index}
+use Rattle.nap_list.specs.declared.sink.Sink.{Ghosts}
+use Rattle.nap_list.specs.declared.entry.Entry.{Entry}
+use Rattle.nap_draw.specs.Draws.{Cause, stream, memory, device, Puts, Breaks}
+use Rattle.nap_reader.specs.declared.fault.Fault.{Fault}
+use Rattle.nap_reader.specs.declared.fault.Fault.TheVariants as faults
 use Rattle.nap_reader.specs.declared.fault.Refusal.{Refusal}
-use Rattle.nap_reader.specs.Stream.{Placed, Outcome, bytes_of, is_operand_byte, begun}
-use Rattle.nap_reader.specs.Taking.{cause_of}
+use Rattle.nap_reader.specs.Stream.{Outcome, Unfinished, open_run, is_operand_byte, begun, with_run}
 
--- Where a refusal is placed that isn't the stream's own: want of memory, or the sink's device failed.
+-- Where a reading breaks that the stream itself doesn't refuse: memory is wanting, or the sink's device fails.
 
--- A front that is an opcode, at the end of what was read, is that of an open run.
-abbrev pub open_place_by : codes.Front → List Placed → Option ℕ
-open_place_by (codes.whole (code.Op op) n sets) (x ∷ run) = Some x.place
-open_place_by _ _ = None
+-- where the fault of a refusal comes from
+abbrev pub cause_of : Fault → Cause
+cause_of faults.Memory = memory
+cause_of faults.Sink = device
+cause_of _ = stream
 
--- the place of the opcode whose run is open at the end of what was read
+-- the place of the opcode whose run is open
+abbrev pub run_place : Option Unfinished → Option ℕ
+run_place (Some (open_run op place run)) = Some place
+run_place _ = None
+
 abbrev pub open_place : Outcome → Option ℕ
-open_place o = open_place_by (codes.front o.machine.sets (bytes_of o.rest)) o.rest
+open_place o = run_place o.unfinished
 
--- an operand byte joins the run of the opcode at this place, and any other byte has it act
-abbrev pub breaking_place_by : Option ℕ → ℕ → ℕ → ℕ
-breaking_place_by None byte place = place
-breaking_place_by (Some opcode) byte place = if is_operand_byte byte then place else opcode
+-- what is known once this byte shows whether an open run is over
+abbrev pub closed_by : Outcome → ℕ → Outcome
+closed_by o b = if is_operand_byte b then o else with_run o
 
--- the place where this byte, at this place, is read behind an outcome: that of the opcode that acts there, else the byte's
-abbrev pub breaking_place : Outcome → ℕ → ℕ → ℕ
-breaking_place o byte place = breaking_place_by (open_place o) byte place
+-- the byte joins an open run
+abbrev pub Joins : Outcome → ℕ → Type 0
+Joins o b = (is_operand_byte b ≡ true) × IsSome (open_place o)
 
--- at the end of the input the opcode whose run is open acts
-abbrev pub BreaksAtEnd : Outcome → Refusal → Type 0
-BreaksAtEnd o r = cause_of r.fault ≢ stream → open_place o ≡ Some r.place
+-- A byte behind p joins an open run, or brings entries: more than those of the run that it ends.
+abbrev pub Brings : ℕ → List ℕ → ℕ → Type 0
+Brings budget p b = Joins (begun budget p) b ⊎ ((begun budget (p ++ b ∷ [])).entries ≢ (closed_by (begun budget p) b).entries)
 
--- the place where a whole stream breaks: where one of its bytes is read, or at its end
+-- a byte behind p can break here: at the opcode whose run it ends, or at itself
+abbrev pub CanBreakAt : ℕ → List ℕ → ℕ → ℕ → Type 0
+CanBreakAt budget p b place =
+    ((is_operand_byte b ≡ false) × (open_place (begun budget p) ≡ Some place))
+    ⊎ ((place ≡ length p) × Brings budget p b)
+
+-- A whole stream can break here: where one of its bytes is read, or at the opcode that acts at its end.
 abbrev pub BreaksWithin : ℕ → List ℕ → ℕ → Type 0
 BreaksWithin budget p place =
-    ((i : ℕ) × (i < length p) × (place ≡ breaking_place (begun budget (take i p)) (slice_index p i) i))
+    ((i : ℕ) × (i < length p) × CanBreakAt budget (take i p) (slice_index p i) place)
     ⊎ (open_place (begun budget p) ≡ Some place)
+
+-- What a sink has then: a sink that was s took what was known, and of the entries that come next a first part; or one of
+-- them broke.
+abbrev pub TookPart : {S : Type 0} → Ghosts S → S → List Entry → List Entry → S → Cause → Type 0
+TookPart g s known more t stream = ⊥
+TookPart g s known more t memory = Puts (λ s es t. g.took s (known ++ es) t) s more t
+TookPart g s known more t device =
+    ((g.failed s ≡ true) × Puts (λ s es t. g.took s (known ++ es) t) s more t) ⊎ Breaks (λ s es e t. g.broke s (known ++ es) e t) s more t
+
+-- the sink has all entries of the one outcome, and a part of those that the other has more
+pub record BreaksBetween {S : Type 0} (g : Ghosts S) (s : S) (before after : Outcome) (t : S) (cause : Cause) : Type 0 where
+  pub more : List Entry
+  pub adds : after.entries ≡ before.entries ++ more
+  pub part : TookPart g s before.entries more t cause
+
+-- the opcode whose run is open behind p acts, and breaks
+pub record BreaksInRun {S : Type 0} (g : Ghosts S) (s : S) (budget : ℕ) (p : List ℕ) (t : S) (r : Refusal) : Type 0 where
+  pub place : open_place (begun budget p) ≡ Some r.place
+  pub part : BreaksBetween g s (begun budget p) (with_run (begun budget p)) t (cause_of r.fault)
+
+-- The byte behind p breaks at its own place: what it joins or brings isn't all there, but what the run gives that it ends.
+pub record BreaksAtByte {S : Type 0} (g : Ghosts S) (s : S) (budget : ℕ) (p : List ℕ) (b : ℕ) (t : S) (r : Refusal) : Type 0 where
+  pub place : r.place ≡ length p
+  pub brings : Brings budget p b
+  pub part : BreaksBetween g s (closed_by (begun budget p) b) (begun budget (p ++ b ∷ [])) t (cause_of r.fault)
+
+-- The byte behind p breaks: the opcode whose run it ends does, or what it brings itself.
+abbrev pub BreaksAt : {S : Type 0} → Ghosts S → S → ℕ → List ℕ → ℕ → S → Refusal → Type 0
+BreaksAt g s budget p b t r = ((is_operand_byte b ≡ false) × BreaksInRun g s budget p t r) ⊎ BreaksAtByte g s budget p b t r

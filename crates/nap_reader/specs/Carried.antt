@@ -1,87 +1,15 @@
-use Rattle.std.specs.Prelude.{Option, Some, None}
+use Rattle.std.specs.Prelude.{Option, Some, None, ⊤}
 use Rattle.std.proofs.Props.{props}
-use Rattle.nap_values.specs.Coordinates.{Displacement}
-use Rattle.nap_list.specs.declared.attribute.Base.{Base}
-use Rattle.nap_list.specs.declared.attribute.Base.TheVariants as bases
-use Rattle.nap_list.specs.declared.attribute.Colour.{Colour}
-use Rattle.nap_list.specs.declared.attribute.Colour.TheVariants as colours
-use Rattle.nap_list.specs.declared.attribute.Pen.{Pen}
-use Rattle.nap_list.specs.declared.attribute.Pen.TheVariants as pens
-use Rattle.nap_list.specs.declared.attribute.Texture.{Texture}
-use Rattle.nap_list.specs.declared.state.Drawing.{Drawing}
-use Rattle.nap_list.specs.declared.state.Opened.{Opened}
-use Rattle.nap_list.specs.declared.state.State.{State}
-use Rattle.nap_codes.specs.declared.opcode.Opcode.{Opcode}
-use Rattle.nap_codes.specs.declared.opcode.Opcode.TheVariants as opcodes
 use Rattle.nap_draw.specs.Rule.{IsDrawn}
+use Rattle.nap_draw.specs.Carried.{IsDrawn-prop}
 use Rattle.nap_reader.specs.declared.reader.OpenRun.{OpenRun}
-use Rattle.nap_reader.specs.Held.{HasRule}
-use Rattle.nap_list.specs.State.{PenFits, MaskFits, TextureFits}
-use Rattle.nap_list.specs.Agreement.{BaseAgrees, ColourAgrees, InMode, Agrees, DefinitionsAgree, StatesAgree}
 
--- Each of these facts has one proof at most, so a value may carry it.
+-- the opcode of an open run has a rule
+abbrev pub HasRule : Option OpenRun → Type 0
+HasRule None = ⊤
+HasRule (Some open_run) = IsDrawn open_run.op
 
-PenFits-prop : (pen : Pen) (held : Option Pen) → IsProp (PenFits pen held)
-PenFits-prop pen None = hlevel props
-PenFits-prop pen (Some pens.Start) = hlevel props
-PenFits-prop pen (Some pens.After) = hlevel props
-PenFits-prop pen (Some (pens.At point)) = hlevel props
-
-MaskFits-prop : (texture : Texture) (mask : Option Displacement) → IsProp (MaskFits texture mask)
-MaskFits-prop texture None = hlevel props
-MaskFits-prop texture (Some mask) = hlevel props
-
-TextureFits-prop : (texture : Texture) (held : Option Texture) → IsProp (TextureFits texture held)
-TextureFits-prop texture None = hlevel props
-TextureFits-prop texture (Some wanted) = MaskFits-prop texture wanted.mask
-
-BaseAgrees-prop : (base shown : Base) → IsProp (BaseAgrees base shown)
-BaseAgrees-prop (bases.Own origin) shown = hlevel props
-BaseAgrees-prop (bases.Direct grb) shown = hlevel props
-
-ColourAgrees-prop : (colour shown : Colour) → IsProp (ColourAgrees colour shown)
-ColourAgrees-prop (colours.ByReset preset) shown = hlevel props
-ColourAgrees-prop (colours.Own origin) shown = hlevel props
-ColourAgrees-prop (colours.Direct grb) shown = hlevel props
-ColourAgrees-prop (colours.Front addr) shown = hlevel props
-ColourAgrees-prop (colours.Pair front back) shown = hlevel props
-
-InMode-prop : (base : Base) (colour : Colour) → IsProp (InMode base colour)
-InMode-prop base (colours.Own origin) = hlevel props
-InMode-prop base (colours.Direct grb) = hlevel props
-InMode-prop base (colours.ByReset preset) = hlevel props
-InMode-prop base (colours.Front addr) = hlevel props
-InMode-prop base (colours.Pair front back) = hlevel props
-
-pub Agrees-prop : (d shown : Drawing) → IsProp (Agrees d shown)
-Agrees-prop d shown = hlevel (
-  props,
-  PenFits-prop shown.pen (Some d.pen),
-  BaseAgrees-prop d.base shown.base,
-  ColourAgrees-prop d.colour shown.colour,
-  InMode-prop d.base d.colour,
-  TextureFits-prop shown.texture (Some d.texture),
-)
-
-DefinitionsAgree-prop : (opened shown : Option Opened) → IsProp (DefinitionsAgree opened shown)
-DefinitionsAgree-prop None None = hlevel props
-DefinitionsAgree-prop None (Some shown) = hlevel props
-DefinitionsAgree-prop (Some opened) None = hlevel props
-DefinitionsAgree-prop (Some opened) (Some shown) = hlevel (props, Agrees-prop opened.saved shown.saved)
-
-pub StatesAgree-prop : (s shown : State) → IsProp (StatesAgree s shown)
-StatesAgree-prop s shown = hlevel (
-  props,
-  Agrees-prop s.drawing shown.drawing,
-  DefinitionsAgree-prop s.definition shown.definition,
-)
-
-IsDrawn-prop : (op : Opcode) → IsProp (IsDrawn op)
-IsDrawn-prop opcodes.IncrementalPoint = hlevel props
-IsDrawn-prop opcodes.IncrementalLine = hlevel props
-IsDrawn-prop opcodes.IncrementalPolyFilled = hlevel props
-IsDrawn-prop _ = hlevel props
-
+-- This has one proof at most, so a value may carry it.
 pub HasRule-prop : (open_run : Option OpenRun) → IsProp (HasRule open_run)
 HasRule-prop None = hlevel props
 HasRule-prop (Some open_run) = IsDrawn-prop open_run.op

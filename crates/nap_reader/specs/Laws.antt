@@ -1,13 +1,36 @@
-use Rattle.std.specs.Prelude.{◌≡◌, ◌+◌, ℕ, List, [], ◌∷◌, ◌++◌, Some, None, length}
+use Rattle.std.specs.Prelude.{◌≡◌, ◌≤◌, ◌+◌, ℕ, false, List, [], ◌∷◌, ◌++◌, Some, None, All, length}
+use Rattle.nap_values.specs.Laws.{IsOperandByte}
+use Rattle.nap_codes.specs.declared.code.Code.TheVariants as code
+use Rattle.nap_codes.specs.declared.code_set.CodeSets.{CodeSets}
+use Rattle.nap_codes.specs.declared.opcode.Opcode.{Opcode}
+use Rattle.nap_codes.specs.Front as codes
+use Rattle.nap_draw.specs.Rule.{rule}
 use Rattle.nap_list.specs.declared.entry.Entry.{Entry}
 use Rattle.nap_list.specs.State.{Legal}
+use Rattle.nap_list.specs.Range.{AllInRange}
 use Rattle.nap_reader.specs.declared.fault.Refusal.{Refusal}
-use Rattle.nap_reader.specs.Course.{continue, onward}
-use Rattle.nap_reader.specs.Stream.{Placed, Machine, Outcome, front, placed_from, outcome_from, begun, means}
+use Rattle.nap_reader.specs.Course.{pause, continue, onward}
+use Rattle.nap_reader.specs.Stream.{Placed, Machine, Outcome, bytes_of, words_of, is_operand, run_limit, open_run, drawn_front, front, placed_from, outcome_from, begun, means}
 
 -- What comes of a list is what its front gives, and then what comes of the list that stands there then.
 abbrev pub FrontAfterFront : Type 0
 FrontAfterFront = (m : Machine) (xs : List Placed) → outcome_from m xs ≡ onward outcome_from m xs (front m xs)
+
+-- the byte of an opcode, and behind it operand bytes, no more than a run may have
+pub record IsRun (sets : CodeSets) (op : Opcode) (x : Placed) (operands : List Placed) : Type 0 where
+  pub names : codes.front sets (x.byte ∷ []) ≡ codes.whole (code.Op op) 1 sets
+  pub carriers : All IsOperandByte (bytes_of operands)
+  pub few : length operands ≤ run_limit
+
+-- An opcode acts by its rule where a byte comes behind its run that is no operand byte.
+abbrev pub RunActs : Type 0
+RunActs = (m : Machine) (op : Opcode) (x : Placed) (operands : List Placed) (y : Placed) (ys : List Placed) → IsRun m.sets op x operands → is_operand y ≡ false →
+    front m ((x ∷ operands) ++ y ∷ ys) ≡ drawn_front m x.place (y ∷ ys) (rule m.work op (words_of operands))
+
+-- It waits where nothing comes behind.
+abbrev pub RunWaits : Type 0
+RunWaits = (m : Machine) (op : Opcode) (x : Placed) (operands : List Placed) → IsRun m.sets op x operands →
+    front m (x ∷ operands) ≡ pause (open_run op x.place (words_of operands))
 
 -- More bytes behind add entries at the end alone.
 abbrev pub MoreBytesKeepEntries : Type 0
@@ -36,3 +59,7 @@ PiecesAgree = (budget : ℕ) (pieces : List (List ℕ)) → in_pieces 0 (begun b
 -- An accepted stream has a legal list.
 abbrev pub AcceptedIsLegal : Type 0
 AcceptedIsLegal = (budget : ℕ) (p : List ℕ) → (means budget p).refusal ≡ None → Legal (means budget p).entries
+
+-- What is read is in range, so far and in the whole.
+abbrev pub ReadValuesAreInRange : Type 0
+ReadValuesAreInRange = (budget : ℕ) (p : List ℕ) → AllInRange (begun budget p).entries × AllInRange (means budget p).entries

@@ -1,11 +1,12 @@
+-- what a stream means
 pub mod Course
 pub mod Faults
 pub mod Kinds
 pub mod Stream
-pub mod Held
-pub mod Taking
+-- what a reader answers of it
 pub mod Breaking
-pub mod Reading
-pub mod Carried
 pub mod Standing
 pub mod Laws
+-- what a reader keeps, which no one sees
+pub mod Carried
+pub mod Holding

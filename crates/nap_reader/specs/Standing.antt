@@ -1,16 +1,11 @@
-use Rattle.std.specs.Prelude.{◌≡◌, ◌-◌, ◌+◌, ◌<◌, ◌++◌, ℕ, List, [], Option, None, length, take, slice_index}
+use Rattle.std.specs.Prelude.{◌≡◌, ◌-◌, ◌+◌, ◌<◌, ◌++◌, ℕ, List, [], ◌∷◌, Option, Some, None, length, take, slice_index}
 use Rattle.nap_list.specs.declared.sink.Sink.{Ghosts}
+use Rattle.nap_draw.specs.Draws.{Cause, stream}
 use Rattle.nap_reader.specs.declared.fault.Refusal.{Refusal}
 use Rattle.nap_reader.specs.declared.reader.Reader.{Reader}
-use Rattle.nap_reader.specs.Stream.{Placed, Outcome, begun}
-use Rattle.nap_reader.specs.Breaking.{breaking_place}
-use Rattle.nap_reader.specs.Taking.{Has, IsOwn, BreaksAt}
-use Rattle.nap_reader.specs.Reading.{ReachesBy}
-
--- A reader reaches an outcome by what pends.
-abbrev pub Reaches : {S : Type 0} {g : Ghosts S} → Reader S g → S → Outcome → List Placed → Type 0
-Reaches {S} {g} reader s o pending =
-    ReachesBy g s o reader.sink reader.work reader.lexer (reader.budget - reader.charged) reader.open_run reader.run.items pending reader.refusal
+use Rattle.nap_reader.specs.Stream.{Outcome, begun}
+use Rattle.nap_reader.specs.Breaking.{cause_of, BreaksAt}
+use Rattle.nap_reader.specs.Holding.{Continues, holding_of}
 
 -- what a reader shows
 
@@ -32,29 +27,54 @@ turns_of reader = reader.turns
 abbrev pub charged_of : {S : Type 0} {g : Ghosts S} → Reader S g → ℕ
 charged_of reader = reader.charged
 
--- the counts and the budget stay
-pub record SameCounts {S : Type 0} {g : Ghosts S} (old new : Reader S g) : Type 0 where
-  pub budget : budget_of new ≡ budget_of old
-  pub fed : fed_of new ≡ fed_of old
-  pub turns : turns_of new ≡ turns_of old
-  pub charged : charged_of new ≡ charged_of old
+-- what is left to be charged
+abbrev pub left_of : {S : Type 0} {g : Ghosts S} → Reader S g → ℕ
+left_of reader = budget_of reader - charged_of reader
 
--- A reader stands for the sink that it was given and the bytes so far: its sink has taken what is known of them, and
--- what they mean with any bytes behind comes of what it holds. What is left to charge is what the bytes leave, also
--- where they are refused.
+-- A sink that was s has taken the entries of the outcome, this is left to charge, and this is its refusal.
+pub record IsKnown {S : Type 0} (g : Ghosts S) (s : S) (o : Outcome) (t : S) (n : ℕ) (answer : Option Refusal) : Type 0 where
+  pub refusal : o.refusal ≡ answer
+  pub taken : g.took s o.entries t
+  pub left : o.machine.left ≡ n
+
+-- Reading broke at the byte behind p, up to which nothing was refused.
+pub record IsBroken {S : Type 0} (g : Ghosts S) (s : S) (budget : ℕ) (p : List ℕ) (b : ℕ) (t : S) (n : ℕ) (r : Refusal) : Type 0 where
+  pub before : (begun budget p).refusal ≡ None
+  pub breaks : BreaksAt g s budget p b t r
+  pub left : (begun budget p).machine.left ≡ n
+
+-- Reading stopped at the byte behind p with this refusal: the stream's own, or it broke.
+abbrev pub StopsBy : {S : Type 0} → Ghosts S → S → ℕ → List ℕ → ℕ → S → ℕ → Refusal → Cause → Type 0
+StopsBy g s budget p b t left r stream = IsKnown g s (begun budget (p ++ b ∷ [])) t left (Some r)
+StopsBy g s budget p b t left r _ = IsBroken g s budget p b t left r
+
+-- what a reader shows that was fed the bytes p, with a refusal of this cause: the stream's, or it broke at a byte of p
+abbrev pub AnswersBy : {S : Type 0} → Ghosts S → S → ℕ → List ℕ → S → ℕ → Refusal → Cause → Type 0
+AnswersBy g s budget p t left r stream = IsKnown g s (begun budget p) t left (Some r)
+AnswersBy g s budget p t left r _ = (i : ℕ) × (i < length p) × IsBroken g s budget (take i p) (slice_index p i) t left r
+
+-- what a reader shows that was fed the bytes p: its sink, what is left to charge, and its answer
+abbrev pub Answers : {S : Type 0} → Ghosts S → S → ℕ → List ℕ → S → ℕ → Option Refusal → Type 0
+Answers g s budget p t left None = IsKnown g s (begun budget p) t left None
+Answers g s budget p t left (Some r) = AnswersBy g s budget p t left r (cause_of r.fault)
+
+-- A reader stands for the sink that it was given and the bytes so far: it shows what is known of them, and where it isn't
+-- refused, what they mean with any bytes behind comes of what it holds.
 pub record Stands {S : Type 0} {g : Ghosts S} (reader : Reader S g) (s : S) (p : List ℕ) : Type 0 where
-  pub sink : Has g s (begun (budget_of reader) p) (sink_of reader) (refusal_of reader)
-  pub reaches : Reaches reader s (begun (budget_of reader) p) []
+  pub answers : Answers g s (budget_of reader) p (sink_of reader) (left_of reader) (refusal_of reader)
   pub fed : refusal_of reader ≡ None → fed_of reader ≡ length p
-  pub left : IsOwn (refusal_of reader) → (begun (budget_of reader) p).machine.left ≡ budget_of reader - charged_of reader
+  pub continues : refusal_of reader ≡ None → Continues g s (begun (budget_of reader) p) (sink_of reader) (holding_of reader) []
 
--- The refusal came at the byte with this index: what was known before it had none. One that isn't the stream's own has
--- the place of that byte, or of the opcode that acted there.
-pub record StopsAt {S : Type 0} {g : Ghosts S} (old new : Reader S g) (piece : List ℕ) (i : ℕ) : Type 0 where
+-- The refusal came at the byte with this index, behind which nothing was taken.
+pub record StopsAt {S : Type 0} {g : Ghosts S} (old new : Reader S g) (piece : List ℕ) (r : Refusal) (i : ℕ) : Type 0 where
   pub within : i < length piece
   pub fed : fed_of new ≡ fed_of old + (i + 1)
   pub before : (s : S) (p : List ℕ) → Stands old s p → (begun (budget_of old) (p ++ take i piece)).refusal ≡ None
   pub there : (s : S) (p : List ℕ) → Stands old s p →
-      Has g s (begun (budget_of old) (p ++ take (i + 1) piece)) (sink_of new) (refusal_of new)
-  pub place : (s : S) (p : List ℕ) → Stands old s p →
-      BreaksAt (refusal_of new) (breaking_place (begun (budget_of old) (p ++ take i piece)) (slice_index piece i) (length p + i))
+      StopsBy g s (budget_of old) (p ++ take i piece) (slice_index piece i) (sink_of new) (left_of new) r (cause_of r.fault)
+
+-- The end of a stream.
+
+-- a sink that was s has taken the entries of the outcome, and this is its refusal
+abbrev pub IsTaken : {S : Type 0} → Ghosts S → S → Outcome → S → Option Refusal → Type 0
+IsTaken g s o t answer = (o.refusal ≡ answer) × g.took s o.entries t

@@ -1,6 +1,5 @@
 use Rattle.std.specs.Prelude.{ℕ, zero, suc, ◌-◌, ◌&&◌, nat_lt, nat_le, Bool, if◌then◌else◌, List, [], ◌∷◌, ◌++◌, length, map, take, drop, Option, Some, None, Result, Ok, Err}
 use Rattle.std.specs.List.{prefix_len}
-use Rattle.nap_codes.specs.declared.code.Code.TheVariants as code
 use Rattle.nap_codes.specs.declared.code_set.CodeSets.{CodeSets}
 use Rattle.nap_codes.specs.declared.opcode.Opcode.{Opcode}
 use Rattle.nap_codes.specs.CodeSets.{start_sets}
@@ -15,7 +14,7 @@ use Rattle.nap_reader.specs.declared.fault.Fault.TheVariants as faults
 use Rattle.nap_reader.specs.declared.fault.Refusal.{Refusal}
 use Rattle.nap_reader.specs.declared.kind.Kind.{Kind}
 use Rattle.nap_reader.specs.declared.kind.Kind.TheVariants as kinds
-use Rattle.nap_reader.specs.declared.reader.TheConstants.{RUN_LIMIT}
+use Rattle.nap_draw.specs.declared.act.TheConstants.{RUN_LIMIT}
 use Rattle.nap_reader.specs.Faults.{code_fault, draw_fault}
 use Rattle.nap_reader.specs.Kinds.{kind_of}
 use Rattle.nap_reader.specs.Course as course
@@ -39,11 +38,19 @@ pub record Machine : Type 0 where
   pub sets : CodeSets
   pub left : ℕ
 
+-- what a stream has begun where nothing whole is left
+pub data Unfinished : Type 0 where
+  nothing : Unfinished
+  -- the bytes of a half-read code
+  half_code : List ℕ → Unfinished
+  -- an opcode, its place, and the words of its run so far
+  open_run : Opcode → ℕ → List ℕ → Unfinished
+
 abbrev pub Outcome : Type 0
-Outcome = course.Outcome Machine Entry Refusal Placed
+Outcome = course.Outcome Machine Entry Refusal Unfinished Placed
 
 abbrev pub Front : Type 0
-Front = course.Front Machine Entry Refusal Placed
+Front = course.Front Machine Entry Refusal Unfinished Placed
 
 abbrev pub refusal : Fault → ℕ → Refusal
 refusal fault place = record { fault = fault; place = place }
@@ -64,14 +71,18 @@ run_length xs = prefix_len is_operand xs
 abbrev pub words_of : List Placed → List ℕ
 words_of xs = map (λ x. x.byte - 64) xs
 
+-- the machine once an opcode has drawn; no name is bound yet that it could clear
+abbrev pub after_drawing : Machine → Drawn → Machine
+after_drawing m drawn = record m { work = drawn.work }
+
 -- the opcode's rule has acted
 abbrev pub drawn_front : Machine → ℕ → List Placed → Result Drawn DrawFault → Front
-drawn_front m place rest (Ok drawn) = course.act drawn.entries (record m { work = drawn.work }) rest
+drawn_front m place rest (Ok drawn) = course.act drawn.entries (after_drawing m drawn) rest
 drawn_front m place rest (Err fault) = course.refuse (refusal (draw_fault fault) place)
 
 -- A run that reaches the end of the list isn't over.
 abbrev pub closed_front : Machine → Opcode → ℕ → List Placed → List Placed → Front
-closed_front m op place run [] = course.pause
+closed_front m op place run [] = course.pause (open_run op place (words_of run))
 closed_front m op place run (x ∷ xs) = drawn_front m place (x ∷ xs) (rule m.work op (words_of run))
 
 -- the most operand bytes of one opcode
@@ -101,8 +112,13 @@ place_at [] i = 0
 place_at (x ∷ xs) zero = x.place
 place_at (x ∷ xs) (suc i) = place_at xs i
 
+-- these bytes of a code were read, or none
+abbrev pub half_read : List ℕ → Unfinished
+half_read [] = nothing
+half_read (b ∷ bs) = half_code (b ∷ bs)
+
 abbrev pub front_by : Machine → List Placed → codes.Front → Front
-front_by m xs codes.unfinished = course.pause
+front_by m xs codes.unfinished = course.pause (half_read (bytes_of xs))
 front_by m xs (codes.refused fault i) = course.refuse (refusal (code_fault fault) (place_at xs i))
 front_by m xs (codes.whole code n sets) = code_front (record m { sets = sets }) (kind_of code) (place_at xs (n - 1)) (drop n xs)
 
@@ -132,19 +148,19 @@ abbrev pub with_drawn : Outcome → ℕ → Result Drawn DrawFault → Outcome
 with_drawn o place (Ok drawn) = record {
   entries = o.entries ++ drawn.entries;
   refusal = None;
-  machine = record o.machine { work = drawn.work };
+  unfinished = Some nothing;
+  machine = after_drawing o.machine drawn;
   rest = [];
 }
-with_drawn o place (Err fault) = record o { refusal = Some (refusal (draw_fault fault) place) }
+with_drawn o place (Err fault) = record o { refusal = Some (refusal (draw_fault fault) place); unfinished = None }
 
--- A front that is a whole code at the end is that of an open run.
-abbrev pub with_run_by : Outcome → codes.Front → List Placed → Outcome
-with_run_by o (codes.whole (code.Op op) n sets) (x ∷ run) = with_drawn o x.place (rule o.machine.work op (words_of run))
-with_run_by o _ _ = o
+abbrev pub with_run_by : Outcome → Option Unfinished → Outcome
+with_run_by o (Some (open_run op place run)) = with_drawn o place (rule o.machine.work op run)
+with_run_by o _ = o
 
 -- an open run acts
 abbrev pub with_run : Outcome → Outcome
-with_run o = with_run_by o (codes.front o.machine.sets (bytes_of o.rest)) o.rest
+with_run o = with_run_by o o.unfinished
 
 -- a definition that is open at the end is refused there
 abbrev pub with_definition : Outcome → ℕ → Option Opened → Outcome
@@ -152,13 +168,13 @@ with_definition o n None = o
 with_definition o n (Some opened) = record o { refusal = Some (refusal faults.Unended n) }
 
 -- a code that is unfinished at the end is refused there
-abbrev pub with_rest : Outcome → ℕ → List Placed → Outcome
-with_rest o n [] = with_definition o n o.machine.work.state.definition
-with_rest o n (x ∷ xs) = record o { refusal = Some (refusal faults.Cut n) }
+abbrev pub with_code : Outcome → ℕ → Option Unfinished → Outcome
+with_code o n (Some (half_code bytes)) = record o { refusal = Some (refusal faults.Cut n) }
+with_code o n _ = with_definition o n o.machine.work.state.definition
 
 abbrev pub with_end : Outcome → ℕ → Option Refusal → Outcome
 with_end o n (Some r) = o
-with_end o n None = with_rest o n o.rest
+with_end o n None = with_code o n o.unfinished
 
 abbrev pub ended_by : Outcome → ℕ → Option Refusal → Outcome
 ended_by o n (Some r) = o

@@ -4,55 +4,79 @@ ghost use Rattle.nap_reader.specs.Faults.{number_of, name_of, code_fault, draw_f
 
 use nap_codes::{CodeFault, Left};
 use nap_draw::DrawFault;
+use thiserror::Error;
 
-/// Why a stream is refused.
-#[derive(Clone, Copy, PartialEq, Eq, Debug, Drop)]
+/// Why a stream is refused. It prints what is wrong; `name` is the word that goes with its number.
+#[derive(Clone, Copy, PartialEq, Eq, Debug, Drop, Error)]
 pub enum Fault {
     /// A byte `80` to `FF`.
+    #[error("a byte has its eighth bit set")]
     EighthBit,
     /// An escape sequence that this profile doesn't have.
+    #[error("no such escape sequence")]
     BadEscape,
     /// SS2 or SS3, and then a byte below `20`.
+    #[error("a control stands behind a single shift")]
     ShiftAlone,
     /// A code of the PDI set under a single shift, also an opcode that is left out.
+    #[error("a drawing code stands behind a single shift")]
     ShiftedCode,
     /// An argument outside its range.
+    #[error("an argument is out of range")]
     BadArgument,
     /// A code that this profile leaves out by name.
+    #[error("{0} is left out")]
     LeftOut(Left),
     /// DOMAIN in three dimensions: b6 of its first word is set.
+    #[error("three dimensions are asked for")]
     ThreeD,
     /// An opcode wholly lacks an operand that it needs.
+    #[error("an operand is missing")]
     Missing,
     /// SET COLOR with more than one operand.
+    #[error("more than one colour is set")]
     ManyColours,
     /// A point of the opcode isn't in the square.
+    #[error("a point lies outside the unit square")]
     Outside,
     /// The opcode starts at the pen, which text, a field, a clearing or a reset has left.
+    #[error("the pen's place isn't known")]
     PenUnknown,
     /// SET COLOR where the colour is that of a reset, with no address.
+    #[error("there is no address to set")]
     NoAddress,
     /// An operand byte past `RUN_LIMIT`.
+    #[error("an opcode has too many operand bytes")]
     LongRun,
     /// More displacements of one arc or polygon than its shape can hold.
+    #[error("a shape has too many points")]
     ManyPoints,
     /// REPEAT or REPEAT TO EOL where the last entry isn't a character.
+    #[error("there is no character to repeat")]
     NothingToRepeat,
     /// A word with no run open.
+    #[error("an operand stands without an opcode")]
     Stray,
     /// A call or a presentation would pass the budget.
+    #[error("the macros would pass the budget")]
     Budget,
     /// The bodies of the macros would pass their limit.
+    #[error("the macros would pass the store")]
     Store,
     /// The input ends inside a code.
+    #[error("the stream ends inside a code")]
     Cut,
     /// The input ends inside a macro body or a definition.
+    #[error("the stream ends inside a definition")]
     Unended,
     /// A growth was refused for want of memory.
+    #[error("no memory")]
     Memory,
     /// The sink's device failed.
+    #[error("the device behind the sink failed")]
     Sink,
     /// What isn't built yet.
+    #[error("this part of the format isn't built yet")]
     Unbuilt,
 }
 
@@ -155,7 +179,8 @@ impl From<DrawFault> for Fault {
 }
 
 /// Why a stream is refused, and where.
-#[derive(Clone, Copy, PartialEq, Eq, Debug, Drop)]
+#[derive(Clone, Copy, PartialEq, Eq, Debug, Drop, Error)]
+#[error("{fault} at {place}")]
 pub struct Refusal {
     /// Why.
     pub fault: Fault,

@@ -5,8 +5,8 @@ ghost use Rattle.nap_reader.specs.Kinds.{kind_of};
 use nap_codes::{Code, Opcode};
 
 /// What a reader does with a code.
-#[derive(Clone, Copy, PartialEq, Eq, Debug, Drop)]
-pub enum Kind {
+#[derive(Clone, Copy, Drop)]
+pub(crate) enum Kind {
     /// It opens a run of operand bytes.
     Opens(Opcode),
     /// It is an operand word outside a run.
@@ -19,7 +19,7 @@ pub enum Kind {
 
 impl Kind {
     /// The kind of a code.
-    pub fn of(code: Code) -> Kind
+    pub(crate) fn of(code: Code) -> Kind
         ensures { result ≡ kind_of code }
     {
         match code {

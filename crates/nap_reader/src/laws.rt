@@ -1,9 +1,15 @@
 //! Laws of what a stream means, which no call can break.
-ghost use Rattle.nap_reader.specs.Laws.{AcceptedIsLegal, FrontAfterFront, MoreBytesKeepEntries, MoreBytesKeepRefusal, PiecesAgree};
+ghost use Rattle.nap_reader.specs.Laws.{AcceptedIsLegal, FrontAfterFront, MoreBytesKeepEntries, MoreBytesKeepRefusal, PiecesAgree, ReadValuesAreInRange, RunActs, RunWaits};
 
 /// What a stream means is told front after front, with no bound on how many there are.
 pub fn front_after_front()
     ensures { FrontAfterFront }
+{}
+
+/// An opcode acts by its rule once a byte comes behind its run that is no operand byte, and waits until then.
+pub fn opcodes_take_their_runs()
+    ensures acts { RunActs }
+    ensures waits { RunWaits }
 {}
 
 /// More bytes behind a stream change no entry that it has given: its entries come first in those of the longer stream.
@@ -24,4 +30,9 @@ pub fn pieces_agree()
 /// The list of a stream that is accepted is legal.
 pub fn accepted_is_legal()
     ensures { AcceptedIsLegal }
+{}
+
+/// The points, colours and numbers of what is read are in the ranges of their types.
+pub fn read_values_are_in_range()
+    ensures { ReadValuesAreInRange }
 {}

@@ -1,16 +1,17 @@
 //! Reads a stream, in any pieces, into a sink of entries.
 #![tactic(auto)]
 
-pub mod budget;
-pub mod fault;
+mod budget;
+mod fault;
 mod kind;
 pub mod laws;
-pub mod reader;
-pub mod whole;
+mod reader;
+mod whole;
 
 pub use budget::Budget;
 pub use fault::{Fault, Refusal};
-pub use reader::{RUN_LIMIT, Reader, Stopped};
+pub use nap_draw::RUN_LIMIT;
+pub use reader::{Reader, Stopped};
 pub use whole::read_all;
 
 #[cfg(test)]

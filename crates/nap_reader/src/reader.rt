@@ -1,29 +1,26 @@
 //! Reads a stream in pieces.
-ghost use Rattle.std.specs.Prelude.{◌≡◌, ◌≢◌, ◌+◌, ◌-◌, ◌^◌, ◌<◌, ◌≤◌, ℕ, List, [], ◌∷◌, ◌++◌, Option, None, Some, Err, true, false, length, vec_len, OnOk, IfOk, IfErr, IfSome, MatchOption};
+ghost use Rattle.std.specs.Prelude.{◌≡◌, ◌≢◌, ◌+◌, ◌-◌, ◌^◌, ◌<◌, ◌≤◌, ℕ, List, [], ◌∷◌, ◌++◌, Option, None, Some, Err, true, false, length, vec_len, OnOk, IfOk, IfErr, IfSome, MatchOption, MatchResult};
 ghost use Rattle.std.specs.Option.{ForNone};
 ghost use Rattle.nap_list.specs.State.{start};
 ghost use Rattle.std.proofs.Props.{props};
 ghost use Rattle.nap_list.specs.Agreement.{StatesAgree};
-ghost use Rattle.nap_reader.specs.Carried.{HasRule-prop, StatesAgree-prop};
-ghost use Rattle.nap_reader.specs.Held.{HasRule};
-ghost use Rattle.nap_reader.specs.Stream.{is_operand_byte, run_limit};
+ghost use Rattle.nap_list.specs.Propositions.{StatesAgree-prop};
+ghost use Rattle.nap_reader.specs.Carried.{HasRule, HasRule-prop};
+ghost use Rattle.nap_reader.specs.Stream.{is_operand_byte, refusal, run_limit};
 ghost use Rattle.nap_reader.specs.declared.budget.TheConstants.Budget.{MOST};
 
 use crate::budget::Budget;
 use crate::fault::{Fault, Refusal};
 use crate::kind::Kind;
 use nap_codes::{Lexer, Opcode, Step};
-use nap_draw::{Work, apply};
+use nap_draw::{RUN_LIMIT, Work, apply};
 use nap_list::Sink;
 use nap_values::Word;
 use std::alloc::Global;
 
-/// The most operand bytes of one opcode (our profile).
-pub const RUN_LIMIT: usize = 16_384;
-
 /// An opcode whose operands are still coming.
-#[derive(Clone, Copy, PartialEq, Eq, Debug, Drop)]
-pub struct OpenRun {
+#[derive(Clone, Copy, Drop)]
+struct OpenRun {
     op: Opcode,
     place: u64,
 }
@@ -48,18 +45,16 @@ pub struct Reader<S: Sink> {
     ghost rule: { HasRule open_run } by { HasRule-prop open_run },
     ghost within: { charged ≤ budget },
     ghost small: { charged ≤ MOST },
-    ghost turned: { turns ≤ fed + charged },
+    ghost turned: { turns ≡ fed + charged },
     ghost agrees: { ForNone refusal (StatesAgree work.state (S.state sink)) } by { Prim.hlevel (props, StatesAgree-prop work.state (S.state sink)) },
 }
 
 impl<S: Sink> Reader<S> {
-    ghost use Rattle.nap_reader.specs.Stream.{Placed, Outcome, begun, is_operand, means, with_rest, with_run};
+    ghost use Rattle.nap_reader.specs.Stream.{Placed, Outcome, begun, is_operand, means, with_code};
     ghost use Rattle.nap_draw.specs.Draws.{stream};
-    ghost use Rattle.nap_reader.specs.Breaking.{BreaksAtEnd, breaking_place_by};
-    ghost use Rattle.nap_reader.specs.Held.{run_place};
-    ghost use Rattle.nap_reader.specs.Taking.{BreaksAt, Has, IsOwn, cause_of};
-    ghost use Rattle.nap_reader.specs.Reading.{CarriesWord, Ends, EndsBy};
-    ghost use Rattle.nap_reader.specs.Standing.{Reaches, SameCounts, Stands, StopsAt, budget_of, charged_of, fed_of, refusal_of, sink_of, turns_of};
+    ghost use Rattle.nap_reader.specs.Breaking.{BreaksAt, BreaksInRun, cause_of};
+    ghost use Rattle.nap_reader.specs.Holding.{CarriesWord, ClosesBy, Continues, Ends, IsOwn, Reaches, SameCounts, holding_of};
+    ghost use Rattle.nap_reader.specs.Standing.{Answers, IsTaken, Stands, StopsAt, budget_of, charged_of, fed_of, left_of, refusal_of, sink_of, turns_of};
 
     /// A reader at the start of a stream, which puts the entries into this sink.
     pub fn new(alloc: Global, budget: Budget, sink: S) -> Reader<S>
@@ -92,17 +87,15 @@ impl<S: Sink> Reader<S> {
         // It stands for the bytes so far, also where it refuses.
         ensures stands { (s : S) (p : List ℕ) → Stands self.old s p → Stands self.new s (p ++ piece.now) }
         ensures budget { budget_of self.new ≡ budget_of self.old }
-        ensures ok { OnOk result (refusal_of self.new ≡ None) }
-        ensures err { IfErr result (λ r. refusal_of self.new ≡ Some r) }
+        ensures answered { MatchResult result (λ _. refusal_of self.new ≡ None) (λ r. refusal_of self.new ≡ Some r) }
         // A refusal stays, and changes nothing.
         ensures latched { (r : Refusal) → refusal_of self.old ≡ Some r → (result ≡ Err r) × (self.new ≡ self.old) }
         ensures failed { IfErr result (λ r. refusal_of self.old ≡ None → r.fault ≡ Fault.Sink → S.failed (sink_of self.new) ≡ true) }
+        ensures clear { OnOk result (S.failed (sink_of self.old) ≡ false → S.failed (sink_of self.new) ≡ false) }
         // All of the piece was taken, or the bytes up to and with the one that is refused.
         ensures fed { OnOk result (fed_of self.new ≡ fed_of self.old + length piece.now) }
-        ensures stops { IfErr result (λ _. refusal_of self.old ≡ None → (i : ℕ) × StopsAt self.old self.new piece.now i) }
-        ensures turns { turns_of self.new ≤ fed_of self.new + charged_of self.new }
-        ensures more_turns { turns_of self.old ≤ turns_of self.new }
-        ensures all_turns { turns_of self.old ≡ fed_of self.old + charged_of self.old → OnOk result (turns_of self.new ≡ fed_of self.new + charged_of self.new) }
+        ensures stops { IfErr result (λ r. refusal_of self.old ≡ None → (i : ℕ) × StopsAt self.old self.new piece.now r i) }
+        ensures turns { turns_of self.new ≡ fed_of self.new + charged_of self.new }
     {
         if let Some(refusal) = self.refusal {
             return Err(refusal);
@@ -111,73 +104,66 @@ impl<S: Sink> Reader<S> {
             let place = self.fed;
             self.fed += 1;
             self.turns += 1;
-            self.turn(*byte, place);
-            if let Some(refusal) = self.refusal {
-                return Err(refusal);
-            }
+            self.turn(*byte, place)?;
         }
         Ok(())
     }
 
     /// Takes one byte, which has this place.
-    fn turn(&mut self, byte: u8, place: u64)
+    fn turn(&mut self, byte: u8, place: u64) -> Result<(), Refusal>
         requires { self.old.refusal ≡ None }
+        ensures answered { MatchResult result (λ _. self.new.refusal ≡ None) (λ r. self.new.refusal ≡ Some r) }
         ensures reaches { (s : S) (o : Outcome) (pending : List Placed) →
-            Reaches self.old s o (record { byte = byte; place = place } ∷ pending) → Reaches self.new s o pending }
-        ensures breaks { BreaksAt self.new.refusal (breaking_place_by (run_place self.old.open_run) byte place) }
-        ensures failed { IfSome self.new.refusal (λ r. r.fault ≡ Fault.Sink → S.failed self.new.sink ≡ true) }
+            Continues S.Sink s o self.old.sink (holding_of self.old) (record { byte = byte; place = place } ∷ pending) → Reaches self.new s o pending }
+        ensures breaks { IfErr result (λ r. cause_of r.fault ≢ stream → (s : S) (p : List ℕ) →
+            Continues S.Sink s (begun (budget_of self.old) p) self.old.sink (holding_of self.old) [] → place ≡ length p →
+            BreaksAt S.Sink s (budget_of self.old) p byte self.new.sink r) }
+        ensures failed { IfErr result (λ r. r.fault ≡ Fault.Sink → S.failed self.new.sink ≡ true) }
+        ensures clear { OnOk result (S.failed self.old.sink ≡ false → S.failed self.new.sink ≡ false) }
         ensures counts { SameCounts self.old self.new }
     {
         let Some(open_run) = self.open_run else {
-            self.lex(byte, place);
-            return;
+            return self.lex(byte, place);
         };
-        let Some(word) = operand(byte) else {
-            self.close(open_run);
-            if self.refusal.is_none() {
-                self.lex(byte, place);
-            }
-            return;
-        };
-        self.join(open_run, word, place);
+        if let Some(word) = operand(byte) {
+            return self.join(open_run, word, place);
+        }
+        self.close(open_run)?;
+        self.lex(byte, place)
     }
 
     /// A word joins the open run.
-    fn join(&mut self, open_run: OpenRun, word: Word, place: u64)
+    fn join(&mut self, open_run: OpenRun, word: Word, place: u64) -> Result<(), Refusal>
         requires live { self.old.refusal ≡ None }
         requires opened { self.old.open_run ≡ Some open_run }
+        ensures answered { MatchResult result (λ _. self.new.refusal ≡ None) (λ r. self.new.refusal ≡ Some r) }
         ensures reaches { (s : S) (o : Outcome) (x : Placed) (pending : List Placed) → CarriesWord x word →
-            x.place ≡ place → Reaches self.old s o (x ∷ pending) → Reaches self.new s o pending }
-        ensures breaks { BreaksAt self.new.refusal place }
-        ensures failed { IfSome self.new.refusal (λ r. r.fault ≢ Fault.Sink) }
+            Continues S.Sink s o self.old.sink (holding_of self.old) (x ∷ pending) → Reaches self.new s o pending }
+        ensures breaks { IfErr result (λ r. cause_of r.fault ≢ stream → r ≡ refusal Fault.Memory place) }
+        ensures sink { self.new.sink ≡ self.old.sink }
         ensures counts { SameCounts self.old self.new }
     {
         if self.run.len() >= RUN_LIMIT {
-            self.refusal = Some(Refusal {
-                fault: Fault::LongRun,
-                place: open_run.place,
-            });
-            return;
+            return refuse(&mut self.refusal, Fault::LongRun, open_run.place);
         }
         if self.run.push(word).is_err() {
-            self.refusal = Some(Refusal {
-                fault: Fault::Memory,
-                place,
-            });
+            return refuse(&mut self.refusal, Fault::Memory, place);
         }
+        Ok(())
     }
 
     /// The open run is over, and its opcode acts.
-    fn close(&mut self, open_run: OpenRun)
+    fn close(&mut self, open_run: OpenRun) -> Result<(), Refusal>
         requires live { self.old.refusal ≡ None }
         requires opened { self.old.open_run ≡ Some open_run }
+        ensures answered { MatchResult result (λ _. self.new.refusal ≡ None) (λ r. self.new.refusal ≡ Some r) }
         ensures reaches { (s : S) (o : Outcome) (x : Placed) (pending : List Placed) → is_operand x ≡ false →
-            Reaches self.old s o (x ∷ pending) → Reaches self.new s o (x ∷ pending) }
-        ensures ends { (s : S) (p : List ℕ) → Stands self.old s p →
-            EndsBy S.Sink s (with_run (begun (budget_of self.old) p)) self.new.sink self.new.work self.new.lexer.half self.new.refusal }
-        ensures breaks { BreaksAt self.new.refusal open_run.place }
+            Continues S.Sink s o self.old.sink (holding_of self.old) (x ∷ pending) → Reaches self.new s o (x ∷ pending) }
+        ensures closes { (s : S) (p : List ℕ) → Continues S.Sink s (begun (budget_of self.old) p) self.old.sink (holding_of self.old) [] →
+            ClosesBy S.Sink s (budget_of self.old) p self.new.sink (holding_of self.new) self.new.refusal }
         ensures closed { self.new.refusal ≡ None → self.new.open_run ≡ None }
-        ensures failed { IfSome self.new.refusal (λ r. r.fault ≡ Fault.Sink → S.failed self.new.sink ≡ true) }
+        ensures failed { IfErr result (λ r. r.fault ≡ Fault.Sink → S.failed self.new.sink ≡ true) }
+        ensures clear { OnOk result (S.failed self.old.sink ≡ false → S.failed self.new.sink ≡ false) }
         ensures counts { SameCounts self.old self.new }
     {
         match apply(
@@ -191,130 +177,106 @@ impl<S: Sink> Reader<S> {
                 self.work = effects.work;
                 self.open_run = None;
                 self.run.clear();
+                Ok(())
             }
-            Err(fault) => {
-                self.refusal = Some(Refusal {
-                    fault: Fault::from(fault),
-                    place: open_run.place,
-                });
-            }
+            Err(fault) => refuse(&mut self.refusal, Fault::from(fault), open_run.place),
         }
     }
 
     /// Takes a byte where no run is open.
-    fn lex(&mut self, byte: u8, place: u64)
+    fn lex(&mut self, byte: u8, place: u64) -> Result<(), Refusal>
         requires live { self.old.refusal ≡ None }
         requires closed { self.old.open_run ≡ None }
+        ensures answered { MatchResult result (λ _. self.new.refusal ≡ None) (λ r. self.new.refusal ≡ Some r) }
         ensures reaches { (s : S) (o : Outcome) (pending : List Placed) →
-            Reaches self.old s o (record { byte = byte; place = place } ∷ pending) → Reaches self.new s o pending }
-        ensures own { IsOwn self.new.refusal }
-        ensures failed { IfSome self.new.refusal (λ r. r.fault ≢ Fault.Sink) }
+            Continues S.Sink s o self.old.sink (holding_of self.old) (record { byte = byte; place = place } ∷ pending) → Reaches self.new s o pending }
+        ensures own { IfErr result IsOwn }
+        ensures sink { self.new.sink ≡ self.old.sink }
         ensures counts { SameCounts self.old self.new }
     {
         let code = match self.lexer.step(byte) {
-            Step::More => return,
-            Step::Fault(fault) => {
-                self.refusal = Some(Refusal {
-                    fault: Fault::from(fault),
-                    place,
-                });
-                return;
-            }
+            Step::More => return Ok(()),
+            Step::Fault(fault) => return refuse(&mut self.refusal, Fault::from(fault), place),
             Step::Code(code) => code,
         };
         match Kind::of(code) {
             Kind::Opens(op) => {
                 self.open_run = Some(OpenRun { op, place });
                 self.run.clear();
+                Ok(())
             }
-            Kind::Strays => {
-                self.refusal = Some(Refusal {
-                    fault: Fault::Stray,
-                    place,
-                });
-            }
-            Kind::AddsNothing => {}
-            Kind::Unbuilt => {
-                self.refusal = Some(Refusal {
-                    fault: Fault::Unbuilt,
-                    place,
-                });
-            }
+            Kind::Strays => refuse(&mut self.refusal, Fault::Stray, place),
+            Kind::AddsNothing => Ok(()),
+            Kind::Unbuilt => refuse(&mut self.refusal, Fault::Unbuilt, place),
         }
     }
 
     /// The stream ends here: an open run acts, and then what is unfinished is refused.
-    fn end(&mut self)
-        requires { self.old.refusal ≡ None }
-        ensures ended { (s : S) (p : List ℕ) → Stands self.old s p →
-            Has S.Sink s (means (budget_of self.old) p) self.new.sink self.new.refusal }
-        ensures breaks { IfSome self.new.refusal (λ r. cause_of r.fault ≢ stream → run_place self.old.open_run ≡ Some r.place) }
-        ensures failed { IfSome self.new.refusal (λ r. r.fault ≡ Fault.Sink → S.failed self.new.sink ≡ true) }
+    fn end(&mut self) -> Result<(), Refusal>
+        ensures latched { (r : Refusal) → self.old.refusal ≡ Some r → (result ≡ Err r) × (self.new ≡ self.old) }
+        ensures ended { OnOk result ((s : S) (p : List ℕ) → Stands self.old s p →
+            IsTaken S.Sink s (means (budget_of self.old) p) self.new.sink None) }
+        ensures refused { IfErr result (λ r. IsOwn r → (s : S) (p : List ℕ) → Stands self.old s p →
+            IsTaken S.Sink s (means (budget_of self.old) p) self.new.sink (Some r)) }
+        ensures breaks { IfErr result (λ r. self.old.refusal ≡ None → cause_of r.fault ≢ stream → (s : S) (p : List ℕ) → Stands self.old s p →
+            BreaksInRun S.Sink s (budget_of self.old) p self.new.sink r) }
+        ensures failed { IfErr result (λ r. self.old.refusal ≡ None → r.fault ≡ Fault.Sink → S.failed self.new.sink ≡ true) }
+        ensures clear { OnOk result (S.failed self.old.sink ≡ false → S.failed self.new.sink ≡ false) }
     {
-        match self.open_run {
-            None => self.settle(),
-            Some(open_run) => {
-                self.close(open_run);
-                if self.refusal.is_none() {
-                    self.settle();
-                }
-            }
+        if let Some(latched) = self.refusal {
+            return Err(latched);
         }
+        let Some(open_run) = self.open_run else {
+            return self.settle();
+        };
+        self.close(open_run)?;
+        self.settle()
     }
 
     /// No run is open at the end, and what is unfinished is refused.
-    fn settle(&mut self)
+    fn settle(&mut self) -> Result<(), Refusal>
         requires { self.old.refusal ≡ None }
-        ensures settled { (s : S) (o : Outcome) → Ends S.Sink s o self.old.sink self.old.work self.old.lexer.half →
-            Has S.Sink s (with_rest o self.old.fed o.rest) self.new.sink self.new.refusal }
-        ensures own { IsOwn self.new.refusal }
-        ensures failed { IfSome self.new.refusal (λ r. r.fault ≢ Fault.Sink) }
+        ensures settled { (s : S) (o : Outcome) → Ends S.Sink s o self.old.sink (holding_of self.old) →
+            MatchResult result (λ _. IsTaken S.Sink s (with_code o self.old.fed o.unfinished) self.new.sink None)
+            (λ r. IsTaken S.Sink s (with_code o self.old.fed o.unfinished) self.new.sink (Some r)) }
+        ensures own { IfErr result IsOwn }
+        ensures sink { self.new.sink ≡ self.old.sink }
     {
         if !self.lexer.at_rest() {
-            self.refusal = Some(Refusal {
-                fault: Fault::Cut,
-                place: self.fed,
-            });
-            return;
+            return refuse(&mut self.refusal, Fault::Cut, self.fed);
         }
         if self.work.state.definition.is_some() {
-            self.refusal = Some(Refusal {
-                fault: Fault::Unended,
-                place: self.fed,
-            });
+            return refuse(&mut self.refusal, Fault::Unended, self.fed);
         }
+        Ok(())
     }
 
     /// The end of the stream: the sink with all of its entries, or with those before the refusal.
     pub fn finish(self) -> Result<S, Stopped<S>>
-        ensures ok { IfOk result (λ t. (s : S) (p : List ℕ) → Stands self s p → Has S.Sink s (means (budget_of self) p) t None) }
-        ensures err { IfErr result (λ e. (s : S) (p : List ℕ) → Stands self s p →
-            Has S.Sink s (means (budget_of self) p) e.sink (Some e.refusal)) }
-        // What isn't the stream's own fault has the place of the opcode that acts at the end.
-        ensures breaks { IfErr result (λ e. refusal_of self ≡ None → (s : S) (p : List ℕ) → Stands self s p →
-            BreaksAtEnd (begun (budget_of self) p) e.refusal) }
+        ensures ok { IfOk result (λ t. (s : S) (p : List ℕ) → Stands self s p → IsTaken S.Sink s (means (budget_of self) p) t None) }
+        ensures err { IfErr result (λ e. IsOwn e.refusal → (s : S) (p : List ℕ) → Stands self s p →
+            IsTaken S.Sink s (means (budget_of self) p) e.sink (Some e.refusal)) }
+        // What isn't the stream's own fault comes of the opcode that acts at the end.
+        ensures breaks { IfErr result (λ e. refusal_of self ≡ None → cause_of e.refusal.fault ≢ stream → (s : S) (p : List ℕ) → Stands self s p →
+            BreaksInRun S.Sink s (budget_of self) p e.sink e.refusal) }
         ensures latched { (r : Refusal) → refusal_of self ≡ Some r → result ≡ Err (record { sink = sink_of self; refusal = r }) }
         ensures failed { IfErr result (λ e. refusal_of self ≡ None → e.refusal.fault ≡ Fault.Sink → S.failed e.sink ≡ true) }
+        ensures clear { IfOk result (λ t. S.failed (sink_of self) ≡ false → S.failed t ≡ false) }
     {
         let mut reader = self;
-        if let Some(refusal) = reader.refusal {
-            let sink = reader.into_sink();
-            return Err(Stopped { sink, refusal });
-        }
-        reader.end();
-        match reader.refusal {
-            Some(refusal) => {
-                let sink = reader.into_sink();
-                Err(Stopped { sink, refusal })
-            }
-            None => Ok(reader.into_sink()),
+        let ended = reader.end();
+        let sink = reader.into_sink();
+        match ended {
+            Ok(()) => Ok(sink),
+            Err(refusal) => Err(Stopped { sink, refusal }),
         }
     }
 
     /// The sink as it stands.
     pub fn sink(&self) -> &S
         ensures now { result.now ≡ sink_of self.now }
-        ensures list { (s : S) (p : List ℕ) → Stands self.now s p → Has S.Sink s (begun (budget_of self.now) p) result.now (refusal_of self.now) }
+        ensures list { (s : S) (p : List ℕ) → Stands self.now s p →
+            Answers S.Sink s (budget_of self.now) p result.now (left_of self.now) (refusal_of self.now) }
     {
         &self.sink
     }
@@ -322,7 +284,8 @@ impl<S: Sink> Reader<S> {
     /// The sink as it stands. An open run doesn't act.
     pub fn into_sink(self) -> S
         ensures now { result ≡ sink_of self }
-        ensures list { (s : S) (p : List ℕ) → Stands self s p → Has S.Sink s (begun (budget_of self) p) result (refusal_of self) }
+        ensures list { (s : S) (p : List ℕ) → Stands self s p →
+            Answers S.Sink s (budget_of self) p result (left_of self) (refusal_of self) }
     {
         let Reader {
             alloc: _,
@@ -368,6 +331,16 @@ impl<S: Sink> Reader<S> {
     {
         self.charged
     }
+}
+
+/// Refuses the stream, for good.
+fn refuse(latch: &mut Option<Refusal>, fault: Fault, place: u64) -> Result<(), Refusal>
+    ensures latched { latch.new ≡ Some (refusal fault place) }
+    ensures answer { result ≡ Err (refusal fault place) }
+{
+    let refusal = Refusal { fault, place };
+    *latch = Some(refusal);
+    Err(refusal)
 }
 
 /// The word that an operand byte carries.

@@ -1,4 +1,4 @@
-// Streams by hand, with the lists, refusals and counts that the profile gives them.
+//! Streams by hand, with the lists, refusals and counts that the profile gives them.
 ghost use Rattle.std.specs.Prelude.{◌≡◌, ◌<◌, ◌++◌, List};
 ghost use Rattle.std.proofs.Common.{sym, ap, ◌∙◌, append-nil, append_assoc};
 ghost use Rattle.nap_list.specs.State.{start, walk};
@@ -430,12 +430,12 @@ fn a_sink_that_fails_stops_the_reading(rt: HostRuntime) {
     let stream = b"\x0E&R@@I@@&R@@\x0F".as_slice();
     let open = b"\x0E&R@@I@@&R@@".as_slice();
     let at = |place| refusal(Fault::Sink, place);
-    for (bytes, list, fed, ended) in [
-        (stream, &points[..0], at(1), at(1)),
-        (stream, &points[..1], at(1), at(1)),
-        (stream, &points[..2], at(8), at(8)),
-        (stream, &points[..3], None, None),
-        (open, &points[..2], None, at(8)),
+    for (bytes, list, count, fed, ended) in [
+        (stream, &points[..0], 9, at(1), at(1)),
+        (stream, &points[..1], 9, at(1), at(1)),
+        (stream, &points[..2], 13, at(8), at(8)),
+        (stream, &points[..3], 13, None, None),
+        (open, &points[..2], 12, None, at(8)),
     ] {
         let sink = Faltering {
             list: ListSink::new(alloc),
@@ -445,6 +445,8 @@ fn a_sink_that_fails_stops_the_reading(rt: HostRuntime) {
         let mut reader = Reader::new(alloc, Budget::usual(), sink);
         assert_eq!(rt; feed(&rt, &mut reader, bytes).err(), fed);
         assert_eq!(rt; reader.sink().failed, fed.is_some());
+        let counts = (reader.fed(), reader.turns(), reader.charged());
+        assert_eq!(rt; counts, (count, count, 0));
         let (sink, refusal) = end(reader);
         assert_eq!(rt; refusal, ended);
         assert_eq!(rt; sink.failed, ended.is_some());
@@ -466,6 +468,20 @@ fn budgets_have_a_limit(rt: HostRuntime) {
         (Budget::MOST, Budget::USUAL, RUN_LIMIT),
         (16_777_216, 1_048_576, 16_384)
     );
+}
+
+#[test]
+fn a_refusal_prints_what_is_wrong_and_where(rt: HostRuntime) -> Result<(), Fail> {
+    let alloc = rt.alloc();
+    let text = format!(in alloc;
+        "{}",
+        Refusal {
+            fault: Fault::LeftOut(Left::Can),
+            place: 7
+        }
+    )?;
+    assert_eq!(rt; text.as_str(), "CAN is left out at 7");
+    Ok(())
 }
 
 #[test]

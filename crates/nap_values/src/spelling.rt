@@ -1,6 +1,7 @@
 //! Spelling of values: the bytes of their longest operands.
 
 ghost use Rattle.std.specs.Prelude.{◌≡◌, ◌<◌};
+ghost use Rattle.nap_values.specs.Coordinates.{IsInSquare};
 ghost use Rattle.nap_values.specs.Digits.{digits_of};
 ghost use Rattle.nap_values.specs.Spellings.{bytes_of, words_of_pairs, colour_word, move_bytes, point_bytes, addr_bytes, grb_bytes};
 
@@ -52,7 +53,8 @@ pub fn put_move(step: Move) -> ArrayVec<u8, 8>
 /// The eight bytes that spell a point in a multi-value operand of eight words (PDI operands).
 #[tactic(auto, unfolding(crate::specs::Spellings::point_bytes))]
 pub fn put_point(point: Point) -> ArrayVec<u8, 8>
-    ensures { result.items ≡ point_bytes point }
+    ensures bytes { result.items ≡ point_bytes point }
+    ensures inside { IsInSquare point }
 {
     pairs(point.x(), point.y())
 }

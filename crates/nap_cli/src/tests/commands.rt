@@ -1,4 +1,4 @@
-// What commands print, tell and answer.
+//! What commands print, tell and answer.
 use super::{POINT, answer};
 use std::test::Fail;
 

@@ -1,4 +1,4 @@
-// Inputs and outputs that fail.
+//! Inputs and outputs that fail.
 use super::words_of;
 use crate::run;
 use nap_list::{Source, Target};
@@ -19,6 +19,32 @@ impl Read for Broken {
         self.0 = true;
         buf[0] = 0x0E;
         Ok(1)
+    }
+}
+
+// Fails once, at this read from 0, and gives a byte at each other read until there are no more.
+#[derive(Drop)]
+struct Stumbling<'a> {
+    bytes: &'a [u8],
+    reads: u64,
+    stumble: u64,
+}
+
+impl Read for Stumbling<'_> {
+    fn read(&mut self, buf: &mut [u8]) -> io::Result<usize> {
+        let read = self.reads;
+        self.reads = read.saturating_add(1);
+        if read == self.stumble {
+            return Err(io::ErrorKind::Other.into());
+        }
+        match self.bytes.split_first() {
+            Some((byte, rest)) if !buf.is_empty() => {
+                buf[0] = *byte;
+                self.bytes = rest;
+                Ok(1)
+            }
+            _ => Ok(0),
+        }
     }
 }
 
@@ -179,6 +205,35 @@ fn a_failing_input_is_a_read_fault(rt: HostRuntime) -> Result<(), Fail> {
         assert!(rt; output.into_inner().is_empty());
         assert_eq!(rt; errors.into_inner().as_slice(), b"read fault\n".as_slice());
         assert_eq!(rt; status, 3);
+    }
+    Ok(())
+}
+
+// A read that failed isn't tried again, wherever it comes, although the bytes behind it would make a page.
+#[test]
+fn a_failed_read_is_not_tried_again(rt: HostRuntime) -> Result<(), Fail> {
+    let alloc = rt.alloc();
+    for command in ["list", "check", "canon"] {
+        for stumble in 0..4 {
+            let words = words_of(alloc, &[command])?;
+            let mut errors = Target::new(Vec::new(alloc));
+            let mut input = Source::new(Stumbling {
+                bytes: b"\x0E\x26\x52",
+                reads: 0,
+                stumble,
+            });
+            let (output, status) = run(
+                alloc,
+                words.as_slice(),
+                &mut input,
+                Target::new(Vec::new(alloc)),
+                &mut errors,
+            );
+            assert!(rt; output.into_inner().is_empty(), "{command} at {stumble}");
+            assert_eq!(rt; errors.into_inner().as_slice(), b"read fault\n".as_slice());
+            assert_eq!(rt; status, 3);
+            assert_eq!(rt; input.into_inner().reads, stumble + 1);
+        }
     }
     Ok(())
 }

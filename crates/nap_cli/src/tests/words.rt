@@ -1,4 +1,4 @@
-// How the words of a command line are read.
+//! How the words of a command line are read.
 use super::{POINT, answer, words_of};
 use crate::command::Command;
 use std::alloc::{AllocError, Global};
@@ -31,24 +31,6 @@ fn wrong_words_print_nothing(rt: HostRuntime) -> Result<(), Fail> {
     assert!(rt; printed.is_empty());
     assert!(rt; !told.is_empty());
     assert_eq!(rt; status, 2);
-    Ok(())
-}
-
-#[test]
-fn help_is_printed(rt: HostRuntime) -> Result<(), Fail> {
-    let alloc = rt.alloc();
-    for words in [
-        ["--help", "--hex"],
-        ["help", "list"],
-        ["list", "--help"],
-        ["check", "--help"],
-        ["canon", "-h"],
-    ] {
-        let (help, told, status) = answer(alloc, &words, b"")?;
-        assert!(rt; !help.is_empty());
-        assert!(rt; told.is_empty());
-        assert_eq!(rt; status, 0);
-    }
     Ok(())
 }
 

@@ -1,6 +1,5 @@
-use Rattle.std.proofs.Common.{[], Ok, Err, refl}
+use Rattle.std.proofs.Common.{[], Ok, Err, inl, refl}
 use Rattle.std.proofs.KnownBytes.{Appends-nil}
-use Rattle.nap_cli.proofs.CommandLemmas.{ends_told}
 use Rattle.nap_cli.proofs.program.execute.Goals as goal
 
 pub returns-in-Ok : goal.returns-in-Ok
@@ -16,24 +15,22 @@ returns-in-Ok g c =
       told = Appends-nil (g.E.Outlet.taken c.args.errors.now);
       few = c.perform.ensures.few;
       ends = h.4;
-      tells = record { front = refl; all = λ _. refl };
-      status_is = c.status.ensures;
+      tells = record { said = Ok c.in-Ok.verdict; told_as = inl refl; front = refl; all = λ _. refl; status_is = c.status.ensures };
     }
 
 pub returns-in-Err : goal.returns-in-Err
 returns-in-Err g c =
     let h = c.in-Err.ensures.ends in
-    let t = c.tell-told.ensures in
+    let t = c.tell-status.ensures in
     record {
       p = h.0;
       q = h.1;
-      e = t.told.0;
-      ended = Err c.tell-told.result;
+      e = t.0;
+      ended = Err c.in-Err.failure;
       read = h.2;
       printed = h.3;
-      told = t.told.1;
+      told = t.1;
       few = c.perform.ensures.few;
-      ends = ends_told c.args.command.now h.0 _ h.1 _ c.in-Err.failure c.tell-told.result t.same h.4;
-      tells = t.told.2;
-      status_is = c.status-in-Err.ensures;
+      ends = h.4;
+      tells = t.2;
     }

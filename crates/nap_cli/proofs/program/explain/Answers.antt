@@ -1,24 +1,38 @@
-use Rattle.std.proofs.Common.{[], Ok, refl}
+use Rattle.std.proofs.Common.{◌∙◌, [], Ok, Err, inl, refl}
 use Rattle.std.proofs.KnownBytes.{Appends-nil}
+use Rattle.std.proofs.Math.Bool.{or-false}
 use Rattle.clap.specs.Values.{kind_of}
 use Rattle.nap_cli.specs.declared.answer.Verdict.TheVariants as verdict
-use Rattle.nap_cli.proofs.ExplainLemmas.{explains_help, explains_memory, told_memory}
+use Rattle.nap_cli.proofs.ExplainLemmas.{explains_help, explains_memory, shows_failing}
 use Rattle.nap_cli.proofs.OptionLemmas.{true_or_false}
 use Rattle.nap_cli.proofs.program.explain.Goals as goal
 
 pub returns-in_default : goal.returns-in_default
 returns-in_default g c =
     let t = c.tell.ensures in
-    explains_memory (kind_of c.args.error) _ _ _ (told_memory _ _ c.tell.result c.status.result t.told.0 refl t.told.1 t.told.2 t.same c.status.ensures)
+    explains_memory (kind_of c.args.error) _ _ _ (record { unprinted = record { taken = refl; failed = refl }; e = t.0; told = t.1; tells = t.2 })
 
 pub returns-in-Ok-write_whole : goal.returns-in-Ok-write_whole
 returns-in-Ok-write_whole g c =
+    let write = c.in-Ok-write_whole.ensures in
     explains_help (kind_of c.args.error) _ _ _ (λ h. true_or_false c.use_stderr.result c.if-use_stderr.false (c.use_stderr.ensures.1 h)) (record {
       text = c.as_bytes-2.result.now;
       e = [];
       ended = Ok verdict.Accepted;
-      shown = c.in-Ok-write_whole.ensures.takes;
+      shown = (write.takes, write.failed ∙ or-false _);
       told = Appends-nil (g.E.Outlet.taken c.args.errors.now);
-      tells = record { front = refl; all = λ _. refl };
-      status_is = refl;
+      tells = record { said = Ok verdict.Accepted; told_as = inl refl; front = refl; all = λ _. refl; status_is = refl };
+    })
+
+pub returns : goal.returns
+returns g c =
+    let write = c.in-Err.ensures in
+    let t = c.tell-status.ensures in
+    explains_help (kind_of c.args.error) _ _ _ (λ h. true_or_false c.use_stderr.result c.if-use_stderr.false (c.use_stderr.ensures.1 h)) (record {
+      text = c.as_bytes-2.result.now;
+      e = t.0;
+      ended = Err c.in-Err.failure;
+      shown = shows_failing _ _ c.as_bytes-2.result.now c.in-Err.failure write.takes write.failed;
+      told = t.1;
+      tells = t.2;
     })

@@ -1,4 +1,4 @@
-use Rattle.nap_draw.proofs.Fits.{rule_fits}
+use Rattle.nap_draw.proofs.PublicLaws.{rule_fits}
 use Rattle.nap_draw.proofs.laws.rule_fits.Goals as goal
 
 pub returns : goal.returns

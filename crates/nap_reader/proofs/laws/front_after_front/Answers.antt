@@ -1,5 +1,5 @@
-use Rattle.nap_reader.proofs.StreamLemmas.{outcome_from-front}
+use Rattle.nap_reader.proofs.PublicLaws.{front_after_front}
 use Rattle.nap_reader.proofs.laws.front_after_front.Goals as goal
 
 pub returns : goal.returns
-returns c = outcome_from-front
+returns c = front_after_front

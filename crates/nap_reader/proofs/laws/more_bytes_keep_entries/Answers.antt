@@ -1,4 +1,4 @@
-use Rattle.nap_reader.proofs.LawLemmas.{more_bytes_keep_entries}
+use Rattle.nap_reader.proofs.PublicLaws.{more_bytes_keep_entries}
 use Rattle.nap_reader.proofs.laws.more_bytes_keep_entries.Goals as goal
 
 pub returns : goal.returns

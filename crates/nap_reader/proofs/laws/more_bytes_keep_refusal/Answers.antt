@@ -1,4 +1,4 @@
-use Rattle.nap_reader.proofs.LawLemmas.{more_bytes_keep_refusal}
+use Rattle.nap_reader.proofs.PublicLaws.{more_bytes_keep_refusal}
 use Rattle.nap_reader.proofs.laws.more_bytes_keep_refusal.Goals as goal
 
 pub returns : goal.returns

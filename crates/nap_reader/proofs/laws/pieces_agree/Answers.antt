@@ -1,4 +1,4 @@
-use Rattle.nap_reader.proofs.LawLemmas.{pieces_agree}
+use Rattle.nap_reader.proofs.PublicLaws.{pieces_agree}
 use Rattle.nap_reader.proofs.laws.pieces_agree.Goals as goal
 
 pub returns : goal.returns

@@ -1,13 +1,14 @@
 use Rattle.std.proofs.Common.{◌≡◌, ◌∙◌, [], ap, map, string_bytes, subst, sym}
 use Rattle.std.proofs.lemmas.Result.{err_from_is_err_and}
-use Rattle.clap.specs.Words.{App, HasKind, HasMatchesOf, fault_of, found_of, is_simple_and_free, rows_of}
+use Rattle.clap.specs.Words.{App, HasKind, app_of, HasMatchesOf, fault_of, found_of, is_simple_and_free, rows_of}
+use Rattle.nap_cli.specs.CommandLine.{command_line, command_line_by}
 use Rattle.nap_cli.proofs.CommandLineLemmas.{entered_none, fault_found, line_is_free, no_command_said, none_or_some, nothing_entered, says_command, says_nothing}
 use Rattle.nap_cli.proofs.command.Command.parse.Goals.{in-Some, in-None}
 use Rattle.nap_cli.proofs.command.Command.parse.Goals as goal
 
 pub returns-in_err-matches-clause-fault : goal.returns-in_err-matches-clause-fault
 returns-in_err-matches-clause-fault c =
-    let line = c.in_ok-program.ensures in
+    let line : app_of c.in_ok-program.program ≡ command_line = c.in_ok-program.ensures ∙ ap command_line_by c.in_ok-texts.ensures in
     let words = map string_bytes c.args.words.now in
     let e = c.in_err-matches.field-0.0 in
     let kinds = subst (λ (a : App). HasKind (fault_of a words) e) line (c.in_err-matches.ensures.kinds (ap is_simple_and_free line ∙ line_is_free)) in
@@ -16,7 +17,7 @@ returns-in_err-matches-clause-fault c =
 
 pub returns-in-Some-said-clause-said : goal.returns-in-Some-said-clause-said
 returns-in-Some-said-clause-said c =
-    let line = c.in_ok-program.ensures in
+    let line : app_of c.in_ok-program.program ≡ command_line = c.in_ok-program.ensures ∙ ap command_line_by c.in_ok-texts.ensures in
     let words = map string_bytes c.args.words.now in
     let m = c.in_ok-matches.matches in
     let has = subst (λ (a : App). HasMatchesOf a words m) line c.in_ok-matches.ensures.ok.2 in
@@ -29,7 +30,7 @@ returns-in-Some-said-clause-said c =
 
 pub returns-clause-fault : goal.returns-clause-fault
 returns-clause-fault c =
-    let line = c.in_ok-program.ensures in
+    let line : app_of c.in_ok-program.program ≡ command_line = c.in_ok-program.ensures ∙ ap command_line_by c.in_ok-texts.ensures in
     let words = map string_bytes c.args.words.now in
     let m = c.in_ok-matches.matches in
     let has = subst (λ (a : App). HasMatchesOf a words m) line c.in_ok-matches.ensures.ok.2 in

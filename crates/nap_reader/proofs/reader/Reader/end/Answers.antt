@@ -1,37 +1,32 @@
-use Rattle.std.proofs.Common.{◌≡◌, ◌-◌, [], Option, None, subst}
-use Rattle.nap_reader.specs.declared.reader.OpenRun.{OpenRun}
-use Rattle.nap_reader.specs.Stream.{begun, with_run}
-use Rattle.nap_reader.specs.Taking.{Has}
-use Rattle.nap_reader.specs.Reading.{Continues, EndsBy}
-use Rattle.nap_reader.proofs.ReadingLemmas.{refusal_held, no_refusal, continues, ends_still, means_settled, means_refused}
+use Rattle.std.proofs.Common.{Some, None}
+use Rattle.nap_reader.specs.Holding.{holding_of}
+use Rattle.nap_reader.specs.Standing.{IsTaken}
+use Rattle.nap_reader.specs.Stream.{begun, with_run, with_code}
+use Rattle.nap_reader.proofs.EndLemmas.{ends_still, ended_taken}
+use Rattle.nap_reader.proofs.LeadsLemmas.{leads_unrefused}
+use Rattle.nap_reader.proofs.ReadingLemmas.{on_ok_by, if_err_by, matched_ok, matched_err}
 use Rattle.nap_reader.proofs.reader.Reader.end.Goals as goal
 
-pub returns-else-is_none-clause-ended : goal.returns-else-is_none-clause-ended
-returns-else-is_none-clause-ended g c s p h =
+pub returns-in_default-open_run-clause-ended : goal.returns-in_default-open_run-clause-ended
+returns-in_default-open_run-clause-ended g c =
+    on_ok_by c.settle.result (λ a is s p h.
     let r = c.args.self.now in
-    let u = c.close.new.self in
-    let live = (subst (Has g.S.Sink s (begun r.budget p) r.sink) c.requires h.sink).0 in
-    let refused = refusal_held u.refusal c.if-is_none.ensures in
-    let k = subst (EndsBy g.S.Sink s (with_run (begun r.budget p)) u.sink u.work u.lexer.half) refused.1 (c.close.ensures.ends s p h) in
-    rw refused.1 (means_refused r.budget p live g.S.Sink s u.sink refused.0 k)
+    let u = c.settle.new.self in
+    let o = begun r.budget p in
+    let w = with_run o in
+    let k = h.continues c.in_default.is in
+    let e = ends_still g.S.Sink s o r.sink (holding_of r) k c.in_default-open_run.is in
+    ended_taken g.S.Sink s r.budget p r.sink (holding_of r) u.sink None r.fed (leads_unrefused g.S.Sink s o r.sink (holding_of r) k) e (h.fed c.in_default.is)
+    (matched_ok (λ _. IsTaken g.S.Sink s (with_code w r.fed w.unfinished) u.sink None) (λ f. IsTaken g.S.Sink s (with_code w r.fed w.unfinished) u.sink (Some f)) c.settle.result a is (c.settle.ensures.settled s w e)))
 
-pub returns-then-is_none-clause-ended : goal.returns-then-is_none-clause-ended
-returns-then-is_none-clause-ended g c s p h =
+pub returns-in_default-open_run-clause-refused : goal.returns-in_default-open_run-clause-refused
+returns-in_default-open_run-clause-refused g c =
+    if_err_by c.settle.result (λ f is own s p h.
     let r = c.args.self.now in
-    let u = c.close.new.self in
-    let o = with_run (begun r.budget p) in
-    let live = (subst (Has g.S.Sink s (begun r.budget p) r.sink) c.requires h.sink).0 in
-    let k = subst (EndsBy g.S.Sink s o u.sink u.work u.lexer.half) (no_refusal u.refusal c.if-is_none.ensures) (c.close.ensures.ends s p h) in
-    rw (means_settled r.budget p live k.has.0, ← (h.fed c.requires), ← c.close.ensures.counts.fed) (c.settle-then-is_none.ensures.settled s o k)
-
-pub returns-in-None-clause-ended : goal.returns-in-None-clause-ended
-returns-in-None-clause-ended g c s p h =
-    let r = c.args.self.now in
-    let left = r.budget - r.charged in
-    let o = with_run (begun r.budget p) in
-    let live = (subst (Has g.S.Sink s (begun r.budget p) r.sink) c.requires h.sink).0 in
-    let l = continues g.S.Sink s (begun r.budget p) r.sink r.work r.lexer left r.open_run r.run.items [] r.refusal c.requires h.reaches in
-    let none : r.open_run ≡ None = c.in-None.is in
-    let l' = subst (λ (open_run : Option OpenRun). Continues g.S.Sink s (begun r.budget p) r.sink r.work r.lexer left open_run r.run.items []) none l in
-    let k = ends_still g.S.Sink s (begun r.budget p) r.sink r.work r.lexer left r.run.items l' in
-    rw (means_settled r.budget p live k.has.0, ← (h.fed c.requires)) (c.settle.ensures.settled s o k)
+    let u = c.settle.new.self in
+    let o = begun r.budget p in
+    let w = with_run o in
+    let k = h.continues c.in_default.is in
+    let e = ends_still g.S.Sink s o r.sink (holding_of r) k c.in_default-open_run.is in
+    ended_taken g.S.Sink s r.budget p r.sink (holding_of r) u.sink (Some f) r.fed (leads_unrefused g.S.Sink s o r.sink (holding_of r) k) e (h.fed c.in_default.is)
+    (matched_err (λ _. IsTaken g.S.Sink s (with_code w r.fed w.unfinished) u.sink None) (λ f. IsTaken g.S.Sink s (with_code w r.fed w.unfinished) u.sink (Some f)) c.settle.result f is (c.settle.ensures.settled s w e)))

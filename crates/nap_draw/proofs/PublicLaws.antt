@@ -1,0 +1,38 @@
+use Rattle.std.proofs.Common.{◌≡◌, ℕ, min, List, ◌++◌, length, take, drop, refl, ap, ◌∙◌, arith, length-append}
+use Rattle.std.proofs.lemmas.List.{take-append-le, take_all, drop-append-le}
+use Rattle.std.proofs.Math.ListN.{drop_of_length-le}
+use Rattle.nap_codes.specs.declared.opcode.Opcode.TheVariants as opcodes
+use Rattle.nap_codes.specs.Tables.{left_out_opcode}
+use Rattle.nap_draw.specs.Operands.{operands}
+use Rattle.nap_draw.specs.Laws.{RuleFits, DrawnValuesAreInRange, OpcodesAreDrawn, WholeOperandFirst, NoOperands}
+use Rattle.nap_draw.proofs.Cuts.{operands-front}
+use Rattle.nap_draw.proofs.Fits as fits
+use Rattle.nap_draw.proofs.RangeLemmas as ranges
+
+-- The proofs of the laws.
+
+pub rule_fits : RuleFits
+rule_fits = fits.rule_fits
+
+pub drawn_values_are_in_range : DrawnValuesAreInRange
+drawn_values_are_in_range = ranges.drawn_values_are_in_range
+
+pub opcodes_are_drawn : OpcodesAreDrawn
+unfolding left_out_opcode
+opcodes_are_drawn opcodes.IncrementalPoint e = let bad : ⊥ = cc in absurd bad
+opcodes_are_drawn opcodes.IncrementalLine e = let bad : ⊥ = cc in absurd bad
+opcodes_are_drawn opcodes.IncrementalPolyFilled e = let bad : ⊥ = cc in absurd bad
+opcodes_are_drawn _ e = tt
+
+pub whole_operand_first : WholeOperandFirst
+whole_operand_first k operand rest some is =
+    let words : List ℕ = operand ++ rest in
+    let whole : min k (length words) ≡ length operand = omega (arith, length-append operand rest) in
+    let taken : take (length operand) words ≡ operand = take-append-le (length operand) operand rest (omega arith) ∙ take_all (length operand) operand (omega arith) in
+    let left : drop (length operand) words ≡ rest =
+    drop-append-le (length operand) operand rest (omega arith) ∙ ap (λ (xs : List ℕ). xs ++ rest) (drop_of_length-le operand {i = length operand} (omega arith)) in
+    operands-front k words some (omega (arith, length-append operand rest)) ∙ rw (whole, taken, left) refl
+
+pub no_operands : NoOperands
+unfolding operands
+no_operands k = refl

@@ -1,0 +1,455 @@
+use Rattle.std.proofs.Common.{ℕ, zero, suc, ◌+◌, ◌-◌, ◌/◌, ◌≡◌, ◌++◌, eqb, List, [], ◌∷◌, map, take, drop, All, Bool, true, false, Option, Some, None, IfSome, option_map, Result, Ok, Err, IfOk, refl, subst, arith}
+use Rattle.std.specs.Option.{option_and_then, option_or}
+use Rattle.std.specs.Prelude.{slice_get, slice_index, unwrap_or, ok_or}
+use Rattle.std.proofs.lemmas.Bool.{cond_both}
+use Rattle.std.proofs.lemmas.List.Elements.{All-nil, All-cons, All-head, All-tail, All-map, All-append, All-take, All-drop, All-weaker}
+use Rattle.nap_values.specs.Coordinates.{Coordinates, Displacement, IsInSquare, IsInRange, point_at, moved}
+use Rattle.nap_values.specs.Colours.{Components, HasSixteenBitParts}
+use Rattle.nap_values.specs.Operands.{multi_of, single_of, colour_of}
+use Rattle.nap_values.specs.Laws.{IsWord}
+use Rattle.nap_values.proofs.PublicLaws.{points_are_inside, displacements_are_unique, values_are_in_range}
+use Rattle.nap_codes.specs.declared.opcode.Opcode.{Opcode}
+use Rattle.nap_codes.specs.declared.opcode.Opcode.TheVariants as opcodes
+use Rattle.nap_list.specs.declared.attribute.Pen.{Pen}
+use Rattle.nap_list.specs.declared.attribute.Pen.TheVariants as pens
+use Rattle.nap_list.specs.declared.attribute.Area.TheVariants as areas
+use Rattle.nap_list.specs.declared.attribute.Base.{Base}
+use Rattle.nap_list.specs.declared.attribute.Base.TheVariants as bases
+use Rattle.nap_list.specs.declared.attribute.CharSize.{CharSize}
+use Rattle.nap_list.specs.declared.attribute.CharSize.TheVariants as sizes
+use Rattle.nap_list.specs.declared.attribute.Colour.{Colour}
+use Rattle.nap_list.specs.declared.attribute.Colour.TheVariants as colours
+use Rattle.nap_list.specs.declared.entry.Entry.{Entry}
+use Rattle.nap_list.specs.declared.entry.Entry.TheVariants as entries
+use Rattle.nap_list.specs.declared.state.Drawing.{Drawing}
+use Rattle.nap_list.specs.State.{corner, walk, with_colour, with_pen_at}
+use Rattle.nap_list.specs.Range.{IsAddress, PenInRange, BaseInRange, ColourInRange, SizeInRange, InkInRange, AreaInRange, InRange, AllInRange, DrawingInRange, StateInRange}
+use Rattle.nap_draw.specs.declared.spans.Span.{Span}
+use Rattle.nap_draw.specs.declared.work.Work.{Work}
+use Rattle.nap_draw.specs.declared.fault.DrawFault.{DrawFault}
+use Rattle.nap_draw.specs.declared.fault.DrawFault.TheVariants as faults
+use Rattle.nap_draw.specs.Operands.{cut, operands, moves, addresses}
+use Rattle.nap_draw.specs.Geometry.{onward, end_of, points_at, reached, joined, span, span_by, between, away, across, round, arc_points, poly_points}
+use Rattle.nap_draw.specs.Rule.{Drawn, rule, drawn, with_drawing, draws, draws_one, goes, and_then, some_of, moves_of, first_move, pen_point, pairs_of, first_of, few_of, with_operands, from_pen, with_pairs, shape_from_pen, shape_from_point, domain_in, domain_rule, part, area_of, field_rule, reset_rule, text_rule, texture_rule, colour_of_base, selected, select_rule, maps, colours_as, set_color_rule, blink, blinks, blink_rule, ink_of, point_on, line_on, rect_on, arc_on, poly_on, field_on}
+use Rattle.nap_draw.specs.Laws.{DrawnValuesAreInRange}
+use Rattle.nap_draw.proofs.WalkRanges.{unwrap_ranged, with_pen_at_ranged, with_colour_ranged, at_ranged, walk_ranged}
+
+-- What rules give is in range.
+
+-- the words of operands
+
+cut_ranged : (k room : ℕ) (operand words : List ℕ) → All IsWord operand → All IsWord words → All (All IsWord) (cut k room operand words)
+unfolding cut
+cut_ranged k room operand [] front all = All-cons (All IsWord) operand [] front (All-nil (All IsWord))
+cut_ranged k zero operand (word ∷ words) front all =
+    All-cons (All IsWord) operand (cut k (k - 1) (word ∷ []) words) front
+    (cut_ranged k (k - 1) (word ∷ []) words (All-cons IsWord word [] (All-head IsWord word words all) (All-nil IsWord)) (All-tail IsWord word words all))
+cut_ranged k (suc room) operand (word ∷ words) front all =
+    cut_ranged k room (operand ++ word ∷ []) words
+    (All-append IsWord operand (word ∷ []) front (All-cons IsWord word [] (All-head IsWord word words all) (All-nil IsWord))) (All-tail IsWord word words all)
+
+operands_ranged : (k : ℕ) (run : List ℕ) → All IsWord run → All (All IsWord) (operands k run)
+unfolding operands
+operands_ranged k [] all = All-nil (All IsWord)
+operands_ranged k (word ∷ words) all =
+    cut_ranged k (k - 1) (word ∷ []) words (All-cons IsWord word [] (All-head IsWord word words all) (All-nil IsWord)) (All-tail IsWord word words all)
+
+moves_ranged : (k : ℕ) (run : List ℕ) → All IsWord run → All IsInRange (moves k run)
+moves_ranged k run all =
+    All-map IsInRange multi_of (operands k run)
+    (All-weaker (All IsWord) (λ words. IsInRange (multi_of words)) (λ words word. (values_are_in_range words word).0) (operands k run) (operands_ranged k run all))
+
+addresses_ranged : (k : ℕ) (run : List ℕ) → All IsWord run → All IsAddress (addresses k run)
+addresses_ranged k run all =
+    All-map IsAddress single_of (operands k run)
+    (All-weaker (All IsWord) (λ words. IsAddress (single_of words)) (λ words word. (values_are_in_range words word).1) (operands k run) (operands_ranged k run all))
+
+word_ranged : (run : List ℕ) (i : ℕ) → All IsWord run → IsWord (slice_index run i)
+word_ranged [] i all = omega arith
+word_ranged (word ∷ words) zero all = All-head IsWord word words all
+word_ranged (word ∷ words) (suc i) all = word_ranged words i (All-tail IsWord word words all)
+
+-- where operands lead
+
+point_at_ranged : (m : Displacement) → IfSome (point_at m) IsInSquare
+point_at_ranged m = at (point_at m) refl
+  where
+    at : (o : Option Coordinates) → point_at m ≡ o → IfSome o IsInSquare
+    at None is = tt
+    at (Some p) is = (points_are_inside m p is).0
+
+moved_ranged : (p : Coordinates) (m : Displacement) → IfSome (moved p m) IsInSquare
+moved_ranged p m = at (moved p m) refl
+  where
+    at : (o : Option Coordinates) → moved p m ≡ o → IfSome o IsInSquare
+    at None is = tt
+    at (Some q) is = (displacements_are_unique p q m is).0
+
+module _ {A : Type 0} (P : A → Type 0) where
+  one_more : (x : A) (o : Option (List A)) → P x → IfSome o (All P) → IfSome (option_map (λ xs. x ∷ xs) o) (All P)
+  one_more x None first rest = tt
+  one_more x (Some xs) first rest = All-cons P x xs first rest
+
+  goes_on : (o : Option A) (next : A → Option (List A)) → IfSome o P → ((x : A) → P x → IfSome (next x) (All P)) → IfSome (onward o next) (All P)
+  goes_on None next first rest = tt
+  goes_on (Some x) next first rest = one_more x (next x) first (rest x first)
+
+points_at_ranged : (ms : List Displacement) → IfSome (points_at ms) (All IsInSquare)
+unfolding points_at
+points_at_ranged [] = All-nil IsInSquare
+points_at_ranged (m ∷ ms) = goes_on IsInSquare (point_at m) (λ _. points_at ms) (point_at_ranged m) (λ _ _. points_at_ranged ms)
+
+reached_ranged : (p : Coordinates) (ms : List Displacement) → IfSome (reached p ms) (All IsInSquare)
+unfolding reached
+reached_ranged p [] = All-nil IsInSquare
+reached_ranged p (m ∷ ms) = goes_on IsInSquare (moved p m) (λ q. reached q ms) (moved_ranged p m) (λ q _. reached_ranged q ms)
+
+abbrev SpanInRange : Span → Type 0
+SpanInRange s = IsInSquare s.from × IsInSquare s.to
+
+joined_ranged : (p : Coordinates) (qs : List Coordinates) → IsInSquare p → All IsInSquare qs → All SpanInRange (joined p qs)
+unfolding joined
+joined_ranged p [] from all = All-nil SpanInRange
+joined_ranged p (q ∷ qs) from all =
+    All-cons SpanInRange (record { from = p; to = q }) (joined q qs) (from, All-head IsInSquare q qs all)
+    (joined_ranged q qs (All-head IsInSquare q qs all) (All-tail IsInSquare q qs all))
+
+lines_ranged : (p : Coordinates) (o : Option (List Coordinates)) → IsInSquare p → IfSome o (All IsInSquare) → IfSome (option_map (joined p) o) (All SpanInRange)
+lines_ranged p None from all = tt
+lines_ranged p (Some qs) from all = joined_ranged p qs from all
+
+span_ranged : (p q : Option Coordinates) → IfSome p IsInSquare → IfSome q IsInSquare → IfSome (span p q) SpanInRange
+span_ranged None q from to = tt
+span_ranged (Some p) None from to = tt
+span_ranged (Some p) (Some q) from to = (from, to)
+
+span_by_ranged : (o : Option Coordinates) (m : Displacement) → IfSome o IsInSquare → IfSome (span_by o m) SpanInRange
+span_by_ranged None m from = tt
+span_by_ranged (Some p) m from = span_ranged (Some p) (moved p m) from (moved_ranged p m)
+
+between_ranged : (ms : List Displacement) → IfSome (between ms) (All SpanInRange)
+unfolding between
+between_ranged [] = All-nil SpanInRange
+between_ranged (m ∷ []) = tt
+between_ranged (m ∷ n ∷ ms) =
+    goes_on SpanInRange (span (point_at m) (point_at n)) (λ _. between ms)
+    (span_ranged (point_at m) (point_at n) (point_at_ranged m) (point_at_ranged n)) (λ _ _. between_ranged ms)
+
+away_ranged : (ms : List Displacement) → IfSome (away ms) (All SpanInRange)
+unfolding away
+away_ranged [] = All-nil SpanInRange
+away_ranged (m ∷ []) = tt
+away_ranged (m ∷ n ∷ ms) =
+    goes_on SpanInRange (span_by (point_at m) n) (λ _. away ms) (span_by_ranged (point_at m) n (point_at_ranged m)) (λ _ _. away_ranged ms)
+
+across_ranged : (p : Coordinates) (ms : List Displacement) → IsInSquare p → IfSome (across p ms) (All SpanInRange)
+unfolding across
+across_ranged p [] from = All-nil SpanInRange
+across_ranged p (m ∷ ms) from =
+    goes_on SpanInRange (span_by (Some p) m) (λ s. across (corner s.from s.to) ms) (span_by_ranged (Some p) m from)
+    (λ s there. across_ranged (corner s.from s.to) ms (there.1.0, there.0.1))
+
+round_ranged : (ps : List Coordinates) → All IsInSquare ps → All IsInSquare (round ps)
+round_ranged [] all = all
+round_ranged (p ∷ []) all = all
+round_ranged (p ∷ q ∷ []) all = All-append IsInSquare (p ∷ q ∷ []) (p ∷ []) all (All-take IsInSquare 1 (p ∷ q ∷ []) all)
+round_ranged (p ∷ q ∷ x ∷ ps) all = all
+
+poly_ranged : (p : Coordinates) (ms : List Displacement) → IsInSquare p → IfSome (poly_points p ms) (All IsInSquare)
+poly_ranged p ms from = one_more IsInSquare p (reached p ms) from (reached_ranged p ms)
+
+arc_ranged : (p : Coordinates) (ms : List Displacement) → IsInSquare p → IfSome (arc_points p ms) (All IsInSquare)
+arc_ranged p ms from = at (reached p ms) (reached_ranged p ms)
+  where
+    at : (o : Option (List Coordinates)) → IfSome o (All IsInSquare) → IfSome (option_map (λ qs. round (p ∷ qs)) o) (All IsInSquare)
+    at None all = tt
+    at (Some qs) all = round_ranged (p ∷ qs) (All-cons IsInSquare p qs from all)
+
+end_ranged : (o : Option Coordinates) (ps : List Coordinates) → IfSome o IsInSquare → All IsInSquare ps → IfSome (end_of o ps) IsInSquare
+unfolding end_of
+end_ranged o [] from all = from
+end_ranged o (p ∷ ps) from all = end_ranged (Some p) ps (All-head IsInSquare p ps all) (All-tail IsInSquare p ps all)
+
+-- what rules give
+
+abbrev Ranged : Result Drawn DrawFault → Type 0
+Ranged by = IfOk by (λ d. AllInRange d.entries × StateInRange d.work.state)
+
+each_ranged : {A : Type 0} (P : A → Type 0) (by : Result A DrawFault) (next : A → Result Drawn DrawFault) → IfOk by P → ((x : A) → P x → Ranged (next x)) →
+    Ranged (and_then by next)
+each_ranged P (Ok x) next all each = each x all
+each_ranged P (Err fault) next all each = tt
+
+any_ranged : {A : Type 0} (by : Result A DrawFault) (next : A → Result Drawn DrawFault) → ((x : A) → Ranged (next x)) → Ranged (and_then by next)
+any_ranged (Ok x) next each = each x
+any_ranged (Err fault) next each = tt
+
+pen_point_ranged : (pen : Pen) → PenInRange pen → IfOk (pen_point pen) IsInSquare
+pen_point_ranged (pens.At p) there = there
+pen_point_ranged pens.Start there = (omega arith, omega arith)
+pen_point_ranged pens.After there = tt
+
+ink_ranged : (d : Drawing) → DrawingInRange d → InkInRange (ink_of d)
+ink_ranged d r = record { pel = r.pel; colour = r.colour; texture = r.texture }
+
+-- the values change, and nothing is drawn
+silent_ranged : (work : Work) (d : Drawing) → StateInRange work.state → DrawingInRange d → Ranged (Ok (drawn (with_drawing work d) []))
+unfolding walk
+silent_ranged work d r new = (All-nil InRange, record { drawing = new; definition = r.definition; last = r.last })
+
+module _ (work : Work) (r : StateInRange work.state) where
+  list_ranged : (es : List Entry) → AllInRange es → Ranged (Ok (drawn work es))
+  list_ranged es all = (all, walk_ranged work.state es r all)
+
+  one_ranged : (e : Entry) → InRange e → Ranged (Ok (drawn work (e ∷ [])))
+  one_ranged e new = list_ranged (e ∷ []) (All-cons InRange e [] new (All-nil InRange))
+
+  module _ {A : Type 0} (P : A → Type 0) (entry : Drawing → A → Entry) (new : (x : A) → P x → InRange (entry work.state.drawing x)) where
+    draws_ranged : (o : Option (List A)) → IfSome o (All P) → Ranged (draws work entry o)
+    draws_ranged None all = tt
+    draws_ranged (Some xs) all =
+        list_ranged (map (entry work.state.drawing) xs)
+        (All-map InRange (entry work.state.drawing) xs (All-weaker P (λ x. InRange (entry work.state.drawing x)) new xs all))
+
+    draws_one_ranged : (o : Option A) → IfSome o P → Ranged (draws_one work entry o)
+    draws_one_ranged None there = tt
+    draws_one_ranged (Some x) there = one_ranged (entry work.state.drawing x) (new x there)
+
+  goes_ranged : (o : Option (List Coordinates)) → IfSome o (All IsInSquare) → Ranged (goes work o)
+  goes_ranged None all = tt
+  goes_ranged (Some ps) all =
+      silent_ranged work (with_pen_at (end_of None ps) work.state.drawing) r
+      (with_pen_at_ranged (end_of None ps) work.state.drawing (end_ranged None ps tt all) r.drawing)
+
+  points_ranged : (o : Option (List Coordinates)) → IfSome o (All IsInSquare) → Ranged (draws work point_on o)
+  points_ranged o all = draws_ranged IsInSquare point_on (λ p inside. (inside, r.drawing.pel, r.drawing.colour)) o all
+
+  strokes_ranged : (o : Option (List Span)) → IfSome o (All SpanInRange) → Ranged (draws work line_on o)
+  strokes_ranged o all = draws_ranged SpanInRange line_on (λ s there. (there.0, there.1, ink_ranged work.state.drawing r.drawing)) o all
+
+  rects_ranged : (filled : Bool) (o : Option (List Span)) → IfSome o (All SpanInRange) → Ranged (draws work (rect_on filled) o)
+  rects_ranged filled o all = draws_ranged SpanInRange (rect_on filled) (λ s there. (there.0, there.1, ink_ranged work.state.drawing r.drawing)) o all
+
+  -- the kinds of operands
+
+  some_ranged : (run : List ℕ) (f : List Displacement → Result Drawn DrawFault) → ((ms : List Displacement) → Ranged (f ms)) → Ranged (with_operands work run f)
+  some_ranged run f each = any_ranged (some_of (moves_of work run)) f each
+
+  pen_ranged : (f : Coordinates → Result Drawn DrawFault) → ((p : Coordinates) → IsInSquare p → Ranged (f p)) → Ranged (and_then (pen_point work.state.drawing.pen) f)
+  pen_ranged f each = each_ranged IsInSquare (pen_point work.state.drawing.pen) f (pen_point_ranged work.state.drawing.pen r.drawing.pen) each
+
+  from_pen_ranged : (run : List ℕ) (f : Coordinates → List Displacement → Result Drawn DrawFault) →
+      ((p : Coordinates) (ms : List Displacement) → IsInSquare p → Ranged (f p ms)) → Ranged (from_pen work run f)
+  from_pen_ranged run f each =
+      some_ranged run (λ ms. and_then (pen_point work.state.drawing.pen) (λ p. f p ms)) (λ ms. pen_ranged (λ p. f p ms) (λ p inside. each p ms inside))
+
+  pairs_ranged : (run : List ℕ) (f : List Displacement → Result Drawn DrawFault) → ((ms : List Displacement) → Ranged (f ms)) → Ranged (with_pairs work run f)
+  pairs_ranged run f each = any_ranged (pairs_of (moves_of work run)) f each
+
+  module _ (entry : Drawing → List Coordinates → Entry) (points : Coordinates → List Displacement → Option (List Coordinates))
+      (new : (ps : List Coordinates) → All IsInSquare ps → InRange (entry work.state.drawing ps))
+      (inside : (p : Coordinates) (ms : List Displacement) → IsInSquare p → IfSome (points p ms) (All IsInSquare)) where
+    shape_ranged : (p : Coordinates) (ms : List Displacement) → IsInSquare p → Ranged (draws_one work entry (points p ms))
+    shape_ranged p ms from = draws_one_ranged (All IsInSquare) entry new (points p ms) (inside p ms from)
+
+    shape_from_pen_ranged : (run : List ℕ) → Ranged (shape_from_pen work run entry points)
+    shape_from_pen_ranged run =
+        some_ranged run _ (λ ms. any_ranged (few_of ms) _ (λ few. pen_ranged (λ p. draws_one work entry (points p few)) (λ p from. shape_ranged p few from)))
+
+    shape_at_ranged : (o : Option Coordinates) (ms : List Displacement) → IfSome o IsInSquare →
+        Ranged (draws_one work entry (option_and_then (λ p. points p ms) o))
+    shape_at_ranged None ms from = tt
+    shape_at_ranged (Some p) ms from = shape_ranged p ms from
+
+    shape_from_point_ranged : (run : List ℕ) → Ranged (shape_from_point work run entry points)
+    shape_from_point_ranged run =
+        let shape : Displacement → List Displacement → Result Drawn DrawFault = λ m few. draws_one work entry (option_and_then (λ p. points p few) (point_at m)) in
+        any_ranged (first_of (moves_of work run)) (λ x. and_then (few_of x.1) (shape x.0))
+        (λ x. any_ranged (few_of x.1) (shape x.0) (λ few. shape_at_ranged (point_at x.0) few (point_at_ranged x.0)))
+
+  arc_new : (filled : Bool) (ps : List Coordinates) → All IsInSquare ps → InRange (arc_on filled work.state.drawing ps)
+  arc_new filled ps all = (all, ink_ranged work.state.drawing r.drawing)
+
+  poly_new : (filled : Bool) (ps : List Coordinates) → All IsInSquare ps → InRange (poly_on filled work.state.drawing ps)
+  poly_new filled ps all = (all, ink_ranged work.state.drawing r.drawing)
+
+  -- the other opcodes
+
+  with_pel_ranged : (pel : Displacement) → IsInRange pel → DrawingInRange (record work.state.drawing { pel = pel })
+  with_pel_ranged pel new = record {
+    pen = r.drawing.pen;
+    pel = new;
+    base = r.drawing.base;
+    colour = r.drawing.colour;
+    texture = r.drawing.texture;
+    text = r.drawing.text;
+  }
+
+  first_move_ranged : (k : ℕ) (run : List ℕ) → All IsWord run → IfSome (slice_get (moves k run) 0) IsInRange
+  first_move_ranged k run all = at_ranged IsInRange (moves k run) 0 (moves_ranged k run all)
+
+  domain_ranged : (run : List ℕ) → All IsWord run → Ranged (domain_rule work run)
+  domain_ranged [] all = tt
+  domain_ranged (word ∷ words) all =
+      let pel = slice_get (moves (domain_in word).multi words) 0 in
+      let new = with_pel_ranged (unwrap_or pel work.state.drawing.pel)
+      (unwrap_ranged IsInRange pel work.state.drawing.pel (first_move_ranged (domain_in word).multi words (All-tail IsWord word words all)) r.drawing.pel) in
+      cond_both (eqb (word / 32) 1) _ _ Ranged (λ _. tt) (λ _. silent_ranged work _ r new)
+
+  area_ranged : (o : Option Coordinates) (m : Displacement) → IfSome o IsInSquare → IfOk (part o m) AreaInRange
+  area_ranged o m from = at (span_by o m) (span_by_ranged o m from)
+    where
+      at : (s : Option Span) → IfSome s SpanInRange → IfOk (ok_or (option_map (λ s. areas.Part s.from s.to) s) faults.Outside) AreaInRange
+      at None there = tt
+      at (Some s) there = there
+
+  field_ranged : (ms : List Displacement) → Ranged (field_rule work ms)
+  field_ranged ms =
+      each_ranged AreaInRange (area_of work ms) (λ area. draws_one work field_on (Some area)) (at ms)
+      (λ area new. draws_one_ranged AreaInRange field_on (λ area there. (there, r.drawing.pen)) (Some area) new)
+    where
+      from_pen_area : (by : Result Coordinates DrawFault) (m : Displacement) → IfOk by IsInSquare → IfOk (and_then by (λ p. part (Some p) m)) AreaInRange
+      from_pen_area (Ok p) m from = area_ranged (Some p) m from
+      from_pen_area (Err fault) m from = tt
+
+      at : (ms : List Displacement) → IfOk (area_of work ms) AreaInRange
+      at [] = tt
+      at (m ∷ []) = from_pen_area (pen_point work.state.drawing.pen) m (pen_point_ranged work.state.drawing.pen r.drawing.pen)
+      at (m ∷ n ∷ ms) = area_ranged (point_at m) n (point_at_ranged m)
+
+  reset_gives_ranged : (first second : ℕ) → IsWord first → IsWord second → Ranged (reset_rule work first second)
+  reset_gives_ranged first second one two = one_ranged (entries.Reset first second work.state.drawing.pen) (one, two, r.drawing.pen)
+
+  size_ranged : (o : Option Displacement) (size : CharSize) → IfSome o IsInRange → SizeInRange size → SizeInRange (unwrap_or (option_map sizes.Given o) size)
+  size_ranged None size new old = old
+  size_ranged (Some m) size new old = new
+
+  text_ranged : (run : List ℕ) → All IsWord run → Ranged (text_rule work run)
+  text_ranged run all =
+      let look = work.state.drawing.text in
+      silent_ranged work _ r (record {
+        pen = r.drawing.pen;
+        pel = r.drawing.pel;
+        base = r.drawing.base;
+        colour = r.drawing.colour;
+        texture = r.drawing.texture;
+        text = record {
+          first = unwrap_ranged IsWord (slice_get run 0) look.first (at_ranged IsWord run 0 all) r.drawing.text.first;
+          second = unwrap_ranged IsWord (slice_get run 1) look.second (at_ranged IsWord run 1 all) r.drawing.text.second;
+          size = size_ranged (first_move work (drop 2 run)) look.size (first_move_ranged work.domain.multi (drop 2 run) (All-drop IsWord 2 run all)) r.drawing.text.size;
+        };
+      })
+
+  mask_ranged : (new old : Option Displacement) → IfSome new IsInRange → IfSome old IsInRange → IfSome (option_or new old) IsInRange
+  mask_ranged None old there before = before
+  mask_ranged (Some m) old there before = there
+
+  texture_ranged : (run : List ℕ) → All IsWord run → Ranged (texture_rule work run)
+  texture_ranged run all =
+      let texture = work.state.drawing.texture in
+      silent_ranged work _ r (record {
+        pen = r.drawing.pen;
+        pel = r.drawing.pel;
+        base = r.drawing.base;
+        colour = r.drawing.colour;
+        texture = record {
+          word = unwrap_ranged IsWord (slice_get run 0) texture.word (at_ranged IsWord run 0 all) r.drawing.texture.word;
+          mask = mask_ranged (first_move work (drop 1 run)) texture.mask (first_move_ranged work.domain.multi (drop 1 run) (All-drop IsWord 1 run all)) r.drawing.texture.mask;
+        };
+        text = r.drawing.text;
+      })
+
+  base_colour_ranged : (base : Base) → BaseInRange base → ColourInRange (colour_of_base base)
+  base_colour_ranged (bases.Own origin) new = tt
+  base_colour_ranged (bases.Direct grb) new = new
+
+  selected_ranged : (chosen : List ℕ) → All IsAddress chosen → ColourInRange (selected work.state.drawing.base chosen)
+  selected_ranged [] all = base_colour_ranged work.state.drawing.base r.drawing.base
+  selected_ranged (a ∷ []) all = All-head IsAddress a [] all
+  selected_ranged (a ∷ b ∷ more) all = (All-head IsAddress a (b ∷ more) all, All-head IsAddress b more (All-tail IsAddress a (b ∷ more) all))
+
+  select_ranged : (run : List ℕ) → All IsWord run → Ranged (select_rule work run)
+  select_ranged run all =
+      let chosen = addresses work.domain.single run in
+      silent_ranged work (with_colour (selected work.state.drawing.base chosen) work.state.drawing) r
+      (with_colour_ranged (selected work.state.drawing.base chosen) work.state.drawing (selected_ranged chosen (addresses_ranged work.domain.single run all)) r.drawing)
+
+  maps_ranged : (a : ℕ) (grb : Components) → IsAddress a → HasSixteenBitParts grb → Ranged (maps work a grb)
+  maps_ranged a grb address parts = (
+    All-cons InRange (entries.Map a grb) [] (address, parts) (All-nil InRange),
+    record { drawing = r.drawing; definition = r.definition; last = tt },
+  )
+
+  direct_ranged : (grb : Components) → HasSixteenBitParts grb →
+      Ranged (Ok (drawn (with_drawing work (record work.state.drawing { base = bases.Direct grb; colour = colours.Direct grb })) []))
+  direct_ranged grb parts =
+      silent_ranged work _ r (record { pen = r.drawing.pen; pel = r.drawing.pel; base = parts; colour = parts; texture = r.drawing.texture; text = r.drawing.text })
+
+  colours_as_ranged : (colour : Colour) (grb : Components) → ColourInRange colour → HasSixteenBitParts grb → Ranged (colours_as work colour grb)
+  colours_as_ranged (colours.Own origin) grb chosen parts = direct_ranged grb parts
+  colours_as_ranged (colours.Direct old) grb chosen parts = direct_ranged grb parts
+  colours_as_ranged (colours.Front a) grb chosen parts = maps_ranged a grb chosen parts
+  colours_as_ranged (colours.Pair a b) grb chosen parts = maps_ranged a grb chosen.0 parts
+  colours_as_ranged (colours.ByReset preset) grb chosen parts = tt
+
+  set_color_ranged : (xs : List (List ℕ)) → All (All IsWord) xs → Ranged (set_color_rule work xs)
+  set_color_ranged [] all = tt
+  set_color_ranged (operand ∷ []) all =
+      colours_as_ranged work.state.drawing.colour (colour_of operand) r.drawing.colour (values_are_in_range operand (All-head (All IsWord) operand [] all)).2
+  set_color_ranged (operand ∷ other ∷ more) all = tt
+
+  blink_one_ranged : (k : ℕ) (group : List ℕ) → All IsWord group → InRange (blink k work.state.drawing.colour group)
+  blink_one_ranged k group all =
+      let times = All-drop IsWord k group all in (
+        (values_are_in_range (take k group) (All-take IsWord k group all)).1,
+        word_ranged (drop k group) 0 times,
+        word_ranged (drop k group) 1 times,
+        word_ranged (drop k group) 2 times,
+        r.drawing.colour,
+      )
+
+  blinks_ranged : (k : ℕ) (groups : List (List ℕ)) → All (All IsWord) groups → AllInRange (blinks k work.state.drawing.colour groups)
+  blinks_ranged k [] all = All-cons InRange (entries.BlinkEnd work.state.drawing.colour) [] r.drawing.colour (All-nil InRange)
+  blinks_ranged k (group ∷ groups) all =
+      All-map InRange (blink k work.state.drawing.colour) (group ∷ groups)
+      (All-weaker (All IsWord) (λ group. InRange (blink k work.state.drawing.colour group)) (blink_one_ranged k) (group ∷ groups) all)
+
+  blink_ranged : (run : List ℕ) → All IsWord run → Ranged (blink_rule work run)
+  blink_ranged run all =
+      let k = work.domain.single in
+      list_ranged (blinks k work.state.drawing.colour (operands (k + 3) run)) (blinks_ranged k (operands (k + 3) run) (operands_ranged (k + 3) run all))
+
+  rule_ranged : (op : Opcode) (run : List ℕ) → All IsWord run → Ranged (rule work op run)
+  rule_ranged opcodes.Reset run all = reset_gives_ranged (slice_index run 0) (slice_index run 1) (word_ranged run 0 all) (word_ranged run 1 all)
+  rule_ranged opcodes.Domain run all = domain_ranged run all
+  rule_ranged opcodes.Text run all = text_ranged run all
+  rule_ranged opcodes.Texture run all = texture_ranged run all
+  rule_ranged opcodes.PointSetAbs run all = some_ranged run _ (λ ms. goes_ranged (points_at ms) (points_at_ranged ms))
+  rule_ranged opcodes.PointSetRel run all = from_pen_ranged run _ (λ p ms _. goes_ranged (reached p ms) (reached_ranged p ms))
+  rule_ranged opcodes.PointAbs run all = some_ranged run _ (λ ms. points_ranged (points_at ms) (points_at_ranged ms))
+  rule_ranged opcodes.PointRel run all = from_pen_ranged run _ (λ p ms _. points_ranged (reached p ms) (reached_ranged p ms))
+  rule_ranged opcodes.LineAbs run all = from_pen_ranged run _ (λ p ms from. strokes_ranged _ (lines_ranged p (points_at ms) from (points_at_ranged ms)))
+  rule_ranged opcodes.LineRel run all = from_pen_ranged run _ (λ p ms from. strokes_ranged _ (lines_ranged p (reached p ms) from (reached_ranged p ms)))
+  rule_ranged opcodes.SetLineAbs run all = pairs_ranged run _ (λ ms. strokes_ranged (between ms) (between_ranged ms))
+  rule_ranged opcodes.SetLineRel run all = pairs_ranged run _ (λ ms. strokes_ranged (away ms) (away_ranged ms))
+  rule_ranged opcodes.ArcOutlined run all = shape_from_pen_ranged (arc_on false) arc_points (arc_new false) arc_ranged run
+  rule_ranged opcodes.ArcFilled run all = shape_from_pen_ranged (arc_on true) arc_points (arc_new true) arc_ranged run
+  rule_ranged opcodes.SetArcOutlined run all = shape_from_point_ranged (arc_on false) arc_points (arc_new false) arc_ranged run
+  rule_ranged opcodes.SetArcFilled run all = shape_from_point_ranged (arc_on true) arc_points (arc_new true) arc_ranged run
+  rule_ranged opcodes.RectOutlined run all = from_pen_ranged run _ (λ p ms from. rects_ranged false (across p ms) (across_ranged p ms from))
+  rule_ranged opcodes.RectFilled run all = from_pen_ranged run _ (λ p ms from. rects_ranged true (across p ms) (across_ranged p ms from))
+  rule_ranged opcodes.SetRectOutlined run all = pairs_ranged run _ (λ ms. rects_ranged false (away ms) (away_ranged ms))
+  rule_ranged opcodes.SetRectFilled run all = pairs_ranged run _ (λ ms. rects_ranged true (away ms) (away_ranged ms))
+  rule_ranged opcodes.PolyOutlined run all = shape_from_pen_ranged (poly_on false) poly_points (poly_new false) poly_ranged run
+  rule_ranged opcodes.PolyFilled run all = shape_from_pen_ranged (poly_on true) poly_points (poly_new true) poly_ranged run
+  rule_ranged opcodes.SetPolyOutlined run all = shape_from_point_ranged (poly_on false) poly_points (poly_new false) poly_ranged run
+  rule_ranged opcodes.SetPolyFilled run all = shape_from_point_ranged (poly_on true) poly_points (poly_new true) poly_ranged run
+  rule_ranged opcodes.Field run all = field_ranged (moves_of work run)
+  rule_ranged opcodes.SetColor run all = set_color_ranged (operands work.domain.multi run) (operands_ranged work.domain.multi run all)
+  rule_ranged opcodes.Wait run all = list_ranged (map entries.Wait run) (All-map InRange entries.Wait run all)
+  rule_ranged opcodes.SelectColor run all = select_ranged run all
+  rule_ranged opcodes.Blink run all = blink_ranged run all
+  rule_ranged _ run all = list_ranged [] (All-nil InRange)
+
+pub drawn_values_are_in_range : DrawnValuesAreInRange
+drawn_values_are_in_range work op run d is r all = subst Ranged is (rule_ranged work r op run all)

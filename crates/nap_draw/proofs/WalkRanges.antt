@@ -1,0 +1,181 @@
+use Rattle.std.proofs.Common.{ℕ, zero, suc, ◌-◌, ◌/◌, ◌%◌, eqb, List, [], ◌∷◌, All, length, Option, Some, None, IfSome, arith}
+use Rattle.std.specs.Prelude.{slice_get, unwrap_or}
+use Rattle.std.proofs.lemmas.Bool.{cond_both}
+use Rattle.std.proofs.lemmas.List.Elements.{All-head, All-tail}
+use Rattle.nap_values.specs.Coordinates.{Coordinates, IsInSquare, IsInRange}
+use Rattle.nap_list.specs.declared.attribute.Pen.{Pen}
+use Rattle.nap_list.specs.declared.attribute.Pen.TheVariants as pens
+use Rattle.nap_list.specs.declared.attribute.Base.{Base}
+use Rattle.nap_list.specs.declared.attribute.Colour.{Colour}
+use Rattle.nap_list.specs.declared.attribute.Colour.TheVariants as colours
+use Rattle.nap_list.specs.declared.attribute.Ink.{Ink}
+use Rattle.nap_list.specs.declared.attribute.Hand.{Hand}
+use Rattle.nap_list.specs.declared.attribute.Held.{Held}
+use Rattle.nap_list.specs.declared.entry.Entry.{Entry}
+use Rattle.nap_list.specs.declared.entry.Entry.TheVariants as entries
+use Rattle.nap_list.specs.declared.state.Drawing.{Drawing}
+use Rattle.nap_list.specs.declared.state.Opened.{Opened}
+use Rattle.nap_list.specs.declared.state.LastChar.{LastChar}
+use Rattle.nap_list.specs.declared.state.State.{State}
+use Rattle.nap_list.specs.Entry.{held, ink_values, hand_values, colour_alone, pen_alone}
+use Rattle.nap_list.specs.State.{start_drawing, start_texture, start_text, base_shown, taking, with_pen, with_pen_at, with_colour, corner, colour_code, reset, saved_values, drawn, definition_after, last_after, after, walk}
+use Rattle.nap_list.specs.Range.{IsByte, PenInRange, BaseInRange, ColourInRange, TextureInRange, TextInRange, InkInRange, HandInRange, InRange, AllInRange, DrawingInRange, OpenedInRange, StateInRange}
+
+-- A walk over entries in range, from a state in range, leads to a state in range.
+
+-- the values at the start
+
+pub start_texture_ranged : TextureInRange start_texture
+start_texture_ranged = record { word = omega arith; mask = tt }
+
+pub start_text_ranged : TextInRange start_text
+start_text_ranged = record { first = omega arith; second = omega arith; size = tt }
+
+pub start_drawing_ranged : DrawingInRange start_drawing
+start_drawing_ranged = record {
+  pen = tt;
+  pel = (omega arith, omega arith, omega arith, omega arith);
+  base = tt;
+  colour = tt;
+  texture = start_texture_ranged;
+  text = start_text_ranged;
+}
+
+-- the values that an entry holds
+
+record HeldInRange (h : Held) : Type 0 where
+  pub pen : IfSome h.pen PenInRange
+  pub pel : IfSome h.pel IsInRange
+  pub colour : IfSome h.colour ColourInRange
+  pub texture : IfSome h.texture TextureInRange
+  pub text : IfSome h.text TextInRange
+
+of_ink : (ink : Ink) → InkInRange ink → HeldInRange (ink_values ink)
+of_ink ink r = record { pen = tt; pel = r.pel; colour = r.colour; texture = r.texture; text = tt }
+
+of_hand : (hand : Hand) → HandInRange hand → HeldInRange (hand_values hand)
+of_hand hand r = record { pen = r.pen; pel = tt; colour = r.colour; texture = tt; text = r.text }
+
+of_colour : (colour : Colour) → ColourInRange colour → HeldInRange (colour_alone colour)
+of_colour colour r = record { pen = tt; pel = tt; colour = r; texture = tt; text = tt }
+
+of_pen : (pen : Pen) → PenInRange pen → HeldInRange (pen_alone pen)
+of_pen pen r = record { pen = r; pel = tt; colour = tt; texture = tt; text = tt }
+
+held_ranged : (e : Entry) → InRange e → HeldInRange (held e)
+held_ranged (entries.Point at pel colour) r = record { pen = tt; pel = r.1; colour = r.2; texture = tt; text = tt }
+held_ranged (entries.Line from to ink) r = of_ink ink r.2
+held_ranged (entries.Arc filled points ink) r = of_ink ink r.1
+held_ranged (entries.Rect filled from to ink) r = of_ink ink r.2
+held_ranged (entries.Poly filled points ink) r = of_ink ink r.1
+held_ranged (entries.Char set code hand) r = of_hand hand r.1
+held_ranged (entries.TextMove step hand) r = of_hand hand r.1
+held_ranged (entries.ToEol hand) r = of_hand hand r
+held_ranged (entries.Blink addr on off delay colour) r = of_colour colour r.4
+held_ranged (entries.BlinkEnd colour) r = of_colour colour r
+held_ranged (entries.BlinkMark on colour) r = of_colour colour r
+held_ranged (entries.Field area pen) r = of_pen pen r.1
+held_ranged (entries.Reset first second pen) r = of_pen pen r.2
+held_ranged (entries.Clear pen) r = of_pen pen r
+held_ranged _ r = record { pen = tt; pel = tt; colour = tt; texture = tt; text = tt }
+
+-- they become the standing ones
+
+pub unwrap_ranged : {A : Type 0} (P : A → Type 0) (o : Option A) (x : A) → IfSome o P → P x → P (unwrap_or o x)
+unwrap_ranged P None x some other = other
+unwrap_ranged P (Some y) x some other = some
+
+base_ranged : (base : Base) (colour : Option Colour) → BaseInRange base → IfSome colour ColourInRange → BaseInRange (base_shown base colour)
+base_ranged base (Some (colours.Direct grb)) stands shown = shown
+base_ranged base (Some (colours.Own origin)) stands shown = stands
+base_ranged base (Some (colours.Front address)) stands shown = stands
+base_ranged base (Some (colours.Pair front back)) stands shown = stands
+base_ranged base (Some (colours.ByReset preset)) stands shown = stands
+base_ranged base None stands shown = stands
+
+taking_ranged : (d : Drawing) (h : Held) → DrawingInRange d → HeldInRange h → DrawingInRange (taking d h)
+taking_ranged d h r taken = record {
+  pen = unwrap_ranged PenInRange h.pen d.pen taken.pen r.pen;
+  pel = unwrap_ranged IsInRange h.pel d.pel taken.pel r.pel;
+  base = base_ranged d.base h.colour r.base taken.colour;
+  colour = unwrap_ranged ColourInRange h.colour d.colour taken.colour r.colour;
+  texture = unwrap_ranged TextureInRange h.texture d.texture taken.texture r.texture;
+  text = unwrap_ranged TextInRange h.text d.text taken.text r.text;
+}
+
+-- the effects of entries
+
+pub with_pen_ranged : (pen : Pen) (d : Drawing) → PenInRange pen → DrawingInRange d → DrawingInRange (with_pen pen d)
+with_pen_ranged pen d there r = record { pen = there; pel = r.pel; base = r.base; colour = r.colour; texture = r.texture; text = r.text }
+
+pub with_pen_at_ranged : (o : Option Coordinates) (d : Drawing) → IfSome o IsInSquare → DrawingInRange d → DrawingInRange (with_pen_at o d)
+with_pen_at_ranged None d inside r = r
+with_pen_at_ranged (Some p) d inside r = with_pen_ranged (pens.At p) d inside r
+
+pub with_colour_ranged : (colour : Colour) (d : Drawing) → ColourInRange colour → DrawingInRange d → DrawingInRange (with_colour colour d)
+with_colour_ranged colour d new r = record { pen = r.pen; pel = r.pel; base = r.base; colour = new; texture = r.texture; text = r.text }
+
+pub at_ranged : {A : Type 0} (P : A → Type 0) (xs : List A) (i : ℕ) → All P xs → IfSome (slice_get xs i) P
+at_ranged P [] i all = tt
+at_ranged P (x ∷ xs) zero all = All-head P x xs all
+at_ranged P (x ∷ xs) (suc i) all = at_ranged P xs i (All-tail P x xs all)
+
+reset_ranged : (first second : ℕ) (d : Drawing) → DrawingInRange d → DrawingInRange (reset first second d)
+reset_ranged first second d r = record {
+  pen = tt;
+  pel = cond_both (eqb (first % 2) 1) _ _ IsInRange (λ _. start_drawing_ranged.pel) (λ _. r.pel);
+  base = cond_both (eqb (colour_code first) 1) _ _ BaseInRange (λ _. tt) (λ _. r.base);
+  colour =
+      cond_both (eqb (colour_code first) 1) _ _ ColourInRange (λ _. tt) (λ _.
+      cond_both (eqb (colour_code first) 2) _ _ ColourInRange (λ _. tt) (λ _.
+      cond_both (eqb (colour_code first) 3) _ _ ColourInRange (λ _. tt) (λ _. r.colour)));
+  texture = cond_both (eqb (second / 8 % 2) 1) _ _ TextureInRange (λ _. start_texture_ranged) (λ _. r.texture);
+  text = cond_both (eqb (second % 2) 1) _ _ TextInRange (λ _. start_text_ranged) (λ _. r.text);
+}
+
+saved_ranged : (o : Option Opened) (d : Drawing) → IfSome o OpenedInRange → DrawingInRange d → DrawingInRange (saved_values o d)
+saved_ranged None d saved r = r
+saved_ranged (Some opened) d saved r = saved.saved
+
+drawn_ranged : (o : Option Opened) (d : Drawing) (e : Entry) → IfSome o OpenedInRange → DrawingInRange d → InRange e → DrawingInRange (drawn o d e)
+drawn_ranged o d (entries.Point at pel colour) saved r new = with_pen_ranged (pens.At at) d new.0 r
+drawn_ranged o d (entries.Line from to ink) saved r new = with_pen_ranged (pens.At to) d new.1 r
+drawn_ranged o d (entries.Arc filled points ink) saved r new =
+    with_pen_at_ranged (slice_get points (length points - 1)) d (at_ranged IsInSquare points (length points - 1) new.0) r
+drawn_ranged o d (entries.Rect filled from to ink) saved r new = with_pen_ranged (pens.At (corner from to)) d (new.1.0, new.0.1) r
+drawn_ranged o d (entries.Poly filled points ink) saved r new = with_pen_at_ranged (slice_get points 0) d (at_ranged IsInSquare points 0 new.0) r
+drawn_ranged o d (entries.Char set code hand) saved r new = with_pen_ranged pens.After d tt r
+drawn_ranged o d (entries.TextMove step hand) saved r new = with_pen_ranged pens.After d tt r
+drawn_ranged o d (entries.ToEol hand) saved r new = with_pen_ranged pens.After d tt r
+drawn_ranged o d (entries.Clear pen) saved r new = with_pen_ranged pens.After d tt r
+drawn_ranged o d (entries.Field area pen) saved r new = with_pen_ranged pens.After d tt r
+drawn_ranged o d (entries.Reset first second pen) saved r new = reset_ranged first second d r
+drawn_ranged o d (entries.Map addr grb) saved r new = with_colour_ranged (colours.Front addr) d new.0 r
+drawn_ranged o d (entries.GlyphStart code) saved r new = with_pen_ranged pens.Start d tt r
+drawn_ranged o d (entries.MaskStart mask) saved r new = with_pen_ranged pens.Start d tt r
+drawn_ranged o d entries.DefEnd saved r new = saved_ranged o d saved r
+drawn_ranged o d _ saved r new = r
+
+definition_ranged : (o : Option Opened) (d : Drawing) (e : Entry) → IfSome o OpenedInRange → DrawingInRange d → InRange e → IfSome (definition_after o d e) OpenedInRange
+definition_ranged o d (entries.GlyphStart code) saved r new = record { what = new; saved = r }
+definition_ranged o d (entries.MaskStart mask) saved r new = record { what = tt; saved = r }
+definition_ranged o d entries.DefEnd saved r new = tt
+definition_ranged o d _ saved r new = saved
+
+last_ranged : (e : Entry) → InRange e → IfSome (last_after e) (λ (last : LastChar). IsByte last.code)
+last_ranged (entries.Char set code hand) new = new.0
+last_ranged _ new = tt
+
+after_ranged : (s : State) (e : Entry) → StateInRange s → InRange e → StateInRange (after s e)
+after_ranged s e r new =
+    let taken = taking_ranged s.drawing (held e) r.drawing (held_ranged e new) in
+    record {
+      drawing = drawn_ranged s.definition (taking s.drawing (held e)) e r.definition taken new;
+      definition = definition_ranged s.definition (taking s.drawing (held e)) e r.definition taken new;
+      last = last_ranged e new;
+    }
+
+pub walk_ranged : (s : State) (es : List Entry) → StateInRange s → AllInRange es → StateInRange (walk s es)
+unfolding walk
+walk_ranged s [] r all = r
+walk_ranged s (e ∷ es) r all = walk_ranged (after s e) es (after_ranged s e r (All-head InRange e es all)) (All-tail InRange e es all)

@@ -1,0 +1,11 @@
+use Rattle.std.proofs.Props.{props}
+use Rattle.nap_codes.specs.declared.opcode.Opcode.{Opcode}
+use Rattle.nap_codes.specs.declared.opcode.Opcode.TheVariants as opcodes
+use Rattle.nap_draw.specs.Rule.{IsDrawn}
+
+-- This fact has one proof at most, so a value may carry it.
+pub IsDrawn-prop : (op : Opcode) → IsProp (IsDrawn op)
+IsDrawn-prop opcodes.IncrementalPoint = hlevel props
+IsDrawn-prop opcodes.IncrementalLine = hlevel props
+IsDrawn-prop opcodes.IncrementalPolyFilled = hlevel props
+IsDrawn-prop _ = hlevel props

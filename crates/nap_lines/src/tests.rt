@@ -1,0 +1,2 @@
+//! Lines of entries.
+mod lines;

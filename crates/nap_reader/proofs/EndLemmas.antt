@@ -1,0 +1,133 @@
+use Rattle.std.proofs.Common.{ℕ, ◌≡◌, List, [], ◌∷◌, length, Option, Some, None, Result, Ok, Err, refl, ap, sym, ◌∙◌, subst}
+use Rattle.nap_list.specs.declared.sink.Sink.{Ghosts}
+use Rattle.nap_list.specs.declared.entry.Entry.{Entry}
+use Rattle.nap_list.specs.declared.state.Opened.{Opened}
+use Rattle.nap_draw.specs.declared.fault.DrawFault.{DrawFault}
+use Rattle.nap_draw.specs.declared.work.Effects.{Effects}
+use Rattle.nap_draw.specs.Rule.{Drawn, rule}
+use Rattle.nap_draw.specs.Draws.{Cause, stream, memory, device, Draws}
+use Rattle.nap_reader.specs.declared.fault.Fault.TheVariants as faults
+use Rattle.nap_reader.specs.declared.fault.Refusal.{Refusal}
+use Rattle.nap_reader.specs.declared.reader.OpenRun.{OpenRun}
+use Rattle.nap_reader.specs.Faults.{draw_fault}
+use Rattle.nap_reader.specs.Stream as model
+use Rattle.nap_reader.specs.Stream.{Machine, Unfinished, Outcome, half_read, refusal, begun, with_drawn, with_run, with_code, ended_by, means}
+use Rattle.nap_reader.specs.Breaking.{cause_of, open_place, run_place, BreaksBetween}
+use Rattle.nap_reader.specs.Standing.{IsTaken}
+use Rattle.nap_reader.specs.Holding.{Holding, unfinished_by, Continues, Ends, ClosesInto}
+use Rattle.nap_reader.proofs.LeadsLemmas.{TookMore, TookBroke, Stopped, fault_answer, leads_unrefused, leads_taken, leads_machine, leads_unfinished}
+
+-- what is unfinished behind p is what is held
+module _ {S : Type 0} (g : Ghosts S) (s : S) (o : Outcome) (t : S) (h : Holding) (k : Continues g s o t h []) where
+  pub unfinished_is : (open_run : Option OpenRun) → h.open_run ≡ open_run → o.unfinished ≡ Some (unfinished_by open_run h.half h.run)
+  unfinished_is open_run is = leads_unfinished g s o t h k ∙ ap (λ (r : Option OpenRun). Some (unfinished_by r h.half h.run)) is
+
+  -- the place of an open run is that of the outcome
+  pub open_place_is : (open_run : OpenRun) → h.open_run ≡ Some open_run → open_place o ≡ Some open_run.place
+  open_place_is open_run is = ap run_place (unfinished_is (Some open_run) is)
+
+  -- no run is open at the end
+  pub ends_still : h.open_run ≡ None → Ends g s (with_run o) t h
+  ends_still is = subst (λ (x : Outcome). Ends g s x t h) (sym same) here
+    where
+      still : (half : List ℕ) → model.with_run_by o (Some (half_read half)) ≡ o
+      still [] = refl
+      still (b ∷ bs) = refl
+
+      same : with_run o ≡ o
+      same = ap (model.with_run_by o) (unfinished_is None is) ∙ still h.half
+
+      here : Ends g s o t h
+      here = record {
+        refusal = leads_unrefused g s o t h k;
+        taken = leads_taken g s o t h k;
+        work = ap (λ (m : Machine). m.work) (leads_machine g s o t h k);
+        half = unfinished_is None is;
+      }
+
+-- an open run acts behind p
+module _ {S : Type 0} (g : Ghosts S) (s : S) (budget : ℕ) (p : List ℕ) (t : S) (h : Holding) (open_run : OpenRun) (is : h.open_run ≡ Some open_run)
+    (k : Continues g s (begun budget p) t h []) where
+  abbrev o : Outcome
+  o = begun budget p
+
+  run_at_end : with_run o ≡ with_drawn o open_run.place (rule h.machine.work open_run.op h.run)
+  run_at_end =
+      ap (model.with_run_by o) (unfinished_is g s o t h k (Some open_run) is)
+      ∙ ap (λ (m : Machine). with_drawn o open_run.place (rule m.work open_run.op h.run)) (leads_machine g s o t h k)
+
+  pub ends_acting : (u : S) (effects : Effects) (h' : Holding) → TookMore g →
+      Draws g.took g.broke g.failed (rule h.machine.work open_run.op h.run) t u (Ok effects) → h'.machine.work ≡ effects.work → h'.half ≡ [] →
+      Ends g s (with_run o) u h'
+  ends_acting u effects h' law (entries, by, took) work none =
+      let at = run_at_end ∙ ap (with_drawn o open_run.place) by in
+      record {
+        refusal = ap (λ (x : Outcome). x.refusal) at;
+        taken = subst (λ (es : List Entry). g.took s es u) (sym (ap (λ (x : Outcome). x.entries) at)) (law s t u o.entries entries (leads_taken g s o t h k) took);
+        work = ap (λ (x : Outcome). x.machine.work) at ∙ sym work;
+        half = ap (λ (x : Outcome). x.unfinished) at ∙ ap (λ (half : List ℕ). Some (half_read half)) (sym none);
+      }
+
+  pub ends_refused : (u : S) → TookMore g → TookBroke g → (fault : DrawFault) →
+      Draws g.took g.broke g.failed (rule h.machine.work open_run.op h.run) t u (Err fault) →
+      ClosesInto g s budget p u (refusal (draw_fault fault) open_run.place) (cause_of (draw_fault fault))
+  ends_refused u more broken fault drew = by_cause (cause_of (draw_fault fault)) refl stopped
+    where
+      r : Refusal
+      r = refusal (draw_fault fault) open_run.place
+
+      at : (by : Result Drawn DrawFault) → rule h.machine.work open_run.op h.run ≡ by → with_run o ≡ with_drawn o open_run.place by
+      at by e = run_at_end ∙ ap (with_drawn o open_run.place) e
+
+      stopped : Stopped g s o (with_run o) u r (cause_of (draw_fault fault))
+      stopped =
+          fault_answer g s t u o (with_run o) (leads_taken g s o t h k) k.clear more broken (rule h.machine.work open_run.op h.run) open_run.place
+          (λ f e. (ap (λ (x : Outcome). x.refusal) (at (Err f) e), ap (λ (x : Outcome). x.entries) (at (Err f) e)))
+          (λ drawn e. ap (λ (x : Outcome). x.entries) (at (Ok drawn) e)) fault drew
+
+      by_cause : (cause : Cause) → cause_of r.fault ≡ cause → Stopped g s o (with_run o) u r cause → ClosesInto g s budget p u r cause
+      by_cause stream e d = d
+      by_cause memory e d = record { place = open_place_is g s o t h k open_run is; part = subst (BreaksBetween g s o (with_run o) u) (sym e) d }
+      by_cause device e d = record { place = open_place_is g s o t h k open_run is; part = subst (BreaksBetween g s o (with_run o) u) (sym e) d }
+
+-- what is unfinished at the end
+module _ {S : Type 0} (g : Ghosts S) (s : S) (o : Outcome) (t : S) (h : Holding) (n : ℕ) (k : Ends g s o t h) where
+  pub settles_cut : (h.half ≡ [] → ⊥) → IsTaken g s (with_code o n o.unfinished) t (Some (refusal faults.Cut n))
+  settles_cut some = subst (λ (x : Option Unfinished). IsTaken g s (with_code o n x) t (Some (refusal faults.Cut n))) (sym k.half) (at h.half some)
+    where
+      at : (half : List ℕ) → (half ≡ [] → ⊥) → IsTaken g s (with_code o n (Some (half_read half))) t (Some (refusal faults.Cut n))
+      at [] none = absurd (none refl)
+      at (b ∷ bs) none = (refl, k.taken)
+
+  at_rest : h.half ≡ [] → o.unfinished ≡ Some model.nothing
+  at_rest none = k.half ∙ ap (λ (half : List ℕ). Some (half_read half)) none
+
+  pub settles_unended : h.half ≡ [] → (opened : Opened) → h.machine.work.state.definition ≡ Some opened →
+      IsTaken g s (with_code o n o.unfinished) t (Some (refusal faults.Unended n))
+  settles_unended none opened is = rw (at_rest none, k.work, is) (refl, k.taken)
+
+  pub settles : h.half ≡ [] → h.machine.work.state.definition ≡ None → IsTaken g s (with_code o n o.unfinished) t None
+  settles none is = rw (at_rest none, k.work, is) (k.refusal, k.taken)
+
+-- a stream that is refused only at its end, if at all
+module _ (budget : ℕ) (p : List ℕ) (live : (begun budget p).refusal ≡ None) where
+  pub means_settled : (with_run (begun budget p)).refusal ≡ None →
+      means budget p ≡ with_code (with_run (begun budget p)) (length p) (with_run (begun budget p)).unfinished
+  means_settled none =
+      ap (ended_by (begun budget p) (length p)) live ∙ ap (model.with_end (with_run (begun budget p)) (length p)) none
+
+  pub means_refused : (r : Refusal) → (with_run (begun budget p)).refusal ≡ Some r → means budget p ≡ with_run (begun budget p)
+  means_refused r e =
+      ap (ended_by (begun budget p) (length p)) live ∙ ap (model.with_end (with_run (begun budget p)) (length p)) e
+
+-- a stream that was refused before its end
+pub means_latched : (budget : ℕ) (p : List ℕ) (r : Refusal) → (begun budget p).refusal ≡ Some r → means budget p ≡ begun budget p
+means_latched budget p r e = ap (ended_by (begun budget p) (length p)) e
+
+-- what is taken once nothing is unfinished but a code or a definition is what the stream means
+pub ended_taken : {S : Type 0} (g : Ghosts S) (s : S) (budget : ℕ) (p : List ℕ) (t : S) (h : Holding) (u : S) (answer : Option Refusal) (fed : ℕ) →
+    (begun budget p).refusal ≡ None → Ends g s (with_run (begun budget p)) t h → fed ≡ length p →
+    IsTaken g s (with_code (with_run (begun budget p)) fed (with_run (begun budget p)).unfinished) u answer → IsTaken g s (means budget p) u answer
+ended_taken g s budget p t h u answer fed live k all taken =
+    subst (λ (o : Outcome). IsTaken g s o u answer)
+    (ap (λ (n : ℕ). with_code (with_run (begun budget p)) n (with_run (begun budget p)).unfinished) all ∙ sym (means_settled budget p live k.refusal)) taken

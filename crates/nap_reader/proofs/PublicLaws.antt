@@ -1,0 +1,64 @@
+use Rattle.std.proofs.Common.{ℕ, ◌-◌, ◌≡◌, List, [], ◌∷◌, ◌++◌, length, All, true, refl, arith}
+use Rattle.std.proofs.lemmas.Bool.Decides.{nat_tests}
+use Rattle.std.proofs.lemmas.List.{length-map}
+use Rattle.std.proofs.lemmas.List.Elements.{All-head, All-tail}
+use Rattle.nap_values.specs.Laws.{IsOperandByte}
+use Rattle.nap_codes.specs.declared.code_set.CodeSets.{CodeSets}
+use Rattle.nap_codes.specs.declared.opcode.Opcode.{Opcode}
+use Rattle.nap_reader.specs.Holding.{IsOpenRun}
+use Rattle.nap_reader.specs.Laws.{FrontAfterFront, IsRun, RunActs, RunWaits, MoreBytesKeepEntries, MoreBytesKeepRefusal, PiecesAgree, AcceptedIsLegal, ReadValuesAreInRange}
+use Rattle.nap_reader.specs.Stream.{Placed, bytes_of, words_of, is_operand_byte, run_length}
+use Rattle.nap_reader.proofs.HeldLemmas.{front_run, open_run_pauses}
+use Rattle.nap_reader.proofs.LawLemmas as laws
+use Rattle.nap_reader.proofs.LegalLemmas as legal
+use Rattle.nap_reader.proofs.RangeLemmas as ranges
+use Rattle.nap_reader.proofs.StreamLemmas.{outcome_from-front}
+
+-- The proofs of the laws.
+
+pub front_after_front : FrontAfterFront
+front_after_front = outcome_from-front
+
+operand_byte : (b : ℕ) → IsOperandByte b → is_operand_byte b ≡ true
+operand_byte b h = grind (arith, nat_tests)
+
+all_operands : (xs : List Placed) → All IsOperandByte (bytes_of xs) → run_length xs ≡ length xs
+all_operands [] all = refl
+all_operands (x ∷ xs) all =
+    rw (operand_byte x.byte (All-head IsOperandByte x.byte (bytes_of xs) all), all_operands xs (All-tail IsOperandByte x.byte (bytes_of xs) all)) (omega arith)
+
+is_open_run : (sets : CodeSets) (op : Opcode) (x : Placed) (operands : List Placed) → IsRun sets op x operands →
+    IsOpenRun (x ∷ operands) (record { op = op; place = x.place }) (words_of operands) sets
+is_open_run sets op x operands run = record {
+  opcode = x;
+  operands = operands;
+  is = refl;
+  place = refl;
+  names = run.names;
+  words = refl;
+  all = all_operands operands run.carriers;
+  short = omega (arith, run.few, length-map operands (λ (y : Placed). y.byte - 64));
+}
+
+pub run_acts : RunActs
+run_acts m op x operands y ys run other =
+    front_run m (x ∷ operands) (record { op = op; place = x.place }) (words_of operands) y ys (is_open_run m.sets op x operands run) other
+
+pub run_waits : RunWaits
+run_waits m op x operands run =
+    open_run_pauses m (x ∷ operands) (record { op = op; place = x.place }) (words_of operands) (is_open_run m.sets op x operands run)
+
+pub more_bytes_keep_entries : MoreBytesKeepEntries
+more_bytes_keep_entries = laws.more_bytes_keep_entries
+
+pub more_bytes_keep_refusal : MoreBytesKeepRefusal
+more_bytes_keep_refusal = laws.more_bytes_keep_refusal
+
+pub pieces_agree : PiecesAgree
+pieces_agree = laws.pieces_agree
+
+pub accepted_is_legal : AcceptedIsLegal
+accepted_is_legal = legal.accepted_is_legal
+
+pub read_values_are_in_range : ReadValuesAreInRange
+read_values_are_in_range = ranges.read_values_are_in_range
