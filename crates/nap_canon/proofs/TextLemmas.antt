@@ -20,17 +20,14 @@ written-append (p ∷ ps) qs =
 pub text-append : (es fs : List Entry) → text (es ++ fs) ≡ text es ++ written (pieces fs)
 text-append es fs = ap (λ (bs : List ℕ). header ++ bs) (ap written (pieces-append es fs) ∙ written-append (pieces es) (pieces fs))
 
-one_piece : (e : Entry) → written (pieces (e ∷ [])) ≡ written (spelled e)
-unfolding pieces
-one_piece e = ap written (append-nil (spelled e))
-
 -- the text of one entry more
 pub text_more : (es : List Entry) (i : ℕ) (e : Entry) → i < length es → e ≡ get_or es i e →
     text (take (i + 1) es) ≡ text (take i es) ++ written (spelled e)
+unfolding pieces
 text_more es i e within is =
     ap text (take_more es i e within ∙ ap (λ (x : Entry). take i es ++ x ∷ []) (sym is))
     ∙ text-append (take i es) (e ∷ [])
-    ∙ ap (λ (bs : List ℕ). text (take i es) ++ bs) (one_piece e)
+    ∙ ap (λ (bs : List ℕ). text (take i es) ++ bs) (ap written (append-nil (spelled e)))
 
 -- the first entries of a list have a text where all have one
 pub built_front : (es fs : List Entry) → HaveText (es ++ fs) → HaveText es
