@@ -113,9 +113,9 @@ fn explain<O: Outlet, E: Outlet>(alloc: Global, error: Error, output: O, errors:
     let mut output = output;
     match write_whole(&mut output, text.as_bytes()) {
         Ok(()) => (output, 0),
-        Err(failure) => {
-            let status = tell(alloc, failure, errors);
-            (output, status)
+        Err(fault) => {
+            let told = tell(alloc, fault, errors);
+            (output, told)
         }
     }
 }

@@ -1,4 +1,4 @@
-use Rattle.std.proofs.Common.{◌∙◌, [], Ok, Err, inl, refl}
+use Rattle.std.proofs.Common.{◌∙◌, [], Ok, Err, inl, refl, rules}
 use Rattle.std.proofs.KnownBytes.{Appends-nil}
 use Rattle.std.proofs.Math.Bool.{or-false}
 use Rattle.clap.specs.Values.{kind_of}
@@ -27,12 +27,15 @@ returns-in-Ok-write_whole g c =
 pub returns : goal.returns
 returns g c =
     let write = c.in-Err.ensures in
-    let t = c.tell-status.ensures in
+    let t = c.tell-told.ensures in
     explains_help (kind_of c.args.error) _ _ _ (λ h. true_or_false c.use_stderr.result c.if-use_stderr.false (c.use_stderr.ensures.1 h)) (record {
       text = c.as_bytes-2.result.now;
       e = t.0;
-      ended = Err c.in-Err.failure;
-      shown = shows_failing _ _ c.as_bytes-2.result.now c.in-Err.failure write.takes write.failed;
+      ended = Err c.in-Err.fault;
+      shown = shows_failing _ _ c.as_bytes-2.result.now c.in-Err.fault write.takes write.failed;
       told = t.1;
       tells = t.2;
     })
+
+pub returns-then-use_stderr : goal.returns-then-use_stderr
+returns-then-use_stderr g c = search rules
