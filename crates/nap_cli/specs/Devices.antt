@@ -85,13 +85,13 @@ reading_of before after = record {
 abbrev pub NoneFailed : Reading → Type 0
 NoneFailed r = r.failed ≡ r.failed_before
 
--- a read failed, and each before it gave a byte of p or more
+-- a read failed, and there were no more reads than bytes of p and one
 pub record ReadFailed (r : Reading) (p : List ℕ) : Type 0 where
   pub failed : r.failed ≡ true
   pub some : 0 < r.reads
   pub gave : r.reads ≤ length p + 1
 
--- the input was read as often as it may be, no read failed, and each gave a byte of p or more
+-- the input was read as often as it may be, no read failed, and p has as many bytes or more
 pub record ReadTooOften (r : Reading) (p : List ℕ) : Type 0 where
   pub none_failed : NoneFailed r
   pub often : r.reads ≡ READS
@@ -101,7 +101,7 @@ pub record ReadTooOften (r : Reading) (p : List ℕ) : Type 0 where
 abbrev pub IsCutOff : Reading → List ℕ → Type 0
 IsCutOff r p = ReadFailed r p ⊎ ReadTooOften r p
 
--- The bytes p were read, which was all; no read failed, and each but the last gave a byte.
+-- The bytes p were read, which was all; no read failed, and there were no more reads than bytes and one.
 pub record IsReadWhole (r : Reading) (p : List ℕ) : Type 0 where
   pub none_failed : NoneFailed r
   pub end : IsAtEnd r.left

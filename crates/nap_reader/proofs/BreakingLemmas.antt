@@ -1,4 +1,4 @@
-use Rattle.std.proofs.Common.{ℕ, ◌≡◌, ◌≢◌, List, [], ◌∷◌, ◌++◌, length, true, false, Some, refl, ap, sym, ◌∙◌, subst, inl, inr, append-nil}
+use Rattle.std.proofs.Common.{ℕ, ◌≡◌, ◌≢◌, ◌<◌, List, [], ◌∷◌, ◌++◌, length, true, false, Some, refl, ap, sym, ◌∙◌, subst, inl, inr, append-nil}
 use Rattle.nap_list.specs.declared.sink.Sink.{Ghosts}
 use Rattle.nap_list.specs.declared.entry.Entry.{Entry}
 use Rattle.nap_codes.specs.declared.code.CodeFault.{CodeFault}
@@ -9,11 +9,12 @@ use Rattle.nap_reader.specs.declared.fault.Fault.TheVariants as faults
 use Rattle.nap_reader.specs.declared.fault.Refusal.{Refusal}
 use Rattle.nap_reader.specs.declared.reader.OpenRun.{OpenRun}
 use Rattle.nap_reader.specs.Faults.{code_fault}
-use Rattle.nap_reader.specs.Stream.{Outcome, is_operand_byte, refusal, begun}
+use Rattle.nap_reader.specs.Stream.{Outcome, is_operand_byte, run_limit, refusal, placed_from, begun}
 use Rattle.nap_reader.specs.Breaking.{cause_of, closed_by, CanBreakAt, BreaksAt, BreaksInRun}
 use Rattle.nap_reader.specs.Holding.{Holding, Continues, ClosesInto}
 use Rattle.nap_reader.proofs.EndLemmas.{open_place_is}
-use Rattle.nap_reader.proofs.LeadsLemmas.{leads_taken}
+use Rattle.nap_reader.proofs.LeadsLemmas.{leads_taken, leads_unrefused, leads_more}
+use Rattle.nap_reader.proofs.ReadingLemmas.{word_joins}
 use Rattle.nap_reader.proofs.LawLemmas.{more_bytes_keep_entries}
 
 -- a fault of a code is the stream's own
@@ -40,9 +41,11 @@ closed_by_operand o b word = rw word refl
 
 -- the run that a byte joins could not grow
 pub growth_breaks : {S : Type 0} (g : Ghosts S) (s : S) (budget : ℕ) (p : List ℕ) (b : ℕ) (t : S) (h : Holding) (open_run : OpenRun) →
-    h.open_run ≡ Some open_run → is_operand_byte b ≡ true → Continues g s (begun budget p) t h [] →
+    h.open_run ≡ Some open_run → is_operand_byte b ≡ true → length h.run < run_limit → Continues g s (begun budget p) t h [] →
     BreaksAt g s budget p b t (refusal faults.Memory (length p))
-growth_breaks g s budget p b t h open_run is word k =
+unfolding placed_from
+growth_breaks g s budget p b t h open_run is word few k =
+    let joined = word_joins g s (begun budget (p ++ b ∷ [])) t h open_run is (record { byte = b; place = length p }) [] (leads_more g s budget p (b ∷ []) t h k) word few in
     let more = more_bytes_keep_entries budget p (b ∷ []) in
     let same = ap (λ (o : Outcome). o.entries) (closed_by_operand (begun budget p) b word) in
     inr (record {
@@ -50,6 +53,7 @@ growth_breaks g s budget p b t h open_run is word k =
       brings = inl (word, rw (open_place_is g s (begun budget p) t h k open_run is) refl);
       part = record {
         more = more.0;
+        unrefused = leads_unrefused g s (begun budget (p ++ b ∷ [])) t _ joined;
         adds = more.1 ∙ ap (λ (es : List Entry). es ++ more.0) (sym same);
         part = ([], more.0, refl, subst (λ (es : List Entry). g.took s es t) (sym (append-nil (closed_by (begun budget p) b).entries ∙ same)) (leads_taken g s (begun budget p) t h k));
       };
@@ -59,17 +63,17 @@ growth_breaks g s budget p b t h open_run is word k =
 pub run_breaks : {S : Type 0} (g : Ghosts S) (s : S) (budget : ℕ) (p : List ℕ) (b : ℕ) (t : S) (r : Refusal) (cause : Cause) →
     is_operand_byte b ≡ false → cause ≢ stream → ClosesInto g s budget p t r cause → BreaksAt g s budget p b t r
 run_breaks g s budget p b t r stream other broke h = absurd (broke refl)
-run_breaks g s budget p b t r memory other broke h = inl (other, h)
-run_breaks g s budget p b t r device other broke h = inl (other, h)
+run_breaks g s budget p b t r memory other broke h = inl (other, h.0 b other, h.1)
+run_breaks g s budget p b t r device other broke h = inl (other, h.0 b other, h.1)
 
 pub in_run : {S : Type 0} (g : Ghosts S) (s : S) (budget : ℕ) (p : List ℕ) (t : S) (r : Refusal) (cause : Cause) →
     cause ≢ stream → ClosesInto g s budget p t r cause → BreaksInRun g s budget p t r
 in_run g s budget p t r stream broke h = absurd (broke refl)
-in_run g s budget p t r memory broke h = h
-in_run g s budget p t r device broke h = h
+in_run g s budget p t r memory broke h = h.1
+in_run g s budget p t r device broke h = h.1
 
 -- where it breaks
 pub breaks_there : {S : Type 0} (g : Ghosts S) (s : S) (budget : ℕ) (p : List ℕ) (b : ℕ) (t : S) (r : Refusal) →
     BreaksAt g s budget p b t r → CanBreakAt budget p b r.place
-breaks_there g s budget p b t r (inl h) = inl (h.0, h.1.place)
-breaks_there g s budget p b t r (inr h) = inr (h.place, h.brings)
+breaks_there g s budget p b t r (inl (other, first, h)) = inl (other, h.place, h.part.unrefused)
+breaks_there g s budget p b t r (inr h) = inr (h.place, h.brings, h.part.unrefused)

@@ -1,4 +1,4 @@
-use Rattle.std.proofs.Common.{ℕ, ◌≡◌, List, [], ◌∷◌, length, Option, Some, None, Result, Ok, Err, refl, ap, sym, ◌∙◌, subst}
+use Rattle.std.proofs.Common.{ℕ, ◌≡◌, List, [], ◌∷◌, ◌++◌, length, Option, Some, None, Result, Ok, Err, refl, ap, sym, ◌∙◌, subst, append_assoc}
 use Rattle.nap_list.specs.declared.sink.Sink.{Ghosts}
 use Rattle.nap_list.specs.declared.entry.Entry.{Entry}
 use Rattle.nap_list.specs.declared.state.Opened.{Opened}
@@ -6,16 +6,19 @@ use Rattle.nap_draw.specs.declared.fault.DrawFault.{DrawFault}
 use Rattle.nap_draw.specs.declared.work.Effects.{Effects}
 use Rattle.nap_draw.specs.Rule.{Drawn, rule}
 use Rattle.nap_draw.specs.Draws.{Cause, stream, memory, device, Draws}
+use Rattle.nap_draw.specs.Draws as draws
 use Rattle.nap_reader.specs.declared.fault.Fault.TheVariants as faults
 use Rattle.nap_reader.specs.declared.fault.Refusal.{Refusal}
 use Rattle.nap_reader.specs.declared.reader.OpenRun.{OpenRun}
 use Rattle.nap_reader.specs.Faults.{draw_fault}
 use Rattle.nap_reader.specs.Stream as model
-use Rattle.nap_reader.specs.Stream.{Machine, Unfinished, Outcome, half_read, refusal, begun, with_drawn, with_run, with_code, ended_by, means}
+use Rattle.nap_reader.specs.Course as course
+use Rattle.nap_reader.specs.Stream.{Placed, Machine, Unfinished, Outcome, half_read, refusal, after_drawing, drawn_front, outcome_from, placed_from, begun, with_drawn, with_run, with_code, ended_by, means}
 use Rattle.nap_reader.specs.Breaking.{cause_of, open_place, run_place, BreaksBetween}
 use Rattle.nap_reader.specs.Standing.{IsTaken}
-use Rattle.nap_reader.specs.Holding.{Holding, unfinished_by, Continues, Ends, ClosesInto}
-use Rattle.nap_reader.proofs.LeadsLemmas.{TookMore, TookBroke, Stopped, fault_answer, leads_unrefused, leads_taken, leads_machine, leads_unfinished}
+use Rattle.nap_reader.specs.Holding.{Holding, unfinished_by, Continues, Ends, BeginsAll, ClosesInto}
+use Rattle.nap_reader.proofs.HeldLemmas.{front_run}
+use Rattle.nap_reader.proofs.LeadsLemmas.{TookMore, TookBroke, Stopped, same_cause, fault_answer, is_open_run, by_front, leads_more, leads_entries, leads_unrefused, leads_taken, leads_machine, leads_unfinished}
 
 -- what is unfinished behind p is what is held
 module _ {S : Type 0} (g : Ghosts S) (s : S) (o : Outcome) (t : S) (h : Holding) (k : Continues g s o t h []) where
@@ -56,6 +59,22 @@ module _ {S : Type 0} (g : Ghosts S) (s : S) (budget : ℕ) (p : List ℕ) (t : 
       ap (model.with_run_by o) (unfinished_is g s o t h k (Some open_run) is)
       ∙ ap (λ (m : Machine). with_drawn o open_run.place (rule m.work open_run.op h.run)) (leads_machine g s o t h k)
 
+  -- its entries come first of those with a byte that ends it
+  begins_all : (drawn : Drawn) → rule h.machine.work open_run.op h.run ≡ Ok drawn → BeginsAll budget p
+  unfolding placed_from leads_more
+  begins_all drawn by b other =
+      let x : Placed = record { byte = b; place = length p } in
+      let m' : Machine = after_drawing h.machine drawn in
+      let e =
+      front_run h.machine k.rest open_run h.run x [] (is_open_run h k.rest open_run is k.held).0 other
+      ∙ ap (drawn_front h.machine open_run.place (x ∷ [])) by in
+      let all = by_front g s (begun budget (p ++ b ∷ [])) t h (x ∷ []) (leads_more g s budget p (b ∷ []) t h k) (course.act drawn.entries m' (x ∷ [])) e in
+      let first : (with_run o).entries ≡ k.done ++ drawn.entries =
+      ap (λ (y : Outcome). y.entries) (run_at_end ∙ ap (with_drawn o open_run.place) by)
+      ∙ ap (λ (es : List Entry). es ++ drawn.entries) (leads_entries g s o t h k) in
+      let more : List Entry = (outcome_from m' (x ∷ [])).entries in
+      (more, ap (λ (y : Outcome). y.entries) all ∙ (sym (append_assoc k.done drawn.entries more) ∙ ap (λ (es : List Entry). es ++ more) (sym first)))
+
   pub ends_acting : (u : S) (effects : Effects) (h' : Holding) → TookMore g →
       Draws g.took g.broke g.failed (rule h.machine.work open_run.op h.run) t u (Ok effects) → h'.machine.work ≡ effects.work → h'.half ≡ [] →
       Ends g s (with_run o) u h'
@@ -83,12 +102,21 @@ module _ {S : Type 0} (g : Ghosts S) (s : S) (budget : ℕ) (p : List ℕ) (t : 
       stopped =
           fault_answer g s t u o (with_run o) (leads_taken g s o t h k) k.clear more broken (rule h.machine.work open_run.op h.run) open_run.place
           (λ f e. (ap (λ (x : Outcome). x.refusal) (at (Err f) e), ap (λ (x : Outcome). x.entries) (at (Err f) e)))
-          (λ drawn e. ap (λ (x : Outcome). x.entries) (at (Ok drawn) e)) fault drew
+          (λ drawn e. (ap (λ (x : Outcome). x.entries) (at (Ok drawn) e), ap (λ (x : Outcome). x.refusal) (at (Ok drawn) e))) fault drew
+
+      memory_acts : draws.DrawsBy g.took g.broke g.failed (rule h.machine.work open_run.op h.run) t u fault memory → BeginsAll budget p
+      memory_acts (drawn, by, some) = begins_all drawn by
+
+      device_acts : draws.DrawsBy g.took g.broke g.failed (rule h.machine.work open_run.op h.run) t u fault device → BeginsAll budget p
+      device_acts (drawn, by, some) = begins_all drawn by
+
+      drew_by : (cause : Cause) → cause_of r.fault ≡ cause → draws.DrawsBy g.took g.broke g.failed (rule h.machine.work open_run.op h.run) t u fault cause
+      drew_by cause e = subst (draws.DrawsBy g.took g.broke g.failed (rule h.machine.work open_run.op h.run) t u fault) (sym (same_cause fault) ∙ e) drew
 
       by_cause : (cause : Cause) → cause_of r.fault ≡ cause → Stopped g s o (with_run o) u r cause → ClosesInto g s budget p u r cause
       by_cause stream e d = d
-      by_cause memory e d = record { place = open_place_is g s o t h k open_run is; part = subst (BreaksBetween g s o (with_run o) u) (sym e) d }
-      by_cause device e d = record { place = open_place_is g s o t h k open_run is; part = subst (BreaksBetween g s o (with_run o) u) (sym e) d }
+      by_cause memory e d = (memory_acts (drew_by memory e), record { place = open_place_is g s o t h k open_run is; part = subst (BreaksBetween g s o (with_run o) u) (sym e) d })
+      by_cause device e d = (device_acts (drew_by device e), record { place = open_place_is g s o t h k open_run is; part = subst (BreaksBetween g s o (with_run o) u) (sym e) d })
 
 -- what is unfinished at the end
 module _ {S : Type 0} (g : Ghosts S) (s : S) (o : Outcome) (t : S) (h : Holding) (n : ℕ) (k : Ends g s o t h) where

@@ -118,7 +118,7 @@ module _ {S : Type 0} (g : Ghosts S) (s : S) (o : Outcome) (t : S) (h : Holding)
   leads_unfinished = ap (λ (x : Outcome). x.unfinished) leads_paused
 
 -- more of the stream has come
-pub leads_more : {S : Type 0} (g : Ghosts S) (s : S) (budget : ℕ) (p q : List ℕ) (t : S) (h : Holding) →
+unfoldable pub leads_more : {S : Type 0} (g : Ghosts S) (s : S) (budget : ℕ) (p q : List ℕ) (t : S) (h : Holding) →
     Continues g s (begun budget p) t h [] → Continues g s (begun budget (p ++ q)) t h (placed_from (length p) q)
 leads_more g s budget p q t h k =
     let is = leads_paused g s (begun budget p) t h k in
@@ -156,7 +156,7 @@ Stopped g s before after u r cause = BreaksBetween g s before after u cause
 module _ {S : Type 0} (g : Ghosts S) (s t u : S) (before after : Outcome) (taken : g.took s before.entries t)
     (clear : g.failed s ≡ false → g.failed t ≡ false) (more : TookMore g) (broken : TookBroke g) (by : Result Drawn DrawFault) (place : ℕ)
     (refused : (f : DrawFault) → by ≡ Err f → (after.refusal ≡ Some (refusal (draw_fault f) place)) × (after.entries ≡ before.entries))
-    (acted : (drawn : Drawn) → by ≡ Ok drawn → after.entries ≡ before.entries ++ drawn.entries) where
+    (acted : (drawn : Drawn) → by ≡ Ok drawn → (after.entries ≡ before.entries ++ drawn.entries) × (after.refusal ≡ None)) where
   was_set : g.failed t ≡ true → (b : Bool) → g.failed s ≡ b → g.failed s ≡ true
   was_set set true is = is
   was_set set false is = let k = clear is in cc
@@ -167,12 +167,14 @@ module _ {S : Type 0} (g : Ghosts S) (s t u : S) (before after : Outcome) (taken
       (k.0, subst (λ (es : List Entry). g.took s es u) (sym k.1) (subst (g.took s before.entries) (sym same) taken))
   by_cause f memory (drawn, is, (first, rest, parts, took)) = record {
     more = drawn.entries;
-    adds = acted drawn is;
+    adds = (acted drawn is).0;
+    unrefused = (acted drawn is).1;
     part = (first, rest, parts, more s t u before.entries first taken took);
   }
   by_cause f device (drawn, is, inl (set, same)) = record {
     more = drawn.entries;
-    adds = acted drawn is;
+    adds = (acted drawn is).0;
+    unrefused = (acted drawn is).1;
     part = inl (
       was_set set (g.failed s) refl,
       ([], drawn.entries, refl, subst (λ (es : List Entry). g.took s es u) (sym (append-nil before.entries)) (subst (g.took s before.entries) (sym same) taken)),
@@ -180,7 +182,8 @@ module _ {S : Type 0} (g : Ghosts S) (s t u : S) (before after : Outcome) (taken
   }
   by_cause f device (drawn, is, inr (first, next, rest, parts, broke)) = record {
     more = drawn.entries;
-    adds = acted drawn is;
+    adds = (acted drawn is).0;
+    unrefused = (acted drawn is).1;
     part = inr (first, next, rest, parts, broken s t u before.entries first next taken broke);
   }
 

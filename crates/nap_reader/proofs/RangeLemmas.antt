@@ -1,15 +1,11 @@
-use Rattle.std.proofs.Common.{ℕ, zero, suc, ◌+◌, ◌-◌, ◌<◌, ◌≡◌, ◌++◌, List, [], ◌∷◌, length, take, drop, All, Bool, true, false, cond, ltb, Option, Some, None, Result, Ok, Err, refl, sym, subst, ap, ◌∙◌, arith, append-nil}
+use Rattle.std.proofs.Common.{ℕ, zero, suc, ◌+◌, ◌-◌, ◌≡◌, List, [], ◌∷◌, length, take, drop, All, Bool, true, false, cond, ltb, Option, Some, None, Result, Ok, Err, refl, sym, subst, arith}
 use Rattle.std.specs.Prelude.{⊤, IfSome}
 use Rattle.std.proofs.lemmas.Bool.{cond_both}
 use Rattle.std.proofs.lemmas.Bool.Decides.{nat_tests}
-use Rattle.std.proofs.lemmas.List.{take-append-drop}
 use Rattle.std.proofs.lemmas.List.Elements.{All-nil, All-cons, All-append}
 use Rattle.nap_values.specs.Laws.{IsWord}
-use Rattle.nap_codes.specs.declared.code.Code.TheVariants as code
-use Rattle.nap_codes.specs.declared.code_set.CodeSets.{CodeSets}
 use Rattle.nap_codes.specs.declared.opcode.Opcode.{Opcode}
 use Rattle.nap_codes.specs.Front as codes
-use Rattle.nap_codes.proofs.PublicLaws.{one_byte_opcode}
 use Rattle.nap_list.specs.declared.entry.Entry.{Entry}
 use Rattle.nap_list.specs.declared.state.Opened.{Opened}
 use Rattle.nap_list.specs.State.{start}
@@ -17,7 +13,6 @@ use Rattle.nap_list.specs.Range.{InRange, AllInRange, StateInRange}
 use Rattle.nap_draw.specs.declared.fault.DrawFault.{DrawFault}
 use Rattle.nap_draw.specs.Rule.{Drawn, rule}
 use Rattle.nap_draw.proofs.PublicLaws.{drawn_values_are_in_range}
-use Rattle.nap_reader.specs.declared.fault.Fault.TheVariants as faults
 use Rattle.nap_reader.specs.declared.fault.Refusal.{Refusal}
 use Rattle.nap_reader.specs.declared.kind.Kind.{Kind}
 use Rattle.nap_reader.specs.declared.kind.Kind.TheVariants as kinds
@@ -27,7 +22,6 @@ use Rattle.nap_reader.specs.Course.{go, outcome, onward}
 use Rattle.nap_reader.specs.Stream as model
 use Rattle.nap_reader.specs.Stream.{Placed, Machine, Unfinished, Outcome, Front, half_read, bytes_of, words_of, is_operand, is_operand_byte, run_length, run_limit, drawn_front, closed_front, run_front, opcode_front, code_front, place_at, front_by, front, refusal, placed_from, start_machine, begun, with_drawn, with_run_by, with_run, with_definition, with_code, with_end, ended_by}
 use Rattle.nap_reader.specs.Laws.{ReadValuesAreInRange}
-use Rattle.nap_reader.proofs.StreamLemmas.{front-lessens}
 
 -- What is read is in range.
 

@@ -35,17 +35,17 @@ Joins o b = (is_operand_byte b ≡ true) × IsSome (open_place o)
 abbrev pub Brings : ℕ → List ℕ → ℕ → Type 0
 Brings budget p b = Joins (begun budget p) b ⊎ ((begun budget (p ++ b ∷ [])).entries ≢ (closed_by (begun budget p) b).entries)
 
--- a byte behind p can break here: at the opcode whose run it ends, or at itself
+-- a byte behind p can break here: at the opcode whose run it ends, or at itself; where the stream itself refuses nothing
 abbrev pub CanBreakAt : ℕ → List ℕ → ℕ → ℕ → Type 0
 CanBreakAt budget p b place =
-    ((is_operand_byte b ≡ false) × (open_place (begun budget p) ≡ Some place))
-    ⊎ ((place ≡ length p) × Brings budget p b)
+    ((is_operand_byte b ≡ false) × (open_place (begun budget p) ≡ Some place) × ((with_run (begun budget p)).refusal ≡ None))
+    ⊎ ((place ≡ length p) × Brings budget p b × ((begun budget (p ++ b ∷ [])).refusal ≡ None))
 
 -- A whole stream can break here: where one of its bytes is read, or at the opcode that acts at its end.
 abbrev pub BreaksWithin : ℕ → List ℕ → ℕ → Type 0
 BreaksWithin budget p place =
     ((i : ℕ) × (i < length p) × CanBreakAt budget (take i p) (slice_index p i) place)
-    ⊎ (open_place (begun budget p) ≡ Some place)
+    ⊎ ((open_place (begun budget p) ≡ Some place) × ((with_run (begun budget p)).refusal ≡ None))
 
 -- What a sink has then: a sink that was s took what was known, and of the entries that come next a first part; or one of
 -- them broke.
@@ -55,10 +55,11 @@ TookPart g s known more t memory = Puts (λ s es t. g.took s (known ++ es) t) s 
 TookPart g s known more t device =
     ((g.failed s ≡ true) × Puts (λ s es t. g.took s (known ++ es) t) s more t) ⊎ Breaks (λ s es e t. g.broke s (known ++ es) e t) s more t
 
--- the sink has all entries of the one outcome, and a part of those that the other has more
+-- The sink has all entries of the one outcome, and a part of those that the other has more. That has no refusal.
 pub record BreaksBetween {S : Type 0} (g : Ghosts S) (s : S) (before after : Outcome) (t : S) (cause : Cause) : Type 0 where
   pub more : List Entry
   pub adds : after.entries ≡ before.entries ++ more
+  pub unrefused : after.refusal ≡ None
   pub part : TookPart g s before.entries more t cause
 
 -- the opcode whose run is open behind p acts, and breaks
@@ -72,6 +73,13 @@ pub record BreaksAtByte {S : Type 0} (g : Ghosts S) (s : S) (budget : ℕ) (p : 
   pub brings : Brings budget p b
   pub part : BreaksBetween g s (closed_by (begun budget p) b) (begun budget (p ++ b ∷ [])) t (cause_of r.fault)
 
--- The byte behind p breaks: the opcode whose run it ends does, or what it brings itself.
+-- the entries of the one outcome are the first of the other's
+abbrev pub Begins : Outcome → Outcome → Type 0
+Begins o whole = (more : List Entry) × (whole.entries ≡ o.entries ++ more)
+
+-- The byte behind p breaks: the opcode whose run it ends does, whose entries come first of those with the byte; or what it
+-- brings itself.
 abbrev pub BreaksAt : {S : Type 0} → Ghosts S → S → ℕ → List ℕ → ℕ → S → Refusal → Type 0
-BreaksAt g s budget p b t r = ((is_operand_byte b ≡ false) × BreaksInRun g s budget p t r) ⊎ BreaksAtByte g s budget p b t r
+BreaksAt g s budget p b t r =
+    ((is_operand_byte b ≡ false) × Begins (with_run (begun budget p)) (begun budget (p ++ b ∷ [])) × BreaksInRun g s budget p t r)
+    ⊎ BreaksAtByte g s budget p b t r

@@ -10,8 +10,8 @@ use Rattle.nap_reader.specs.declared.reader.OpenRun.{OpenRun}
 use Rattle.nap_reader.specs.declared.reader.Reader.{Reader}
 use Rattle.nap_reader.specs.Course.{prepend}
 use Rattle.nap_reader.specs.Stream as model
-use Rattle.nap_reader.specs.Stream.{Placed, Machine, Outcome, Unfinished, bytes_of, words_of, is_operand, run_length, run_limit, half_read, outcome_from, begun, with_run}
-use Rattle.nap_reader.specs.Breaking.{cause_of, BreaksInRun}
+use Rattle.nap_reader.specs.Stream.{Placed, Machine, Outcome, Unfinished, bytes_of, words_of, is_operand, is_operand_byte, run_length, run_limit, half_read, outcome_from, begun, with_run}
+use Rattle.nap_reader.specs.Breaking.{cause_of, BreaksInRun, Begins}
 
 -- What a reader keeps between two bytes, and how it leads to what the stream means. No one sees this.
 
@@ -89,10 +89,14 @@ pub record Ends {S : Type 0} (g : Ghosts S) (s : S) (o : Outcome) (t : S) (h : H
   pub work : o.machine.work ≡ h.machine.work
   pub half : o.unfinished ≡ Some (half_read h.half)
 
+-- the entries of the open run behind p come first of those with any byte that ends it
+abbrev pub BeginsAll : ℕ → List ℕ → Type 0
+BeginsAll budget p = (b : ℕ) → is_operand_byte b ≡ false → Begins (with_run (begun budget p)) (begun budget (p ++ b ∷ []))
+
 -- The open run has acted, or was refused, or broke.
 abbrev pub ClosesInto : {S : Type 0} → Ghosts S → S → ℕ → List ℕ → S → Refusal → Cause → Type 0
 ClosesInto g s budget p t r stream = ((with_run (begun budget p)).refusal ≡ Some r) × g.took s (with_run (begun budget p)).entries t
-ClosesInto g s budget p t r _ = BreaksInRun g s budget p t r
+ClosesInto g s budget p t r _ = BeginsAll budget p × BreaksInRun g s budget p t r
 
 abbrev pub ClosesBy : {S : Type 0} → Ghosts S → S → ℕ → List ℕ → S → Holding → Option Refusal → Type 0
 ClosesBy g s budget p t h None = Ends g s (with_run (begun budget p)) t h

@@ -96,6 +96,7 @@ impl<S: Sink> Reader<S> {
         ensures fed { OnOk result (fed_of self.new ≡ fed_of self.old + length piece.now) }
         ensures stops { IfErr result (λ r. refusal_of self.old ≡ None → (i : ℕ) × StopsAt self.old self.new piece.now r i) }
         ensures turns { turns_of self.new ≡ fed_of self.new + charged_of self.new }
+        ensures more_turns { turns_of self.old ≤ turns_of self.new }
     {
         if let Some(refusal) = self.refusal {
             return Err(refusal);
@@ -139,7 +140,7 @@ impl<S: Sink> Reader<S> {
         ensures answered { MatchResult result (λ _. self.new.refusal ≡ None) (λ r. self.new.refusal ≡ Some r) }
         ensures reaches { (s : S) (o : Outcome) (x : Placed) (pending : List Placed) → CarriesWord x word →
             Continues S.Sink s o self.old.sink (holding_of self.old) (x ∷ pending) → Reaches self.new s o pending }
-        ensures breaks { IfErr result (λ r. cause_of r.fault ≢ stream → r ≡ refusal Fault.Memory place) }
+        ensures breaks { IfErr result (λ r. cause_of r.fault ≢ stream → (r ≡ refusal Fault.Memory place) × (length self.old.run.items < run_limit)) }
         ensures sink { self.new.sink ≡ self.old.sink }
         ensures counts { SameCounts self.old self.new }
     {

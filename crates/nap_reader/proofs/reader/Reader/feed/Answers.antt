@@ -20,6 +20,7 @@ loop-byte-preserved g c =
       live = c.in_ok-turn.ensures.answered;
       budget = c.turn.ensures.counts.budget ∙ c.loop-byte.invariant.budget;
       fed = omega (arith, c.turn.ensures.counts.fed, c.loop-byte.invariant.fed);
+      turns = omega (arith, c.turn.ensures.counts.turns, c.loop-byte.invariant.turns);
       charged = c.turn.ensures.counts.charged ∙ c.loop-byte.invariant.charged;
       clear = λ before. c.in_ok-turn.ensures.clear (c.loop-byte.invariant.clear before);
       stands = λ s p h.

@@ -7,6 +7,7 @@ invariant-loop-byte g l = record {
   live : l.self.refusal ≡ None;
   budget : l.self.budget ≡ l.fn.self.budget;
   fed : l.self.fed ≡ l.fn.self.fed + l.byte-index;
+  turns : l.self.turns ≡ l.fn.self.turns + l.byte-index;
   charged : l.self.charged ≡ l.fn.self.charged;
   clear : g.S.Sink.failed l.fn.self.sink ≡ false → g.S.Sink.failed l.self.sink ≡ false;
   stands : (s : g.row.S.Denot) (p : List ℕ) → Stands {S = g.row.S.Denot} {g = g.S.Sink} l.fn.self s p → Stands {S = g.row.S.Denot} {g = g.S.Sink} l.self s (p ++ take l.byte-index l.piece);

@@ -18,8 +18,9 @@ returns-in-Some-operand-clause-breaks g c =
     let r = c.args.self.now in
     if_err_map c.join.result
     (λ f wants broke s p k all.
-    subst (λ (x : Refusal). BreaksAt g.S.Sink s r.budget p c.args.byte c.join.new.self.sink x) (sym (wants broke ∙ ap (refusal faults.Memory) all))
-    (rw c.join.ensures.sink (growth_breaks g.S.Sink s r.budget p c.args.byte r.sink (holding_of r) c.in-Some.open_run c.in-Some.is c.in-Some-operand.ensures.0 k)))
+    let want = wants broke in
+    subst (λ (x : Refusal). BreaksAt g.S.Sink s r.budget p c.args.byte c.join.new.self.sink x) (sym (want.0 ∙ ap (refusal faults.Memory) all))
+    (rw c.join.ensures.sink (growth_breaks g.S.Sink s r.budget p c.args.byte r.sink (holding_of r) c.in-Some.open_run c.in-Some.is c.in-Some-operand.ensures.0 want.1 k)))
     c.join.ensures.breaks
 
 pub returns-in_err-close-clause-reaches : goal.returns-in_err-close-clause-reaches
