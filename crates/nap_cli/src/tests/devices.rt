@@ -63,6 +63,23 @@ impl Read for Drip {
     }
 }
 
+// Gives NULs, as many as there is room for at each read, until there are no more.
+#[derive(Drop)]
+struct Flood {
+    left: usize,
+    reads: u64,
+}
+
+impl Read for Flood {
+    fn read(&mut self, buf: &mut [u8]) -> io::Result<usize> {
+        self.reads = self.reads.saturating_add(1);
+        let count = self.left.min(buf.len());
+        self.left -= count;
+        buf[..count].fill(0);
+        Ok(count)
+    }
+}
+
 // How an output ends.
 #[derive(Clone, Copy, PartialEq, Eq, Debug, Drop)]
 enum End {
@@ -259,6 +276,32 @@ fn an_endless_input_is_a_read_fault(rt: HostRuntime) -> Result<(), Fail> {
         assert_eq!(rt; errors.into_inner().as_slice(), text.as_bytes());
         assert_eq!(rt; status, want);
     }
+    Ok(())
+}
+
+// The read that finds the end is the last, also of an input of more bytes than a command may make reads.
+#[test]
+fn a_long_input_is_read_once_past_its_bytes(rt: HostRuntime) -> Result<(), Fail> {
+    let alloc = rt.alloc();
+    let words = words_of(alloc, &["check"])?;
+    let mut errors = Target::new(Vec::new(alloc));
+    let mut input = Source::new(Flood {
+        left: 1_100_000,
+        reads: 0,
+    });
+    let (output, status) = run(
+        alloc,
+        words.as_slice(),
+        &mut input,
+        Target::new(Vec::new(alloc)),
+        &mut errors,
+    );
+    assert_eq!(rt;
+        output.into_inner().as_slice(),
+        b"accepted 0 entries\n".as_slice()
+    );
+    assert_eq!(rt; status, 0);
+    assert_eq!(rt; input.into_inner().reads, 18);
     Ok(())
 }
 
