@@ -7,7 +7,7 @@ ghost use Rattle.nap_list.specs.declared.entry.Entry.{Entry};
 use crate::{Budget, Fault, RUN_LIMIT, Reader, Refusal, read_all};
 use nap_codes::{CodeFault, Left};
 use nap_draw::DrawFault;
-use nap_list::{Area, Colour, Entry, Ink, ListSink, Origin, Pen, Sink, SinkFault, Texture};
+use nap_list::{Area, Colour, Entry, Ink, ListSink, Origin, Pen, Points, Sink, SinkFault, Texture};
 use nap_values::{Addr, Grb, Move, Point, Word};
 use std::alloc::{AllocError, Global};
 use std::process::Abort;
@@ -27,19 +27,24 @@ fn dot(x: u32, y: u32) -> Entry {
     }
 }
 
-fn line(from: Point, to: Point) -> Entry {
+/// What lines are drawn with at the start.
+fn ink() -> Ink {
     let texture = Texture {
         word: Word::ZERO,
         mask: None,
     };
+    Ink {
+        pel: Move::ZERO,
+        colour: AT_START,
+        texture,
+    }
+}
+
+fn line(from: Point, to: Point) -> Entry {
     Entry::Line {
         from,
         to,
-        ink: Ink {
-            pel: Move::ZERO,
-            colour: AT_START,
-            texture,
-        },
+        ink: ink(),
     }
 }
 
@@ -301,8 +306,23 @@ fn the_longest_polygon(rt: HostRuntime) -> Result<(), Fail> {
     for _ in 0..1_024 {
         bytes.push(0x40)?;
     }
-    let list = read(&rt, alloc, &bytes);
-    assert_eq!(rt; list.map(|list| list.len()), Ok(1));
+    let mut points = Points::new(alloc);
+    for _ in 0..1_025 {
+        points.push(Point::ORIGIN)?;
+    }
+    let polygon = Entry::Poly {
+        filled: false,
+        points,
+        ink: ink(),
+    };
+    let row = Row {
+        bytes: &bytes,
+        list: &[polygon],
+        refusal: None,
+        fed: 1_028,
+    };
+    row.agrees_whole(&rt, alloc);
+    row.agrees_in_single_bytes(&rt, alloc)?;
     bytes.push(0x40)?;
     let answer = read(&rt, alloc, &bytes);
     assert_eq!(rt; answer.err(), refusal(Fault::ManyPoints, 3));
