@@ -1,13 +1,29 @@
-use Rattle.nap_canon.specs.Laws.{TextIsRead, TextOfPrefix, CanonicalStreamsAgree}
+use Rattle.nap_canon.specs.Laws.{BringLeads, TextOfPrefix, TextIsPlain, PlainOperandLengths, TextIsRead, TextLeads, CanonicalStreamsAgree}
+use Rattle.nap_canon.proofs.ActingLemmas as acting
 use Rattle.nap_canon.proofs.CanonicalLaws as canonical
+use Rattle.nap_canon.proofs.ModeLemmas as modes
+use Rattle.nap_canon.proofs.PlainTexts as plain_texts
+use Rattle.nap_canon.proofs.TextLemmas as texts
 
 -- The proofs of the laws.
+
+pub bring_leads : BringLeads
+bring_leads = modes.bring_leads
+
+pub text_of_prefix : TextOfPrefix
+text_of_prefix = texts.text_of_prefix
+
+pub text_is_plain : TextIsPlain
+text_is_plain = plain_texts.text_is_plain
+
+pub plain_operand_lengths : PlainOperandLengths
+plain_operand_lengths = acting.plain_operand_lengths
 
 pub text_is_read : TextIsRead
 text_is_read = canonical.text_is_read
 
-pub text_of_prefix : TextOfPrefix
-text_of_prefix = canonical.text_of_prefix
+pub text_leads : TextLeads
+text_leads = canonical.text_leads
 
 pub canonical_streams_agree : CanonicalStreamsAgree
 canonical_streams_agree = canonical.canonical_streams_agree

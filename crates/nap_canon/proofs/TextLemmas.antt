@@ -1,36 +1,39 @@
-use Rattle.std.proofs.Common.{ℕ, ◌≡◌, ◌<◌, ◌+◌, List, [], ◌∷◌, ◌++◌, length, take, get_or, refl, ap, sym, ◌∙◌, append_assoc, append-nil}
-use Rattle.std.proofs.lemmas.List.{take_more}
-use Rattle.std.proofs.lemmas.List.Elements.{All-nil, All-cons, All-head, All-tail}
+use Rattle.std.proofs.Common.{ℕ, ◌≡◌, List, [], ◌∷◌, ◌++◌, refl, ap, sym, ◌∙◌, append_assoc}
+use Rattle.nap_codes.specs.declared.code_set.GSet.{GSet}
+use Rattle.nap_codes.specs.declared.code_set.GSet.TheVariants.{G1}
 use Rattle.nap_list.specs.declared.entry.Entry.{Entry}
-use Rattle.nap_canon.specs.Text.{Piece, spelled, pieces, written, header, text, HasText, HaveText}
+use Rattle.nap_list.specs.declared.state.State.{State}
+use Rattle.nap_list.specs.State.{start, after, walk}
+use Rattle.nap_list.proofs.PublicLaws.{fits_join}
+use Rattle.nap_canon.specs.Spelling.{Piece}
+use Rattle.nap_canon.specs.Text.{piece_bytes, gl_behind, written, gl_after, entry_pieces, pieces, header, text}
+use Rattle.nap_canon.specs.Laws.{TextOfPrefix}
 
-pub pieces-append : (es fs : List Entry) → pieces (es ++ fs) ≡ pieces es ++ pieces fs
-unfolding pieces
-pieces-append [] fs = refl
-pieces-append (e ∷ es) fs =
-    ap (λ (ps : List Piece). spelled e ++ ps) (pieces-append es fs) ∙ sym (append_assoc (spelled e) (pieces es) (pieces fs))
+-- pieces behind others
 
-pub written-append : (ps qs : List Piece) → written (ps ++ qs) ≡ written ps ++ written qs
-unfolding written
-written-append [] qs = refl
-written-append (p ∷ ps) qs =
-    ap (λ (bs : List ℕ). p.opcode ∷ p.operands ++ bs) (written-append ps qs)
-    ∙ sym (append_assoc (p.opcode ∷ p.operands) (written ps) (written qs))
+pub written-append : (gl : GSet) (ps qs : List Piece) → written gl (ps ++ qs) ≡ written gl ps ++ written (gl_after gl ps) qs
+unfolding written gl_after
+written-append gl [] qs = refl
+written-append gl (p ∷ ps) qs =
+    ap (λ (bs : List ℕ). piece_bytes gl p ++ bs) (written-append (gl_behind gl p) ps qs)
+    ∙ sym (append_assoc (piece_bytes gl p) (written (gl_behind gl p) ps) (written (gl_after (gl_behind gl p) ps) qs))
 
-pub text-append : (es fs : List Entry) → text (es ++ fs) ≡ text es ++ written (pieces fs)
-text-append es fs = ap (λ (bs : List ℕ). header ++ bs) (ap written (pieces-append es fs) ∙ written-append (pieces es) (pieces fs))
+pub gl_after-append : (gl : GSet) (ps qs : List Piece) → gl_after gl (ps ++ qs) ≡ gl_after (gl_after gl ps) qs
+unfolding gl_after
+gl_after-append gl [] qs = refl
+gl_after-append gl (p ∷ ps) qs = gl_after-append (gl_behind gl p) ps qs
 
--- the text of one entry more
-pub text_more : (es : List Entry) (i : ℕ) (e : Entry) → i < length es → e ≡ get_or es i e →
-    text (take (i + 1) es) ≡ text (take i es) ++ written (spelled e)
-unfolding pieces
-text_more es i e within is =
-    ap text (take_more es i e within ∙ ap (λ (x : Entry). take i es ++ x ∷ []) (sym is))
-    ∙ text-append (take i es) (e ∷ [])
-    ∙ ap (λ (bs : List ℕ). text (take i es) ++ bs) (ap written (append-nil (spelled e)))
+pub pieces-append : (s : State) (es fs : List Entry) → pieces s (es ++ fs) ≡ pieces s es ++ pieces (walk s es) fs
+unfolding pieces walk
+pieces-append s [] fs = refl
+pieces-append s (e ∷ es) fs =
+    ap (λ (ps : List Piece). entry_pieces s e ++ ps) (pieces-append (after s e) es fs)
+    ∙ sym (append_assoc (entry_pieces s e) (pieces (after s e) es) (pieces (walk (after s e) es) fs))
 
--- the first entries of a list have a text where all have one
-pub built_front : (es fs : List Entry) → HaveText (es ++ fs) → HaveText es
-built_front [] fs built = All-nil HasText
-built_front (e ∷ es) fs built =
-    All-cons HasText e es (All-head HasText e (es ++ fs) built) (built_front es fs (All-tail HasText e (es ++ fs) built))
+pub text_of_entries : (es fs : List Entry) → text (es ++ fs) ≡ text es ++ written (gl_after G1 (pieces start es)) (pieces (walk start es) fs)
+text_of_entries es fs =
+    ap (λ (bs : List ℕ). header ++ bs)
+    (ap (written G1) (pieces-append start es fs) ∙ written-append G1 (pieces start es) (pieces (walk start es) fs))
+
+pub text_of_prefix : TextOfPrefix
+text_of_prefix es fs all = (((fits_join start es fs).0 all).0, text_of_entries es fs)

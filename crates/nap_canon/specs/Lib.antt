@@ -1,3 +1,11 @@
+pub mod Equality
+pub mod Commands
+pub mod Bring
+pub mod Spelling
 pub mod Text
+pub mod Range
 pub mod Streams
 pub mod Laws
+pub mod Plain
+pub mod Checking
+pub mod Acting

@@ -1,28 +1,55 @@
-use Rattle.std.specs.Prelude.{ℕ, ◌≡◌, List, [], ◌∷◌, ◌++◌, length, All}
-use Rattle.nap_values.specs.Spellings.{point_bytes}
+use Rattle.std.specs.Prelude.{ℕ, List, [], ◌∷◌, ◌++◌, map}
+use Rattle.nap_codes.specs.declared.code_set.GSet.{GSet}
+use Rattle.nap_codes.specs.declared.code_set.GSet.TheVariants.{G0, G1}
 use Rattle.nap_list.specs.declared.entry.Entry.{Entry}
-use Rattle.nap_list.specs.declared.entry.Entry.TheVariants as entries
-use Rattle.nap_list.specs.State.{start_drawing}
+use Rattle.nap_list.specs.declared.state.State.{State}
+use Rattle.nap_list.specs.Entry.{held}
+use Rattle.nap_list.specs.State.{start, taking, after}
+use Rattle.nap_canon.specs.Bring.{bring}
+use Rattle.nap_canon.specs.Spelling.{Piece, opcode, primary, control, command_piece, spelled}
 
--- a piece of canonical text: an opcode, and the bytes of its operands
-pub record Piece : Type 0 where
-  pub opcode : ℕ
-  pub operands : List ℕ
+-- Which set is in GL is known here alone.
 
--- how an entry is spelled where the values that it holds stand: a point by POINT ABS; the others aren't built yet
-abbrev pub spelled : Entry → List Piece
-spelled (entries.Point at pel colour) = record { opcode = 0x26; operands = point_bytes at } ∷ []
-spelled _ = []
+-- SO brings G1 into GL, the set of the opcodes
+abbrev pub to_opcodes : GSet → List ℕ
+to_opcodes G1 = []
+to_opcodes _ = 0x0E ∷ []
 
--- how the entries of a list are spelled, one after another
-unfoldable pub pieces : List Entry → List Piece
-pieces [] = []
-pieces (e ∷ es) = spelled e ++ pieces es
+-- SI brings G0 into GL, the set of the primary characters
+abbrev pub to_primary : GSet → List ℕ
+to_primary G0 = []
+to_primary _ = 0x0F ∷ []
+
+-- the bytes of a piece, where this set is in GL
+abbrev pub piece_bytes : GSet → Piece → List ℕ
+piece_bytes gl (opcode byte operands) = to_opcodes gl ++ byte ∷ operands
+piece_bytes gl (primary code) = to_primary gl ++ code ∷ []
+piece_bytes gl (control bytes) = bytes
+
+-- the set in GL behind a piece
+abbrev pub gl_behind : GSet → Piece → GSet
+gl_behind gl (opcode byte operands) = G1
+gl_behind gl (primary code) = G0
+gl_behind gl (control bytes) = gl
 
 -- the bytes of pieces, one after another
-unfoldable pub written : List Piece → List ℕ
-written [] = []
-written (p ∷ ps) = p.opcode ∷ p.operands ++ written ps
+unfoldable pub written : GSet → List Piece → List ℕ
+written gl [] = []
+written gl (p ∷ ps) = piece_bytes gl p ++ written (gl_behind gl p) ps
+
+-- the set in GL behind them
+unfoldable pub gl_after : GSet → List Piece → GSet
+gl_after gl [] = gl
+gl_after gl (p ∷ ps) = gl_after (gl_behind gl p) ps
+
+-- an entry: its bring, and how it is spelled where the values that it holds stand
+abbrev pub entry_pieces : State → Entry → List Piece
+entry_pieces s e = map command_piece (bring s.drawing (held e)) ++ spelled (taking s.drawing (held e)) e
+
+-- the entries of a list, one after another from a state on
+unfoldable pub pieces : State → List Entry → List Piece
+pieces s [] = []
+pieces s (e ∷ es) = entry_pieces s e ++ pieces (after s e) es
 
 -- SO brings the opcodes into GL, and DOMAIN makes the operands eight words and four words long
 abbrev pub header : List ℕ
@@ -30,23 +57,4 @@ header = 0x0E ∷ 0x21 ∷ 0x5F ∷ []
 
 -- the canonical text of a list
 abbrev pub text : List Entry → List ℕ
-text es = header ++ written (pieces es)
-
--- Canonical text is built for the entry: a point, drawn with the values that stand at the start.
-abbrev pub HasText : Entry → Type 0
-HasText (entries.Point at pel colour) = (pel ≡ start_drawing.pel) × (colour ≡ start_drawing.colour)
-HasText _ = ⊥
-
--- Canonical text is built for each entry.
-abbrev pub HaveText : List Entry → Type 0
-HaveText es = All HasText es
-
--- the entry at this index is the first for which canonical text isn't built
-pub record LacksText (index : ℕ) (es : List Entry) : Type 0 where
-  pub front : List Entry
-  pub entry : Entry
-  pub rest : List Entry
-  pub parts : es ≡ front ++ entry ∷ rest
-  pub place : length front ≡ index
-  pub before : HaveText front
-  pub without : HasText entry → ⊥
+text es = header ++ written G1 (pieces start es)

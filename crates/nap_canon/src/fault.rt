@@ -14,9 +14,6 @@ pub enum CanonFault {
     /// There was no memory for the text.
     #[error("no memory")]
     Memory,
-    /// The index of the first entry for which canonical text isn't built yet.
-    #[error("canonical text is not built for the entry {0}")]
-    Unbuilt(usize),
 }
 
 impl From<AllocError> for CanonFault {

@@ -1,12 +1,19 @@
 //! The canonical text of display lists and of streams.
 #![tactic(auto)]
 
+mod byte_sink;
+mod command;
 mod fault;
 pub mod laws;
+mod piece;
+mod plain;
+mod ranges;
 mod stream;
 mod text;
+mod writer;
 
 pub use fault::CanonFault;
+pub use plain::is_plain;
 pub use stream::normalise;
 pub use text::canon;
 

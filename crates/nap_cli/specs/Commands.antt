@@ -8,7 +8,7 @@ use Rattle.nap_reader.specs.declared.fault.Fault.TheVariants as fault
 use Rattle.nap_reader.specs.declared.fault.Refusal.{Refusal}
 use Rattle.nap_reader.specs.Stream.{means}
 use Rattle.nap_reader.specs.Breaking.{BreaksWithin}
-use Rattle.nap_canon.specs.Streams.{IsAccepted, list_of, IsCanonicalOf, IsRefusedBy, LacksMemoryAt}
+use Rattle.nap_canon.specs.Streams.{IsAccepted, list_of, IsCanonicalOf, LacksMemoryAt}
 use Rattle.nap_cli.specs.declared.answer.Verdict.{Verdict}
 use Rattle.nap_cli.specs.declared.answer.Verdict.TheVariants as verdict
 use Rattle.nap_cli.specs.declared.command.Action.{Action}
@@ -49,11 +49,6 @@ abbrev pub canon_text : Bool → List ℕ → List ℕ
 canon_text false text = text
 canon_text true text = encode_lower text ++ 10 ∷ []
 
--- a stream and its refusal, to an action
-abbrev pub RefusedBy : Action → ℕ → List ℕ → Refusal → Type 0
-RefusedBy action.Canon budget stream r = IsRefusedBy budget stream r
-RefusedBy _ budget stream r = (means budget stream).refusal ≡ Some r
-
 -- the places of a stream where an action can lack memory
 abbrev pub LacksMemory : Action → ℕ → List ℕ → ℕ → Type 0
 LacksMemory action.Canon budget stream place = LacksMemoryAt budget stream place
@@ -61,7 +56,7 @@ LacksMemory _ budget stream place = BreaksWithin budget stream place
 
 -- The refusal is that of the stream. One for want of memory has a place where an act of the stream can lack it.
 pub record IsRefusal (c : Command) (stream : List ℕ) (r : Refusal) : Type 0 where
-  pub refused : r.fault ≢ fault.Memory → RefusedBy c.action c.budget stream r
+  pub refused : r.fault ≢ fault.Memory → (means c.budget stream).refusal ≡ Some r
   pub memory : r.fault ≡ fault.Memory → LacksMemory c.action c.budget stream r.place
 
 -- what an action prints of a stream, with its verdict: only `check` prints a refusal

@@ -9,6 +9,7 @@ pub mod FrontIsSpelled
 pub mod SpelledIsFront
 pub mod SpellingLaws
 pub mod CodeRanges
+pub mod CharacterLemmas
 pub mod LexedLemmas
 pub mod Rows
 pub mod PublicLaws

@@ -1,6 +1,8 @@
-use Rattle.std.specs.Prelude.{ℕ, ◌==◌, if◌then◌else◌}
+use Rattle.std.specs.Prelude.{ℕ, ◌==◌, if◌then◌else◌, Option, Some, None}
+use Rattle.nap_codes.specs.declared.code_set.CharSet.{CharSet}
+use Rattle.nap_codes.specs.declared.code_set.CharSet.TheVariants as chars
 use Rattle.nap_codes.specs.declared.code_set.CodeSet.{CodeSet}
-use Rattle.nap_codes.specs.declared.code_set.CodeSet.TheVariants.{Primary, Pdi, Supplementary, Mosaic}
+use Rattle.nap_codes.specs.declared.code_set.CodeSet.TheVariants.{Primary, Supplementary, Pdi, Mosaic, Macros, Drcs}
 use Rattle.nap_codes.specs.declared.code_set.CodeSets.{CodeSets}
 use Rattle.nap_codes.specs.declared.code_set.GSet.{GSet}
 use Rattle.nap_codes.specs.declared.code_set.GSet.TheVariants.{G0, G1, G2, G3}
@@ -8,6 +10,15 @@ use Rattle.nap_codes.specs.declared.code_set.GSet.TheVariants.{G0, G1, G2, G3}
 -- the code sets at the start of a stream
 abbrev pub start_sets : CodeSets
 start_sets = record { g0 = Primary; g1 = Pdi; g2 = Supplementary; g3 = Mosaic; gl = G0 }
+
+-- the set of characters that a set is, if it is one
+abbrev pub characters_of : CodeSet → Option CharSet
+characters_of Primary = Some chars.Primary
+characters_of Supplementary = Some chars.Supplementary
+characters_of Mosaic = Some chars.Mosaic
+characters_of Drcs = Some chars.Drcs
+characters_of Macros = None
+characters_of Pdi = None
 
 -- the set that stands at this place
 abbrev pub set_at : CodeSets → GSet → CodeSet

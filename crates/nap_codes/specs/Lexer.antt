@@ -1,6 +1,8 @@
 use Rattle.std.specs.Prelude.{ℕ, ◌≡◌, List, [], ◌∷◌, ◌++◌, length}
+use Rattle.nap_codes.specs.declared.code.Code.TheVariants as codes
 use Rattle.nap_codes.specs.declared.code.Step.{Step}
 use Rattle.nap_codes.specs.declared.code.Step.TheVariants as steps
+use Rattle.nap_codes.specs.declared.code_set.CharSet.{CharSet}
 use Rattle.nap_codes.specs.declared.code_set.CodeSets.{CodeSets}
 use Rattle.nap_codes.specs.Front.{Front, unfinished, whole, refused, front}
 
@@ -21,3 +23,8 @@ StepsBy (refused fault i) old byte step new =
 -- what a byte does to a lexer
 abbrev pub Steps : LexerState → ℕ → Step → LexerState → Type 0
 Steps old byte step new = StepsBy (front old.sets (old.half ++ byte ∷ [])) old byte step new
+
+-- The byte is by itself a character of this set: no code is half read, and the byte alone is that character, which leaves
+-- the code sets.
+abbrev pub IsCharacter : LexerState → ℕ → CharSet → Type 0
+IsCharacter lexer byte set = (lexer.half ≡ []) × (front lexer.sets (byte ∷ []) ≡ whole (codes.Char set byte) 1 lexer.sets)

@@ -1,7 +1,7 @@
 //! The code sets, the places that they stand at, and the escape sequences that designate them.
 
 ghost use Rattle.std.specs.Prelude.{◌≡◌};
-ghost use Rattle.nap_codes.specs.CodeSets.{after_control0, set_at, start_sets, with_set};
+ghost use Rattle.nap_codes.specs.CodeSets.{after_control0, characters_of, set_at, start_sets, with_set};
 ghost use Rattle.nap_codes.specs.Tables.{designation};
 
 /// A set of codes that can be designated as G0, G1, G2 or G3 (code extension).
@@ -47,6 +47,21 @@ pub struct CodeSets {
     pub g3: CodeSet,
     /// Which of them is in GL.
     pub gl: GSet,
+}
+
+impl CodeSet {
+    /// The set of characters that this is, if it is one.
+    pub(crate) fn characters(self) -> Option<CharSet>
+        ensures { result ≡ characters_of self }
+    {
+        match self {
+            CodeSet::Primary => Some(CharSet::Primary),
+            CodeSet::Supplementary => Some(CharSet::Supplementary),
+            CodeSet::Mosaic => Some(CharSet::Mosaic),
+            CodeSet::Drcs => Some(CharSet::Drcs),
+            CodeSet::Macros | CodeSet::Pdi => None,
+        }
+    }
 }
 
 impl CodeSets {

@@ -1,10 +1,10 @@
 //! The lexer, which cuts a stream into codes.
 
-ghost use Rattle.std.specs.Prelude.{◌≡◌, ◌↔◌, ◌≤◌, ◌<◌, [], ◌∷◌, IsTrue};
+ghost use Rattle.std.specs.Prelude.{◌≡◌, ◌↔◌, ◌≤◌, ◌<◌, [], ◌∷◌, Some, IsTrue};
 ghost use Rattle.nap_codes.specs.CodeSets.{set_at, start_sets};
 ghost use Rattle.nap_codes.specs.Front.{argument_front, column_front, fault_of, final_front, front, gl_front, plain_code, single_shift_front, unfinished};
 ghost use Rattle.nap_codes.specs.Half.{Ends, half_after, IsHalf, TurnsTo};
-ghost use Rattle.nap_codes.specs.Lexer.{Steps};
+ghost use Rattle.nap_codes.specs.Lexer.{IsCharacter, Steps};
 
 use crate::code::{Code, CodeFault, Step};
 use crate::code_set::{CharSet, CodeSet, CodeSets, GSet, designate};
@@ -91,6 +91,17 @@ impl Lexer {
         ensures unfinished { front self.now.sets self.now.half ≡ unfinished }
     {
         self.half == Half::Nothing
+    }
+
+    /// The set of the character that the byte is by itself, where it is one: no code is half read, and a set of
+    /// characters is in GL.
+    pub fn character(&self, byte: u8) -> Option<CharSet>
+        ensures { (set : CharSet) → (result ≡ Some set) ↔ IsCharacter self.now byte set }
+    {
+        if !self.at_rest() || byte < 0x20 || byte >= 0x80 {
+            return None;
+        }
+        self.sets.at(self.sets.gl).characters()
     }
 
     /// Takes the next byte. After a fault the lexer is as it was.

@@ -6,6 +6,7 @@ use crate::{
 };
 use std::test::Fail;
 
+mod characters;
 mod pairs;
 
 /// The last answer on these bytes up to a fault, and the index of its byte.

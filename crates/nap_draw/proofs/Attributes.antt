@@ -1,27 +1,21 @@
-use Rattle.std.proofs.Common.{◌≡◌, ℕ, ◌+◌, ◌<◌, ◌≤◌, ◌≢◌, min, List, [], ◌∷◌, map, length, take, drop, false, None, Result, Ok, Err, refl, ◌∙◌, ap, arith, length-drop}
+use Rattle.std.proofs.Common.{◌≡◌, ◌/◌, ◌%◌, eqb, cond, ℕ, ◌+◌, ◌<◌, ◌≤◌, ◌≢◌, min, List, [], ◌∷◌, map, length, take, drop, false, None, Ok, Err, refl, ◌∙◌, ap, arith, length-drop}
 use Rattle.std.proofs.lemmas.List.{take_all}
-use Rattle.nap_values.specs.Colours.{Components}
+use Rattle.std.specs.List.{slice_index}
+use Rattle.nap_list.specs.declared.attribute.Pen.{Pen}
+use Rattle.nap_values.specs.Domains.{OperandLengths}
 use Rattle.nap_values.specs.Operands.{colour_of}
-use Rattle.nap_list.specs.declared.attribute.Colour.{Colour}
 use Rattle.nap_list.specs.declared.entry.Entry.TheVariants as entries
-use Rattle.nap_list.specs.State.{walk}
+use Rattle.nap_list.specs.declared.state.Drawing.{Drawing}
+use Rattle.nap_list.specs.declared.state.State.{State}
+use Rattle.nap_list.specs.State.{reset, walk}
 use Rattle.nap_list.specs.Agreement.{InMode}
-use Rattle.nap_draw.specs.declared.fault.DrawFault.{DrawFault}
+use Rattle.nap_draw.proofs.Walks.{left_by}
 use Rattle.nap_draw.specs.declared.fault.DrawFault.TheVariants as faults
-use Rattle.nap_draw.specs.declared.entries.Entries.TheVariants as kinds
-use Rattle.nap_draw.specs.declared.plan.Plan.{Plan}
 use Rattle.nap_draw.specs.declared.work.Work.{Work}
 use Rattle.nap_draw.specs.Operands.{operands}
-use Rattle.nap_draw.specs.Rule.{Drawn, drawn, maps, colours_as, set_color_rule, blink, blinks, blink_rule}
-use Rattle.nap_draw.specs.Plans.{direct_plan, map_plan, Plans}
+use Rattle.nap_draw.specs.Rule.{start_domain, reset_rule, drawn, colours_as, set_color_rule, blink, blinks, blink_rule}
 use Rattle.nap_draw.proofs.Cuts.{operands-front, operands_none}
 use Rattle.nap_draw.proofs.Still.{walk_stays, wait_stays, blink_stays}
-
--- to put nothing, and to go on with the work
-pub silent_plans : (w : Work) (plan : Plan) (by : Result Drawn DrawFault) → by ≡ Ok (drawn w []) →
-    plan ≡ record { entries = kinds.Single None; effects = record { work = w; clears = false } } → Plans by (Ok plan)
-unfolding walk
-silent_plans w plan by is made = rw (made, is) ([], refl, refl)
 
 -- SET COLOR
 
@@ -45,20 +39,6 @@ set_one work k run some more few =
     let one = operands-front k run some more in
     let whole : take n run ≡ run = take_all n run (omega arith) in
     ap (set_color_rule work) (one ∙ ap (λ (os : List (List ℕ)). take n run ∷ os) (operands_none k (drop n run) rest)) ∙ ap (λ (o : List ℕ). colours_as work work.state.drawing.colour (colour_of o)) whole
-
-pub direct_plans : (work : Work) (grb : Components) → Plans (Ok (drawn (direct_plan work grb).effects.work [])) (Ok (direct_plan work grb))
-unfolding walk
-direct_plans work grb = ([], refl, refl)
-
-pub map_plans : (work : Work) (a : ℕ) (grb : Components) → Plans (maps work a grb) (Ok (map_plan work a grb))
-map_plans work a grb = (entries.Map a grb ∷ [], refl, refl)
-
--- the plan of a colour, by the colour that stands
-pub colour_plans : (work : Work) (old colour : Colour) (grb given : Components) (plan made : Plan) (by : Result Drawn DrawFault) → by ≡ colours_as work old given →
-    old ≡ colour → grb ≡ given → plan ≡ made → Plans (colours_as work colour given) (Ok made) → Plans by (Ok plan)
-colour_plans work old colour grb given plan made by is stands same made_so plans =
-    let to : by ≡ colours_as work colour given = is ∙ ap (λ (c : Colour). colours_as work c given) stands in
-    rw (to, made_so) plans
 
 -- WAIT
 
@@ -101,3 +81,24 @@ pub blink_some : (work : Work) (run : List ℕ) → InMode work.state.drawing.ba
 blink_some work run mode more =
     let k = work.domain.single in
     ap Ok (groups_some work (operands (k + 3) run) _ _ mode (operands-front (k + 3) run (omega arith) more))
+
+-- RESET
+
+pub reset_is : (w : Work) (run : List ℕ) (first second bits : ℕ) (pen : Pen) (domain : OperandLengths) (d : Drawing) → InMode w.state.drawing.base w.state.drawing.colour →
+    first ≡ slice_index run 0 → second ≡ slice_index run 1 → pen ≡ w.state.drawing.pen → domain ≡ cond (eqb (first % 2) 1) start_domain w.domain → bits ≡ second →
+    d ≡ reset first second w.state.drawing → reset_rule w (slice_index run 0) (slice_index run 1) ≡ Ok (record {
+      entries = entries.Reset first second pen ∷ [];
+      work = record w { domain = domain; state = record w.state { drawing = d; last = None } };
+      clears = eqb (bits / 16 % 2) 1;
+    })
+unfolding walk
+reset_is w run first second bits pen domain d mode one two where_ has reads there =
+    let a = slice_index run 0 in
+    let b = slice_index run 1 in
+    let entry = entries.Reset a b w.state.drawing.pen in
+    let left = left_by w.state entry (record { pen = refl; pel = tt; colour = tt; texture = tt; text = tt }) mode in
+    rw (there, has, reads, one, two, where_) (ap (λ (s : State). Ok (record {
+      entries = entry ∷ [];
+      work = record w { domain = cond (eqb (a % 2) 1) start_domain w.domain; state = s };
+      clears = eqb (b / 16 % 2) 1;
+    })) left)

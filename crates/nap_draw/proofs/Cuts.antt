@@ -1,5 +1,6 @@
 use Rattle.std.proofs.Common.{◌≡◌, ℕ, suc, zero, ◌+◌, ◌-◌, ◌<◌, ◌≤◌, ◌≢◌, min, List, [], ◌∷◌, ◌++◌, length, map, take, drop, Result, Ok, Err, refl, sym, ◌∙◌, ap, arith, append_assoc, append-nil, length-drop, Bool, true, false, leb}
 use Rattle.std.proofs.Math.Nat.{add-div_left, add-mod_left, div-eq_of_lt, mod-eq_of_lt}
+use Rattle.std.proofs.Math.Seq.{take-append_seam, drop-append_seam}
 use Rattle.std.proofs.lemmas.List.{length-map}
 use Rattle.std.proofs.lemmas.Bool.Decides.{nat_tests}
 use Rattle.std.specs.Int.{div_ceil}
@@ -45,10 +46,6 @@ moves_turn k n run front after some more is first rest = rw (first, rest, is) (a
 
 pub addresses_none : (k : ℕ) (run : List ℕ) → length run ≡ 0 → addresses k run ≡ []
 addresses_none k run none = ap (map single_of) (operands_none k run none)
-
-pub addresses_turn : (k n : ℕ) (run front after : List ℕ) → 1 ≤ k → 0 < length run →
-    n ≡ min k (length run) → front ≡ take n run → after ≡ drop n run → addresses k run ≡ single_of front ∷ addresses k after
-addresses_turn k n run front after some more is first rest = rw (first, rest, is) (ap (map single_of) (operands-front k run some more))
 
 pub none_of : (work : Work) (run : List ℕ) → length run ≡ 0 → (f : List Displacement → Result Drawn DrawFault) → with_operands work run f ≡ Err Missing
 none_of work run none f = ap (λ ms. and_then (some_of ms) f) (moves_none work.domain.multi run none)
@@ -101,3 +98,34 @@ count_within (suc fuel) k (word ∷ words) some most =
 
 pub moves_count_is : (k : ℕ) (run : List ℕ) → 1 ≤ k → length (moves k run) ≡ div_ceil (length run) k
 moves_count_is k run some = length-map (operands k run) multi_of ∙ count_within (length run) k run some (omega arith)
+
+-- a run from whose front a chunk was cut
+pub operands_chunk : (k size : ℕ) (left x rest : List ℕ) → size ≡ k → 1 ≤ k → left ≡ x ++ rest → length x ≡ min size (length left) → 0 < length left →
+    operands k left ≡ x ∷ operands k rest
+operands_chunk k size left x rest is some parts long more =
+    let n : min k (length left) ≡ length x = omega arith in
+    let front : take (min k (length left)) left ≡ x = ap (λ (n : ℕ). take n left) n ∙ (ap (take (length x)) parts ∙ take-append_seam x rest) in
+    let back : drop (min k (length left)) left ≡ rest = ap (λ (n : ℕ). drop n left) n ∙ (ap (drop (length x)) parts ∙ drop-append_seam x rest) in
+    operands-front k left some more ∙ (ap (λ (o : List ℕ). o ∷ operands k (drop (min k (length left)) left)) front ∙ ap (λ (l : List ℕ). x ∷ operands k l) back)
+
+pub moves_chunk : (k size : ℕ) (left x rest : List ℕ) → size ≡ k → 1 ≤ k → left ≡ x ++ rest → length x ≡ min size (length left) → 0 < length left →
+    moves k left ≡ multi_of x ∷ moves k rest
+moves_chunk k size left x rest is some parts long more = ap (map multi_of) (operands_chunk k size left x rest is some parts long more)
+
+pub addresses_chunk : (k size : ℕ) (left x rest : List ℕ) → size ≡ k → 1 ≤ k → left ≡ x ++ rest → length x ≡ min size (length left) → 0 < length left →
+    addresses k left ≡ single_of x ∷ addresses k rest
+addresses_chunk k size left x rest is some parts long more = ap (map single_of) (operands_chunk k size left x rest is some parts long more)
+
+-- a run that is cut behind its first operand
+
+pub run_some : (k n : ℕ) (run after : List ℕ) → after ≡ drop n run → 0 < length (moves k after) → 0 < length run
+run_some k n (x ∷ xs) after is some = omega arith
+run_some k n [] after is some =
+    let nothing : List ℕ = [] in
+    let none : length after ≡ 0 = omega (arith, ap length is, length-drop n nothing) in
+    absurd (omega (arith, ap length (moves_none k after none)))
+
+pub one_at_most : (k n : ℕ) (run front after : List ℕ) → 1 ≤ k → n ≡ min k (length run) → front ≡ take n run → after ≡ drop n run → length (moves k after) ≡ 0 → length (moves k run) ≤ 1
+one_at_most k n [] front after some is first rest none = omega (arith, ap length (moves_none k [] refl))
+one_at_most k n (x ∷ xs) front after some is first rest none =
+    omega (arith, ap length (moves_turn k n (x ∷ xs) front after some (omega arith) is first rest))

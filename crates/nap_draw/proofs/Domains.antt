@@ -1,7 +1,6 @@
-use Rattle.std.proofs.Common.{◌≡◌, ℕ, ◌/◌, List, [], ◌∷◌, eqb, false, Option, Some, None, Result, Ok, refl, sym, ◌∙◌, ap, arith}
+use Rattle.std.proofs.Common.{◌≡◌, ℕ, ◌/◌, List, [], ◌∷◌, eqb, false, Option, Result, Ok, refl, sym, ◌∙◌, ap, arith}
 use Rattle.std.specs.List.{slice_get}
 use Rattle.std.specs.Option.{unwrap_or}
-use Rattle.std.specs.Iterator.{YieldsFirst}
 use Rattle.std.proofs.lemmas.Bool.Decides.{nat_tests}
 use Rattle.nap_values.specs.Coordinates.{Displacement}
 use Rattle.nap_values.specs.Domains.{OperandLengths}
@@ -10,11 +9,6 @@ use Rattle.nap_draw.specs.declared.work.Work.{Work}
 use Rattle.nap_draw.specs.declared.fault.DrawFault.{DrawFault}
 use Rattle.nap_draw.specs.Operands.{moves}
 use Rattle.nap_draw.specs.Rule.{Drawn, with_drawing, domain_in, domain_rule}
-
--- an iterator's next item is the first of what it had left
-pub first_left : {S A : Type 0} (left : S → List A) (s t : S) (r : Option A) → YieldsFirst left s r t → r ≡ slice_get (left s) 0
-first_left left s t None steps = sym (ap (λ xs. slice_get xs 0) steps.0)
-first_left left s t (Some x) steps = sym (ap (λ xs. slice_get xs 0) steps)
 
 with_pel : Work → OperandLengths → Option Displacement → Result Drawn DrawFault
 with_pel work domain pel = Ok (record {

@@ -1,4 +1,4 @@
-use Rattle.std.proofs.Common.{◌-◌, ◌≡◌, ℕ, ◌+◌, ◌/◌, List, [], ◌∷◌, map, Bool, true, false, cond, eqb, ltb, ◌<◌, ◌≤◌, length, arith, Option, Some, None, Result, Ok, Err, refl, sym, subst}
+use Rattle.std.proofs.Common.{◌-◌, ◌≡◌, ℕ, ◌+◌, ◌/◌, List, [], ◌∷◌, ◌++◌, map, Bool, true, false, cond, eqb, ltb, ◌<◌, ◌≤◌, length, arith, Option, Some, None, IsSome, Result, Ok, Err, refl, sym, subst}
 use Rattle.std.specs.Option.{option_map, option_and_then, option_or}
 use Rattle.nap_list.specs.declared.points.TheConstants.{SHAPE_POINTS}
 use Rattle.nap_values.specs.Coordinates.{Coordinates, Displacement, point_at}
@@ -17,20 +17,29 @@ use Rattle.nap_draw.specs.Operands.{operands}
 use Rattle.nap_draw.proofs.Still.{wait_stays, blink_stays, stays_fit}
 use Rattle.nap_list.specs.declared.entry.Entry.TheVariants as entries
 use Rattle.nap_list.specs.declared.entry.Entry.{Entry}
+use Rattle.nap_list.specs.declared.state.Definition.{Definition}
+use Rattle.nap_list.specs.declared.state.Definition.TheVariants as definitions
+use Rattle.nap_list.specs.declared.state.Opened.{Opened}
 use Rattle.nap_list.specs.declared.state.Drawing.{Drawing}
 use Rattle.nap_list.specs.declared.state.State.{State}
-use Rattle.nap_list.specs.Entry.{held, WellMade}
+use Rattle.nap_list.specs.declared.state.LastChar.{LastChar}
+use Rattle.nap_codes.specs.declared.code.Code.{Code}
+use Rattle.nap_codes.specs.declared.code.Code.TheVariants as codes
+use Rattle.nap_list.specs.Entry.{held, hand_values, nothing, WellMade}
 use Rattle.nap_list.specs.State.{AllFit, Comes, TextureFits, MaskFits, with_colour, after, walk, with_pen_at}
 use Rattle.nap_list.specs.Agreement.{ColourAgrees, InMode, Holds, StatesAgree}
-use Rattle.nap_list.proofs.PublicLaws.{agreeing_fits}
+use Rattle.nap_list.proofs.PublicLaws.{agreeing_fits, fits_join, walks_join}
 use Rattle.nap_draw.specs.declared.work.Work.{Work}
 use Rattle.std.proofs.lemmas.Bool.Decides.{nat_tests}
 use Rattle.nap_draw.specs.declared.fault.DrawFault.{DrawFault}
 use Rattle.nap_draw.specs.declared.fault.DrawFault.TheVariants as faults
 use Rattle.nap_draw.specs.Geometry.{end_of, points_at, reached, joined, between, away, across, arc_points, poly_points}
 use Rattle.nap_draw.specs.Rule.{Drawn, and_then, some_of, pairs_of, first_of, few_of, moves_of, pen_point, drawn, draws, draws_one, goes, with_drawing, domain_rule, domain_in, with_domain, shape_from_pen, shape_from_point, area_of, field_rule, point_on, line_on, rect_on, arc_on, poly_on, field_on, reset_rule, colour_of_base, selected, maps, colours_as, set_color_rule, blink, blinks, rule}
-use Rattle.nap_draw.specs.Laws.{RuleFits}
-use Rattle.nap_draw.specs.Plans.{landed}
+use Rattle.nap_draw.specs.Codes.{IsMade, hand_of, copies, ended, ended_by, opened_by, opens, puts, with_last, code_rule}
+use Rattle.nap_draw.specs.Laws.{RuleFits, CodeFits}
+use Rattle.nap_draw.specs.Doing.{MayFollow, landed, start_of}
+use Rattle.nap_draw.proofs.Copies.{copies_fit, last_is_code}
+use Rattle.nap_draw.proofs.Endings.{ended_closed}
 use Rattle.nap_draw.proofs.Walks.{Lands, one, point_lands, line_lands, rect_lands}
 use Rattle.nap_draw.proofs.Outlines.{arc_made, poly_made}
 
@@ -65,6 +74,7 @@ pel_agrees s pel shown a = record {
   drawing = record { pen = a.drawing.pen; base = a.drawing.base; colour = a.drawing.colour; mode = a.drawing.mode; texture = a.drawing.texture };
   definition = a.definition;
   last = a.last;
+  made = a.made;
 }
 
 pen_agrees : (s : State) (p : Option Coordinates) (shown : State) → StatesAgree s shown → StatesAgree (record s { drawing = with_pen_at p s.drawing }) shown
@@ -73,6 +83,7 @@ pen_agrees s (Some p) shown a = record {
   drawing = record { pen = tt; base = a.drawing.base; colour = a.drawing.colour; mode = a.drawing.mode; texture = a.drawing.texture };
   definition = a.definition;
   last = a.last;
+  made = a.made;
 }
 
 module _ {A : Type 0} (entry : Drawing → A → Entry) (at : A → Coordinates) (by : Lands entry at) where
@@ -84,7 +95,7 @@ module _ {A : Type 0} (entry : Drawing → A → Entry) (at : A → Coordinates)
   in_mode s None shown a = a.drawing.mode
   in_mode s (Some y) shown a = a.drawing.mode
 
-  all_fit : (s : State) (o : Option A) (xs : List A) (shown : State) → StatesAgree (landed s (option_map at o)) shown →
+  pub all_fit : (s : State) (o : Option A) (xs : List A) (shown : State) → StatesAgree (landed s (option_map at o)) shown →
       AllFit shown (map (entry s.drawing) xs) × StatesAgree (walk (landed s (option_map at o)) (map (entry s.drawing) xs)) (walk shown (map (entry s.drawing) xs))
   unfolding AllFit walk
   all_fit s o [] shown a = (tt, a)
@@ -128,10 +139,10 @@ pairs_fit : (work : Work) (run : List ℕ) (f : List Displacement → Result Dra
 pairs_fit work run f each = each_fits work (pairs_of (moves_of work run)) f each
 
 -- one entry that holds the values that stand
-single_fits : (work : Work) (e : Entry) → Holds (held e) work.state.drawing → WellMade e → ((t : State) → Comes t e) → Fitting work (drawn work (e ∷ []))
+single_fits : (work : Work) (e : Entry) → Holds (held e) work.state.drawing → WellMade e → Comes work.state e → Fitting work (drawn work (e ∷ []))
 unfolding Fitting AllFit walk
 single_fits work e holds made comes shown a =
-    let fits = agreeing_fits work.state shown e a holds made (comes work.state) in ((fits.0, tt), fits.1)
+    let fits = agreeing_fits work.state shown e a holds made comes in ((fits.0, tt), fits.1)
 
 -- the continuation gets a list that isn't empty
 some_fit : (work : Work) (xs : List Displacement) (f : List Displacement → Result Drawn DrawFault) → ((ms : List Displacement) → 0 < length ms → IsFitting work (f ms)) →
@@ -160,7 +171,7 @@ module _ (work : Work) (entry : Drawing → List Coordinates → Entry) (points 
   shape_fits : (p : Coordinates) (ms : List Displacement) → 0 < length ms → length ms ≤ SHAPE_POINTS - 1 → IsFitting work (draws_one work entry (points p ms))
   shape_fits p ms some few =
       let d = work.state.drawing in
-      one_fits work entry (points p ms) (λ ps is. single_fits work (entry d ps) (holds d ps) (made d p ms ps some few is) (comes d ps))
+      one_fits work entry (points p ms) (λ ps is. single_fits work (entry d ps) (holds d ps) (made d p ms ps some few is) (comes d ps work.state))
 
   shape_pen_fits : (run : List ℕ) → IsFitting work (shape_from_pen work run entry points)
   shape_pen_fits run =
@@ -200,7 +211,7 @@ poly_point_fits work filled = shape_point_fits work (poly_on filled) poly_points
 
 field_fits : (work : Work) (ms : List Displacement) → IsFitting work (field_rule work ms)
 field_fits work ms = each_fits work (area_of work ms) _ (λ area. one_fits work field_on (Some area) (λ a is.
-    single_fits work (field_on work.state.drawing a) (record { pen = refl; pel = tt; colour = tt; texture = tt; text = tt }) tt (λ t. tt)))
+    single_fits work (field_on work.state.drawing a) (record { pen = refl; pel = tt; colour = tt; texture = tt; text = tt }) tt tt))
 
 wait_fits : (work : Work) (run : List ℕ) → Fitting work (drawn work (map entries.Wait run))
 unfolding Fitting
@@ -212,19 +223,20 @@ blink_groups_fit work k groups shown a =
     let d = work.state.drawing in stays_fit d (blink k d.colour) (blink_stays d k a.drawing.mode) work.state.definition work.state.last groups shown a
 
 blink_fits : (work : Work) (k : ℕ) (groups : List (List ℕ)) → Fitting work (drawn work (blinks k work.state.drawing.colour groups))
-blink_fits work k [] = single_fits work (entries.BlinkEnd work.state.drawing.colour) (record { pen = tt; pel = tt; colour = refl; texture = tt; text = tt }) tt (λ t. tt)
+blink_fits work k [] = single_fits work (entries.BlinkEnd work.state.drawing.colour) (record { pen = tt; pel = tt; colour = refl; texture = tt; text = tt }) tt tt
 blink_fits work k (group ∷ groups) = blink_groups_fit work k (group ∷ groups)
 
 reset_fits : (work : Work) (first second : ℕ) → IsFitting work (reset_rule work first second)
 unfolding IsFitting Fitting
 reset_fits work first second shown a =
-    single_fits work (entries.Reset first second work.state.drawing.pen) (record { pen = refl; pel = tt; colour = tt; texture = tt; text = tt }) tt (λ t. tt) shown a
+    single_fits work (entries.Reset first second work.state.drawing.pen) (record { pen = refl; pel = tt; colour = tt; texture = tt; text = tt }) tt tt shown a
 
 text_agrees : (s : State) (look : TextLook) (shown : State) → StatesAgree s shown → StatesAgree (record s { drawing = record s.drawing { text = look } }) shown
 text_agrees s look shown a = record {
   drawing = record { pen = a.drawing.pen; base = a.drawing.base; colour = a.drawing.colour; mode = a.drawing.mode; texture = a.drawing.texture };
   definition = a.definition;
   last = a.last;
+  made = a.made;
 }
 
 mask_agrees : (t : Texture) (mask : Option Displacement) (shown : Texture) → TextureFits shown (Some t) → MaskFits shown (option_or mask t.mask)
@@ -237,6 +249,7 @@ texture_agrees s word mask shown a = record {
   drawing = record { pen = a.drawing.pen; base = a.drawing.base; colour = a.drawing.colour; mode = a.drawing.mode; texture = mask_agrees s.drawing.texture mask shown.drawing.texture a.drawing.texture };
   definition = a.definition;
   last = a.last;
+  made = a.made;
 }
 
 base_mode : (base : Base) → InMode base (colour_of_base base)
@@ -252,16 +265,19 @@ select_agrees s [] shown a = record {
   drawing = record { pen = a.drawing.pen; base = a.drawing.base; colour = base_agrees s.drawing.base shown.drawing.colour; mode = base_mode s.drawing.base; texture = a.drawing.texture };
   definition = a.definition;
   last = a.last;
+  made = a.made;
 }
 select_agrees s (x ∷ []) shown a = record {
   drawing = record { pen = a.drawing.pen; base = a.drawing.base; colour = tt; mode = tt; texture = a.drawing.texture };
   definition = a.definition;
   last = a.last;
+  made = a.made;
 }
 select_agrees s (x ∷ y ∷ more) shown a = record {
   drawing = record { pen = a.drawing.pen; base = a.drawing.base; colour = tt; mode = tt; texture = a.drawing.texture };
   definition = a.definition;
   last = a.last;
+  made = a.made;
 }
 
 direct_agrees : (s : State) (grb : Components) (shown : State) → StatesAgree s shown →
@@ -270,6 +286,7 @@ direct_agrees s grb shown a = record {
   drawing = record { pen = a.drawing.pen; base = tt; colour = tt; mode = refl; texture = a.drawing.texture };
   definition = a.definition;
   last = a.last;
+  made = a.made;
 }
 
 -- a colour at an address: the colours chosen stay, and those shown are the address
@@ -303,6 +320,7 @@ map_fits work a grb mapped shown agrees = (
     };
     definition = agrees.definition;
     last = refl;
+    made = tt;
   },
 )
 
@@ -365,3 +383,88 @@ fits_as work r d is fits = subst (λ (r : Result Drawn DrawFault). IsFitting wor
 pub rule_fits : RuleFits
 unfolding Fitting
 rule_fits work op run shown d is agrees = fits_as work (rule work op run) d is (rule_is_fitting work op run) shown agrees
+
+-- a character or a control
+
+last_fits : (work : Work) (o : Option LastChar) (next : LastChar → Result Drawn DrawFault) → work.state.last ≡ o → ((last : LastChar) → work.state.last ≡ Some last → IsFitting work (next last)) →
+    IsFitting work (with_last o next)
+last_fits work None next is each = fault_fits work faults.NothingToRepeat
+last_fits work (Some last) next is each = each last is
+
+copies_are_fitting : (work : Work) (last : LastChar) (n : ℕ) → work.state.last ≡ Some last → Fitting work (drawn work (copies work.state last n))
+unfolding Fitting
+copies_are_fitting work last n is shown a = copies_fit last work.state shown n a (last_is_code work.state shown last a is)
+
+hand_holds : (d : Drawing) → Holds (hand_values (hand_of d)) d
+hand_holds d = record { pen = refl; pel = tt; colour = refl; texture = tt; text = refl }
+
+nothing_holds : (d : Drawing) → Holds nothing d
+nothing_holds d = record { pen = tt; pel = tt; colour = tt; texture = tt; text = tt }
+
+entry_fits : (work : Work) (e : Entry) → MayFollow work.state e → IsFitting work (puts work e)
+entry_fits work e follows = list_fits work (e ∷ []) (single_fits work e follows.holds follows.made follows.comes)
+
+-- the definition that is open ends
+
+end_follows : (s : State) (opened : Opened) → s.definition ≡ Some opened → MayFollow s entries.DefEnd
+end_follows s opened is = record { holds = nothing_holds s.drawing; made = tt; comes = subst (λ (o : Option Opened). IsSome o) (sym is) refl }
+
+ended_fits : (work : Work) (o : Option Opened) → work.state.definition ≡ o → Fitting work (ended_by work o)
+unfolding Fitting AllFit walk
+ended_fits work None is shown a = (tt, a)
+ended_fits work (Some opened) is shown a =
+    let follows = end_follows work.state opened is in
+    let fits = agreeing_fits work.state shown entries.DefEnd a follows.holds follows.made follows.comes in ((fits.0, tt), fits.1)
+
+-- and another begins
+
+start_follows : (work : Work) (what : Definition) → WellMade (start_of what) → MayFollow (ended work).work.state (start_of what)
+start_follows work (definitions.Glyph code) made = record { holds = nothing_holds _; made = made; comes = ended_closed work work.state.definition refl }
+start_follows work (definitions.Mask mask) made = record { holds = nothing_holds _; made = made; comes = ended_closed work work.state.definition refl }
+
+pub opened_fits : (work : Work) (what : Definition) → WellMade (start_of what) → (shown : State) → StatesAgree work.state shown →
+    AllFit shown ((ended work).entries ++ start_of what ∷ []) × StatesAgree (opened_by (ended work) (start_of what)).work.state (walk shown ((ended work).entries ++ start_of what ∷ []))
+unfolding Fitting AllFit walk
+opened_fits work what made shown a =
+    let d = ended work in
+    let e = start_of what in
+    let before = ended_fits work work.state.definition refl shown a in
+    let follows = start_follows work what made in
+    let here = agreeing_fits d.work.state (walk shown d.entries) e before.1 follows.holds follows.made follows.comes in (
+      (fits_join shown d.entries (e ∷ [])).1 (before.0, (here.0, tt)),
+      subst (λ (t : State). StatesAgree (after d.work.state e) t) (sym (walks_join shown d.entries (e ∷ []))) here.1,
+    )
+
+ends_fit : (work : Work) → IsFitting work (Ok (ended work))
+unfolding IsFitting
+ends_fit work = ended_fits work work.state.definition refl
+
+opens_fit : (work : Work) (what : Definition) → WellMade (start_of what) → IsFitting work (opens work (start_of what))
+unfolding IsFitting Fitting
+opens_fit work what made = opened_fits work what made
+
+code_is_fitting : (work : Work) (code : Code) → IsMade code → IsFitting work (code_rule work code)
+code_is_fitting work (codes.Char set code) made = entry_fits work _ (record { holds = hand_holds work.state.drawing; made = made; comes = tt })
+code_is_fitting work (codes.Step step) made = entry_fits work _ (record { holds = hand_holds work.state.drawing; made = made; comes = tt })
+code_is_fitting work codes.Clear made = entry_fits work _ (record { holds = record { pen = refl; pel = tt; colour = tt; texture = tt; text = tt }; made = tt; comes = tt })
+code_is_fitting work codes.Bell made = entry_fits work _ (record { holds = nothing_holds work.state.drawing; made = tt; comes = tt })
+code_is_fitting work (codes.Repeat count) made = last_fits work work.state.last _ refl (λ last is. list_fits work _ (copies_are_fitting work last count is))
+code_is_fitting work codes.ToEol made =
+    last_fits work work.state.last _ refl (λ last is. entry_fits work _ (record { holds = hand_holds work.state.drawing; made = tt; comes = subst (λ (o : Option LastChar). IsSome o) (sym is) refl }))
+code_is_fitting work (codes.BlinkMark on) made =
+    entry_fits work _ (record { holds = record { pen = tt; pel = tt; colour = refl; texture = tt; text = tt }; made = tt; comes = tt })
+code_is_fitting work (codes.Cursor kind) made = entry_fits work _ (record { holds = nothing_holds work.state.drawing; made = tt; comes = tt })
+code_is_fitting work (codes.Named size) made = attribute_fits work _ (text_agrees work.state _)
+code_is_fitting work (codes.Reverse on) made = attribute_fits work _ (text_agrees work.state _)
+code_is_fitting work (codes.Underline on) made = attribute_fits work _ (text_agrees work.state _)
+code_is_fitting work (codes.Wrap on) made = attribute_fits work _ (text_agrees work.state _)
+code_is_fitting work (codes.Scroll on) made = attribute_fits work _ (text_agrees work.state _)
+code_is_fitting work (codes.DefGlyph code) made = opens_fit work (definitions.Glyph code) made
+code_is_fitting work (codes.DefMask mask) made = opens_fit work (definitions.Mask mask) tt
+code_is_fitting work (codes.DefMacro name show) made = ends_fit work
+code_is_fitting work codes.End made = ends_fit work
+code_is_fitting work _ made = attribute_fits work work (λ shown agrees. agrees)
+
+pub code_fits : CodeFits
+unfolding Fitting
+code_fits work code shown d is made agrees = fits_as work (code_rule work code) d is (code_is_fitting work code made) shown agrees

@@ -4,18 +4,25 @@ use Rattle.std.proofs.Math.ListN.{drop_of_length-le}
 use Rattle.nap_codes.specs.declared.opcode.Opcode.TheVariants as opcodes
 use Rattle.nap_codes.specs.Tables.{left_out_opcode}
 use Rattle.nap_draw.specs.Operands.{operands}
-use Rattle.nap_draw.specs.Laws.{RuleFits, DrawnValuesAreInRange, OpcodesAreDrawn, WholeOperandFirst, NoOperands}
+use Rattle.nap_draw.specs.Laws.{RuleFits, CodeFits, CodeValuesAreInRange, DrawnValuesAreInRange, OpcodesAreDrawn, WholeOperandFirst, NoOperands}
 use Rattle.nap_draw.proofs.Cuts.{operands-front}
 use Rattle.nap_draw.proofs.Fits as fits
 use Rattle.nap_draw.proofs.RangeLemmas as ranges
+use Rattle.nap_draw.proofs.CodeRanges as code_ranges
 
 -- The proofs of the laws.
 
 pub rule_fits : RuleFits
 rule_fits = fits.rule_fits
 
+pub code_fits : CodeFits
+code_fits = fits.code_fits
+
 pub drawn_values_are_in_range : DrawnValuesAreInRange
 drawn_values_are_in_range = ranges.drawn_values_are_in_range
+
+pub code_values_are_in_range : CodeValuesAreInRange
+code_values_are_in_range = code_ranges.code_values_are_in_range
 
 pub opcodes_are_drawn : OpcodesAreDrawn
 unfolding left_out_opcode

@@ -1,9 +1,9 @@
-use Rattle.std.proofs.Common.{◌≡◌, ℕ, ◌+◌, List, [], ◌∷◌, map, length, take, drop, get_or, min, ◌<◌, ◌≤◌, leb, arith, Bool, true, false, Option, None, refl, sym, ◌∙◌, ap, subst}
+use Rattle.std.proofs.Common.{◌≡◌, ℕ, ◌+◌, List, [], ◌∷◌, ◌++◌, map, length, take, drop, get_or, min, ◌<◌, ◌≤◌, leb, arith, Bool, true, false, Option, None, refl, sym, ◌∙◌, ap, subst}
 use Rattle.std.proofs.lemmas.Bool.Decides.{nat_tests}
 use Rattle.std.proofs.lemmas.List.{take_all, drop_all}
 use Rattle.nap_values.specs.Operands.{single_of}
 use Rattle.nap_draw.specs.Operands.{operands}
-use Rattle.nap_draw.proofs.Cuts.{operands-front}
+use Rattle.nap_draw.proofs.Cuts.{operands_chunk}
 use Rattle.nap_list.specs.declared.attribute.Colour.{Colour}
 use Rattle.nap_list.specs.declared.entry.Entry.{Entry}
 use Rattle.nap_list.specs.declared.entry.Entry.TheVariants as entries
@@ -82,14 +82,17 @@ drop_least k xs = at (leb k (length xs)) refl
         ap (λ (n : ℕ). drop n xs) e ∙ (drop_all (length xs) xs (omega arith) ∙ sym (drop_all k xs most))
 
 -- a run that was cut behind its first group
-pub blink_turn : (k n m : ℕ) (colour : Colour) (run group after address times : List ℕ) (a on off delay : ℕ) → 0 < length run →
-    n ≡ min (k + 3) (length run) → m ≡ min k (length group) → group ≡ take n run → after ≡ drop n run → address ≡ take m group → times ≡ drop m group →
-    a ≡ single_of address → on ≡ get_or times 0 0 → off ≡ get_or times 1 0 → delay ≡ get_or times 2 0 →
-    map (blink k colour) (operands (k + 3) run) ≡ entries.Blink a on off delay colour ∷ map (blink k colour) (operands (k + 3) after)
-blink_turn k n m colour run group after address times a on off delay more is part first rest front back at one two three =
-    let cut : operands (k + 3) run ≡ group ∷ operands (k + 3) after =
-    rw (first, rest, is) (operands-front (k + 3) run (omega arith) more) in
+
+-- a blink of its parts
+pub blink_made : (k m : ℕ) (colour : Colour) (group address times : List ℕ) (a on off delay : ℕ) → m ≡ min k (length group) → address ≡ take m group → times ≡ drop m group →
+    a ≡ single_of address → on ≡ get_or times 0 0 → off ≡ get_or times 1 0 → delay ≡ get_or times 2 0 → entries.Blink a on off delay colour ≡ blink k colour group
+blink_made k m colour group address times a on off delay part front back at one two three =
     let by = front ∙ (ap (λ (m : ℕ). take m group) part ∙ take_least k group) in
     let behind = back ∙ (ap (λ (m : ℕ). drop m group) part ∙ drop_least k group) in
-    let made : entries.Blink a on off delay colour ≡ blink k colour group = rw (at, one, two, three, by, behind) refl in
-    ap (map (blink k colour)) cut ∙ ap (λ (e : Entry). e ∷ map (blink k colour) (operands (k + 3) after)) (sym made)
+    rw (at, one, two, three, by, behind) refl
+
+-- the first blink of what is left
+pub blink_left : (k size : ℕ) (colour : Colour) (left group rest : List ℕ) (e : Entry) → size ≡ k + 3 → left ≡ group ++ rest → length group ≡ min size (length left) → 0 < length left →
+    e ≡ blink k colour group → map (blink k colour) (operands (k + 3) left) ≡ e ∷ map (blink k colour) (operands (k + 3) rest)
+blink_left k size colour left group rest e is parts long more made =
+    ap (map (blink k colour)) (operands_chunk (k + 3) size left group rest is (omega arith) parts long more) ∙ ap (λ (e : Entry). e ∷ map (blink k colour) (operands (k + 3) rest)) (sym made)

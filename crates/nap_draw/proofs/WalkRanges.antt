@@ -166,7 +166,7 @@ last_ranged : (e : Entry) → InRange e → IfSome (last_after e) (λ (last : La
 last_ranged (entries.Char set code hand) new = new.0
 last_ranged _ new = tt
 
-after_ranged : (s : State) (e : Entry) → StateInRange s → InRange e → StateInRange (after s e)
+pub after_ranged : (s : State) (e : Entry) → StateInRange s → InRange e → StateInRange (after s e)
 after_ranged s e r new =
     let taken = taking_ranged s.drawing (held e) r.drawing (held_ranged e new) in
     record {

@@ -1,5 +1,6 @@
-use Rattle.std.proofs.Common.{◌≡◌, List, [], ◌∷◌, map, Bool, false, Option, Some, None, Result, Ok, refl, sym, ◌∙◌, ap}
+use Rattle.std.proofs.Common.{◌≡◌, suc, ◌-◌, length, arith, List, [], ◌∷◌, map, Bool, false, Option, Some, None, Result, Ok, refl, sym, ◌∙◌, ap}
 use Rattle.std.specs.Option.{option_map}
+use Rattle.std.specs.List.{slice_get}
 use Rattle.nap_values.specs.Coordinates.{Coordinates}
 use Rattle.nap_list.specs.declared.attribute.Pen.{Pen}
 use Rattle.nap_list.specs.declared.entry.Entry.{Entry}
@@ -9,13 +10,13 @@ use Rattle.nap_list.specs.Entry.{held, WellMade}
 use Rattle.nap_list.specs.State.{with_pen, with_pen_at, drawn, definition_after, last_after, after, walk, Comes, corner}
 use Rattle.nap_list.specs.Agreement.{InMode, Holds}
 use Rattle.nap_list.proofs.PublicLaws.{taking_nothing}
-use Rattle.nap_draw.specs.declared.entries.Figure.{Figure}
-use Rattle.nap_draw.specs.declared.entries.Figure.TheVariants as figures
+use Rattle.nap_draw.specs.declared.spans.Figure.{Figure}
+use Rattle.nap_draw.specs.declared.spans.Figure.TheVariants as figures
 use Rattle.nap_draw.specs.declared.work.Work.{Work}
 use Rattle.nap_draw.specs.declared.fault.DrawFault.{DrawFault}
 use Rattle.nap_draw.specs.Geometry.{end_of}
 use Rattle.nap_draw.specs.Rule.{Drawn, with_drawing, draws, goes, point_on, line_on, rect_on}
-use Rattle.nap_draw.specs.Plans.{end_inside, landed, stroke_on, stroke_end}
+use Rattle.nap_draw.specs.Doing.{landed, stroke_on, stroke_end}
 
 -- entries of one shape that only move the pen, each to a point of its own
 pub record Lands {A : Type 0} (entry : Drawing → A → Entry) (at : A → Coordinates) : Type 0 where
@@ -40,16 +41,11 @@ module _ {A : Type 0} (entry : Drawing → A → Entry) (at : A → Coordinates)
   walk_from s o (x ∷ xs) mode = ap (λ t. walk t (map (entry s.drawing) xs)) (one s o x mode) ∙ walk_from s (Some x) xs mode
 
   -- where such entries lead
-  pub plan_draws : (work : Work) (xs : Option (List A)) (o : Option A) (p : Option Coordinates) → InMode work.state.drawing.base work.state.drawing.colour →
-      end_inside None xs ≡ Ok o → p ≡ option_map at o → (list : List Entry) × (option_map (map (entry work.state.drawing)) xs ≡ Some list)
-      × (draws work entry xs ≡ Ok (record { entries = list; work = record work { state = landed work.state p }; clears = false }))
-  plan_draws work None o p mode is to = let bad : ⊥ = cc in absurd bad
-  plan_draws work (Some xs) o p mode is to =
-      let list = map (entry work.state.drawing) xs in
-      let end : end_of None xs ≡ o = cc in
-      let there = walk_from work.state None xs mode ∙ ap (λ e. landed work.state (option_map at e)) end ∙ ap (landed work.state) (sym to) in
-      let all : State → Result Drawn DrawFault = λ s. Ok (record { entries = list; work = record work { state = s }; clears = false }) in
-      (list, refl, ap all there)
+  pub draws_end : (work : Work) (xs : List A) (p : Option Coordinates) → InMode work.state.drawing.base work.state.drawing.colour → p ≡ option_map at (end_of None xs) →
+      draws work entry (Some xs) ≡ Ok (record { entries = map (entry work.state.drawing) xs; work = record work { state = landed work.state p }; clears = false })
+  draws_end work xs p mode to =
+      let all : State → Result Drawn DrawFault = λ s. Ok (record { entries = map (entry work.state.drawing) xs; work = record work { state = s }; clears = false }) in
+      ap all (walk_from work.state None xs mode ∙ ap (landed work.state) (sym to))
 
 -- what an entry leaves that holds the values that stand
 pub left_by : (s : State) (e : Entry) → Holds (held e) s.drawing → InMode s.drawing.base s.drawing.colour →
@@ -97,10 +93,18 @@ itself None = refl
 itself (Some x) = refl
 
 -- a pen that goes without drawing
-pub plan_goes : (work : Work) (ps : Option (List Coordinates)) (o : Option Coordinates) → end_inside None ps ≡ Ok o →
-    goes work ps ≡ Ok (record { entries = []; work = with_drawing work (with_pen_at o work.state.drawing); clears = false })
+pub goes_end : (work : Work) (ps : List Coordinates) (p : Option Coordinates) → p ≡ end_of None ps →
+    goes work (Some ps) ≡ Ok (record { entries = []; work = with_drawing work (with_pen_at p work.state.drawing); clears = false })
 unfolding walk
-plan_goes work None o is = let bad : ⊥ = cc in absurd bad
-plan_goes work (Some ps) o is =
-    let end : end_of None ps ≡ o = cc in
-    ap (λ e. Ok (record { entries = []; work = with_drawing work (with_pen_at e work.state.drawing); clears = false })) end
+goes_end work ps p is = ap (λ e. Ok (record { entries = []; work = with_drawing work (with_pen_at e work.state.drawing); clears = false })) (sym is)
+
+-- the last of them
+end_last : {A : Type 0} (o : Option A) (x : A) (xs : List A) → end_of o (x ∷ xs) ≡ slice_get (x ∷ xs) (length xs)
+unfolding end_of
+end_last o x [] = refl
+end_last o x (y ∷ ys) = end_last (Some x) y ys
+
+pub end_is_last : {A : Type 0} (xs : List A) (p : Option A) → p ≡ slice_get xs (length xs - 1) → p ≡ end_of None xs
+unfolding end_of
+end_is_last [] p is = is
+end_is_last (x ∷ xs) p is = let n : suc (length xs) - 1 ≡ length xs = omega arith in is ∙ (ap (slice_get (x ∷ xs)) n ∙ sym (end_last None x xs))

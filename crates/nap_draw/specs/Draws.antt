@@ -1,8 +1,9 @@
-use Rattle.std.specs.Prelude.{◌≡◌, ◌⊎◌, ◌++◌, Bool, true, List, ◌∷◌, Result, Ok, Err}
+use Rattle.std.specs.Prelude.{◌≡◌, ◌⊎◌, ◌++◌, Bool, true, false, List, ◌∷◌, Result, Ok, Err}
 use Rattle.nap_list.specs.declared.entry.Entry.{Entry}
 use Rattle.nap_list.specs.declared.sink.SinkFault.{SinkFault}
 use Rattle.nap_list.specs.declared.sink.SinkFault.TheVariants as sink_faults
 use Rattle.nap_draw.specs.declared.work.Effects.{Effects}
+use Rattle.nap_draw.specs.declared.work.Work.{Work}
 use Rattle.nap_draw.specs.declared.fault.DrawFault.{DrawFault}
 use Rattle.nap_draw.specs.declared.fault.DrawFault.TheVariants as faults
 use Rattle.nap_draw.specs.Rule.{Drawn}
@@ -26,18 +27,19 @@ cause_of faults.Memory = memory
 cause_of faults.Sink = device
 cause_of _ = stream
 
--- a front of the list was taken
-abbrev pub Puts : {S : Type 0} → (S → List Entry → S → Type 0) → S → List Entry → S → Type 0
-Puts took s list t = (front : List Entry) × (rest : List Entry) × (list ≡ front ++ rest) × took s front t
+-- a front of the list was taken, and the next entry wasn't
+abbrev pub Stops : {S : Type 0} → (S → List Entry → S → Type 0) → S → List Entry → S → Type 0
+Stops took s list t = (front : List Entry) × (next : Entry) × (rest : List Entry) × (list ≡ front ++ next ∷ rest) × took s front t
 
 -- a front of the list was taken, and the next entry broke
 abbrev pub Breaks : {S : Type 0} → (S → List Entry → Entry → S → Type 0) → S → List Entry → S → Type 0
 Breaks broke s list t = (front : List Entry) × (next : Entry) × (rest : List Entry) × (list ≡ front ++ next ∷ rest) × broke s front next t
 
--- what a sink took of the entries that a rule gives, where this fault was answered
+-- What a sink took of the entries that a rule gives, where this fault was answered. Memory is wanted before the first of
+-- them, or for one of them.
 abbrev pub DrawsBy : {S : Type 0} → (S → List Entry → S → Type 0) → (S → List Entry → Entry → S → Type 0) → (S → Bool) → Result Drawn DrawFault → S → S → DrawFault → Cause → Type 0
 DrawsBy took broke failed by s t fault stream = (by ≡ Err fault) × (t ≡ s)
-DrawsBy took broke failed by s t fault memory = (drawn : Drawn) × (by ≡ Ok drawn) × Puts took s drawn.entries t
+DrawsBy took broke failed by s t fault memory = (drawn : Drawn) × (by ≡ Ok drawn) × ((t ≡ s) ⊎ Stops took s drawn.entries t)
 DrawsBy took broke failed by s t fault device = (drawn : Drawn) × (by ≡ Ok drawn) × (((failed s ≡ true) × (t ≡ s)) ⊎ Breaks broke s drawn.entries t)
 
 -- what a sink took of the entries that a rule gives, where this was answered
@@ -48,5 +50,10 @@ Draws took broke failed by s t (Err fault) = DrawsBy took broke failed by s t fa
 -- what a sink took of a list that was put
 abbrev pub PutsAll : {S : Type 0} → (S → List Entry → S → Type 0) → (S → List Entry → Entry → S → Type 0) → (S → Bool) → List Entry → S → S → Result (Unit {0}) SinkFault → Type 0
 PutsAll took broke failed list s t (Ok _) = took s list t
-PutsAll took broke failed list s t (Err sink_faults.Memory) = Puts took s list t
+PutsAll took broke failed list s t (Err sink_faults.Memory) = Stops took s list t
 PutsAll took broke failed list s t (Err sink_faults.Write) = ((failed s ≡ true) × (t ≡ s)) ⊎ Breaks broke s list t
+
+-- an answer without the macros, which stay
+abbrev pub quietly : Result Work DrawFault → Result Effects DrawFault
+quietly (Ok work) = Ok (record { work = work; clears = false })
+quietly (Err fault) = Err fault

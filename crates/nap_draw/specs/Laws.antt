@@ -1,5 +1,6 @@
 use Rattle.std.specs.Prelude.{ℕ, ◌≡◌, ◌≤◌, List, [], ◌∷◌, ◌++◌, None, Ok, All, length}
 use Rattle.nap_values.specs.Laws.{IsWord}
+use Rattle.nap_codes.specs.declared.code.Code.{Code}
 use Rattle.nap_codes.specs.declared.opcode.Opcode.{Opcode}
 use Rattle.nap_codes.specs.Tables.{left_out_opcode}
 use Rattle.nap_list.specs.declared.state.State.{State}
@@ -7,6 +8,7 @@ use Rattle.nap_list.specs.State.{AllFit, walk}
 use Rattle.nap_list.specs.Agreement.{StatesAgree}
 use Rattle.nap_list.specs.Range.{AllInRange, StateInRange}
 use Rattle.nap_draw.specs.declared.work.Work.{Work}
+use Rattle.nap_draw.specs.Codes.{code_rule, IsMade}
 use Rattle.nap_draw.specs.Operands.{operands}
 use Rattle.nap_draw.specs.Rule.{Drawn, IsDrawn, rule}
 
@@ -31,3 +33,14 @@ WholeOperandFirst = (k : ℕ) (operand rest : List ℕ) → 1 ≤ k → length o
 -- no words have no operands
 abbrev pub NoOperands : Type 0
 NoOperands = (k : ℕ) → operands k [] ≡ []
+
+-- where the work's state agrees with the one shown, the entries of a character or a control fit one after another, and the states
+-- agree again
+abbrev pub CodeFits : Type 0
+CodeFits = (work : Work) (code : Code) (shown : State) (d : Drawn) → code_rule work code ≡ Ok d → IsMade code → StatesAgree work.state shown →
+    AllFit shown d.entries × StatesAgree d.work.state (walk shown d.entries)
+
+-- where the work's state is in range, the entries of a character or a control are in range, and so is the state that it leaves
+abbrev pub CodeValuesAreInRange : Type 0
+CodeValuesAreInRange = (work : Work) (code : Code) (d : Drawn) → code_rule work code ≡ Ok d → IsMade code → StateInRange work.state →
+    AllInRange d.entries × StateInRange d.work.state

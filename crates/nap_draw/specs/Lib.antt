@@ -1,8 +1,9 @@
 pub mod Operands
 pub mod Geometry
-pub mod Cursors
 pub mod Rule
 pub mod Carried
+pub mod Codes
 pub mod Draws
-pub mod Plans
+pub mod Acts
+pub mod Doing
 pub mod Laws

@@ -1,79 +1,93 @@
 //! SELECT COLOR and SET COLOR: the colour modes and the colour map.
-ghost use Rattle.std.specs.Prelude.{◌≡◌};
+ghost use Rattle.std.specs.Prelude.{◌≡◌, [], false, Ok};
+ghost use Rattle.nap_list.specs.Agreement.{StatesAgree};
 ghost use Rattle.nap_draw.specs.Operands.{addresses};
-ghost use Rattle.nap_draw.specs.Rule.{selected, rule};
-ghost use Rattle.nap_draw.specs.Plans.{direct_plan, map_plan, Plans};
+ghost use Rattle.nap_draw.specs.Rule.{selected, colours_as, maps, with_drawing, rule};
+ghost use Rattle.nap_draw.specs.Doing.{Does, Sets, quiet};
 
-use crate::entries::Entries;
 use crate::fault::DrawFault;
-use crate::operands::Addresses;
-use crate::plan::Plan;
-use crate::work::{Effects, Work};
+use crate::work::Work;
 use nap_codes::Opcode;
-use nap_list::{Base, Colour, Entry};
-use nap_values::{Addr, Domain, Grb, Word, colour};
+use nap_list::{Base, Colour, Entry, Sink};
+use nap_values::{Addr, Domain, Grb, Word, colour, single};
 
-pub(crate) fn select_color<'a>(mut work: Work, run: &[Word]) -> Result<Plan<'a>, DrawFault>
-    ensures { Plans (rule work Opcode.SelectColor run.now) result }
-{
-    let base = work.base();
-    work.state.drawing.colour = selected(base, work.domain, run);
-    Ok(Plan::silent(work))
+impl Work {
+    pub(crate) fn select_color(&mut self, run: &[Word]) -> Result<(), DrawFault>
+        ensures { Sets (rule self.old Opcode.SelectColor run.now) self.old self.new result }
+    {
+        let base = self.base();
+        self.state.drawing.colour = selected(base, self.domain, run);
+        Ok(())
+    }
+
+    pub(crate) fn set_color<S: Sink>(&mut self, run: &[Word], sink: &mut S) -> Result<(), DrawFault>
+        requires { StatesAgree self.old.state (S.state sink.old) }
+        ensures { Does S.Sink quiet (rule self.old Opcode.SetColor run.now) self.old self.new sink.old sink.new result }
+    {
+        let size = self.domain.multi();
+        if run.is_empty() {
+            return Err(DrawFault::Missing);
+        }
+        if run.len() > usize::from(size) {
+            return Err(DrawFault::ManyColours);
+        }
+        self.set(colour(run, size), sink)
+    }
+
+    /// A new colour: of mode 0, or at the address that is chosen.
+    fn set<S: Sink>(&mut self, grb: Grb, sink: &mut S) -> Result<(), DrawFault>
+        requires { StatesAgree self.old.state (S.state sink.old) }
+        ensures { Does S.Sink quiet (colours_as self.old self.old.state.drawing.colour grb) self.old self.new sink.old sink.new result }
+    {
+        match self.colour() {
+            Colour::Own(_) => {
+                self.become_direct(grb);
+                Ok(())
+            }
+            Colour::Direct(_) => {
+                self.become_direct(grb);
+                Ok(())
+            }
+            Colour::Front(addr) => self.map(addr, grb, sink),
+            Colour::Pair(addr, _) => self.map(addr, grb, sink),
+            Colour::ByReset(_) => Err(DrawFault::NoAddress),
+        }
+    }
+
+    /// A new colour of mode 0.
+    fn become_direct(&mut self, grb: Grb)
+        ensures { self.new ≡ with_drawing self.old (record self.old.state.drawing { base = Base.Direct grb; colour = Colour.Direct grb }) }
+    {
+        self.state.drawing.base = Base::Direct(grb);
+        self.state.drawing.colour = Colour::Direct(grb);
+    }
+
+    /// A new colour at the address.
+    fn map<S: Sink>(&mut self, addr: Addr, grb: Grb, sink: &mut S) -> Result<(), DrawFault>
+        requires { StatesAgree self.old.state (S.state sink.old) }
+        ensures { Does S.Sink quiet (maps self.old addr grb) self.old self.new sink.old sink.new result }
+    {
+        self.put(Entry::Map { addr, grb }, sink)?;
+        self.state.last = None;
+        Ok(())
+    }
 }
 
 /// The colour that the operands select.
 fn selected(base: Base, domain: Domain, run: &[Word]) -> Colour
     ensures { result ≡ selected base (addresses domain.single run.now) }
 {
-    let mut addresses = Addresses { domain, rest: run };
+    let size = domain.single();
+    let mut addresses = run.chunks(usize::from(size));
     let Some(first) = addresses.next() else {
         return match base {
             Base::Own(origin) => Colour::Own(origin),
             Base::Direct(grb) => Colour::Direct(grb),
         };
     };
+    let first = single(first, size);
     match addresses.next() {
         None => Colour::Front(first),
-        Some(second) => Colour::Pair(first, second),
-    }
-}
-
-pub(crate) fn set_color<'a>(work: Work, run: &[Word]) -> Result<Plan<'a>, DrawFault>
-    ensures { Plans (rule work Opcode.SetColor run.now) result }
-{
-    let size = work.domain.multi();
-    if run.is_empty() {
-        return Err(DrawFault::Missing);
-    }
-    if run.len() > usize::from(size) {
-        return Err(DrawFault::ManyColours);
-    }
-    let grb = colour(run, size);
-    match work.colour() {
-        Colour::Own(_) => Ok(direct(work, grb)),
-        Colour::Direct(_) => Ok(direct(work, grb)),
-        Colour::Front(addr) => Ok(map(work, addr, grb)),
-        Colour::Pair(addr, _) => Ok(map(work, addr, grb)),
-        Colour::ByReset(_) => Err(DrawFault::NoAddress),
-    }
-}
-
-/// A new colour of mode 0.
-fn direct<'a>(mut work: Work, grb: Grb) -> Plan<'a>
-    ensures { result ≡ direct_plan work grb }
-{
-    work.state.drawing.base = Base::Direct(grb);
-    work.state.drawing.colour = Colour::Direct(grb);
-    Plan::silent(work)
-}
-
-/// A new colour at the address.
-fn map<'a>(mut work: Work, addr: Addr, grb: Grb) -> Plan<'a>
-    ensures { result ≡ map_plan work addr grb }
-{
-    work.state.last = None;
-    Plan {
-        entries: Entries::Single(Some(Entry::Map { addr, grb })),
-        effects: Effects::quiet(work),
+        Some(second) => Colour::Pair(first, single(second, size)),
     }
 }

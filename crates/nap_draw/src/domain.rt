@@ -1,11 +1,10 @@
 //! DOMAIN: the lengths of operands, and the logical pel.
 ghost use Rattle.std.specs.Prelude.{◌≡◌, ◌/◌, ◌%◌, ◌+◌};
 ghost use Rattle.nap_draw.specs.Rule.{domain_in, rule};
-ghost use Rattle.nap_draw.specs.Plans.{Plans};
+ghost use Rattle.nap_draw.specs.Doing.{Sets};
 
 use crate::fault::DrawFault;
-use crate::operands::Moves;
-use crate::plan::Plan;
+use crate::operands::first_move;
 use crate::work::Work;
 use nap_codes::Opcode;
 use nap_values::{Domain, Word};
@@ -18,17 +17,19 @@ fn domain_in(word: Word) -> Domain
     Domain::try_new(bits / 4 % 8 + 1, bits % 4 + 1).unwrap()
 }
 
-pub(crate) fn domain<'a>(mut work: Work, run: &'a [Word]) -> Result<Plan<'a>, DrawFault>
-    ensures { Plans (rule work Opcode.Domain run.now) result }
-{
-    let Some((word, words)) = run.split_first() else {
-        return Err(DrawFault::Missing);
-    };
-    if word.get() / 32 == 1 {
-        return Err(DrawFault::ThreeD);
+impl Work {
+    pub(crate) fn set_domain(&mut self, run: &[Word]) -> Result<(), DrawFault>
+        ensures { Sets (rule self.old Opcode.Domain run.now) self.old self.new result }
+    {
+        let Some((word, words)) = run.split_first() else {
+            return Err(DrawFault::Missing);
+        };
+        if word.get() / 32 == 1 {
+            return Err(DrawFault::ThreeD);
+        }
+        self.domain = domain_in(*word);
+        let pel = first_move(self.domain, words);
+        self.set_pel(pel);
+        Ok(())
     }
-    work.domain = domain_in(*word);
-    let pel = Moves::new(work.domain, words).next();
-    work.set_pel(pel);
-    Ok(Plan::silent(work))
 }

@@ -1,36 +1,40 @@
 //! FIELD: the whole unit screen, or a part of it.
 ghost use Rattle.std.specs.Prelude.{◌≡◌};
+ghost use Rattle.nap_list.specs.Agreement.{StatesAgree};
 ghost use Rattle.nap_draw.specs.Rule.{moves_of, part, area_of, rule};
-ghost use Rattle.nap_draw.specs.Plans.{Plans};
+ghost use Rattle.nap_draw.specs.Doing.{Does, quiet};
 
 use crate::fault::DrawFault;
-use crate::operands::Moves;
-use crate::plan::Plan;
 use crate::spans::{Span, span_by};
 use crate::work::Work;
 use nap_codes::Opcode;
-use nap_list::{Area, Entry};
-use nap_values::{Move, Point, Word};
+use nap_list::{Area, Entry, Pen, Sink};
+use nap_values::{Move, Point, Word, multi};
 
-pub(crate) fn field<'a>(work: Work, run: &[Word]) -> Result<Plan<'a>, DrawFault>
-    ensures { Plans (rule work Opcode.Field run.now) result }
-{
-    let area = area_of(&work, run)?;
-    let pen = work.pen();
-    Ok(Plan::single(work, Entry::Field { area, pen }))
-}
+impl Work {
+    pub(crate) fn field<S: Sink>(&mut self, run: &[Word], sink: &mut S) -> Result<(), DrawFault>
+        requires { StatesAgree self.old.state (S.state sink.old) }
+        ensures { Does S.Sink quiet (rule self.old Opcode.Field run.now) self.old self.new sink.old sink.new result }
+    {
+        let area = self.area_of(run)?;
+        let pen = self.pen();
+        self.single(Entry::Field { area, pen }, Pen::After, sink)
+    }
 
-/// The whole square, or a part from the pen on, or from a point on.
-fn area_of(work: &Work, run: &[Word]) -> Result<Area, DrawFault>
-    ensures { result ≡ area_of work.now (moves_of work.now run.now) }
-{
-    let mut operands = Moves::new(work.domain, run);
-    let Some(first) = operands.next() else {
-        return Ok(Area::Whole);
-    };
-    match operands.next() {
-        None => part(Some(work.pen_point()?), first),
-        Some(second) => part(first.point(), second),
+    /// The whole square, or a part from the pen on, or from a point on.
+    fn area_of(&self, run: &[Word]) -> Result<Area, DrawFault>
+        ensures { result ≡ area_of self.now (moves_of self.now run.now) }
+    {
+        let size = self.domain.multi();
+        let mut operands = run.chunks(usize::from(size));
+        let Some(first) = operands.next() else {
+            return Ok(Area::Whole);
+        };
+        let first = multi(first, size);
+        match operands.next() {
+            None => part(Some(self.pen_point()?), first),
+            Some(second) => part(first.point(), multi(second, size)),
+        }
     }
 }
 

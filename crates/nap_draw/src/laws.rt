@@ -1,14 +1,24 @@
 //! Laws of the rules, over their definitions alone.
-ghost use Rattle.nap_draw.specs.Laws.{RuleFits, DrawnValuesAreInRange, OpcodesAreDrawn, WholeOperandFirst, NoOperands};
+ghost use Rattle.nap_draw.specs.Laws.{RuleFits, CodeFits, DrawnValuesAreInRange, CodeValuesAreInRange, OpcodesAreDrawn, WholeOperandFirst, NoOperands};
 
 /// The entries of an opcode fit where the states agree, which they do again after it.
 pub fn rule_fits()
     ensures { RuleFits }
 {}
 
+/// The entries of a character or a control fit where the states agree, which they do again after it.
+pub fn code_fits()
+    ensures { CodeFits }
+{}
+
 /// The values that an opcode draws with, and those that it leaves, are in the ranges of their types.
 pub fn drawn_values_are_in_range()
     ensures { DrawnValuesAreInRange }
+{}
+
+/// The values that a character or a control draws with, and those that it leaves, are in the ranges of their types.
+pub fn code_values_are_in_range()
+    ensures { CodeValuesAreInRange }
 {}
 
 /// Each opcode that is not left out has a rule.

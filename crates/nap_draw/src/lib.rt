@@ -2,25 +2,27 @@
 #![tactic(auto)]
 
 mod act;
+mod characters;
 mod colours;
+mod controls;
+mod definitions;
 mod domain;
-mod entries;
 mod fault;
 mod field;
 pub mod laws;
 mod lines;
 mod look;
 mod operands;
-mod plan;
 mod points;
-mod put;
+mod putting;
+mod room;
 mod shapes;
 mod spans;
-mod targets;
 mod times;
 mod work;
 
 pub use act::{RUN_LIMIT, apply};
+pub use controls::{control, text};
 pub use fault::DrawFault;
 pub use work::{Effects, Work};
 

@@ -1,93 +1,136 @@
 //! LINE and RECTANGLE, and their SET forms.
-ghost use Rattle.std.specs.Prelude.{◌≡◌, if◌then◌else◌};
-ghost use Rattle.nap_list.specs.Agreement.{InMode};
-ghost use Rattle.nap_draw.specs.Cursors.{spans_left};
+ghost use Rattle.std.specs.Prelude.{◌≡◌, Some, if◌then◌else◌};
+ghost use Rattle.nap_list.specs.Agreement.{StatesAgree};
 ghost use Rattle.nap_draw.specs.Rule.{draws, rule};
-ghost use Rattle.nap_draw.specs.Plans.{stroke_on, Plans};
+ghost use Rattle.nap_draw.specs.Doing.{Does, quiet, linked, paired, stroke_on};
 
-use crate::entries::{Entries, Figure, Strokes};
 use crate::fault::DrawFault;
-use crate::operands::{Moves, some_pairs, start};
-use crate::plan::Plan;
-use crate::spans::{Lines, Spans};
-use crate::targets::{Steps, Targets};
-use crate::work::{Effects, Work};
+use crate::operands::{some_pairs, start};
+use crate::putting::{put_linked, put_paired};
+use crate::room::{corners_into, pairs_into, points_into, steps_into};
+use crate::spans::Figure;
+use crate::work::Work;
 use nap_codes::Opcode;
-use nap_values::Word;
+use nap_list::Sink;
+use nap_values::{Point, Word};
 
-pub(crate) fn line_abs<'a>(work: Work, run: &'a [Word]) -> Result<Plan<'a>, DrawFault>
-    requires { InMode work.state.drawing.base work.state.drawing.colour }
-    ensures { Plans (rule work Opcode.LineAbs run.now) result }
-{
-    let from = start(&work, run)?;
-    let moves = Moves::new(work.domain, run);
-    let targets = Targets::At(moves);
-    strokes(work, Figure::Line, &Spans::Joined(Lines { from, targets }))
-}
+impl Work {
+    pub(crate) fn line_abs<S: Sink>(
+        &mut self,
+        room: &mut Vec<Point>,
+        run: &[Word],
+        sink: &mut S,
+    ) -> Result<(), DrawFault>
+        requires { StatesAgree self.old.state (S.state sink.old) }
+        ensures { Does S.Sink quiet (rule self.old Opcode.LineAbs run.now) self.old self.new sink.old sink.new result }
+    {
+        let from = start(self, run)?;
+        points_into(room, self.domain, run)?;
+        self.linked(Figure::Line, from, room, sink)
+    }
 
-pub(crate) fn line_rel<'a>(work: Work, run: &'a [Word]) -> Result<Plan<'a>, DrawFault>
-    requires { InMode work.state.drawing.base work.state.drawing.colour }
-    ensures { Plans (rule work Opcode.LineRel run.now) result }
-{
-    let from = start(&work, run)?;
-    let moves = Moves::new(work.domain, run);
-    let targets = Targets::After(Steps { from, moves });
-    strokes(work, Figure::Line, &Spans::Joined(Lines { from, targets }))
-}
+    pub(crate) fn line_rel<S: Sink>(
+        &mut self,
+        room: &mut Vec<Point>,
+        run: &[Word],
+        sink: &mut S,
+    ) -> Result<(), DrawFault>
+        requires { StatesAgree self.old.state (S.state sink.old) }
+        ensures { Does S.Sink quiet (rule self.old Opcode.LineRel run.now) self.old self.new sink.old sink.new result }
+    {
+        let from = start(self, run)?;
+        steps_into(room, from, self.domain, run)?;
+        self.linked(Figure::Line, from, room, sink)
+    }
 
-pub(crate) fn set_line_abs<'a>(work: Work, run: &'a [Word]) -> Result<Plan<'a>, DrawFault>
-    requires { InMode work.state.drawing.base work.state.drawing.colour }
-    ensures { Plans (rule work Opcode.SetLineAbs run.now) result }
-{
-    some_pairs(&work, run)?;
-    let moves = Moves::new(work.domain, run);
-    strokes(work, Figure::Line, &Spans::Between(moves))
-}
+    pub(crate) fn set_line_abs<S: Sink>(
+        &mut self,
+        room: &mut Vec<Point>,
+        run: &[Word],
+        sink: &mut S,
+    ) -> Result<(), DrawFault>
+        requires { StatesAgree self.old.state (S.state sink.old) }
+        ensures { Does S.Sink quiet (rule self.old Opcode.SetLineAbs run.now) self.old self.new sink.old sink.new result }
+    {
+        some_pairs(self, run)?;
+        points_into(room, self.domain, run)?;
+        self.paired(Figure::Line, room, sink)
+    }
 
-pub(crate) fn set_line_rel<'a>(work: Work, run: &'a [Word]) -> Result<Plan<'a>, DrawFault>
-    requires { InMode work.state.drawing.base work.state.drawing.colour }
-    ensures { Plans (rule work Opcode.SetLineRel run.now) result }
-{
-    some_pairs(&work, run)?;
-    let moves = Moves::new(work.domain, run);
-    strokes(work, Figure::Line, &Spans::Away(moves))
-}
+    pub(crate) fn set_line_rel<S: Sink>(
+        &mut self,
+        room: &mut Vec<Point>,
+        run: &[Word],
+        sink: &mut S,
+    ) -> Result<(), DrawFault>
+        requires { StatesAgree self.old.state (S.state sink.old) }
+        ensures { Does S.Sink quiet (rule self.old Opcode.SetLineRel run.now) self.old self.new sink.old sink.new result }
+    {
+        some_pairs(self, run)?;
+        pairs_into(room, self.domain, run)?;
+        self.paired(Figure::Line, room, sink)
+    }
 
-/// Rectangles from the pen on.
-pub(crate) fn rect<'a>(work: Work, filled: bool, run: &'a [Word]) -> Result<Plan<'a>, DrawFault>
-    requires { InMode work.state.drawing.base work.state.drawing.colour }
-    ensures { Plans (rule work (if filled then Opcode.RectFilled else Opcode.RectOutlined) run.now) result }
-{
-    let from = start(&work, run)?;
-    let moves = Moves::new(work.domain, run);
-    strokes(
-        work,
-        Figure::Rect(filled),
-        &Spans::Across(Steps { from, moves }),
-    )
-}
+    /// Rectangles from the pen on.
+    pub(crate) fn rect<S: Sink>(
+        &mut self,
+        room: &mut Vec<Point>,
+        filled: bool,
+        run: &[Word],
+        sink: &mut S,
+    ) -> Result<(), DrawFault>
+        requires { StatesAgree self.old.state (S.state sink.old) }
+        ensures { Does S.Sink quiet (rule self.old (if filled then Opcode.RectFilled else Opcode.RectOutlined) run.now) self.old self.new sink.old sink.new result }
+    {
+        let from = start(self, run)?;
+        corners_into(room, from, self.domain, run)?;
+        self.linked(Figure::Rect(filled), from, room, sink)
+    }
 
-/// Rectangles from points of their own on.
-pub(crate) fn set_rect<'a>(work: Work, filled: bool, run: &'a [Word]) -> Result<Plan<'a>, DrawFault>
-    requires { InMode work.state.drawing.base work.state.drawing.colour }
-    ensures { Plans (rule work (if filled then Opcode.SetRectFilled else Opcode.SetRectOutlined) run.now) result }
-{
-    some_pairs(&work, run)?;
-    let moves = Moves::new(work.domain, run);
-    strokes(work, Figure::Rect(filled), &Spans::Away(moves))
-}
+    /// Rectangles from points of their own on.
+    pub(crate) fn set_rect<S: Sink>(
+        &mut self,
+        room: &mut Vec<Point>,
+        filled: bool,
+        run: &[Word],
+        sink: &mut S,
+    ) -> Result<(), DrawFault>
+        requires { StatesAgree self.old.state (S.state sink.old) }
+        ensures { Does S.Sink quiet (rule self.old (if filled then Opcode.SetRectFilled else Opcode.SetRectOutlined) run.now) self.old self.new sink.old sink.new result }
+    {
+        some_pairs(self, run)?;
+        pairs_into(room, self.domain, run)?;
+        self.paired(Figure::Rect(filled), room, sink)
+    }
 
-/// The figure along each span.
-fn strokes<'a>(mut work: Work, figure: Figure, spans: &Spans<'a>) -> Result<Plan<'a>, DrawFault>
-    requires { InMode work.state.drawing.base work.state.drawing.colour }
-    ensures { Plans (draws work (stroke_on figure) (spans_left spans.now)) result }
-{
-    let end = spans.end()?;
-    let ink = work.ink();
-    work.land(figure.end(end));
-    let spans = spans.copy();
-    Ok(Plan {
-        entries: Entries::Strokes(Strokes { figure, spans, ink }),
-        effects: Effects::quiet(work),
-    })
+    /// The figure from this point to the first, and on from its end to each further one.
+    fn linked<S: Sink>(
+        &mut self,
+        figure: Figure,
+        from: Point,
+        points: &[Point],
+        sink: &mut S,
+    ) -> Result<(), DrawFault>
+        requires { StatesAgree self.old.state (S.state sink.old) }
+        ensures { Does S.Sink quiet (draws self.old (stroke_on figure) (Some (linked figure from points.now))) self.old self.new sink.old sink.new result }
+    {
+        let last = put_linked(figure, from, points, &self.state.drawing, sink)?;
+        self.land(figure.end(last));
+        Ok(())
+    }
+
+    /// The figure between the points of each pair.
+    fn paired<S: Sink>(
+        &mut self,
+        figure: Figure,
+        points: &[Point],
+        sink: &mut S,
+    ) -> Result<(), DrawFault>
+        requires { StatesAgree self.old.state (S.state sink.old) }
+        ensures { Does S.Sink quiet (draws self.old (stroke_on figure) (Some (paired points.now))) self.old self.new sink.old sink.new result }
+    {
+        let last = put_paired(figure, points, &self.state.drawing, sink)?;
+        self.land(figure.end(last));
+        Ok(())
+    }
 }

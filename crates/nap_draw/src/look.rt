@@ -1,27 +1,52 @@
 //! RESET, TEXT and TEXTURE.
 ghost use Rattle.std.specs.Prelude.{◌≡◌, ◌%◌, ◌==◌, if◌then◌else◌, slice_get, unwrap_or, option_map};
 ghost use Rattle.std.specs.Option.{option_or};
-ghost use Rattle.nap_draw.specs.Rule.{start_domain, first_move, rule};
-ghost use Rattle.nap_draw.specs.Plans.{Plans};
+ghost use Rattle.nap_list.specs.Agreement.{StatesAgree};
+ghost use Rattle.nap_draw.specs.Rule.{start_domain, rule};
+ghost use Rattle.nap_draw.specs.Acts.{told};
+ghost use Rattle.nap_draw.specs.Doing.{Does, Sets};
 
 use crate::fault::DrawFault;
-use crate::operands::{Moves, word_at, words_from};
-use crate::plan::Plan;
+use crate::operands::{first_move, word_at, words_from};
 use crate::work::Work;
 use nap_codes::Opcode;
-use nap_list::{CharSize, Entry, TextLook, Texture};
+use nap_list::{CharSize, Entry, Sink, TextLook, Texture};
 use nap_values::{Domain, Move, Word};
 
-pub(crate) fn reset<'a>(mut work: Work, run: &[Word]) -> Result<Plan<'a>, DrawFault>
-    ensures { Plans (rule work Opcode.Reset run.now) result }
-{
-    let first = word_at(run, 0);
-    let second = word_at(run, 1);
-    let pen = work.pen();
-    work.domain = domain_after(work.domain, first);
-    let mut plan = Plan::single(work, Entry::Reset { first, second, pen });
-    plan.effects.clears = second.get() / 16 % 2 == 1;
-    Ok(plan)
+impl Work {
+    /// Says whether all macros are cleared.
+    pub(crate) fn reset<S: Sink>(&mut self, run: &[Word], sink: &mut S) -> Result<bool, DrawFault>
+        requires { StatesAgree self.old.state (S.state sink.old) }
+        ensures { Does S.Sink told (rule self.old Opcode.Reset run.now) self.old self.new sink.old sink.new result }
+    {
+        let first = word_at(run, 0);
+        let second = word_at(run, 1);
+        let pen = self.pen();
+        let domain = domain_after(self.domain, first);
+        self.put(Entry::Reset { first, second, pen }, sink)?;
+        self.state.drawing.reset(first, second);
+        self.state.last = None;
+        self.domain = domain;
+        Ok(second.get() / 16 % 2 == 1)
+    }
+
+    pub(crate) fn set_text(&mut self, run: &[Word]) -> Result<(), DrawFault>
+        ensures { Sets (rule self.old Opcode.Text run.now) self.old self.new result }
+    {
+        let size = first_move(self.domain, words_from(run, 2));
+        let look = text_after(self.look(), run, size);
+        self.state.drawing.text = look;
+        Ok(())
+    }
+
+    pub(crate) fn set_texture(&mut self, run: &[Word]) -> Result<(), DrawFault>
+        ensures { Sets (rule self.old Opcode.Texture run.now) self.old self.new result }
+    {
+        let mask = first_move(self.domain, words_from(run, 1));
+        let texture = texture_after(self.texture(), run, mask);
+        self.state.drawing.texture = texture;
+        Ok(())
+    }
 }
 
 /// The lengths of operands after a reset with this first word.
@@ -33,15 +58,6 @@ fn domain_after(domain: Domain, first: Word) -> Domain
     } else {
         domain
     }
-}
-
-pub(crate) fn text<'a>(mut work: Work, run: &[Word]) -> Result<Plan<'a>, DrawFault>
-    ensures { Plans (rule work Opcode.Text run.now) result }
-{
-    let size = first_move(&work, words_from(run, 2));
-    let look = text_after(work.text(), run, size);
-    work.state.drawing.text = look;
-    Ok(Plan::silent(work))
 }
 
 /// The look with the words that the run has, and with the size.
@@ -59,15 +75,6 @@ fn text_after(look: TextLook, run: &[Word], size: Option<Move>) -> TextLook
     }
 }
 
-pub(crate) fn texture<'a>(mut work: Work, run: &[Word]) -> Result<Plan<'a>, DrawFault>
-    ensures { Plans (rule work Opcode.Texture run.now) result }
-{
-    let mask = first_move(&work, words_from(run, 1));
-    let texture = texture_after(work.texture(), run, mask);
-    work.state.drawing.texture = texture;
-    Ok(Plan::silent(work))
-}
-
 /// The texture with the word that the run has, and with the mask.
 fn texture_after(texture: Texture, run: &[Word], mask: Option<Move>) -> Texture
     ensures { result ≡ record { word = unwrap_or (slice_get run.now 0) texture.word; mask = option_or mask texture.mask } }
@@ -76,11 +83,4 @@ fn texture_after(texture: Texture, run: &[Word], mask: Option<Move>) -> Texture
         word: run.first().copied().unwrap_or(texture.word),
         mask: mask.or(texture.mask),
     }
-}
-
-/// The first multi-value operand, if there is one.
-fn first_move(work: &Work, run: &[Word]) -> Option<Move>
-    ensures { result ≡ first_move work.now run.now }
-{
-    Moves::new(work.domain, run).next()
 }

@@ -1,23 +1,14 @@
-//! The operands of a run, one after another (PDI operands).
-ghost use Rattle.std.specs.Prelude.{◌≡◌, length, List, Result, Err, IfOk, IfErr, slice_index, drop};
-ghost use Rattle.std.specs.Iterator.{YieldsFirst, item_count};
+//! The checks that come before the points of a run, and operands at its front (PDI operands).
+ghost use Rattle.std.specs.Prelude.{◌≡◌, ◌%◌, length, List, Result, Err, IfOk, IfErr, OnOk, slice_index, drop, slice_get};
 ghost use Rattle.nap_values.specs.Coordinates.{Coordinates, Displacement};
 ghost use Rattle.nap_draw.specs.declared.fault.DrawFault.{DrawFault};
 ghost use Rattle.nap_draw.specs.Operands.{moves};
 ghost use Rattle.nap_draw.specs.Rule.{Drawn, moves_of, with_operands, with_pairs, from_pen};
 ghost use Rattle.nap_draw.specs.Draws.{stream, cause_of};
-ghost use Rattle.nap_draw.specs.Cursors.{moves_left, moves_count, addresses_left};
 
 use crate::fault::DrawFault;
 use crate::work::Work;
-use nap_values::{Addr, Domain, Move, Point, Word, multi, single};
-
-/// The multi-value operands of a run that are still to be read.
-#[derive(Drop)]
-pub(crate) struct Moves<'a> {
-    pub domain: Domain,
-    pub rest: &'a [Word],
-}
+use nap_values::{Domain, Move, Point, Word, multi};
 
 /// An operand at least is needed.
 pub(crate) fn some_operand(work: &Work, run: &[Word]) -> Result<(), DrawFault>
@@ -33,9 +24,10 @@ pub(crate) fn some_operand(work: &Work, run: &[Word]) -> Result<(), DrawFault>
 /// A pair of operands at least is needed, and no pair may lack its second.
 pub(crate) fn some_pairs(work: &Work, run: &[Word]) -> Result<(), DrawFault>
     ensures ok { IfOk result (λ _. (f : List Displacement → Result Drawn DrawFault) → with_pairs work.now run.now f ≡ f (moves_of work.now run.now)) }
+    ensures even { OnOk result (length (moves_of work.now run.now) % 2 ≡ 0) }
     ensures err { IfErr result (λ fault. (cause_of fault ≡ stream) × ((f : List Displacement → Result Drawn DrawFault) → with_pairs work.now run.now f ≡ Err fault)) }
 {
-    let count = Moves::new(work.domain, run).len();
+    let count = count(work.domain, run);
     if count == 0 || count % 2 == 1 {
         return Err(DrawFault::Missing);
     }
@@ -51,73 +43,20 @@ pub(crate) fn start(work: &Work, run: &[Word]) -> Result<Point, DrawFault>
     work.pen_point()
 }
 
-impl<'a> Moves<'a> {
-    /// All the operands of the run.
-    pub(crate) fn new(domain: Domain, run: &'a [Word]) -> Moves<'a>
-        ensures { moves_left result ≡ moves domain.multi run.now }
-    {
-        Moves { domain, rest: run }
-    }
-
-    /// How many operands there are.
-    pub(crate) fn len(&self) -> usize
-        ensures { result ≡ moves_count self.now }
-    {
-        self.rest.len().div_ceil(usize::from(self.domain.multi()))
-    }
-
-    /// The same operands again.
-    pub(crate) fn copy(&self) -> Moves<'a>
-        ensures { result ≡ self.now }
-    {
-        Moves {
-            domain: self.domain,
-            rest: self.rest,
-        }
-    }
+/// How many multi-value operands the run has.
+pub(crate) fn count(domain: Domain, run: &[Word]) -> usize
+    ensures { result ≡ length (moves domain.multi run.now) }
+{
+    run.len().div_ceil(usize::from(domain.multi()))
 }
 
-impl Iterator for Moves<'_> {
-    type Item = Move;
-
-    ghost next_gives = { YieldsFirst moves_left };
-
-    ghost remaining = { item_count moves_left };
-
-    fn next(&mut self) -> Option<Move> {
-        if self.rest.is_empty() {
-            return None;
-        }
-        let size = self.domain.multi();
-        let (operand, rest) = self.rest.split_at(usize::from(size).min(self.rest.len()));
-        self.rest = rest;
-        Some(multi(operand, size))
-    }
-}
-
-/// The single-value operands of a run that are still to be read.
-#[derive(Drop)]
-pub(crate) struct Addresses<'a> {
-    pub domain: Domain,
-    pub rest: &'a [Word],
-}
-
-impl Iterator for Addresses<'_> {
-    type Item = Addr;
-
-    ghost next_gives = { YieldsFirst addresses_left };
-
-    ghost remaining = { item_count addresses_left };
-
-    fn next(&mut self) -> Option<Addr> {
-        if self.rest.is_empty() {
-            return None;
-        }
-        let size = self.domain.single();
-        let (operand, rest) = self.rest.split_at(usize::from(size).min(self.rest.len()));
-        self.rest = rest;
-        Some(single(operand, size))
-    }
+/// The first multi-value operand, if there is one.
+pub(crate) fn first_move(domain: Domain, run: &[Word]) -> Option<Move>
+    ensures { result ≡ slice_get (moves domain.multi run.now) 0 }
+{
+    let size = domain.multi();
+    let operand = run.chunks(usize::from(size)).next()?;
+    Some(multi(operand, size))
 }
 
 /// The word at the index, zero where the run has none.

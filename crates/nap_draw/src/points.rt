@@ -1,73 +1,90 @@
 //! POINT SET and POINT.
-ghost use Rattle.std.specs.Prelude.{◌≡◌, Some, None};
-ghost use Rattle.nap_list.specs.Agreement.{InMode};
-ghost use Rattle.nap_draw.specs.Cursors.{targets_left};
+ghost use Rattle.std.specs.Prelude.{◌≡◌, [], false, Some, Ok};
+ghost use Rattle.nap_list.specs.Agreement.{StatesAgree};
 ghost use Rattle.nap_draw.specs.Rule.{draws, goes, point_on, rule};
-ghost use Rattle.nap_draw.specs.Plans.{Plans};
+ghost use Rattle.nap_draw.specs.Doing.{Does, Sets, quiet};
 
-use crate::entries::{Dots, Entries};
 use crate::fault::DrawFault;
-use crate::operands::{Moves, some_operand, start};
-use crate::plan::Plan;
-use crate::targets::{Steps, Targets};
-use crate::work::{Effects, Work};
+use crate::operands::{some_operand, start};
+use crate::putting::put_points;
+use crate::room::{points_into, steps_into};
+use crate::work::Work;
 use nap_codes::Opcode;
-use nap_values::Word;
+use nap_list::{Pen, Sink};
+use nap_values::{Point, Word};
 
-pub(crate) fn point_set_abs<'a>(work: Work, run: &'a [Word]) -> Result<Plan<'a>, DrawFault>
-    ensures { Plans (rule work Opcode.PointSetAbs run.now) result }
-{
-    some_operand(&work, run)?;
-    let moves = Moves::new(work.domain, run);
-    go(work, &Targets::At(moves))
-}
+impl Work {
+    pub(crate) fn point_set_abs(
+        &mut self,
+        room: &mut Vec<Point>,
+        run: &[Word],
+    ) -> Result<(), DrawFault>
+        ensures { Sets (rule self.old Opcode.PointSetAbs run.now) self.old self.new result }
+    {
+        some_operand(self, run)?;
+        points_into(room, self.domain, run)?;
+        self.go(room);
+        Ok(())
+    }
 
-pub(crate) fn point_set_rel<'a>(work: Work, run: &'a [Word]) -> Result<Plan<'a>, DrawFault>
-    ensures { Plans (rule work Opcode.PointSetRel run.now) result }
-{
-    let from = start(&work, run)?;
-    let moves = Moves::new(work.domain, run);
-    go(work, &Targets::After(Steps { from, moves }))
-}
+    pub(crate) fn point_set_rel(
+        &mut self,
+        room: &mut Vec<Point>,
+        run: &[Word],
+    ) -> Result<(), DrawFault>
+        ensures { Sets (rule self.old Opcode.PointSetRel run.now) self.old self.new result }
+    {
+        let from = start(self, run)?;
+        steps_into(room, from, self.domain, run)?;
+        self.go(room);
+        Ok(())
+    }
 
-pub(crate) fn point_abs<'a>(work: Work, run: &'a [Word]) -> Result<Plan<'a>, DrawFault>
-    requires { InMode work.state.drawing.base work.state.drawing.colour }
-    ensures { Plans (rule work Opcode.PointAbs run.now) result }
-{
-    some_operand(&work, run)?;
-    let moves = Moves::new(work.domain, run);
-    dots(work, &Targets::At(moves))
-}
+    pub(crate) fn point_abs<S: Sink>(
+        &mut self,
+        room: &mut Vec<Point>,
+        run: &[Word],
+        sink: &mut S,
+    ) -> Result<(), DrawFault>
+        requires { StatesAgree self.old.state (S.state sink.old) }
+        ensures { Does S.Sink quiet (rule self.old Opcode.PointAbs run.now) self.old self.new sink.old sink.new result }
+    {
+        some_operand(self, run)?;
+        points_into(room, self.domain, run)?;
+        self.dots(room, sink)
+    }
 
-pub(crate) fn point_rel<'a>(work: Work, run: &'a [Word]) -> Result<Plan<'a>, DrawFault>
-    requires { InMode work.state.drawing.base work.state.drawing.colour }
-    ensures { Plans (rule work Opcode.PointRel run.now) result }
-{
-    let from = start(&work, run)?;
-    let moves = Moves::new(work.domain, run);
-    dots(work, &Targets::After(Steps { from, moves }))
-}
+    pub(crate) fn point_rel<S: Sink>(
+        &mut self,
+        room: &mut Vec<Point>,
+        run: &[Word],
+        sink: &mut S,
+    ) -> Result<(), DrawFault>
+        requires { StatesAgree self.old.state (S.state sink.old) }
+        ensures { Does S.Sink quiet (rule self.old Opcode.PointRel run.now) self.old self.new sink.old sink.new result }
+    {
+        let from = start(self, run)?;
+        steps_into(room, from, self.domain, run)?;
+        self.dots(room, sink)
+    }
 
-/// The pen goes to each target.
-fn go<'a>(mut work: Work, targets: &Targets<'_>) -> Result<Plan<'a>, DrawFault>
-    ensures { Plans (goes work (targets_left targets.now)) result }
-{
-    let end = targets.end()?;
-    work.go(end);
-    Ok(Plan::silent(work))
-}
+    /// The pen goes to each of the points.
+    fn go(&mut self, points: &[Point])
+        ensures { goes self.old (Some points.now) ≡ Ok (record { entries = []; work = self.new; clears = false }) }
+    {
+        let Some(point) = points.last() else {
+            return;
+        };
+        self.state.drawing.pen = Pen::At(*point);
+    }
 
-/// A point at each target.
-fn dots<'a>(mut work: Work, targets: &Targets<'a>) -> Result<Plan<'a>, DrawFault>
-    requires { InMode work.state.drawing.base work.state.drawing.colour }
-    ensures { Plans (draws work point_on (targets_left targets.now)) result }
-{
-    let end = targets.end()?;
-    let ink = work.ink();
-    work.land(end);
-    let targets = targets.copy();
-    Ok(Plan {
-        entries: Entries::Dots(Dots { targets, ink }),
-        effects: Effects::quiet(work),
-    })
+    /// A point at each of the points.
+    fn dots<S: Sink>(&mut self, points: &[Point], sink: &mut S) -> Result<(), DrawFault>
+        requires { StatesAgree self.old.state (S.state sink.old) }
+        ensures { Does S.Sink quiet (draws self.old point_on (Some points.now)) self.old self.new sink.old sink.new result }
+    {
+        put_points(points, &self.state.drawing, sink)?;
+        self.land(points.last().copied());
+        Ok(())
+    }
 }

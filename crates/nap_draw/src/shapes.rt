@@ -1,18 +1,17 @@
 //! ARC and POLYGON, and their SET forms.
-ghost use Rattle.std.specs.Prelude.{◌≡◌, ◌-◌, ◌<◌, ◌≤◌, Some, IsSome, OnOk, IfOk, slice_get};
-ghost use Rattle.nap_list.specs.Agreement.{InMode};
-ghost use Rattle.nap_draw.specs.Geometry.{round, poly_points};
-ghost use Rattle.nap_draw.specs.Cursors.{moves_left, steps_left, steps_count};
+ghost use Rattle.std.specs.Prelude.{◌≡◌, ◌-◌, ◌<◌, ◌≤◌, ◌∷◌, ◌++◌, Some, length, OnOk, IfOk, slice_get};
+ghost use Rattle.nap_list.specs.Agreement.{StatesAgree};
+ghost use Rattle.nap_draw.specs.Geometry.{round};
 ghost use Rattle.nap_draw.specs.Rule.{draws_one, shape_from_pen, shape_from_point};
-ghost use Rattle.nap_draw.specs.Plans.{shape_entry, shape_on, shape_points, Plans};
+ghost use Rattle.nap_draw.specs.Doing.{Does, quiet, outline, shape_end, shape_entry, shape_on, shape_points};
 
 use crate::fault::DrawFault;
-use crate::operands::Moves;
-use crate::plan::Plan;
-use crate::targets::{Steps, Targets};
+use crate::operands::count;
+use crate::room::steps_into;
+use crate::spans::ink_of;
 use crate::work::Work;
-use nap_list::{Entry, Ink, Points, SHAPE_POINTS};
-use nap_values::{Point, Word};
+use nap_list::{Entry, Ink, Pen, Points, SHAPE_POINTS, Sink};
+use nap_values::{Point, Word, multi};
 use std::alloc::{AllocError, Global};
 
 /// What is drawn through points in turn.
@@ -25,75 +24,81 @@ pub(crate) enum Shape {
 /// The most displacements of a shape: its points, but for the one that they go on from.
 const MOST_STEPS: usize = SHAPE_POINTS - 1;
 
-/// A shape from the pen on.
-pub(crate) fn shape_from_pen<'a>(
-    alloc: Global,
-    work: Work,
-    shape: Shape,
-    filled: bool,
-    run: &[Word],
-) -> Result<Plan<'a>, DrawFault>
-    requires { InMode work.state.drawing.base work.state.drawing.colour }
-    ensures { Plans (shape_from_pen work run.now (shape_on shape filled) (shape_points shape)) result }
-{
-    let moves = Moves::new(work.domain, run);
-    let count = moves.len();
-    if count == 0 {
-        return Err(DrawFault::Missing);
+impl Work {
+    /// A shape from the pen on.
+    pub(crate) fn shape_from_pen<S: Sink>(
+        &mut self,
+        alloc: Global,
+        room: &mut Vec<Point>,
+        shape: Shape,
+        filled: bool,
+        run: &[Word],
+        sink: &mut S,
+    ) -> Result<(), DrawFault>
+        requires { StatesAgree self.old.state (S.state sink.old) }
+        ensures { Does S.Sink quiet (shape_from_pen self.old run.now (shape_on shape filled) (shape_points shape)) self.old self.new sink.old sink.new result }
+    {
+        let count = count(self.domain, run);
+        if count == 0 {
+            return Err(DrawFault::Missing);
+        }
+        if count > MOST_STEPS {
+            return Err(DrawFault::ManyPoints);
+        }
+        let from = self.pen_point()?;
+        steps_into(room, from, self.domain, run)?;
+        self.shape(alloc, shape, filled, from, room, sink)
     }
-    if count > MOST_STEPS {
-        return Err(DrawFault::ManyPoints);
-    }
-    let from = work.pen_point()?;
-    draw(alloc, work, shape, filled, &Steps { from, moves })
-}
 
-/// A shape from the point on that the first operand is.
-pub(crate) fn shape_from_point<'a>(
-    alloc: Global,
-    work: Work,
-    shape: Shape,
-    filled: bool,
-    run: &[Word],
-) -> Result<Plan<'a>, DrawFault>
-    requires { InMode work.state.drawing.base work.state.drawing.colour }
-    ensures { Plans (shape_from_point work run.now (shape_on shape filled) (shape_points shape)) result }
-{
-    let mut moves = Moves::new(work.domain, run);
-    let Some(first) = moves.next() else {
-        return Err(DrawFault::Missing);
-    };
-    let count = moves.len();
-    if count == 0 {
-        return Err(DrawFault::Missing);
+    /// A shape from the point on that the first operand is.
+    pub(crate) fn shape_from_point<S: Sink>(
+        &mut self,
+        alloc: Global,
+        room: &mut Vec<Point>,
+        shape: Shape,
+        filled: bool,
+        run: &[Word],
+        sink: &mut S,
+    ) -> Result<(), DrawFault>
+        requires { StatesAgree self.old.state (S.state sink.old) }
+        ensures { Does S.Sink quiet (shape_from_point self.old run.now (shape_on shape filled) (shape_points shape)) self.old self.new sink.old sink.new result }
+    {
+        let size = self.domain.multi();
+        let (first, rest) = run.split_at(usize::from(size).min(run.len()));
+        let count = count(self.domain, rest);
+        if count == 0 {
+            return Err(DrawFault::Missing);
+        }
+        if count > MOST_STEPS {
+            return Err(DrawFault::ManyPoints);
+        }
+        let Some(from) = multi(first, size).point() else {
+            return Err(DrawFault::Outside);
+        };
+        steps_into(room, from, self.domain, rest)?;
+        self.shape(alloc, shape, filled, from, room, sink)
     }
-    if count > MOST_STEPS {
-        return Err(DrawFault::ManyPoints);
-    }
-    let Some(from) = first.point() else {
-        return Err(DrawFault::Outside);
-    };
-    draw(alloc, work, shape, filled, &Steps { from, moves })
-}
 
-/// The shape by the steps.
-fn draw<'a>(
-    alloc: Global,
-    work: Work,
-    shape: Shape,
-    filled: bool,
-    steps: &Steps<'_>,
-) -> Result<Plan<'a>, DrawFault>
-    requires mode { InMode work.state.drawing.base work.state.drawing.colour }
-    requires some { 0 < steps_count steps.now }
-    requires few { steps_count steps.now ≤ SHAPE_POINTS - 1 }
-    ensures { Plans (draws_one work (shape_on shape filled) (shape_points shape steps.now.from (moves_left steps.now.moves))) result }
-{
-    let targets = Targets::After(steps.copy());
-    targets.end()?;
-    let points = shape.points(alloc, steps)?;
-    let entry = shape.entry(filled, points, work.ink());
-    Ok(Plan::single(work, entry))
+    /// The shape through this point and those that follow.
+    fn shape<S: Sink>(
+        &mut self,
+        alloc: Global,
+        shape: Shape,
+        filled: bool,
+        from: Point,
+        points: &[Point],
+        sink: &mut S,
+    ) -> Result<(), DrawFault>
+        requires agrees { StatesAgree self.old.state (S.state sink.old) }
+        requires some { 0 < length points.now }
+        requires few { length points.now ≤ SHAPE_POINTS - 1 }
+        ensures { Does S.Sink quiet (draws_one self.old (shape_on shape filled) (Some (outline shape (from ∷ points.now)))) self.old self.new sink.old sink.new result }
+    {
+        let outline = shape.outline(alloc, from, points)?;
+        let pen = Pen::At(shape.end(from, outline.as_slice()));
+        let entry = shape.entry(filled, outline, ink_of(&self.state.drawing));
+        self.single(entry, pen, sink)
+    }
 }
 
 impl Shape {
@@ -114,34 +119,41 @@ impl Shape {
         }
     }
 
-    /// The points of the shape, none of which is outside the square.
-    fn points(self, alloc: Global, steps: &Steps<'_>) -> Result<Points, AllocError>
-        requires inside { IsSome (steps_left steps.now) }
-        requires few { steps_count steps.now ≤ SHAPE_POINTS - 1 }
-        ensures { IfOk result (λ points. shape_points self steps.now.from (moves_left steps.now.moves) ≡ Some points) }
+    /// Where the pen is once the shape of these points is drawn, the first of which is `from`.
+    fn end(self, from: Point, points: &[Point]) -> Point
+        ensures { result ≡ shape_end self from points.now }
     {
-        let mut points = trace(alloc, steps)?;
         match self {
-            Shape::Arc => round(&mut points, steps.from)?,
+            Shape::Arc => points.last().copied().unwrap_or(from),
+            Shape::Poly => from,
+        }
+    }
+
+    /// The points of the shape that goes through these.
+    fn outline(self, alloc: Global, from: Point, points: &[Point]) -> Result<Points, AllocError>
+        requires { length points.now ≤ SHAPE_POINTS - 1 }
+        ensures { IfOk result (λ made. made ≡ outline self (from ∷ points.now)) }
+    {
+        let mut made = trace(alloc, from, points)?;
+        match self {
+            Shape::Arc => round(&mut made, from)?,
             Shape::Poly => {}
         }
-        Ok(points)
+        Ok(made)
     }
 }
 
-/// The point of the steps, and those that they lead to.
-fn trace(alloc: Global, steps: &Steps<'_>) -> Result<Points, AllocError>
-    requires inside { IsSome (steps_left steps.now) }
-    requires few { steps_count steps.now ≤ SHAPE_POINTS - 1 }
-    ensures { IfOk result (λ points. poly_points steps.now.from (moves_left steps.now.moves) ≡ Some points) }
+/// The point, and those that follow.
+fn trace(alloc: Global, from: Point, points: &[Point]) -> Result<Points, AllocError>
+    requires { length points.now ≤ SHAPE_POINTS - 1 }
+    ensures { IfOk result (λ made. made ≡ from ∷ points.now) }
 {
-    let mut points = Points::with_capacity(alloc, steps.moves.len() + 2)?;
-    points.push(steps.from)?;
-    let mut steps = steps.copy();
-    while let Some(target) = steps.next() {
-        points.push(target.unwrap())?;
+    let mut made = Points::with_capacity(alloc, points.len() + 2)?;
+    made.push(from)?;
+    for point in points {
+        made.push(*point)?;
     }
-    Ok(points)
+    Ok(made)
 }
 
 /// A way of one step goes back to its start.

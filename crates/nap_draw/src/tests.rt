@@ -2,7 +2,7 @@
 ghost use Rattle.std.specs.Prelude.{◌≡◌, length, vec_len, IfOk, IsTrue};
 ghost use Rattle.nap_draw.specs.Rule.{IsDrawn};
 
-use crate::{DrawFault, RUN_LIMIT, Work, apply};
+use crate::{DrawFault, RUN_LIMIT, Work};
 use nap_codes::Opcode;
 use nap_list::{
     Area, CharSize, Colour, Entry, Ink, ListSink, Origin, Pen, Points, TextLook, Texture,
@@ -12,6 +12,8 @@ use std::alloc::{AllocError, Global};
 use std::process::Abort;
 use std::test::Fail;
 
+mod codes;
+mod definitions;
 mod faults;
 mod limits;
 mod resets;
@@ -53,7 +55,7 @@ fn words(alloc: Global, bytes: &[u8]) -> Result<Vec<Word>, AllocError>
     Ok(words)
 }
 
-/// What the opcodes give from the start on, the operands of each as the bytes of a stream.
+/// What the opcodes give from the start on, the operands of each as the bytes of a stream, with one room for all.
 fn answer_to(
     rt: &impl Abort,
     alloc: Global,
@@ -61,17 +63,15 @@ fn answer_to(
 ) -> Result<Answer, AllocError> {
     let mut work = Work::start();
     let mut clears = false;
+    let mut room = Vec::new(alloc);
     let mut sink = ListSink::new(alloc);
     for step in opcodes {
         let (op, bytes) = *step;
         assert!(rt; has_rule(op));
         assert!(rt; bytes.len() <= RUN_LIMIT);
         let run = words(alloc, bytes)?;
-        match apply(alloc, &work, op, &run, &mut sink) {
-            Ok(effects) => {
-                work = effects.work;
-                clears = effects.clears;
-            }
+        match work.act(alloc, &mut room, op, &run, &mut sink) {
+            Ok(cleared) => clears = cleared,
             Err(fault) => {
                 return Ok(Answer {
                     work,

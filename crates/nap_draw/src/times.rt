@@ -1,46 +1,39 @@
 //! WAIT and BLINK.
 ghost use Rattle.std.specs.Prelude.{◌≡◌};
-ghost use Rattle.nap_list.specs.Agreement.{InMode};
+ghost use Rattle.nap_list.specs.Agreement.{StatesAgree};
 ghost use Rattle.nap_draw.specs.Rule.{rule};
-ghost use Rattle.nap_draw.specs.Plans.{Plans};
+ghost use Rattle.nap_draw.specs.Doing.{Does, quiet};
 
-use crate::entries::{Blinks, Entries, Pauses};
 use crate::fault::DrawFault;
-use crate::plan::Plan;
-use crate::work::{Effects, Work};
+use crate::putting::{put_blinks, put_pauses};
+use crate::work::Work;
 use nap_codes::Opcode;
-use nap_list::Entry;
+use nap_list::{Entry, Sink};
 use nap_values::Word;
 
-pub(crate) fn wait<'a>(mut work: Work, run: &'a [Word]) -> Result<Plan<'a>, DrawFault>
-    ensures { Plans (rule work Opcode.Wait run.now) result }
-{
-    if run.is_empty() {
-        return Ok(Plan::silent(work));
+impl Work {
+    pub(crate) fn wait<S: Sink>(&mut self, run: &[Word], sink: &mut S) -> Result<(), DrawFault>
+        requires { StatesAgree self.old.state (S.state sink.old) }
+        ensures { Does S.Sink quiet (rule self.old Opcode.Wait run.now) self.old self.new sink.old sink.new result }
+    {
+        if run.is_empty() {
+            return Ok(());
+        }
+        put_pauses(run, sink)?;
+        self.state.last = None;
+        Ok(())
     }
-    work.state.last = None;
-    Ok(Plan {
-        entries: Entries::Pauses(Pauses { rest: run }),
-        effects: Effects::quiet(work),
-    })
-}
 
-pub(crate) fn blink<'a>(mut work: Work, run: &'a [Word]) -> Result<Plan<'a>, DrawFault>
-    requires { InMode work.state.drawing.base work.state.drawing.colour }
-    ensures { Plans (rule work Opcode.Blink run.now) result }
-{
-    let colour = work.colour();
-    if run.is_empty() {
-        return Ok(Plan::single(work, Entry::BlinkEnd { colour }));
+    pub(crate) fn blink<S: Sink>(&mut self, run: &[Word], sink: &mut S) -> Result<(), DrawFault>
+        requires { StatesAgree self.old.state (S.state sink.old) }
+        ensures { Does S.Sink quiet (rule self.old Opcode.Blink run.now) self.old self.new sink.old sink.new result }
+    {
+        if run.is_empty() {
+            let colour = self.colour();
+            return self.single(Entry::BlinkEnd { colour }, self.pen(), sink);
+        }
+        put_blinks(self.domain, &self.state.drawing, run, sink)?;
+        self.state.last = None;
+        Ok(())
     }
-    work.state.last = None;
-    let domain = work.domain;
-    Ok(Plan {
-        entries: Entries::Blinks(Blinks {
-            domain,
-            colour,
-            rest: run,
-        }),
-        effects: Effects::quiet(work),
-    })
 }

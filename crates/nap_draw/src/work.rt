@@ -1,11 +1,13 @@
 //! What the codes of a stream work on, and what an opcode leaves.
-ghost use Rattle.std.specs.Prelude.{◌≡◌, false, unwrap_or};
-ghost use Rattle.nap_list.specs.State.{with_pen_at};
-ghost use Rattle.nap_draw.specs.Rule.{start_work, pen_point, ink_of, with_drawing};
-ghost use Rattle.nap_draw.specs.Plans.{landed};
+ghost use Rattle.std.specs.Prelude.{◌≡◌, [], ◌∷◌, Ok, unwrap_or};
+ghost use Rattle.nap_list.specs.State.{after};
+ghost use Rattle.nap_list.specs.Agreement.{StatesAgree};
+ghost use Rattle.nap_draw.specs.Codes.{hand_of};
+ghost use Rattle.nap_draw.specs.Rule.{start_work, pen_point, with_drawing, drawn};
+ghost use Rattle.nap_draw.specs.Doing.{MayFollow, Obeys, Put, landed, pen_moved};
 
 use crate::fault::DrawFault;
-use nap_list::{Base, Colour, Ink, Pen, State, TextLook, Texture};
+use nap_list::{Base, Colour, Entry, Hand, Pen, Sink, SinkFault, State, TextLook, Texture};
 use nap_values::{Domain, Move, Point};
 
 /// What the codes of a stream work on.
@@ -26,18 +28,6 @@ pub struct Effects {
     pub work: Work,
     /// Whether all macros are cleared, which RESET alone does.
     pub clears: bool,
-}
-
-impl Effects {
-    /// The work, and no macro cleared.
-    pub(crate) fn quiet(work: Work) -> Effects
-        ensures { result ≡ record { work = work; clears = false } }
-    {
-        Effects {
-            work,
-            clears: false,
-        }
-    }
 }
 
 impl Work {
@@ -64,10 +54,21 @@ impl Work {
     }
 
     /// How text is drawn.
-    pub(crate) fn text(&self) -> TextLook
+    pub(crate) fn look(&self) -> TextLook
         ensures { result ≡ self.now.state.drawing.text }
     {
         self.state.drawing.text
+    }
+
+    /// What text is drawn with.
+    pub(crate) fn hand(&self) -> Hand
+        ensures { result ≡ hand_of self.now.state.drawing }
+    {
+        Hand {
+            pen: self.state.drawing.pen,
+            colour: self.state.drawing.colour,
+            text: self.state.drawing.text,
+        }
     }
 
     /// How lines and areas are drawn.
@@ -109,32 +110,12 @@ impl Work {
         }
     }
 
-    /// What lines and areas are drawn with.
-    pub(crate) fn ink(&self) -> Ink
-        ensures { result ≡ ink_of self.now.state.drawing }
-    {
-        Ink {
-            pel: self.state.drawing.pel,
-            colour: self.state.drawing.colour,
-            texture: self.state.drawing.texture,
-        }
-    }
-
     /// The pel becomes this, where there is one.
     pub(crate) fn set_pel(&mut self, pel: Option<Move>)
         ensures { self.new ≡ with_drawing self.old (record self.old.state.drawing { pel = unwrap_or pel self.old.state.drawing.pel }) }
     {
         if let Some(pel) = pel {
             self.state.drawing.pel = pel;
-        }
-    }
-
-    /// The pen goes to the point, where there is one.
-    pub(crate) fn go(&mut self, point: Option<Point>)
-        ensures { self.new ≡ with_drawing self.old (with_pen_at point self.old.state.drawing) }
-    {
-        if let Some(point) = point {
-            self.state.drawing.pen = Pen::At(point);
         }
     }
 
@@ -146,5 +127,32 @@ impl Work {
             self.state.drawing.pen = Pen::At(point);
             self.state.last = None;
         }
+    }
+
+    /// Puts one entry that holds the values that stand.
+    pub(crate) fn put<S: Sink>(&self, entry: Entry, sink: &mut S) -> Result<(), SinkFault>
+        requires agrees { StatesAgree self.now.state (S.state sink.old) }
+        requires follows { MayFollow self.now.state entry }
+        ensures { Put S.Sink (entry ∷ []) sink.old sink.new result }
+    {
+        sink.put(entry)
+    }
+
+    /// Puts one entry that holds the values that stand, and leaves them but for the pen.
+    pub(crate) fn single<S: Sink>(
+        &mut self,
+        entry: Entry,
+        pen: Pen,
+        sink: &mut S,
+    ) -> Result<(), DrawFault>
+        requires agrees { StatesAgree self.old.state (S.state sink.old) }
+        requires follows { MayFollow self.old.state entry }
+        requires leaves { after self.old.state entry ≡ pen_moved self.old.state pen }
+        ensures { Obeys S.Sink (Ok (drawn self.old (entry ∷ []))) self.old self.new sink.old sink.new result }
+    {
+        self.put(entry, sink)?;
+        self.state.drawing.pen = pen;
+        self.state.last = None;
+        Ok(())
     }
 }

@@ -17,8 +17,8 @@ use Rattle.nap_list.specs.declared.state.LastChar.{LastChar}
 use Rattle.nap_list.specs.declared.state.State.{State}
 use Rattle.nap_list.specs.declared.entry.Entry.{Entry}
 use Rattle.nap_list.specs.declared.entry.Entry.TheVariants as entries
-use Rattle.nap_list.specs.Entry.{held}
-use Rattle.nap_list.specs.State.{PenFits, ColourFits, MaskFits, TextureFits, HeldFits, Comes, base_shown, colour_code, taking, with_pen, with_pen_at, reset, saved_values, drawn, definition_after, start_texture}
+use Rattle.nap_list.specs.Entry.{held, IsCode, WellMade}
+use Rattle.nap_list.specs.State.{PenFits, ColourFits, MaskFits, TextureFits, HeldFits, Comes, base_shown, colour_code, taking, with_pen, with_pen_at, reset, saved_values, drawn, definition_after, last_after, start_texture}
 use Rattle.nap_list.specs.Agreement.{BaseAgrees, ColourAgrees, InMode, Agrees, DefinitionsAgree, StatesAgree, Holds, AgreeingFits}
 use Rattle.nap_list.specs.Laws.{StartAgrees, TakingNothing}
 
@@ -203,6 +203,10 @@ comes_too s shown (entries.MaskStart mask) h comes = none_agrees s.definition sh
 comes_too s shown entries.DefEnd h comes = some_agrees s.definition shown.definition h.definition comes
 comes_too s shown e h comes = tt
 
+last_made : (e : Entry) → WellMade e → IfSome (last_after e) (λ (last : LastChar). IsCode last.code)
+last_made (entries.Char set code hand) made = made
+last_made e made = tt
+
 pub agreeing_fits : AgreeingFits
 agreeing_fits s shown e agree holds made comes =
     let d = taking s.drawing (held e) in
@@ -217,6 +221,7 @@ agreeing_fits s shown e agree holds made comes =
         drawing = drawn_agree s.definition shown.definition d d' e agree.definition taken;
         definition = definition_agrees s.definition shown.definition d d' e agree.definition taken;
         last = refl;
+        made = last_made e made;
       },
     )
 
@@ -226,6 +231,7 @@ start_agrees = record {
   drawing = record { pen = refl; base = refl; colour = tt; mode = refl; texture = refl };
   definition = tt;
   last = refl;
+  made = tt;
 }
 
 is_unwrapped : {A : Type 0} (w : Option A) (a : A) → IfSome w (λ b. b ≡ a) → unwrap_or w a ≡ a

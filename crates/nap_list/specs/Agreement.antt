@@ -8,7 +8,7 @@ use Rattle.nap_list.specs.declared.state.Drawing.{Drawing}
 use Rattle.nap_list.specs.declared.state.Opened.{Opened}
 use Rattle.nap_list.specs.declared.state.State.{State}
 use Rattle.nap_list.specs.declared.entry.Entry.{Entry}
-use Rattle.nap_list.specs.Entry.{held, WellMade}
+use Rattle.nap_list.specs.Entry.{held, IsCode, WellMade}
 use Rattle.nap_list.specs.State.{PenFits, TextureFits, Comes, Fits, after}
 
 -- An interpreter of a stream keeps values of its own, of which the entries so far may not have shown all. Its values
@@ -49,6 +49,8 @@ pub record StatesAgree (s shown : State) : Type 0 where
   pub drawing : Agrees s.drawing shown.drawing
   pub definition : DefinitionsAgree s.definition shown.definition
   pub last : s.last ≡ shown.last
+  -- (as it is after any entries that fit)
+  pub made : IfSome shown.last (λ last. IsCode last.code)
 
 -- all held values are the standing ones
 pub record Holds (h : Held) (d : Drawing) : Type 0 where

@@ -1,4 +1,4 @@
-use Rattle.std.specs.Prelude.{Option, Some, None}
+use Rattle.std.specs.Prelude.{Option, Some, None, IfSome}
 use Rattle.std.proofs.Props.{props}
 use Rattle.nap_values.specs.Coordinates.{Displacement}
 use Rattle.nap_list.specs.declared.attribute.Base.{Base}
@@ -9,8 +9,10 @@ use Rattle.nap_list.specs.declared.attribute.Pen.{Pen}
 use Rattle.nap_list.specs.declared.attribute.Pen.TheVariants as pens
 use Rattle.nap_list.specs.declared.attribute.Texture.{Texture}
 use Rattle.nap_list.specs.declared.state.Drawing.{Drawing}
+use Rattle.nap_list.specs.declared.state.LastChar.{LastChar}
 use Rattle.nap_list.specs.declared.state.Opened.{Opened}
 use Rattle.nap_list.specs.declared.state.State.{State}
+use Rattle.nap_list.specs.Entry.{IsCode}
 use Rattle.nap_list.specs.State.{PenFits, MaskFits, TextureFits}
 use Rattle.nap_list.specs.Agreement.{BaseAgrees, ColourAgrees, InMode, Agrees, DefinitionsAgree, StatesAgree}
 
@@ -64,9 +66,14 @@ DefinitionsAgree-prop None (Some shown) = hlevel props
 DefinitionsAgree-prop (Some opened) None = hlevel props
 DefinitionsAgree-prop (Some opened) (Some shown) = hlevel (props, Agrees-prop opened.saved shown.saved)
 
+pub IsCode-prop : (last : Option LastChar) → IsProp (IfSome last (λ last. IsCode last.code))
+IsCode-prop None = hlevel props
+IsCode-prop (Some last) = hlevel props
+
 pub StatesAgree-prop : (s shown : State) → IsProp (StatesAgree s shown)
 StatesAgree-prop s shown = hlevel (
   props,
   Agrees-prop s.drawing shown.drawing,
   DefinitionsAgree-prop s.definition shown.definition,
+  IsCode-prop shown.last,
 )

@@ -44,6 +44,9 @@ pub trait Sink {
     /// The state that the next entry has to fit.
     ghost state: { Self → State };
 
+    /// Whether it takes memory for entries.
+    ghost grows: { Self → Bool };
+
     /// Whether its device has failed.
     ghost failed: { Self → Bool };
 
@@ -59,6 +62,8 @@ pub trait Sink {
         ensures took { OnOk result (took self.old (entry ∷ []) self.new) }
         ensures after { OnOk result (state self.new ≡ after (state self.old) entry) }
         ensures memory { IsErrOf result SinkFault.Memory → self.new ≡ self.old }
+        ensures wants { IsErrOf result SinkFault.Memory → grows self.old ≡ true }
+        ensures grows { grows self.new ≡ grows self.old }
         ensures write { IsErrOf result SinkFault.Write → failed self.new ≡ true }
         ensures only_write { failed self.new ≡ true → IsErrOf result SinkFault.Write }
         ensures state { IsErrOf result SinkFault.Write → state self.new ≡ state self.old }
@@ -111,6 +116,8 @@ impl ListSink {
 
 impl Sink for ListSink {
     ghost state = { λ s. walk start s };
+
+    ghost grows = { λ s. true };
 
     ghost failed = { λ s. false };
 

@@ -1,4 +1,4 @@
-use Rattle.std.proofs.Common.{ℕ, ◌≡◌, ◌≢◌, ◌<◌, List, [], ◌∷◌, ◌++◌, length, true, false, Some, refl, ap, sym, ◌∙◌, subst, inl, inr, append-nil}
+use Rattle.std.proofs.Common.{ℕ, ◌≡◌, ◌≢◌, ◌<◌, List, [], ◌∷◌, ◌++◌, length, Bool, true, false, cond, Some, None, refl, ap, sym, ◌∙◌, subst, inl, inr, arith, length-append}
 use Rattle.nap_list.specs.declared.sink.Sink.{Ghosts}
 use Rattle.nap_list.specs.declared.entry.Entry.{Entry}
 use Rattle.nap_codes.specs.declared.code.CodeFault.{CodeFault}
@@ -9,11 +9,11 @@ use Rattle.nap_reader.specs.declared.fault.Fault.TheVariants as faults
 use Rattle.nap_reader.specs.declared.fault.Refusal.{Refusal}
 use Rattle.nap_reader.specs.declared.reader.OpenRun.{OpenRun}
 use Rattle.nap_reader.specs.Faults.{code_fault}
-use Rattle.nap_reader.specs.Stream.{Outcome, is_operand_byte, run_limit, refusal, placed_from, begun}
-use Rattle.nap_reader.specs.Breaking.{cause_of, closed_by, CanBreakAt, BreaksAt, BreaksInRun}
-use Rattle.nap_reader.specs.Holding.{Holding, Continues, ClosesInto}
-use Rattle.nap_reader.proofs.EndLemmas.{open_place_is}
-use Rattle.nap_reader.proofs.LeadsLemmas.{leads_taken, leads_unrefused, leads_more}
+use Rattle.nap_reader.specs.Stream.{Outcome, is_operand_byte, run_limit, refusal, placed_from, begun, with_run}
+use Rattle.nap_reader.specs.Breaking.{cause_of, closed_by, TookPart, CanBreakAt, BreaksAt, BreaksInRun}
+use Rattle.nap_reader.specs.Holding.{Holding, Continues, ContinuesPast, BreaksPast, ClosesInto}
+use Rattle.nap_reader.proofs.EndLemmas.{open_place_is, run_still}
+use Rattle.nap_reader.proofs.LeadsLemmas.{leads_entries, leads_taken, leads_unrefused, leads_more}
 use Rattle.nap_reader.proofs.ReadingLemmas.{word_joins}
 use Rattle.nap_reader.proofs.LawLemmas.{more_bytes_keep_entries}
 
@@ -55,9 +55,57 @@ growth_breaks g s budget p b t h open_run is word few k =
         more = more.0;
         unrefused = leads_unrefused g s (begun budget (p ++ b ∷ [])) t _ joined;
         adds = more.1 ∙ ap (λ (es : List Entry). es ++ more.0) (sym same);
-        part = ([], more.0, refl, subst (λ (es : List Entry). g.took s es t) (sym (append-nil (closed_by (begun budget p) b).entries ∙ same)) (leads_taken g s (begun budget p) t h k));
+        part = inl (subst (λ (es : List Entry). g.took s es t) (sym same) (leads_taken g s (begun budget p) t h k));
       };
     })
+
+closed_by_still : {S : Type 0} (g : Ghosts S) (s : S) (o : Outcome) (t : S) (h : Holding) (b : ℕ) → Continues g s o t h [] → h.open_run ≡ None → closed_by o b ≡ o
+closed_by_still g s o t h b k is = at (is_operand_byte b)
+  where
+    at : (test : Bool) → cond test o (with_run o) ≡ o
+    at true = refl
+    at false = run_still g s o t h k is
+
+-- no run is open, and a byte comes behind what is known
+pub past_still : {S : Type 0} (g : Ghosts S) (s : S) (budget : ℕ) (p : List ℕ) (b : ℕ) (t : S) (h : Holding) → Continues g s (begun budget p) t h [] →
+    ContinuesPast g s (begun budget p).entries (begun budget (p ++ b ∷ [])) t h (record { byte = b; place = length p } ∷ [])
+unfolding placed_from leads_more
+past_still g s budget p b t h k = record {
+  continues = leads_more g s budget p (b ∷ []) t h k;
+  done = sym (leads_entries g s (begun budget p) t h k);
+}
+
+nothing_more : (xs ys : List Entry) → xs ++ ys ≡ xs → ys ≡ []
+nothing_more xs [] e = refl
+nothing_more xs (y ∷ ys) e = let same = ap length e in absurd (omega (arith, same, length-append xs (y ∷ ys)))
+
+-- a byte breaks that brings entries itself
+pub brings_breaks : {S : Type 0} (g : Ghosts S) (s : S) (budget : ℕ) (p : List ℕ) (b : ℕ) (t : S) (r : Refusal) (known : List Entry) →
+    known ≡ (closed_by (begun budget p) b).entries → r.place ≡ length p → BreaksPast g s known (begun budget (p ++ b ∷ [])) t (cause_of r.fault) →
+    BreaksAt g s budget p b t r
+brings_breaks g s budget p b t r known same place h =
+    inr (record {
+      place = place;
+      brings = inr (λ none. h.some (nothing_more known h.more (sym h.adds ∙ none ∙ sym same)));
+      part = record {
+        more = h.more;
+        adds = h.adds ∙ ap (λ (es : List Entry). es ++ h.more) same;
+        unrefused = h.unrefused;
+        part = subst (λ (es : List Entry). TookPart g s es h.more t (cause_of r.fault)) same h.part;
+      };
+    })
+
+-- where no run is open
+pub still_breaks : {S : Type 0} (g : Ghosts S) (s : S) (budget : ℕ) (p : List ℕ) (b : ℕ) (t : S) (h : Holding) (u : S) (r : Refusal) → Continues g s (begun budget p) t h [] →
+    h.open_run ≡ None → r.place ≡ length p → BreaksPast g s (begun budget p).entries (begun budget (p ++ b ∷ [])) u (cause_of r.fault) → BreaksAt g s budget p b u r
+still_breaks g s budget p b t h u r k is place broke =
+    brings_breaks g s budget p b u r (begun budget p).entries (ap (λ (o : Outcome). o.entries) (sym (closed_by_still g s (begun budget p) t h b k is))) place broke
+
+-- where the byte has ended one
+pub past_breaks : {S : Type 0} (g : Ghosts S) (s : S) (budget : ℕ) (p : List ℕ) (b : ℕ) (u : S) (r : Refusal) → is_operand_byte b ≡ false →
+    r.place ≡ length p → BreaksPast g s (with_run (begun budget p)).entries (begun budget (p ++ b ∷ [])) u (cause_of r.fault) → BreaksAt g s budget p b u r
+past_breaks g s budget p b u r other place broke =
+    brings_breaks g s budget p b u r (with_run (begun budget p)).entries (rw other refl) place broke
 
 -- the opcode breaks whose run a byte ends
 pub run_breaks : {S : Type 0} (g : Ghosts S) (s : S) (budget : ℕ) (p : List ℕ) (b : ℕ) (t : S) (r : Refusal) (cause : Cause) →

@@ -1,9 +1,8 @@
-use Rattle.std.proofs.Common.{ℕ, ◌≡◌, List, [], ◌∷◌, ◌++◌, length, Option, Some, None, Result, Ok, Err, refl, ap, sym, ◌∙◌, subst, append_assoc}
+use Rattle.std.proofs.Common.{ℕ, ◌≡◌, List, [], ◌∷◌, ◌++◌, length, false, Option, Some, None, Result, Ok, Err, refl, ap, sym, ◌∙◌, subst, append_assoc}
 use Rattle.nap_list.specs.declared.sink.Sink.{Ghosts}
 use Rattle.nap_list.specs.declared.entry.Entry.{Entry}
 use Rattle.nap_list.specs.declared.state.Opened.{Opened}
 use Rattle.nap_draw.specs.declared.fault.DrawFault.{DrawFault}
-use Rattle.nap_draw.specs.declared.work.Effects.{Effects}
 use Rattle.nap_draw.specs.Rule.{Drawn, rule}
 use Rattle.nap_draw.specs.Draws.{Cause, stream, memory, device, Draws}
 use Rattle.nap_draw.specs.Draws as draws
@@ -13,12 +12,12 @@ use Rattle.nap_reader.specs.declared.reader.OpenRun.{OpenRun}
 use Rattle.nap_reader.specs.Faults.{draw_fault}
 use Rattle.nap_reader.specs.Stream as model
 use Rattle.nap_reader.specs.Course as course
-use Rattle.nap_reader.specs.Stream.{Placed, Machine, Unfinished, Outcome, half_read, refusal, after_drawing, drawn_front, outcome_from, placed_from, begun, with_drawn, with_run, with_code, ended_by, means}
+use Rattle.nap_reader.specs.Stream.{Placed, Machine, Unfinished, Outcome, is_operand, is_operand_byte, half_read, refusal, after_drawing, drawn_front, front, outcome_from, placed_from, begun, with_drawn, with_run, with_code, ended_by, means}
 use Rattle.nap_reader.specs.Breaking.{cause_of, open_place, run_place, BreaksBetween}
 use Rattle.nap_reader.specs.Standing.{IsTaken}
-use Rattle.nap_reader.specs.Holding.{Holding, unfinished_by, Continues, Ends, BeginsAll, ClosesInto}
+use Rattle.nap_reader.specs.Holding.{Holding, IsHeld, unfinished_by, Continues, ContinuesPast, Ends, BeginsAll, ClosesInto}
 use Rattle.nap_reader.proofs.HeldLemmas.{front_run}
-use Rattle.nap_reader.proofs.LeadsLemmas.{TookMore, TookBroke, Stopped, same_cause, fault_answer, is_open_run, by_front, leads_more, leads_entries, leads_unrefused, leads_taken, leads_machine, leads_unfinished}
+use Rattle.nap_reader.proofs.LeadsLemmas.{TookMore, TookBroke, Stopped, same_cause, fault_answer, is_open_run, by_front, leads_on, leads_more, leads_entries, leads_unrefused, leads_taken, leads_machine, leads_unfinished}
 
 -- what is unfinished behind p is what is held
 module _ {S : Type 0} (g : Ghosts S) (s : S) (o : Outcome) (t : S) (h : Holding) (k : Continues g s o t h []) where
@@ -29,17 +28,18 @@ module _ {S : Type 0} (g : Ghosts S) (s : S) (o : Outcome) (t : S) (h : Holding)
   pub open_place_is : (open_run : OpenRun) → h.open_run ≡ Some open_run → open_place o ≡ Some open_run.place
   open_place_is open_run is = ap run_place (unfinished_is (Some open_run) is)
 
-  -- no run is open at the end
-  pub ends_still : h.open_run ≡ None → Ends g s (with_run o) t h
-  ends_still is = subst (λ (x : Outcome). Ends g s x t h) (sym same) here
+  -- no run is open
+  pub run_still : h.open_run ≡ None → with_run o ≡ o
+  run_still is = ap (model.with_run_by o) (unfinished_is None is) ∙ still h.half
     where
       still : (half : List ℕ) → model.with_run_by o (Some (half_read half)) ≡ o
       still [] = refl
       still (b ∷ bs) = refl
 
-      same : with_run o ≡ o
-      same = ap (model.with_run_by o) (unfinished_is None is) ∙ still h.half
-
+  -- the same at the end
+  pub ends_still : h.open_run ≡ None → Ends g s (with_run o) t h
+  ends_still is = subst (λ (x : Outcome). Ends g s x t h) (sym (run_still is)) here
+    where
       here : Ends g s o t h
       here = record {
         refusal = leads_unrefused g s o t h k;
@@ -59,36 +59,55 @@ module _ {S : Type 0} (g : Ghosts S) (s : S) (budget : ℕ) (p : List ℕ) (t : 
       ap (model.with_run_by o) (unfinished_is g s o t h k (Some open_run) is)
       ∙ ap (λ (m : Machine). with_drawn o open_run.place (rule m.work open_run.op h.run)) (leads_machine g s o t h k)
 
+  run_over : (drawn : Drawn) → rule h.machine.work open_run.op h.run ≡ Ok drawn → (x : Placed) → is_operand x ≡ false →
+      front h.machine (k.rest ++ x ∷ []) ≡ course.act drawn.entries (after_drawing h.machine drawn) (x ∷ [])
+  run_over drawn by x other =
+      front_run h.machine k.rest open_run h.run x [] (is_open_run h k.rest open_run is k.held).0 other
+      ∙ ap (drawn_front h.machine open_run.place (x ∷ [])) by
+
+  run_entries : (drawn : Drawn) → rule h.machine.work open_run.op h.run ≡ Ok drawn → (with_run o).entries ≡ k.done ++ drawn.entries
+  run_entries drawn by =
+      ap (λ (y : Outcome). y.entries) (run_at_end ∙ ap (with_drawn o open_run.place) by)
+      ∙ ap (λ (es : List Entry). es ++ drawn.entries) (leads_entries g s o t h k)
+
   -- its entries come first of those with a byte that ends it
   begins_all : (drawn : Drawn) → rule h.machine.work open_run.op h.run ≡ Ok drawn → BeginsAll budget p
   unfolding placed_from leads_more
   begins_all drawn by b other =
       let x : Placed = record { byte = b; place = length p } in
       let m' : Machine = after_drawing h.machine drawn in
-      let e =
-      front_run h.machine k.rest open_run h.run x [] (is_open_run h k.rest open_run is k.held).0 other
-      ∙ ap (drawn_front h.machine open_run.place (x ∷ [])) by in
-      let all = by_front g s (begun budget (p ++ b ∷ [])) t h (x ∷ []) (leads_more g s budget p (b ∷ []) t h k) (course.act drawn.entries m' (x ∷ [])) e in
-      let first : (with_run o).entries ≡ k.done ++ drawn.entries =
-      ap (λ (y : Outcome). y.entries) (run_at_end ∙ ap (with_drawn o open_run.place) by)
-      ∙ ap (λ (es : List Entry). es ++ drawn.entries) (leads_entries g s o t h k) in
+      let all = by_front g s (begun budget (p ++ b ∷ [])) t h (x ∷ []) (leads_more g s budget p (b ∷ []) t h k) (course.act drawn.entries m' (x ∷ [])) (run_over drawn by x other) in
       let more : List Entry = (outcome_from m' (x ∷ [])).entries in
-      (more, ap (λ (y : Outcome). y.entries) all ∙ (sym (append_assoc k.done drawn.entries more) ∙ ap (λ (es : List Entry). es ++ more) (sym first)))
+      (more, ap (λ (y : Outcome). y.entries) all ∙ (sym (append_assoc k.done drawn.entries more) ∙ ap (λ (es : List Entry). es ++ more) (sym (run_entries drawn by))))
 
-  pub ends_acting : (u : S) (effects : Effects) (h' : Holding) → TookMore g →
-      Draws g.took g.broke g.failed (rule h.machine.work open_run.op h.run) t u (Ok effects) → h'.machine.work ≡ effects.work → h'.half ≡ [] →
+  -- and with them taken, the byte that ends it is still to be read
+  pub past_run : (u : S) (drawn : Drawn) (h' : Holding) → TookMore g → rule h.machine.work open_run.op h.run ≡ Ok drawn → g.took t drawn.entries u →
+      (g.failed t ≡ false → g.failed u ≡ false) → h'.machine ≡ after_drawing h.machine drawn → IsHeld [] h' → (b : ℕ) → is_operand_byte b ≡ false →
+      ContinuesPast g s (with_run o).entries (begun budget (p ++ b ∷ [])) u h' (record { byte = b; place = length p } ∷ [])
+  unfolding placed_from leads_more leads_on
+  past_run u drawn h' law by took clear same held b other =
+      let x : Placed = record { byte = b; place = length p } in
+      record {
+        continues =
+            leads_on g s (begun budget (p ++ b ∷ [])) t h (x ∷ []) (leads_more g s budget p (b ∷ []) t h k) u drawn.entries h' (x ∷ []) law held
+            (run_over drawn by x other ∙ ap (λ (m : Machine). course.act drawn.entries m (x ∷ [])) (sym same)) took clear;
+        done = sym (run_entries drawn by);
+      }
+
+  pub ends_acting : (u : S) (drawn : Drawn) (h' : Holding) → TookMore g →
+      rule h.machine.work open_run.op h.run ≡ Ok drawn → g.took t drawn.entries u → h'.machine.work ≡ drawn.work → h'.half ≡ [] →
       Ends g s (with_run o) u h'
-  ends_acting u effects h' law (entries, by, took) work none =
+  ends_acting u drawn h' law by took work none =
       let at = run_at_end ∙ ap (with_drawn o open_run.place) by in
       record {
         refusal = ap (λ (x : Outcome). x.refusal) at;
-        taken = subst (λ (es : List Entry). g.took s es u) (sym (ap (λ (x : Outcome). x.entries) at)) (law s t u o.entries entries (leads_taken g s o t h k) took);
+        taken = subst (λ (es : List Entry). g.took s es u) (sym (ap (λ (x : Outcome). x.entries) at)) (law s t u o.entries drawn.entries (leads_taken g s o t h k) took);
         work = ap (λ (x : Outcome). x.machine.work) at ∙ sym work;
         half = ap (λ (x : Outcome). x.unfinished) at ∙ ap (λ (half : List ℕ). Some (half_read half)) (sym none);
       }
 
   pub ends_refused : (u : S) → TookMore g → TookBroke g → (fault : DrawFault) →
-      Draws g.took g.broke g.failed (rule h.machine.work open_run.op h.run) t u (Err fault) →
+      draws.DrawsBy g.took g.broke g.failed (rule h.machine.work open_run.op h.run) t u fault (draws.cause_of fault) →
       ClosesInto g s budget p u (refusal (draw_fault fault) open_run.place) (cause_of (draw_fault fault))
   ends_refused u more broken fault drew = by_cause (cause_of (draw_fault fault)) refl stopped
     where

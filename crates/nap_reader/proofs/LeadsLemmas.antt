@@ -1,19 +1,19 @@
-use Rattle.std.proofs.Common.{ℕ, ◌≡◌, List, [], ◌∷◌, ◌++◌, length, Bool, true, false, Option, Some, None, Result, Ok, Err, refl, ap, sym, ◌∙◌, subst, inl, inr, append_assoc, append-nil}
+use Rattle.std.proofs.Common.{ℕ, ◌≡◌, ◌⊎◌, List, [], ◌∷◌, ◌++◌, length, Bool, true, false, Option, Some, None, Result, Ok, Err, refl, ap, sym, ◌∙◌, subst, inl, inr, append_assoc, append-nil}
 use Rattle.nap_list.specs.declared.sink.Sink.{Ghosts}
 use Rattle.nap_list.specs.declared.entry.Entry.{Entry}
 use Rattle.nap_draw.specs.declared.fault.DrawFault.{DrawFault}
 use Rattle.nap_draw.specs.declared.fault.DrawFault.TheVariants as draw_faults
 use Rattle.nap_draw.specs.Rule.{Drawn}
-use Rattle.nap_draw.specs.Draws.{Cause, stream, memory, device, Draws}
+use Rattle.nap_draw.specs.Draws.{Cause, stream, memory, device}
 use Rattle.nap_draw.specs.Draws as draws
 use Rattle.nap_reader.specs.declared.fault.Refusal.{Refusal}
 use Rattle.nap_reader.specs.declared.reader.OpenRun.{OpenRun}
 use Rattle.nap_reader.specs.Course as course
 use Rattle.nap_reader.specs.Course.{prepend, paused, onward, continue}
 use Rattle.nap_reader.specs.Faults.{draw_fault}
-use Rattle.nap_reader.specs.Stream.{Placed, Machine, Outcome, Front, refusal, front, outcome_from, placed_from, begun}
-use Rattle.nap_reader.specs.Breaking.{cause_of, BreaksBetween}
-use Rattle.nap_reader.specs.Holding.{Holding, unfinished_of, IsHeld, IsHeldBy, IsOpenRun, Continues}
+use Rattle.nap_reader.specs.Stream.{Placed, Machine, Outcome, Front, refusal, drawn_front, front, outcome_from, placed_from, begun}
+use Rattle.nap_reader.specs.Breaking.{cause_of, TookPart, BreaksBetween}
+use Rattle.nap_reader.specs.Holding.{Holding, unfinished_of, IsHeld, IsHeldBy, IsOpenRun, IsRefused, Continues}
 use Rattle.nap_reader.proofs.CourseLemmas.{prepend-append}
 use Rattle.nap_reader.proofs.HeldLemmas.{open_run_pauses, half_read_pauses}
 use Rattle.nap_reader.proofs.StreamLemmas.{outcome_from-front, begun-append}
@@ -42,6 +42,19 @@ pub holds_open_run : (h : Holding) (rest : List Placed) (open_run : OpenRun) →
     IsOpenRun rest open_run h.run h.machine.sets → h.half ≡ [] → IsHeld rest h
 holds_open_run h rest open_run is held none = subst (IsHeldBy rest h) (sym is) (held, none)
 
+-- a fault of a rule has one cause, for the rule and for the reader
+pub same_cause : (fault : DrawFault) → cause_of (draw_fault fault) ≡ draws.cause_of fault
+same_cause draw_faults.Memory = refl
+same_cause draw_faults.Sink = refl
+same_cause draw_faults.ThreeD = refl
+same_cause draw_faults.Missing = refl
+same_cause draw_faults.ManyColours = refl
+same_cause draw_faults.Outside = refl
+same_cause draw_faults.PenUnknown = refl
+same_cause draw_faults.NoAddress = refl
+same_cause draw_faults.ManyPoints = refl
+same_cause draw_faults.NothingToRepeat = refl
+
 module _ {S : Type 0} (g : Ghosts S) (s : S) (o : Outcome) (t : S) (h : Holding) (pending : List Placed) (k : Continues g s o t h pending) where
   -- what the front of what is held and pending says of the outcome
   pub by_front : (f : Front) → front h.machine (k.rest ++ pending) ≡ f → o ≡ prepend k.done (onward outcome_from h.machine (k.rest ++ pending) f)
@@ -49,7 +62,7 @@ module _ {S : Type 0} (g : Ghosts S) (s : S) (o : Outcome) (t : S) (h : Holding)
       k.leads ∙ ap (prepend k.done) (outcome_from-front h.machine (k.rest ++ pending) ∙ ap (onward outcome_from h.machine (k.rest ++ pending)) e)
 
   -- what stands at the front acts, and then nothing is held
-  pub leads_on : (u : S) (es : List Entry) (h' : Holding) (ys : List Placed) → TookMore g → IsHeld [] h' →
+  unfoldable pub leads_on : (u : S) (es : List Entry) (h' : Holding) (ys : List Placed) → TookMore g → IsHeld [] h' →
       front h.machine (k.rest ++ pending) ≡ course.act es h'.machine ys → g.took t es u → (g.failed t ≡ false → g.failed u ≡ false) →
       Continues g s o u h' ys
   leads_on u es h' ys law held e took clear = record {
@@ -62,7 +75,7 @@ module _ {S : Type 0} (g : Ghosts S) (s : S) (o : Outcome) (t : S) (h : Holding)
   }
 
   -- what stands at the front acts, and puts nothing
-  pub leads_past : (h' : Holding) (ys : List Placed) → IsHeld [] h' → front h.machine (k.rest ++ pending) ≡ course.act [] h'.machine ys → Continues g s o t h' ys
+  unfoldable pub leads_past : (h' : Holding) (ys : List Placed) → IsHeld [] h' → front h.machine (k.rest ++ pending) ≡ course.act [] h'.machine ys → Continues g s o t h' ys
   leads_past h' ys held e = record {
     done = k.done;
     taken = k.taken;
@@ -73,15 +86,24 @@ module _ {S : Type 0} (g : Ghosts S) (s : S) (o : Outcome) (t : S) (h : Holding)
   }
 
   -- what stands at the front is refused
-  pub leads_to_refusal : (r : Refusal) → front h.machine (k.rest ++ pending) ≡ course.refuse r → (o.refusal ≡ Some r) × g.took s o.entries t
+  pub leads_to_refusal : (r : Refusal) → front h.machine (k.rest ++ pending) ≡ course.refuse r → IsRefused g s o t r
   leads_to_refusal r e =
       let is = by_front (course.refuse r) e in (
         ap (λ (x : Outcome). x.refusal) is,
         subst (λ (es : List Entry). g.took s es t) (sym (ap (λ (x : Outcome). x.entries) is ∙ append-nil k.done)) k.taken,
       )
 
+  -- the rule of what stands at the front is refused
+  pub leads_to_fault : (u : S) (m : Machine) (place : ℕ) (ys : List Placed) (by : Result Drawn DrawFault) → front h.machine (k.rest ++ pending) ≡ drawn_front m place ys by →
+      (fault : DrawFault) → draws.DrawsBy g.took g.broke g.failed by t u fault (draws.cause_of fault) → cause_of (draw_fault fault) ≡ stream →
+      IsRefused g s o u (refusal (draw_fault fault) place)
+  leads_to_fault u m place ys by at fault drew own =
+      let d = subst (draws.DrawsBy g.took g.broke g.failed by t u fault) (sym (same_cause fault) ∙ own) drew in
+      subst (λ (v : S). IsRefused g s o v (refusal (draw_fault fault) place)) (sym d.1)
+      (leads_to_refusal (refusal (draw_fault fault) place) (at ∙ ap (drawn_front m place ys) d.0))
+
 -- what is held back takes the first of what pends
-pub leads_shift : {S : Type 0} (g : Ghosts S) (s : S) (o : Outcome) (t : S) (h : Holding) (x : Placed) (pending : List Placed) (h' : Holding) →
+unfoldable pub leads_shift : {S : Type 0} (g : Ghosts S) (s : S) (o : Outcome) (t : S) (h : Holding) (x : Placed) (pending : List Placed) (h' : Holding) →
     (k : Continues g s o t h (x ∷ pending)) → h'.machine ≡ h.machine → IsHeld (k.rest ++ x ∷ []) h' → Continues g s o t h' pending
 leads_shift g s o t h x pending h' k same held = record {
   done = k.done;
@@ -134,18 +156,23 @@ leads_more g s budget p q t h k =
           ∙ ap (λ (es : List Entry). prepend es (outcome_from h.machine (k.rest ++ placed_from (length p) q))) (append-nil k.done);
     }
 
--- a fault of a rule has one cause, for the rule and for the reader
-pub same_cause : (fault : DrawFault) → cause_of (draw_fault fault) ≡ draws.cause_of fault
-same_cause draw_faults.Memory = refl
-same_cause draw_faults.Sink = refl
-same_cause draw_faults.ThreeD = refl
-same_cause draw_faults.Missing = refl
-same_cause draw_faults.ManyColours = refl
-same_cause draw_faults.Outside = refl
-same_cause draw_faults.PenUnknown = refl
-same_cause draw_faults.NoAddress = refl
-same_cause draw_faults.ManyPoints = refl
-same_cause draw_faults.NothingToRepeat = refl
+-- What a sink has where entries come behind what was known, and not all of them could be put.
+module _ {S : Type 0} (g : Ghosts S) (s t u : S) (known more : List Entry) (taken : g.took s known t) where
+  still_taken : u ≡ t → g.took s known u
+  still_taken same = subst (g.took s known) (sym same) taken
+
+  pub wants_part : TookMore g → (u ≡ t) ⊎ draws.Stops g.took t more u → TookPart g s known more u memory
+  wants_part law (inl same) = inl (still_taken same)
+  wants_part law (inr (first, next, rest, parts, took)) = inr (first, next, rest, parts, law s t u known first taken took)
+
+  pub fails_part : TookBroke g → (g.failed s ≡ false → g.failed t ≡ false) → ((g.failed t ≡ true) × (u ≡ t)) ⊎ draws.Breaks g.broke t more u →
+      TookPart g s known more u device
+  fails_part law clear (inl (set, same)) = inl (at (g.failed s) refl, still_taken same)
+    where
+      at : (b : Bool) → g.failed s ≡ b → g.failed s ≡ true
+      at true is = is
+      at false is = let k = clear is in cc
+  fails_part law clear (inr (first, next, rest, parts, broke)) = inr (first, next, rest, parts, law s t u known first next taken broke)
 
 -- what holds where reading stops between two outcomes, by the cause of the fault
 abbrev pub Stopped : {S : Type 0} → Ghosts S → S → Outcome → Outcome → S → Refusal → Cause → Type 0
@@ -157,36 +184,23 @@ module _ {S : Type 0} (g : Ghosts S) (s t u : S) (before after : Outcome) (taken
     (clear : g.failed s ≡ false → g.failed t ≡ false) (more : TookMore g) (broken : TookBroke g) (by : Result Drawn DrawFault) (place : ℕ)
     (refused : (f : DrawFault) → by ≡ Err f → (after.refusal ≡ Some (refusal (draw_fault f) place)) × (after.entries ≡ before.entries))
     (acted : (drawn : Drawn) → by ≡ Ok drawn → (after.entries ≡ before.entries ++ drawn.entries) × (after.refusal ≡ None)) where
-  was_set : g.failed t ≡ true → (b : Bool) → g.failed s ≡ b → g.failed s ≡ true
-  was_set set true is = is
-  was_set set false is = let k = clear is in cc
-
   by_cause : (f : DrawFault) (cause : Cause) → draws.DrawsBy g.took g.broke g.failed by t u f cause → Stopped g s before after u (refusal (draw_fault f) place) cause
   by_cause f stream (is, same) =
       let k = refused f is in
       (k.0, subst (λ (es : List Entry). g.took s es u) (sym k.1) (subst (g.took s before.entries) (sym same) taken))
-  by_cause f memory (drawn, is, (first, rest, parts, took)) = record {
+  by_cause f memory (drawn, is, part) = record {
     more = drawn.entries;
     adds = (acted drawn is).0;
     unrefused = (acted drawn is).1;
-    part = (first, rest, parts, more s t u before.entries first taken took);
+    part = wants_part g s t u before.entries drawn.entries taken more part;
   }
-  by_cause f device (drawn, is, inl (set, same)) = record {
+  by_cause f device (drawn, is, part) = record {
     more = drawn.entries;
     adds = (acted drawn is).0;
     unrefused = (acted drawn is).1;
-    part = inl (
-      was_set set (g.failed s) refl,
-      ([], drawn.entries, refl, subst (λ (es : List Entry). g.took s es u) (sym (append-nil before.entries)) (subst (g.took s before.entries) (sym same) taken)),
-    );
-  }
-  by_cause f device (drawn, is, inr (first, next, rest, parts, broke)) = record {
-    more = drawn.entries;
-    adds = (acted drawn is).0;
-    unrefused = (acted drawn is).1;
-    part = inr (first, next, rest, parts, broken s t u before.entries first next taken broke);
+    part = fails_part g s t u before.entries drawn.entries taken broken clear part;
   }
 
-  pub fault_answer : (fault : DrawFault) → Draws g.took g.broke g.failed by t u (Err fault) →
+  pub fault_answer : (fault : DrawFault) → draws.DrawsBy g.took g.broke g.failed by t u fault (draws.cause_of fault) →
       Stopped g s before after u (refusal (draw_fault fault) place) (cause_of (draw_fault fault))
   fault_answer fault k = subst (Stopped g s before after u (refusal (draw_fault fault) place)) (sym (same_cause fault)) (by_cause fault (draws.cause_of fault) k)

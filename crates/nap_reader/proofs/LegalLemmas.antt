@@ -9,7 +9,7 @@ use Rattle.nap_list.specs.Agreement.{DefinitionsAgree, StatesAgree}
 use Rattle.nap_list.proofs.PublicLaws.{walks_join, fits_join, start_agrees}
 use Rattle.nap_draw.specs.declared.fault.DrawFault.{DrawFault}
 use Rattle.nap_draw.specs.Rule.{Drawn, rule}
-use Rattle.nap_draw.proofs.PublicLaws.{rule_fits}
+use Rattle.nap_draw.proofs.PublicLaws.{rule_fits, code_fits}
 use Rattle.nap_reader.specs.declared.fault.Refusal.{Refusal}
 use Rattle.nap_reader.specs.declared.kind.Kind.{Kind}
 use Rattle.nap_reader.specs.declared.kind.Kind.TheVariants as kinds
@@ -19,6 +19,7 @@ use Rattle.nap_reader.specs.Course.{onward, go, outcome}
 use Rattle.nap_reader.specs.Stream as model
 use Rattle.nap_reader.specs.Stream.{Placed, Machine, Unfinished, Front, Outcome, bytes_of, words_of, run_length, run_limit, drawn_front, closed_front, code_front, front_by, front, placed_from, start_machine, begun, with_drawn, with_run_by, with_run, with_definition, with_code, with_end, ended_by}
 use Rattle.nap_reader.specs.Laws.{AcceptedIsLegal}
+use Rattle.nap_reader.proofs.KindLemmas.{KindMade, front_kind_made}
 
 -- From a machine whose state agrees with the state shown, the entries at a front fit, and the states agree again.
 data Agreeing (shown : State) : Front → Type 0 where
@@ -31,29 +32,34 @@ Agreeing-cond : {shown : State} (b : Bool) {x y : Front} → Agreeing shown x �
 Agreeing-cond true f g = f
 Agreeing-cond false f g = g
 
-drawn_front-Agreeing : (m : Machine) (place : ℕ) (rest : List Placed) (op : Opcode) (run : List ℕ) (shown : State) (by : Result Drawn DrawFault) →
-    rule m.work op run ≡ by → StatesAgree m.work.state shown → Agreeing shown (drawn_front m place rest by)
-drawn_front-Agreeing m place rest op run shown (Ok drawn) e agrees = let k = rule_fits m.work op run shown drawn e agrees in acts k.0 k.1
-drawn_front-Agreeing m place rest op run shown (Err fault) e agrees = refuses
+drawn_front-Agreeing : (m : Machine) (place : ℕ) (rest : List Placed) (shown : State) (by : Result Drawn DrawFault) →
+    ((d : Drawn) → by ≡ Ok d → AllFit shown d.entries × StatesAgree d.work.state (walk shown d.entries)) → Agreeing shown (drawn_front m place rest by)
+drawn_front-Agreeing m place rest shown (Ok drawn) fits = let k = fits drawn refl in acts k.0 k.1
+drawn_front-Agreeing m place rest shown (Err fault) fits = refuses
 
 closed_front-Agreeing : (m : Machine) (op : Opcode) (place : ℕ) (run rest : List Placed) (shown : State) → StatesAgree m.work.state shown →
     Agreeing shown (closed_front m op place run rest)
 closed_front-Agreeing m op place run [] shown agrees = pauses
-closed_front-Agreeing m op place run (x ∷ xs) shown agrees = drawn_front-Agreeing m place (x ∷ xs) op (words_of run) shown _ refl agrees
+closed_front-Agreeing m op place run (x ∷ xs) shown agrees =
+    drawn_front-Agreeing m place (x ∷ xs) shown _ (λ d e. rule_fits m.work op (words_of run) shown d e agrees)
 
-code_front-Agreeing : (m : Machine) (kind : Kind) (place : ℕ) (rest : List Placed) (shown : State) → StatesAgree m.work.state shown →
+code_front-Agreeing : (m : Machine) (kind : Kind) (place : ℕ) (rest : List Placed) (shown : State) → StatesAgree m.work.state shown → KindMade kind →
     Agreeing shown (code_front m kind place rest)
 unfolding walk AllFit
-code_front-Agreeing m (kinds.Opens op) place rest shown agrees =
+code_front-Agreeing m (kinds.Opens op) place rest shown agrees made =
     Agreeing-cond (ltb run_limit (length (take (run_length rest) rest))) refuses (closed_front-Agreeing m op place _ _ shown agrees)
-code_front-Agreeing m kinds.Strays place rest shown agrees = refuses
-code_front-Agreeing m kinds.AddsNothing place rest shown agrees = acts tt agrees
-code_front-Agreeing m kinds.Unbuilt place rest shown agrees = refuses
+code_front-Agreeing m kinds.Strays place rest shown agrees made = refuses
+code_front-Agreeing m kinds.AddsNothing place rest shown agrees made = acts tt agrees
+code_front-Agreeing m (kinds.Acts c) place rest shown agrees made =
+    drawn_front-Agreeing m place rest shown _ (λ d e. code_fits m.work c shown d e made agrees)
+code_front-Agreeing m kinds.Unbuilt place rest shown agrees made = refuses
 
-front-Agreeing : (m : Machine) (xs : List Placed) (shown : State) (f : codes.Front) → StatesAgree m.work.state shown → Agreeing shown (front_by m xs f)
-front-Agreeing m xs shown codes.unfinished agrees = pauses
-front-Agreeing m xs shown (codes.refused fault i) agrees = refuses
-front-Agreeing m xs shown (codes.whole c n sets) agrees = code_front-Agreeing (record m { sets = sets }) (kind_of c) _ _ shown agrees
+front_by-Agreeing : (m : Machine) (xs : List Placed) (shown : State) (f : codes.Front) → codes.front m.sets (bytes_of xs) ≡ f → StatesAgree m.work.state shown →
+    Agreeing shown (front_by m xs f)
+front_by-Agreeing m xs shown codes.unfinished e agrees = pauses
+front_by-Agreeing m xs shown (codes.refused fault i) e agrees = refuses
+front_by-Agreeing m xs shown (codes.whole c n sets) e agrees =
+    code_front-Agreeing (record m { sets = sets }) (kind_of c) _ _ shown agrees (front_kind_made m.sets (bytes_of xs) c n sets e)
 
 -- The entries of an outcome fit, and where it has no refusal its state agrees with the one that they leave.
 pub record Agreed (shown : State) (o : Outcome) : Type 0 where
@@ -76,7 +82,7 @@ go-Agreed : (fuel : ℕ) (m : Machine) (xs : List Placed) (shown : State) → St
 unfolding go front walk AllFit
 go-Agreed zero m xs shown agrees = record { fit = tt; agrees = λ _. agrees }
 go-Agreed (suc fuel) m xs shown agrees =
-    onward-Agreed (go front fuel) (go-Agreed fuel) m xs shown (front m xs) agrees (front-Agreeing m xs shown (codes.front m.sets (bytes_of xs)) agrees)
+    onward-Agreed (go front fuel) (go-Agreed fuel) m xs shown (front m xs) agrees (front_by-Agreeing m xs shown (codes.front m.sets (bytes_of xs)) refl agrees)
 
 begun-Agreed : (budget : ℕ) (p : List ℕ) → Agreed start (begun budget p)
 unfolding outcome

@@ -1,8 +1,10 @@
 pub mod CourseLemmas
+pub mod KindLemmas
 pub mod StreamLemmas
 pub mod HeldLemmas
 pub mod LeadsLemmas
 pub mod ReadingLemmas
+pub mod ActingLemmas
 pub mod EndLemmas
 pub mod LawLemmas
 pub mod BreakingLemmas

@@ -1,14 +1,19 @@
-use Rattle.std.proofs.Common.{ℕ, ◌-◌, ◌≡◌, List, [], ◌∷◌, length, All, true, refl, arith}
+use Rattle.std.proofs.Common.{ℕ, ◌+◌, ◌-◌, ◌≡◌, List, [], ◌∷◌, ◌++◌, length, All, true, refl, ◌∙◌, arith, length-append}
 use Rattle.std.proofs.lemmas.Bool.Decides.{nat_tests}
 use Rattle.std.proofs.lemmas.List.{length-map}
 use Rattle.std.proofs.lemmas.List.Elements.{All-head, All-tail}
 use Rattle.nap_values.specs.Laws.{IsOperandByte}
+use Rattle.nap_codes.specs.declared.code.Code.{Code}
+use Rattle.nap_codes.specs.declared.code.Code.TheVariants as code
 use Rattle.nap_codes.specs.declared.code_set.CodeSets.{CodeSets}
 use Rattle.nap_codes.specs.declared.opcode.Opcode.{Opcode}
+use Rattle.nap_list.specs.State.{walk}
+use Rattle.nap_draw.specs.Codes.{code_rule}
 use Rattle.nap_reader.specs.Holding.{IsOpenRun}
-use Rattle.nap_reader.specs.Laws.{FrontAfterFront, IsRun, RunActs, RunWaits, MoreBytesKeepEntries, MoreBytesKeepRefusal, PiecesAgree, AcceptedIsLegal, ReadValuesAreInRange}
-use Rattle.nap_reader.specs.Stream.{Placed, bytes_of, words_of, is_operand_byte, run_length}
-use Rattle.nap_reader.proofs.HeldLemmas.{front_run, open_run_pauses}
+use Rattle.nap_reader.specs.Kinds.{kind_of}
+use Rattle.nap_reader.specs.Laws.{FrontAfterFront, IsRun, RunActs, RunWaits, IsAlone, CodeActs, MoreBytesKeepEntries, MoreBytesKeepRefusal, PiecesAgree, AcceptedIsLegal, ReadValuesAreInRange}
+use Rattle.nap_reader.specs.Stream.{Placed, Machine, bytes_of, words_of, is_operand_byte, run_length, drawn_front, code_front}
+use Rattle.nap_reader.proofs.HeldLemmas.{front_code, front_run, open_run_pauses}
 use Rattle.nap_reader.proofs.LawLemmas as laws
 use Rattle.nap_reader.proofs.LegalLemmas as legal
 use Rattle.nap_reader.proofs.RangeLemmas as ranges
@@ -47,6 +52,22 @@ run_acts m op x operands y ys run other =
 pub run_waits : RunWaits
 run_waits m op x operands run =
     open_run_pauses m (x ∷ operands) (record { op = op; place = x.place }) (words_of operands) (is_open_run m.sets op x operands run)
+
+alone_front : (m : Machine) (c : Code) (place : ℕ) (ys : List Placed) → IsAlone c →
+    code_front m (kind_of c) place ys ≡ drawn_front m place ys (code_rule m.work c)
+unfolding walk
+alone_front m (code.Op op) place ys never = absurd never
+alone_front m (code.Operand word) place ys never = absurd never
+alone_front m (code.Call name) place ys never = absurd never
+alone_front m (code.DefMacro name show) place ys never = absurd never
+alone_front m _ place ys alone = refl
+
+pub code_acts : CodeActs
+code_acts m c before last after ys is =
+    let size : length before + 1 ≡ length (bytes_of before ++ last.byte ∷ []) =
+    omega (arith, length-append (bytes_of before) (last.byte ∷ []), length-map before (λ (y : Placed). y.byte)) in
+    front_code m before last ys (bytes_of before) c (length before + 1) after refl is.names size
+    ∙ alone_front (record m { sets = after }) c last.place ys is.alone
 
 pub more_bytes_keep_entries : MoreBytesKeepEntries
 more_bytes_keep_entries = laws.more_bytes_keep_entries

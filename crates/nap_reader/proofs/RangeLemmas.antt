@@ -11,8 +11,9 @@ use Rattle.nap_list.specs.declared.state.Opened.{Opened}
 use Rattle.nap_list.specs.State.{start}
 use Rattle.nap_list.specs.Range.{InRange, AllInRange, StateInRange}
 use Rattle.nap_draw.specs.declared.fault.DrawFault.{DrawFault}
+use Rattle.nap_draw.specs.Codes.{code_rule}
 use Rattle.nap_draw.specs.Rule.{Drawn, rule}
-use Rattle.nap_draw.proofs.PublicLaws.{drawn_values_are_in_range}
+use Rattle.nap_draw.proofs.PublicLaws.{drawn_values_are_in_range, code_values_are_in_range}
 use Rattle.nap_reader.specs.declared.fault.Refusal.{Refusal}
 use Rattle.nap_reader.specs.declared.kind.Kind.{Kind}
 use Rattle.nap_reader.specs.declared.kind.Kind.TheVariants as kinds
@@ -22,6 +23,7 @@ use Rattle.nap_reader.specs.Course.{go, outcome, onward}
 use Rattle.nap_reader.specs.Stream as model
 use Rattle.nap_reader.specs.Stream.{Placed, Machine, Unfinished, Outcome, Front, half_read, bytes_of, words_of, is_operand, is_operand_byte, run_length, run_limit, drawn_front, closed_front, run_front, opcode_front, code_front, place_at, front_by, front, refusal, placed_from, start_machine, begun, with_drawn, with_run_by, with_run, with_definition, with_code, with_end, ended_by}
 use Rattle.nap_reader.specs.Laws.{ReadValuesAreInRange}
+use Rattle.nap_reader.proofs.KindLemmas.{KindMade, front_kind_made}
 
 -- What is read is in range.
 
@@ -53,36 +55,42 @@ FrontRanged (course.pause u) = UnfinishedRanged u
 FrontRanged (course.refuse r) = ⊤
 FrontRanged (course.act es m xs) = AllInRange es × StateInRange m.work.state
 
-drawn_ranged : (m : Machine) (op : Opcode) (place : ℕ) (run : List ℕ) (rest : List Placed) (by : Result Drawn DrawFault) → rule m.work op run ≡ by →
-    StateInRange m.work.state → All IsWord run → FrontRanged (drawn_front m place rest by)
-drawn_ranged m op place run rest (Ok drawn) is r words = drawn_values_are_in_range m.work op run drawn is r words
-drawn_ranged m op place run rest (Err fault) is r words = tt
+drawn_ranged : (m : Machine) (place : ℕ) (rest : List Placed) (by : Result Drawn DrawFault) →
+    ((d : Drawn) → by ≡ Ok d → AllInRange d.entries × StateInRange d.work.state) → FrontRanged (drawn_front m place rest by)
+drawn_ranged m place rest (Ok drawn) ranged = ranged drawn refl
+drawn_ranged m place rest (Err fault) ranged = tt
 
 closed_ranged : (m : Machine) (op : Opcode) (place : ℕ) (run rest : List Placed) → StateInRange m.work.state → All IsWord (words_of run) →
     FrontRanged (closed_front m op place run rest)
 closed_ranged m op place run [] r words = words
-closed_ranged m op place run (x ∷ xs) r words = drawn_ranged m op place (words_of run) (x ∷ xs) (rule m.work op (words_of run)) refl r words
+closed_ranged m op place run (x ∷ xs) r words =
+    drawn_ranged m place (x ∷ xs) (rule m.work op (words_of run)) (λ d is. drawn_values_are_in_range m.work op (words_of run) d is r words)
 
-code_ranged : (m : Machine) (kind : Kind) (place : ℕ) (rest : List Placed) → StateInRange m.work.state → FrontRanged (code_front m kind place rest)
-code_ranged m (kinds.Opens op) place rest r =
+code_ranged : (m : Machine) (kind : Kind) (place : ℕ) (rest : List Placed) → StateInRange m.work.state → KindMade kind →
+    FrontRanged (code_front m kind place rest)
+code_ranged m (kinds.Opens op) place rest r made =
     let run = take (run_length rest) rest in
     cond_both (ltb run_limit (length run)) _ _ FrontRanged (λ _. tt) (λ _. closed_ranged m op place run (drop (run_length rest) rest) r (run_words rest))
-code_ranged m kinds.Strays place rest r = tt
-code_ranged m kinds.AddsNothing place rest r = (All-nil InRange, r)
-code_ranged m kinds.Unbuilt place rest r = tt
+code_ranged m kinds.Strays place rest r made = tt
+code_ranged m kinds.AddsNothing place rest r made = (All-nil InRange, r)
+code_ranged m (kinds.Acts c) place rest r made =
+    drawn_ranged m place rest (code_rule m.work c) (λ d is. code_values_are_in_range m.work c d is made r)
+code_ranged m kinds.Unbuilt place rest r made = tt
 
 half_ranged : (bytes : List ℕ) → UnfinishedRanged (half_read bytes)
 half_ranged [] = tt
 half_ranged (b ∷ bs) = tt
 
-by_ranged : (m : Machine) (xs : List Placed) (f : codes.Front) → StateInRange m.work.state → FrontRanged (front_by m xs f)
-by_ranged m xs codes.unfinished r = half_ranged (bytes_of xs)
-by_ranged m xs (codes.refused fault i) r = tt
-by_ranged m xs (codes.whole c n sets) r = code_ranged (record m { sets = sets }) (kind_of c) (place_at xs (n - 1)) (drop n xs) r
+by_ranged : (m : Machine) (xs : List Placed) (f : codes.Front) → codes.front m.sets (bytes_of xs) ≡ f → StateInRange m.work.state →
+    FrontRanged (front_by m xs f)
+by_ranged m xs codes.unfinished e r = half_ranged (bytes_of xs)
+by_ranged m xs (codes.refused fault i) e r = tt
+by_ranged m xs (codes.whole c n sets) e r =
+    code_ranged (record m { sets = sets }) (kind_of c) (place_at xs (n - 1)) (drop n xs) r (front_kind_made m.sets (bytes_of xs) c n sets e)
 
 front_ranged : (m : Machine) (xs : List Placed) → StateInRange m.work.state → FrontRanged (front m xs)
 unfolding front
-front_ranged m xs r = by_ranged m xs (codes.front m.sets (bytes_of xs)) r
+front_ranged m xs r = by_ranged m xs (codes.front m.sets (bytes_of xs)) refl r
 
 -- An outcome's entries are in range, its state is, and so is what is unfinished.
 record Ranged (o : Outcome) : Type 0 where
@@ -122,7 +130,7 @@ start_ranged = record {
 
 begun_ranged : (budget : ℕ) (p : List ℕ) → Ranged (begun budget p)
 unfolding outcome
-begun_ranged budget p = go_ranged (suc (length (placed_from 0 p) + budget)) (start_machine budget) (placed_from 0 p) start_ranged
+begun_ranged budget p = go_ranged _ (start_machine budget) (placed_from 0 p) start_ranged
 
 -- the end
 

@@ -14,9 +14,9 @@ use Rattle.nap_codes.specs.Lexer.{LexerState, StepsBy}
 use Rattle.nap_codes.proofs.PublicLaws.{code_ranges, one_byte_opcode}
 use Rattle.nap_list.specs.declared.sink.Sink.{Ghosts}
 use Rattle.nap_draw.specs.declared.fault.DrawFault.{DrawFault}
-use Rattle.nap_draw.specs.declared.work.Effects.{Effects}
+use Rattle.nap_draw.specs.Codes.{code_rule}
 use Rattle.nap_draw.specs.Rule.{Drawn, IsDrawn, rule, start_work}
-use Rattle.nap_draw.specs.Draws.{stream, Draws}
+use Rattle.nap_draw.specs.Draws.{stream}
 use Rattle.nap_draw.specs.Draws as draws
 use Rattle.nap_reader.specs.declared.fault.Fault.TheVariants as faults
 use Rattle.nap_reader.specs.declared.fault.Refusal.{Refusal}
@@ -25,12 +25,12 @@ use Rattle.nap_reader.specs.declared.kind.Kind.{Kind}
 use Rattle.nap_reader.specs.declared.kind.Kind.TheVariants as kinds
 use Rattle.nap_reader.specs.Kinds.{kind_of}
 use Rattle.nap_reader.specs.Faults.{code_fault, draw_fault}
-use Rattle.nap_reader.specs.Stream.{Placed, Outcome, bytes_of, is_operand, run_limit, refusal, drawn_front, code_front, front, outcome_from, placed_from, begun}
+use Rattle.nap_reader.specs.Stream.{Placed, Outcome, bytes_of, is_operand, run_limit, refusal, after_drawing, drawn_front, code_front, front, outcome_from, placed_from, begun}
 use Rattle.nap_reader.specs.Breaking.{cause_of}
-use Rattle.nap_reader.specs.Holding.{Holding, IsHeld, IsHeldBy, IsOwn, Continues, ReachesBy}
+use Rattle.nap_reader.specs.Holding.{Holding, IsHeld, IsHeldBy, IsOwn, IsRefused, Continues, ReachesBy}
 use Rattle.nap_reader.proofs.StreamLemmas.{bytes_of-append}
 use Rattle.nap_reader.proofs.HeldLemmas.{front_code, front_fault, front_run, front_long, opens_run, joins_run}
-use Rattle.nap_reader.proofs.LeadsLemmas.{TookMore, same_cause, is_open_run, holds_open_run, leads_on, leads_past, leads_to_refusal, leads_shift}
+use Rattle.nap_reader.proofs.LeadsLemmas.{TookMore, is_open_run, holds_open_run, leads_on, leads_past, leads_to_refusal, leads_to_fault, leads_shift}
 
 -- no byte is an unfinished code
 pub nothing_yet : (sets : CodeSets) → codes.front sets [] ≡ codes.unfinished
@@ -87,7 +87,7 @@ reaches g s o t h pending r e k = subst (ReachesBy g s o t h pending) (sym e) k
 
 -- one with a refusal reaches it
 pub reaches_refusal : {S : Type 0} (g : Ghosts S) (s : S) (o : Outcome) (t : S) (h : Holding) (pending : List Placed) (r : Option Refusal) (x : Refusal) → r ≡ Some x →
-    (IsOwn x → (o.refusal ≡ Some x) × g.took s o.entries t) → ReachesBy g s o t h pending r
+    (IsOwn x → IsRefused g s o t x) → ReachesBy g s o t h pending r
 reaches_refusal g s o t h pending r x e k = subst (ReachesBy g s o t h pending) (sym e) k
 
 -- a word joins the open run
@@ -100,7 +100,7 @@ module _ {S : Type 0} (g : Ghosts S) (s : S) (o : Outcome) (t : S) (h : Holding)
       leads_shift g s o t h x pending h' k refl
       (holds_open_run h' (k.rest ++ x ∷ []) open_run is (joins_run k.rest open_run h.run h.machine.sets x held.0 word few) held.1)
 
-  pub word_too_many : is_operand x ≡ true → run_limit ≤ length h.run → (o.refusal ≡ Some (refusal faults.LongRun open_run.place)) × g.took s o.entries t
+  pub word_too_many : is_operand x ≡ true → run_limit ≤ length h.run → IsRefused g s o t (refusal faults.LongRun open_run.place)
   word_too_many word many =
       leads_to_refusal g s o t h (x ∷ pending) k _
       (front_long h.machine k.rest open_run h.run x pending (is_open_run h k.rest open_run is k.held).0 word many)
@@ -112,22 +112,20 @@ module _ {S : Type 0} (g : Ghosts S) (s : S) (o : Outcome) (t : S) (h : Holding)
       ∙ ap (drawn_front h.machine open_run.place (x ∷ pending)) e
 
   -- the run is over, and its opcode acts
-  pub run_acts : (u : S) (effects : Effects) → TookMore g → is_operand x ≡ false →
-      Draws g.took g.broke g.failed (rule h.machine.work open_run.op h.run) t u (Ok effects) → (g.failed t ≡ false → g.failed u ≡ false) →
-      Continues g s o u (record { machine = record h.machine { work = effects.work }; half = h.half; open_run = None; run = [] }) (x ∷ pending)
-  run_acts u effects law other (entries, by, took) clear =
+  pub run_acts : (u : S) (drawn : Drawn) → TookMore g → is_operand x ≡ false → rule h.machine.work open_run.op h.run ≡ Ok drawn → g.took t drawn.entries u →
+      (g.failed t ≡ false → g.failed u ≡ false) →
+      Continues g s o u (record h { machine = after_drawing h.machine drawn; open_run = None; run = [] }) (x ∷ pending)
+  run_acts u drawn law other by took clear =
       let none = (is_open_run h k.rest open_run is k.held).1 in
-      leads_on g s o t h (x ∷ pending) k u entries _ (x ∷ pending) law
+      leads_on g s o t h (x ∷ pending) k u drawn.entries (record h { machine = after_drawing h.machine drawn; open_run = None; run = [] }) (x ∷ pending) law
       (sym none, ap (codes.front h.machine.sets) none ∙ nothing_yet h.machine.sets) (over other _ by) took clear
 
   -- the run is over, and its opcode is refused
   pub run_refused : (u : S) → is_operand x ≡ false → (fault : DrawFault) →
-      Draws g.took g.broke g.failed (rule h.machine.work open_run.op h.run) t u (Err fault) → cause_of (draw_fault fault) ≡ stream →
-      (o.refusal ≡ Some (refusal (draw_fault fault) open_run.place)) × g.took s o.entries u
+      draws.DrawsBy g.took g.broke g.failed (rule h.machine.work open_run.op h.run) t u fault (draws.cause_of fault) → cause_of (draw_fault fault) ≡ stream →
+      IsRefused g s o u (refusal (draw_fault fault) open_run.place)
   run_refused u other fault drew own =
-      let d = subst (draws.DrawsBy g.took g.broke g.failed (rule h.machine.work open_run.op h.run) t u fault) (sym (same_cause fault) ∙ own) drew in
-      subst (λ (v : S). (o.refusal ≡ Some (refusal (draw_fault fault) open_run.place)) × g.took s o.entries v) (sym d.1)
-      (leads_to_refusal g s o t h (x ∷ pending) k _ (over other _ d.0))
+      leads_to_fault g s o t h (x ∷ pending) k u h.machine open_run.place (x ∷ pending) _ (over other _ refl) fault drew own
 
 -- what a step of the lexer says of the front
 
@@ -153,9 +151,13 @@ pub is_half : (h : Holding) (rest : List Placed) → h.open_run ≡ None → IsH
     (bytes_of rest ≡ h.half) × (codes.front h.machine.sets h.half ≡ codes.unfinished)
 is_half h rest is held = subst (IsHeldBy rest h) is held
 
-holds_half : (h : Holding) (rest : List Placed) → h.open_run ≡ None → bytes_of rest ≡ h.half → codes.front h.machine.sets h.half ≡ codes.unfinished →
+pub holds_half : (h : Holding) (rest : List Placed) → h.open_run ≡ None → bytes_of rest ≡ h.half → codes.front h.machine.sets h.half ≡ codes.unfinished →
     IsHeld rest h
 holds_half h rest is bytes unfinished = subst (IsHeldBy rest h) (sym is) (bytes, unfinished)
+
+-- nothing is held
+pub holds_nothing : (h : Holding) → h.open_run ≡ None → h.half ≡ [] → IsHeld [] h
+holds_nothing h is none = holds_half h [] is (sym none) (ap (codes.front h.machine.sets) none ∙ nothing_yet h.machine.sets)
 
 -- a byte where no run is open
 module _ {S : Type 0} (g : Ghosts S) (s : S) (o : Outcome) (t : S) (h : Holding) (is : h.open_run ≡ None) (x : Placed) (pending : List Placed)
@@ -177,7 +179,7 @@ module _ {S : Type 0} (g : Ghosts S) (s : S) (o : Outcome) (t : S) (h : Holding)
 
   -- the byte is refused
   pub byte_refused : (fault : CodeFault) (i : ℕ) → codes.front h.machine.sets (h.half ++ x.byte ∷ []) ≡ codes.refused fault i →
-      i ≡ length h.half → (o.refusal ≡ Some (refusal (code_fault fault) x.place)) × g.took s o.entries t
+      i ≡ length h.half → IsRefused g s o t (refusal (code_fault fault) x.place)
   byte_refused fault i e at =
       leads_to_refusal g s o t h (x ∷ pending) k _ (front_fault h.machine k.rest x pending h.half fault i half_held.0 e at)
 
@@ -197,11 +199,16 @@ module _ {S : Type 0} (g : Ghosts S) (s : S) (o : Outcome) (t : S) (h : Holding)
         (holds_half (reading after []) [] is refl (nothing_yet after)) (whole _ kind)
 
     -- it is an operand outside a run
-    pub code_strays : kind_of c ≡ kinds.Strays → (o.refusal ≡ Some (refusal faults.Stray x.place)) × g.took s o.entries t
+    pub code_strays : kind_of c ≡ kinds.Strays → IsRefused g s o t (refusal faults.Stray x.place)
     code_strays kind = leads_to_refusal g s o t h (x ∷ pending) k _ (whole _ kind)
 
+    -- a character or a control acts by its rule
+    pub acts : (acting : Code) → kind_of c ≡ kinds.Acts acting →
+        front h.machine (k.rest ++ x ∷ pending) ≡ drawn_front (record h.machine { sets = after }) x.place pending (code_rule h.machine.work acting)
+    acts acting kind = whole (kinds.Acts acting) kind
+
     -- it isn't built
-    pub code_unbuilt : kind_of c ≡ kinds.Unbuilt → (o.refusal ≡ Some (refusal faults.Unbuilt x.place)) × g.took s o.entries t
+    pub code_unbuilt : kind_of c ≡ kinds.Unbuilt → IsRefused g s o t (refusal faults.Unbuilt x.place)
     code_unbuilt kind = leads_to_refusal g s o t h (x ∷ pending) k _ (whole _ kind)
 
   opens_run_of : (op : Opcode) (n : ℕ) (after : CodeSets) → codes.front h.machine.sets (h.half ++ x.byte ∷ []) ≡ codes.whole (code.Op op) n after →

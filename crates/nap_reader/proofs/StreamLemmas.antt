@@ -9,6 +9,7 @@ use Rattle.nap_codes.specs.Front as codes
 use Rattle.nap_codes.proofs.PublicLaws.{whole_stays, refused_stays, whole_length, refused_index}
 use Rattle.nap_list.specs.declared.entry.Entry.{Entry}
 use Rattle.nap_draw.specs.declared.fault.DrawFault.{DrawFault}
+use Rattle.nap_draw.specs.Codes.{code_rule}
 use Rattle.nap_draw.specs.Rule.{Drawn, rule}
 use Rattle.nap_reader.specs.declared.fault.Fault.TheVariants as faults
 use Rattle.nap_reader.specs.declared.fault.Refusal.{Refusal}
@@ -56,6 +57,7 @@ code_front-Shrinks : (m : Machine) (kind : Kind) (place : ℕ) (rest : List Plac
 code_front-Shrinks m (kinds.Opens op) place rest k h = opcode_front-Shrinks m op place rest k h
 code_front-Shrinks m kinds.Strays place rest k h = refuses
 code_front-Shrinks m kinds.AddsNothing place rest k h = acts h refl
+code_front-Shrinks m (kinds.Acts c) place rest k h = drawn_front-Shrinks m place rest (code_rule m.work c) k h
 code_front-Shrinks m kinds.Unbuilt place rest k h = refuses
 
 front-Shrinks : (m : Machine) (xs : List Placed) (f : codes.Front) → codes.front m.sets (bytes_of xs) ≡ f →
@@ -156,6 +158,7 @@ code_front-Kept : (m : Machine) (kind : Kind) (place : ℕ) (xs q : List Placed)
 code_front-Kept m (kinds.Opens op) place xs q = opcode_front-Kept m op place xs q
 code_front-Kept m kinds.Strays place xs q = kept_refusal
 code_front-Kept m kinds.AddsNothing place xs q = kept_act refl
+code_front-Kept m (kinds.Acts c) place xs q = drawn_front-Kept m place xs q (code_rule m.work c)
 code_front-Kept m kinds.Unbuilt place xs q = kept_refusal
 
 pub place_at-append : (xs q : List Placed) (i : ℕ) → i < length xs → place_at (xs ++ q) i ≡ place_at xs i

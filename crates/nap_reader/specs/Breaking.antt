@@ -1,7 +1,7 @@
 use Rattle.std.specs.Prelude.{◌≡◌, ◌≢◌, ◌<◌, ◌⊎◌, ◌++◌, ℕ, true, false, List, [], ◌∷◌, Option, Some, None, IsSome, if◌then◌else◌, length, take, slice_index}
 use Rattle.nap_list.specs.declared.sink.Sink.{Ghosts}
 use Rattle.nap_list.specs.declared.entry.Entry.{Entry}
-use Rattle.nap_draw.specs.Draws.{Cause, stream, memory, device, Puts, Breaks}
+use Rattle.nap_draw.specs.Draws.{Cause, stream, memory, device, Stops, Breaks}
 use Rattle.nap_reader.specs.declared.fault.Fault.{Fault}
 use Rattle.nap_reader.specs.declared.fault.Fault.TheVariants as faults
 use Rattle.nap_reader.specs.declared.fault.Refusal.{Refusal}
@@ -47,13 +47,13 @@ BreaksWithin budget p place =
     ((i : ℕ) × (i < length p) × CanBreakAt budget (take i p) (slice_index p i) place)
     ⊎ ((open_place (begun budget p) ≡ Some place) × ((with_run (begun budget p)).refusal ≡ None))
 
--- What a sink has then: a sink that was s took what was known, and of the entries that come next a first part; or one of
--- them broke.
+-- What a sink has then: a sink that was s took what was known, and of the entries that come next none or a front, behind
+-- which there is one that it hasn't; or that one broke.
 abbrev pub TookPart : {S : Type 0} → Ghosts S → S → List Entry → List Entry → S → Cause → Type 0
 TookPart g s known more t stream = ⊥
-TookPart g s known more t memory = Puts (λ s es t. g.took s (known ++ es) t) s more t
+TookPart g s known more t memory = g.took s known t ⊎ Stops (λ s es t. g.took s (known ++ es) t) s more t
 TookPart g s known more t device =
-    ((g.failed s ≡ true) × Puts (λ s es t. g.took s (known ++ es) t) s more t) ⊎ Breaks (λ s es e t. g.broke s (known ++ es) e t) s more t
+    ((g.failed s ≡ true) × g.took s known t) ⊎ Breaks (λ s es e t. g.broke s (known ++ es) e t) s more t
 
 -- The sink has all entries of the one outcome, and a part of those that the other has more. That has no refusal.
 pub record BreaksBetween {S : Type 0} (g : Ghosts S) (s : S) (before after : Outcome) (t : S) (cause : Cause) : Type 0 where

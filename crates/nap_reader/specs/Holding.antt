@@ -1,4 +1,4 @@
-use Rattle.std.specs.Prelude.{◌≡◌, ◌≤◌, ◌-◌, ◌++◌, ℕ, false, true, List, [], ◌∷◌, Option, Some, None, length}
+use Rattle.std.specs.Prelude.{◌≡◌, ◌≢◌, ◌≤◌, ◌-◌, ◌++◌, ℕ, false, true, List, [], ◌∷◌, Option, Some, None, length}
 use Rattle.nap_codes.specs.declared.code.Code.TheVariants as code
 use Rattle.nap_codes.specs.declared.code_set.CodeSets.{CodeSets}
 use Rattle.nap_codes.specs.Front as codes
@@ -11,7 +11,7 @@ use Rattle.nap_reader.specs.declared.reader.Reader.{Reader}
 use Rattle.nap_reader.specs.Course.{prepend}
 use Rattle.nap_reader.specs.Stream as model
 use Rattle.nap_reader.specs.Stream.{Placed, Machine, Outcome, Unfinished, bytes_of, words_of, is_operand, is_operand_byte, run_length, run_limit, half_read, outcome_from, begun, with_run}
-use Rattle.nap_reader.specs.Breaking.{cause_of, BreaksInRun, Begins}
+use Rattle.nap_reader.specs.Breaking.{cause_of, TookPart, BreaksInRun, Begins}
 
 -- What a reader keeps between two bytes, and how it leads to what the stream means. No one sees this.
 
@@ -22,9 +22,12 @@ pub record Holding : Type 0 where
   pub open_run : Option OpenRun
   pub run : List ℕ
 
+abbrev pub machine_of : {S : Type 0} {g : Ghosts S} → Reader S g → Machine
+machine_of reader = record { work = reader.work; sets = reader.lexer.sets; left = reader.budget - reader.charged }
+
 abbrev pub holding_of : {S : Type 0} {g : Ghosts S} → Reader S g → Holding
 holding_of reader = record {
-  machine = record { work = reader.work; sets = reader.lexer.sets; left = reader.budget - reader.charged };
+  machine = machine_of reader;
   half = reader.lexer.half;
   open_run = reader.open_run;
   run = reader.run.items;
@@ -66,14 +69,31 @@ pub record Continues {S : Type 0} (g : Ghosts S) (s : S) (o : Outcome) (t : S) (
   pub held : IsHeld rest h
   pub leads : o ≡ prepend done (outcome_from h.machine (rest ++ pending))
 
+-- the same, where these are the first entries
+pub record ContinuesPast {S : Type 0} (g : Ghosts S) (s : S) (known : List Entry) (o : Outcome) (t : S) (h : Holding) (pending : List Placed) : Type 0 where
+  pub continues : Continues g s o t h pending
+  pub done : continues.done ≡ known
+
+-- A sink that was s has the entries that were known, and a part of those that the outcome has more: some. That has no refusal.
+pub record BreaksPast {S : Type 0} (g : Ghosts S) (s : S) (known : List Entry) (o : Outcome) (t : S) (cause : Cause) : Type 0 where
+  pub more : List Entry
+  pub some : more ≢ []
+  pub adds : o.entries ≡ known ++ more
+  pub unrefused : o.refusal ≡ None
+  pub part : TookPart g s known more t cause
+
 -- the refusal is the stream's own
 abbrev pub IsOwn : Refusal → Type 0
 IsOwn r = cause_of r.fault ≡ stream
 
--- the same; or it was refused, as the outcome is where the fault is the stream's own
+-- the outcome is refused, and a sink that was s has its entries
+abbrev pub IsRefused : {S : Type 0} → Ghosts S → S → Outcome → S → Refusal → Type 0
+IsRefused g s o t r = (o.refusal ≡ Some r) × g.took s o.entries t
+
+-- what is held continues; or it was refused, as the outcome is where the fault is the stream's own
 abbrev pub ReachesBy : {S : Type 0} → Ghosts S → S → Outcome → S → Holding → List Placed → Option Refusal → Type 0
 ReachesBy g s o t h pending None = Continues g s o t h pending
-ReachesBy g s o t h pending (Some r) = IsOwn r → (o.refusal ≡ Some r) × g.took s o.entries t
+ReachesBy g s o t h pending (Some r) = IsOwn r → IsRefused g s o t r
 
 abbrev pub Reaches : {S : Type 0} {g : Ghosts S} → Reader S g → S → Outcome → List Placed → Type 0
 Reaches {S} {g} reader s o pending = ReachesBy g s o reader.sink (holding_of reader) pending reader.refusal

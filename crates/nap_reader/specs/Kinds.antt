@@ -1,7 +1,7 @@
 use Rattle.nap_codes.specs.declared.code.Code.{Code}
 use Rattle.nap_codes.specs.declared.code.Code.TheVariants as code
 use Rattle.nap_reader.specs.declared.kind.Kind.{Kind}
-use Rattle.nap_reader.specs.declared.kind.Kind.TheVariants.{Opens, Strays, AddsNothing, Unbuilt}
+use Rattle.nap_reader.specs.declared.kind.Kind.TheVariants.{Opens, Strays, AddsNothing, Acts, Unbuilt}
 
 -- what a reader does with each code; no name is bound, so a call adds nothing
 abbrev pub kind_of : Code → Kind
@@ -11,4 +11,5 @@ kind_of code.Fill = AddsNothing
 kind_of code.Shifted = AddsNothing
 kind_of (code.Designated number set) = AddsNothing
 kind_of (code.Call name) = AddsNothing
-kind_of _ = Unbuilt
+kind_of (code.DefMacro name show) = Unbuilt
+kind_of c = Acts c

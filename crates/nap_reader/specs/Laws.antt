@@ -1,9 +1,11 @@
-use Rattle.std.specs.Prelude.{◌≡◌, ◌≤◌, ◌+◌, ℕ, false, List, [], ◌∷◌, ◌++◌, Some, None, All, length}
+use Rattle.std.specs.Prelude.{◌≡◌, ◌≤◌, ◌+◌, ℕ, false, List, [], ◌∷◌, ◌++◌, Some, None, All, ⊤, length}
 use Rattle.nap_values.specs.Laws.{IsOperandByte}
+use Rattle.nap_codes.specs.declared.code.Code.{Code}
 use Rattle.nap_codes.specs.declared.code.Code.TheVariants as code
 use Rattle.nap_codes.specs.declared.code_set.CodeSets.{CodeSets}
 use Rattle.nap_codes.specs.declared.opcode.Opcode.{Opcode}
 use Rattle.nap_codes.specs.Front as codes
+use Rattle.nap_draw.specs.Codes.{code_rule}
 use Rattle.nap_draw.specs.Rule.{rule}
 use Rattle.nap_list.specs.declared.entry.Entry.{Entry}
 use Rattle.nap_list.specs.State.{Legal}
@@ -31,6 +33,24 @@ RunActs = (m : Machine) (op : Opcode) (x : Placed) (operands : List Placed) (y :
 abbrev pub RunWaits : Type 0
 RunWaits = (m : Machine) (op : Opcode) (x : Placed) (operands : List Placed) → IsRun m.sets op x operands →
     front m (x ∷ operands) ≡ pause (open_run op x.place (words_of operands))
+
+-- It is a code by itself: neither an opcode nor an operand, and it neither calls a macro nor defines one.
+abbrev pub IsAlone : Code → Type 0
+IsAlone (code.Op op) = ⊥
+IsAlone (code.Operand word) = ⊥
+IsAlone (code.Call name) = ⊥
+IsAlone (code.DefMacro name show) = ⊥
+IsAlone _ = ⊤
+
+-- the bytes of a code that acts alone, the last of which is this one, and the code sets after it
+pub record IsCodeAlone (sets : CodeSets) (c : Code) (before : List Placed) (last : Placed) (after : CodeSets) : Type 0 where
+  pub alone : IsAlone c
+  pub names : codes.front sets (bytes_of before ++ last.byte ∷ []) ≡ codes.whole c (length before + 1) after
+
+-- It acts by its rule, or adds nothing, whatever stands behind it.
+abbrev pub CodeActs : Type 0
+CodeActs = (m : Machine) (c : Code) (before : List Placed) (last : Placed) (after : CodeSets) (ys : List Placed) → IsCodeAlone m.sets c before last after →
+    front m (before ++ last ∷ ys) ≡ drawn_front (record m { sets = after }) last.place ys (code_rule m.work c)
 
 -- More bytes behind add entries at the end alone.
 abbrev pub MoreBytesKeepEntries : Type 0

@@ -8,6 +8,7 @@ use Rattle.nap_list.specs.declared.entry.Entry.{Entry}
 use Rattle.nap_list.specs.declared.state.Opened.{Opened}
 use Rattle.nap_draw.specs.declared.work.Work.{Work}
 use Rattle.nap_draw.specs.declared.fault.DrawFault.{DrawFault}
+use Rattle.nap_draw.specs.Codes.{code_rule}
 use Rattle.nap_draw.specs.Rule.{Drawn, rule, start_work}
 use Rattle.nap_reader.specs.declared.fault.Fault.{Fault}
 use Rattle.nap_reader.specs.declared.fault.Fault.TheVariants as faults
@@ -71,11 +72,11 @@ run_length xs = prefix_len is_operand xs
 abbrev pub words_of : List Placed → List ℕ
 words_of xs = map (λ x. x.byte - 64) xs
 
--- the machine once an opcode has drawn; no name is bound yet that it could clear
+-- the machine once a code has drawn; no name is bound yet that it could clear
 abbrev pub after_drawing : Machine → Drawn → Machine
 after_drawing m drawn = record m { work = drawn.work }
 
--- the opcode's rule has acted
+-- the rule of an opcode, a character or a control has acted
 abbrev pub drawn_front : Machine → ℕ → List Placed → Result Drawn DrawFault → Front
 drawn_front m place rest (Ok drawn) = course.act drawn.entries (after_drawing m drawn) rest
 drawn_front m place rest (Err fault) = course.refuse (refusal (draw_fault fault) place)
@@ -104,6 +105,7 @@ abbrev pub code_front : Machine → Kind → ℕ → List Placed → Front
 code_front m (kinds.Opens op) place rest = opcode_front m op place rest
 code_front m kinds.Strays place rest = course.refuse (refusal faults.Stray place)
 code_front m kinds.AddsNothing place rest = course.act [] m rest
+code_front m (kinds.Acts code) place rest = drawn_front m place rest (code_rule m.work code)
 code_front m kinds.Unbuilt place rest = course.refuse (refusal faults.Unbuilt place)
 
 -- the place of the byte at this index

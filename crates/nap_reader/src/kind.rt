@@ -13,6 +13,8 @@ pub(crate) enum Kind {
     Strays,
     /// It adds nothing.
     AddsNothing,
+    /// It is a character or a control, which acts by itself.
+    Acts(Code),
     /// It isn't built yet.
     Unbuilt,
 }
@@ -28,7 +30,8 @@ impl Kind {
             Code::Fill | Code::Shifted | Code::Designated(_, _) | Code::Call(_) => {
                 Kind::AddsNothing
             }
-            _ => Kind::Unbuilt,
+            Code::DefMacro { .. } => Kind::Unbuilt,
+            _ => Kind::Acts(code),
         }
     }
 }

@@ -1,5 +1,5 @@
 //! Laws of what a stream means, which no call can break.
-ghost use Rattle.nap_reader.specs.Laws.{AcceptedIsLegal, FrontAfterFront, MoreBytesKeepEntries, MoreBytesKeepRefusal, PiecesAgree, ReadValuesAreInRange, RunActs, RunWaits};
+ghost use Rattle.nap_reader.specs.Laws.{AcceptedIsLegal, CodeActs, FrontAfterFront, MoreBytesKeepEntries, MoreBytesKeepRefusal, PiecesAgree, ReadValuesAreInRange, RunActs, RunWaits};
 
 /// What a stream means is told front after front, with no bound on how many there are.
 pub fn front_after_front()
@@ -10,6 +10,11 @@ pub fn front_after_front()
 pub fn opcodes_take_their_runs()
     ensures acts { RunActs }
     ensures waits { RunWaits }
+{}
+
+/// A character, a control, a shift or a designation acts by its rule, or adds nothing, whatever stands behind it.
+pub fn codes_act_alone()
+    ensures { CodeActs }
 {}
 
 /// More bytes behind a stream change no entry that it has given: its entries come first in those of the longer stream.

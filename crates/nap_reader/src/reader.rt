@@ -1,11 +1,12 @@
 //! Reads a stream in pieces.
-ghost use Rattle.std.specs.Prelude.{◌≡◌, ◌≢◌, ◌+◌, ◌-◌, ◌^◌, ◌<◌, ◌≤◌, ℕ, List, [], ◌∷◌, ◌++◌, Option, None, Some, Err, true, false, length, vec_len, OnOk, IfOk, IfErr, IfSome, MatchOption, MatchResult};
+ghost use Rattle.std.specs.Prelude.{◌≡◌, ◌≢◌, ◌+◌, ◌-◌, ◌^◌, ◌<◌, ◌≤◌, ℕ, List, [], ◌∷◌, ◌++◌, Option, None, Some, Err, true, false, length, vec_len, OnOk, IfOk, IsOk, IfErr, IfSome, MatchOption, MatchResult};
 ghost use Rattle.std.specs.Option.{ForNone};
 ghost use Rattle.nap_list.specs.State.{start};
 ghost use Rattle.std.proofs.Props.{props};
 ghost use Rattle.nap_list.specs.Agreement.{StatesAgree};
 ghost use Rattle.nap_list.specs.Propositions.{StatesAgree-prop};
 ghost use Rattle.nap_reader.specs.Carried.{HasRule, HasRule-prop};
+ghost use Rattle.nap_reader.specs.Faults.{draw_fault};
 ghost use Rattle.nap_reader.specs.Stream.{is_operand_byte, refusal, run_limit};
 ghost use Rattle.nap_reader.specs.declared.budget.TheConstants.Budget.{MOST};
 
@@ -13,9 +14,9 @@ use crate::budget::Budget;
 use crate::fault::{Fault, Refusal};
 use crate::kind::Kind;
 use nap_codes::{Lexer, Opcode, Step};
-use nap_draw::{RUN_LIMIT, Work, apply};
+use nap_draw::{DrawFault, RUN_LIMIT, Work};
 use nap_list::Sink;
-use nap_values::Word;
+use nap_values::{Point, Word};
 use std::alloc::Global;
 
 /// An opcode whose operands are still coming.
@@ -36,6 +37,7 @@ pub struct Reader<S: Sink> {
     lexer: Lexer,
     open_run: Option<OpenRun>,
     run: Vec<Word>,
+    room: Vec<Point>,
     refusal: Option<Refusal>,
     fed: u64,
     turns: u64,
@@ -50,10 +52,11 @@ pub struct Reader<S: Sink> {
 }
 
 impl<S: Sink> Reader<S> {
-    ghost use Rattle.nap_reader.specs.Stream.{Placed, Outcome, begun, is_operand, means, with_code};
+    ghost use Rattle.nap_list.specs.declared.entry.Entry.{Entry};
+    ghost use Rattle.nap_reader.specs.Stream.{Placed, Outcome, begun, is_operand, means, with_code, with_run};
     ghost use Rattle.nap_draw.specs.Draws.{stream};
     ghost use Rattle.nap_reader.specs.Breaking.{BreaksAt, BreaksInRun, cause_of};
-    ghost use Rattle.nap_reader.specs.Holding.{CarriesWord, ClosesBy, Continues, Ends, IsOwn, Reaches, SameCounts, holding_of};
+    ghost use Rattle.nap_reader.specs.Holding.{BreaksPast, CarriesWord, ClosesBy, Continues, ContinuesPast, Ends, IsOwn, Reaches, SameCounts, holding_of};
     ghost use Rattle.nap_reader.specs.Standing.{Answers, IsTaken, Stands, StopsAt, budget_of, charged_of, fed_of, left_of, refusal_of, sink_of, turns_of};
 
     /// A reader at the start of a stream, which puts the entries into this sink.
@@ -73,6 +76,7 @@ impl<S: Sink> Reader<S> {
             lexer: Lexer::new(),
             open_run: None,
             run: Vec::new(alloc),
+            room: Vec::new(alloc),
             refusal: None,
             fed: 0,
             turns: 0,
@@ -162,20 +166,23 @@ impl<S: Sink> Reader<S> {
             Continues S.Sink s o self.old.sink (holding_of self.old) (x ∷ pending) → Reaches self.new s o (x ∷ pending) }
         ensures closes { (s : S) (p : List ℕ) → Continues S.Sink s (begun (budget_of self.old) p) self.old.sink (holding_of self.old) [] →
             ClosesBy S.Sink s (budget_of self.old) p self.new.sink (holding_of self.new) self.new.refusal }
+        ensures past { OnOk result ((s : S) (p : List ℕ) (b : ℕ) → is_operand_byte b ≡ false →
+            Continues S.Sink s (begun (budget_of self.old) p) self.old.sink (holding_of self.old) [] →
+            ContinuesPast S.Sink s (with_run (begun (budget_of self.old) p)).entries (begun (budget_of self.old) (p ++ b ∷ [])) self.new.sink (holding_of self.new)
+            (record { byte = b; place = length p } ∷ [])) }
         ensures closed { self.new.refusal ≡ None → self.new.open_run ≡ None }
         ensures failed { IfErr result (λ r. r.fault ≡ Fault.Sink → S.failed self.new.sink ≡ true) }
         ensures clear { OnOk result (S.failed self.old.sink ≡ false → S.failed self.new.sink ≡ false) }
         ensures counts { SameCounts self.old self.new }
     {
-        match apply(
+        match self.work.act(
             self.alloc,
-            &self.work,
+            &mut self.room,
             open_run.op,
             &self.run,
             &mut self.sink,
         ) {
-            Ok(effects) => {
-                self.work = effects.work;
+            Ok(_) => {
                 self.open_run = None;
                 self.run.clear();
                 Ok(())
@@ -191,10 +198,17 @@ impl<S: Sink> Reader<S> {
         ensures answered { MatchResult result (λ _. self.new.refusal ≡ None) (λ r. self.new.refusal ≡ Some r) }
         ensures reaches { (s : S) (o : Outcome) (pending : List Placed) →
             Continues S.Sink s o self.old.sink (holding_of self.old) (record { byte = byte; place = place } ∷ pending) → Reaches self.new s o pending }
-        ensures own { IfErr result IsOwn }
-        ensures sink { self.new.sink ≡ self.old.sink }
+        ensures breaks { IfErr result (λ r. cause_of r.fault ≢ stream → (s : S) (known : List Entry) (o : Outcome) →
+            ContinuesPast S.Sink s known o self.old.sink (holding_of self.old) (record { byte = byte; place = place } ∷ []) →
+            (r.place ≡ place) × BreaksPast S.Sink s known o self.new.sink (cause_of r.fault)) }
+        ensures failed { IfErr result (λ r. r.fault ≡ Fault.Sink → S.failed self.new.sink ≡ true) }
+        ensures clear { OnOk result (S.failed self.old.sink ≡ false → S.failed self.new.sink ≡ false) }
         ensures counts { SameCounts self.old self.new }
     {
+        if let Some(set) = self.lexer.character(byte) {
+            let put = self.work.text(set, byte, &mut self.sink);
+            return latched(&mut self.refusal, put, place);
+        }
         let code = match self.lexer.step(byte) {
             Step::More => return Ok(()),
             Step::Fault(fault) => return refuse(&mut self.refusal, Fault::from(fault), place),
@@ -208,6 +222,10 @@ impl<S: Sink> Reader<S> {
             }
             Kind::Strays => refuse(&mut self.refusal, Fault::Stray, place),
             Kind::AddsNothing => Ok(()),
+            Kind::Acts(code) => {
+                let acted = self.work.control(&code, &mut self.sink);
+                latched(&mut self.refusal, acted, place)
+            }
             Kind::Unbuilt => refuse(&mut self.refusal, Fault::Unbuilt, place),
         }
     }
@@ -295,6 +313,7 @@ impl<S: Sink> Reader<S> {
             lexer: _,
             open_run: _,
             run: _,
+            room: _,
             refusal: _,
             fed: _,
             turns: _,
@@ -342,6 +361,21 @@ fn refuse(latch: &mut Option<Refusal>, fault: Fault, place: u64) -> Result<(), R
     let refusal = Refusal { fault, place };
     *latch = Some(refusal);
     Err(refusal)
+}
+
+/// Refuses the stream, for good, where a code there was refused.
+fn latched(
+    latch: &mut Option<Refusal>,
+    acted: Result<(), DrawFault>,
+    place: u64,
+) -> Result<(), Refusal>
+    ensures ok { IfOk acted (λ _. (IsOk result) × (latch.new ≡ latch.old)) }
+    ensures err { IfErr acted (λ fault. (latch.new ≡ Some (refusal (draw_fault fault) place)) × (result ≡ Err (refusal (draw_fault fault) place))) }
+{
+    match acted {
+        Ok(()) => Ok(()),
+        Err(fault) => refuse(latch, Fault::from(fault), place),
+    }
 }
 
 /// The word that an operand byte carries.

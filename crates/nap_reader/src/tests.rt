@@ -1,17 +1,19 @@
 //! Streams by hand, with the lists, refusals and counts that the profile gives them.
-ghost use Rattle.std.specs.Prelude.{◌≡◌, ◌<◌, ◌++◌, List};
-ghost use Rattle.std.proofs.Common.{sym, ap, ◌∙◌, append-nil, append_assoc};
-ghost use Rattle.nap_list.specs.State.{start, walk};
-ghost use Rattle.nap_list.specs.declared.entry.Entry.{Entry};
+ghost use Rattle.std.specs.Prelude.{◌<◌};
 
 use crate::{Budget, Fault, RUN_LIMIT, Reader, Refusal, read_all};
 use nap_codes::{CodeFault, Left};
 use nap_draw::DrawFault;
-use nap_list::{Area, Colour, Entry, Ink, ListSink, Origin, Pen, Points, Sink, SinkFault, Texture};
+use nap_list::{Area, Colour, Entry, Ink, ListSink, Origin, Pen, Points, Sink, Texture};
 use nap_values::{Addr, Grb, Move, Point, Word};
 use std::alloc::{AllocError, Global};
 use std::process::Abort;
 use std::test::Fail;
+
+mod definitions;
+mod faults;
+mod sinks;
+mod text;
 
 const AT_START: Colour = Colour::Own(Origin::AtStart);
 
@@ -118,6 +120,17 @@ impl Row<'_> {
         assert_eq!(rt; counts, (self.fed, self.fed, 0), "of {bytes:?}");
     }
 
+    /// The same for the stream whole, in single bytes and in every cut into two pieces.
+    fn agrees_in_every_cut(&self, rt: &impl Abort, alloc: Global) -> Result<(), AllocError> {
+        self.agrees_whole(rt, alloc);
+        self.agrees_in_single_bytes(rt, alloc)?;
+        for cut in 0..=self.bytes.len() {
+            let (first, second) = self.bytes.split_at(cut);
+            self.agrees(rt, &answer_in(rt, alloc, &[first, &[], second, &[]]));
+        }
+        Ok(())
+    }
+
     fn agrees_whole(&self, rt: &impl Abort, alloc: Global) {
         assert!(rt; self.bytes.len() < 1 << 32);
         match read_all(alloc, Budget::usual(), self.bytes) {
@@ -132,16 +145,6 @@ impl Row<'_> {
     fn agrees_in_single_bytes(&self, rt: &impl Abort, alloc: Global) -> Result<(), AllocError> {
         let pieces = single_bytes(alloc, self.bytes)?;
         self.agrees(rt, &answer_in(rt, alloc, &pieces));
-        Ok(())
-    }
-
-    fn agrees_in_every_cut(&self, rt: &impl Abort, alloc: Global) -> Result<(), AllocError> {
-        self.agrees_whole(rt, alloc);
-        self.agrees_in_single_bytes(rt, alloc)?;
-        for cut in 0..=self.bytes.len() {
-            let (first, second) = self.bytes.split_at(cut);
-            self.agrees(rt, &answer_in(rt, alloc, &[first, &[], second, &[]]));
-        }
         Ok(())
     }
 }
@@ -188,51 +191,6 @@ fn streams_say_the_same_in_every_cut(rt: HostRuntime) -> Result<(), Fail> {
         row.agrees_in_every_cut(&rt, alloc)?;
     }
     Ok(())
-}
-
-#[test]
-fn refused_streams_say_the_same_in_every_cut(rt: HostRuntime) -> Result<(), Fail> {
-    let alloc = rt.alloc();
-    let none: &[Entry] = &[];
-    let middle = &[dot(4_194_304, 4_194_304)][..];
-    let point_alone = Fault::LeftOut(Left::IncrementalPoint);
-    let rows = [
-        (b"\x0E$P@@)P@@".as_slice(), none, Fault::Outside, 5, 9),
-        (b"\x0E&R\x80", middle, Fault::EighthBit, 3, 4),
-        (b"\x80", none, Fault::EighthBit, 0, 1),
-        (b"\x0E@", none, Fault::Stray, 1, 2),
-        (b"\x0E!`", none, Fault::ThreeD, 1, 3),
-        (b"\x0E&", none, Fault::Missing, 1, 2),
-        (b"\x0E9", none, point_alone, 1, 2),
-        (b"A", none, Fault::Unbuilt, 0, 1),
-        (b"\x1B", none, Fault::Cut, 1, 1),
-        (b"\x1B0", none, Fault::BadEscape, 1, 2),
-        (b"\x1B+  z", none, Fault::BadEscape, 3, 4),
-    ];
-    for (bytes, list, fault, place, fed) in rows {
-        let row = Row {
-            bytes,
-            list,
-            refusal: refusal(fault, place),
-            fed,
-        };
-        row.agrees_in_every_cut(&rt, alloc)?;
-    }
-    Ok(())
-}
-
-#[test]
-fn refused_opcodes_have_their_places(rt: HostRuntime) {
-    for (bytes, fault, place) in [
-        (b"\x0E.@@@I@@w@@".as_slice(), Fault::Outside, 1),
-        (b"\x0E$", Fault::Missing, 1),
-        (b"\x0E<", Fault::Missing, 1),
-        (b"\x0E<@@@@", Fault::ManyColours, 1),
-        (b"\x0E D@<R", Fault::NoAddress, 4),
-    ] {
-        let answer = read(&rt, rt.alloc(), bytes);
-        assert_eq!(rt; answer.err(), refusal(fault, place), "of {bytes:?}");
-    }
 }
 
 fn address(number: u32) -> Addr
@@ -399,79 +357,6 @@ fn a_refusal_stays(rt: HostRuntime) {
     assert_eq!(rt; refusal, Some(want));
     let list = sink.into_list();
     assert_eq!(rt; list.as_slice(), [dot(4_194_304, 4_194_304)].as_slice());
-}
-
-// Keeps the entries until its device fails, with some puts left before it does.
-#[derive(Drop)]
-struct Faltering {
-    list: ListSink,
-    left: usize,
-    failed: bool,
-}
-
-impl Sink for Faltering {
-    ghost state = { λ s. walk start s.list };
-
-    ghost failed = { λ s. s.failed };
-
-    ghost took = { λ s d t. t.list ≡ s.list ++ d };
-
-    ghost broke = { λ s d e t. t.list ≡ s.list ++ d };
-
-    fn put(&mut self, entry: Entry) -> Result<(), SinkFault> {
-        if self.failed {
-            return Err(SinkFault::Write);
-        }
-        if self.left == 0 {
-            self.failed = true;
-            return Err(SinkFault::Write);
-        }
-        self.list.put(entry)?;
-        self.left -= 1;
-        Ok(())
-    }
-
-    ghost took_none = { λ s. sym (append-nil s.list) };
-
-    ghost took_more = { λ s t u d e a b. b ∙ (ap (λ (list : List Entry). list ++ e) a ∙ append_assoc s.list d e) };
-
-    ghost took_broke = { λ s t u d e x a b. b ∙ (ap (λ (list : List Entry). list ++ e) a ∙ append_assoc s.list d e) };
-}
-
-#[test]
-#[tactic(auto, unfolding(nap_list::specs::State::walk))]
-fn a_sink_that_fails_stops_the_reading(rt: HostRuntime) {
-    let alloc = rt.alloc();
-    let points = &[
-        dot(4_194_304, 4_194_304),
-        dot(2_097_152, 2_097_152),
-        dot(4_194_304, 4_194_304),
-    ][..];
-    let stream = b"\x0E&R@@I@@&R@@\x0F".as_slice();
-    let open = b"\x0E&R@@I@@&R@@".as_slice();
-    let at = |place| refusal(Fault::Sink, place);
-    for (bytes, list, count, fed, ended) in [
-        (stream, &points[..0], 9, at(1), at(1)),
-        (stream, &points[..1], 9, at(1), at(1)),
-        (stream, &points[..2], 13, at(8), at(8)),
-        (stream, &points[..3], 13, None, None),
-        (open, &points[..2], 12, None, at(8)),
-    ] {
-        let sink = Faltering {
-            list: ListSink::new(alloc),
-            left: list.len(),
-            failed: false,
-        };
-        let mut reader = Reader::new(alloc, Budget::usual(), sink);
-        assert_eq!(rt; feed(&rt, &mut reader, bytes).err(), fed);
-        assert_eq!(rt; reader.sink().failed, fed.is_some());
-        let counts = (reader.fed(), reader.turns(), reader.charged());
-        assert_eq!(rt; counts, (count, count, 0));
-        let (sink, refusal) = end(reader);
-        assert_eq!(rt; refusal, ended);
-        assert_eq!(rt; sink.failed, ended.is_some());
-        assert_eq!(rt; sink.list.into_list().as_slice(), list);
-    }
 }
 
 #[test]

@@ -39,7 +39,12 @@ fn refused_pages(rt: HostRuntime) -> Result<(), Fail> {
             "refused 8 Missing at 4\n",
             1,
         ),
-        ("canon", b"41".as_slice(), "refused 23 Unbuilt at 0\n", 1),
+        (
+            "canon",
+            b"1B 40 21".as_slice(),
+            "refused 23 Unbuilt at 2\n",
+            1,
+        ),
         ("check", b"0E2".as_slice(), "hex fault\n", 3),
         ("canon", b"0E 2G".as_slice(), "hex fault\n", 3),
     ] {

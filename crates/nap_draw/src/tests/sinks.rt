@@ -6,10 +6,11 @@ ghost use Rattle.nap_list.specs.declared.entry.Entry.{Entry};
 ghost use Rattle.nap_list.specs.declared.sink.SinkFault.{SinkFault};
 ghost use Rattle.nap_list.specs.declared.sink.SinkFault.TheVariants.{Write};
 
+use super::codes::{LETTER, drawn, hand, is_made};
 use super::{arc, at, blink, dot, has_rule, line, rect, way, word, words};
 use crate::{DrawFault, RUN_LIMIT, Work, apply};
-use nap_codes::Opcode;
-use nap_list::{Entry, ListSink, Sink, SinkFault};
+use nap_codes::{Code, Mask, Opcode};
+use nap_list::{Entry, ListSink, Pen, Sink, SinkFault};
 use std::alloc::Global;
 use std::process::Abort;
 use std::test::Fail;
@@ -25,6 +26,8 @@ struct Faltering {
 
 impl Sink for Faltering {
     ghost state = { λ s. walk start s.list };
+
+    ghost grows = { λ s. true };
 
     ghost failed = { λ s. s.failed };
 
@@ -132,6 +135,72 @@ fn sinks_that_fail_at_the_only_entry(rt: HostRuntime) -> Result<(), Fail> {
         ] {
             falters(&rt, alloc, (op, bytes), &[], why)?;
         }
+    }
+    Ok(())
+}
+
+/// Two codes give these entries, and the sink fails amid those of the second.
+#[tactic(auto, unfolding(nap_list::specs::State::walk))]
+fn second_falters(
+    rt: &impl Abort,
+    alloc: Global,
+    codes: (&Code, &Code),
+    want: &[Entry],
+    why: (SinkFault, DrawFault),
+) -> Result<(), Fail> {
+    let (first, second) = codes;
+    let (fault, answered) = why;
+    assert!(rt; is_made(first));
+    assert!(rt; is_made(second));
+    let mut sink = Faltering {
+        list: ListSink::new(alloc),
+        left: want.len(),
+        fault,
+        failed: false,
+    };
+    let mut work = Work::start();
+    if work.control(first, &mut sink).is_err() {
+        assert!(rt; false, "{first:?} is refused");
+        return Ok(());
+    }
+    let before = work.copy();
+    let answer = work.control(second, &mut sink);
+    assert_eq!(rt; answer.err(), Some(answered), "by {second:?}");
+    assert!(rt; work == before, "by {second:?}");
+    assert_eq!(rt; sink.failed, fault == SinkFault::Write, "by {second:?}");
+    let list = sink.list.into_list();
+    assert_eq!(rt; list.as_slice(), want, "by {second:?}");
+    Ok(())
+}
+
+#[test]
+fn sinks_that_fail_amid_a_repeat(rt: HostRuntime) -> Result<(), Fail> {
+    let alloc = rt.alloc();
+    let list = [
+        drawn(hand(Pen::Start)),
+        drawn(hand(Pen::After)),
+        drawn(hand(Pen::After)),
+    ];
+    let codes = (&LETTER, &Code::Repeat(word(3)));
+    for why in FAULTS {
+        for count in 1..4 {
+            second_falters(&rt, alloc, codes, &list[..count], why)?;
+        }
+    }
+    Ok(())
+}
+
+#[test]
+fn sinks_that_fail_amid_a_definition(rt: HostRuntime) -> Result<(), Fail> {
+    let alloc = rt.alloc();
+    let list = [Entry::GlyphStart(0x41), Entry::DefEnd];
+    let codes = (&Code::DefGlyph(0x41), &Code::DefMask(Mask::B));
+    for why in FAULTS {
+        for count in 1..3 {
+            second_falters(&rt, alloc, codes, &list[..count], why)?;
+        }
+        let ended = (&Code::DefGlyph(0x41), &Code::End);
+        second_falters(&rt, alloc, ended, &list[..1], why)?;
     }
     Ok(())
 }

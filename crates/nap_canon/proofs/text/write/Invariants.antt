@@ -1,11 +1,15 @@
-use Rattle.std.proofs.Common.{◌≡◌, All, take}
-use Rattle.nap_list.specs.Range.{InRange}
-use Rattle.nap_canon.specs.Text.{text, HasText}
+use Rattle.std.proofs.Common.{◌≡◌, take}
+use Rattle.nap_codes.specs.declared.code_set.GSet.TheVariants.{G1}
+use Rattle.nap_list.specs.Range.{AllInRange}
+use Rattle.nap_list.specs.State.{start, walk}
+use Rattle.nap_canon.specs.Text.{text, gl_after, pieces}
 use Rattle.nap_canon.proofs.text.write.Given as goal
 
--- the text of the entries so far, which are in range where they have one
+-- the text of the entries so far
 abbrev pub invariant-loop-entry : goal.invariant-loop-entry
 invariant-loop-entry l = record {
-  text : l.bytes.items ≡ text (take l.entry-index l.entries);
-  range : All (λ e. HasText e → InRange e) (take l.entry-index l.entries);
+  text : l.writer.to.items ≡ text (take l.entry-index l.entries);
+  gl : l.writer.gl ≡ gl_after G1 (pieces start (take l.entry-index l.entries));
+  state : l.writer.state ≡ walk start (take l.entry-index l.entries);
+  range : AllInRange (take l.entry-index l.entries);
 }

@@ -5,3 +5,6 @@ use Rattle.nap_draw.proofs.tests.answer_to.Goals as goal
 pub loop-step-init : goal.loop-step-init
 unfolding walk
 loop-step-init g c = rw (c.start-work.ensures, c.new-sink.ensures) start_agrees
+
+pub loop-step-preserved : goal.loop-step-preserved
+loop-step-preserved g c = c.in-Ok.ensures.acts.4

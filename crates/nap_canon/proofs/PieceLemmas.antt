@@ -1,0 +1,127 @@
+use Rattle.std.proofs.Common.{ℕ, suc, ◌+◌, ◌≡◌, ◌≤◌, ◌<◌, List, [], ◌∷◌, ◌++◌, length, All, false, Ok, refl, ap, sym, subst, ◌∙◌, append_assoc, append-nil, arith}
+use Rattle.std.specs.Prelude.{⊤}
+use Rattle.std.proofs.lemmas.Bool.Decides.{nat_tests}
+use Rattle.nap_values.specs.Laws.{IsOperandByte}
+use Rattle.nap_values.specs.Spellings as spellings
+use Rattle.nap_codes.specs.declared.code.Code.TheVariants as code
+use Rattle.nap_codes.specs.declared.code_set.CodeSets.{CodeSets}
+use Rattle.nap_codes.specs.declared.code_set.GSet.{GSet}
+use Rattle.nap_codes.specs.declared.code_set.GSet.TheVariants.{G0, G1, G2, G3}
+use Rattle.nap_codes.specs.declared.opcode.Opcode.{Opcode}
+use Rattle.nap_codes.specs.CodeSets.{start_sets}
+use Rattle.nap_codes.specs.Spelling.{shift_out}
+use Rattle.nap_codes.specs.Front as codes
+use Rattle.nap_list.specs.declared.entry.Entry.{Entry}
+use Rattle.nap_list.specs.State.{walk}
+use Rattle.nap_draw.specs.declared.work.Work.{Work}
+use Rattle.nap_draw.specs.Rule.{Drawn, rule, drawn}
+use Rattle.nap_reader.specs.Stream.{Placed, Machine, is_operand_byte, run_limit, placed_from}
+use Rattle.nap_canon.specs.Spelling.{Piece, opcode, primary, control}
+use Rattle.nap_canon.specs.Text.{piece_bytes, written, gl_after}
+use Rattle.nap_canon.proofs.TextLemmas.{written-append, gl_after-append}
+use Rattle.nap_canon.proofs.PlacedLemmas.{words_of-placed, placed_from-append, spelled_run}
+use Rattle.nap_canon.proofs.CodeLemmas.{code_reads}
+use Rattle.nap_canon.proofs.ReadLemmas.{Reads, BeginsAnew, reads_run}
+
+-- What a reader does with pieces of canonical text.
+
+-- the code sets of the start, with this one in GL
+abbrev pub sets_with : GSet → CodeSets
+sets_with gl = record start_sets { gl = gl }
+
+-- the machine with this set in GL, and this work
+abbrev pub at : Machine → GSet → Work → Machine
+at m gl work = record m { work = work; sets = sets_with gl }
+
+-- Pieces are read as these entries, and leave this work. Where G1 is in GL behind them, no operand byte may come first there.
+abbrev pub Acts : Machine → GSet → Work → List Piece → List Entry → Work → Type 0
+Acts m gl work ps es left = (n : ℕ) (xs : List Placed) (more : List Entry) (end : Machine) →
+    (gl_after gl ps ≡ G1 → BeginsAnew xs) → Reads (at m (gl_after gl ps) left) xs more end →
+    Reads (at m gl work) (placed_from n (written gl ps) ++ xs) (es ++ more) end
+
+-- no operand byte comes first in the bytes of pieces where G1 is in GL
+abbrev pub Begins : List Piece → Type 0
+Begins [] = ⊤
+Begins (opcode byte operands ∷ ps) = byte < 64
+Begins (primary code ∷ ps) = ⊤
+Begins (control [] ∷ ps) = ⊥
+Begins (control (byte ∷ bytes) ∷ ps) = byte < 32
+
+no_operand : (byte : ℕ) → byte < 64 → is_operand_byte byte ≡ false
+no_operand byte below = grind (arith, nat_tests)
+
+begins_anew : (n : ℕ) (ps : List Piece) (xs : List Placed) → Begins ps → (gl_after G1 ps ≡ G1 → BeginsAnew xs) → BeginsAnew (placed_from n (written G1 ps) ++ xs)
+unfolding written gl_after placed_from
+begins_anew n [] xs begins behind = behind refl
+begins_anew n (opcode byte operands ∷ ps) xs begins behind = no_operand byte begins
+begins_anew n (primary code ∷ ps) xs begins behind = refl
+begins_anew n (control [] ∷ ps) xs begins behind = absurd begins
+begins_anew n (control (byte ∷ bytes) ∷ ps) xs begins behind = no_operand byte (omega (arith, begins))
+
+-- no pieces
+pub acts_nothing : (m : Machine) (gl : GSet) (work : Work) → Acts m gl work [] [] work
+unfolding written gl_after placed_from
+acts_nothing m gl work n xs more end anew behind = behind
+
+-- pieces behind others
+pub acts_behind : (m : Machine) (gl : GSet) (ps qs : List Piece) (work between left : Work) (es fs : List Entry) → Begins qs →
+    Acts m gl work ps es between → Acts m (gl_after gl ps) between qs fs left → Acts m gl work (ps ++ qs) (es ++ fs) left
+acts_behind m gl ps qs work between left es fs begins first second n xs more end anew behind =
+    let mid : GSet = gl_after gl ps in
+    let next : ℕ = n + length (written gl ps) in
+    let rest : List Placed = placed_from next (written mid qs) ++ xs in
+    let whole : GSet = gl_after gl (ps ++ qs) in
+    let sets : whole ≡ gl_after mid qs = gl_after-append gl ps qs in
+    let last : gl_after mid qs ≡ G1 → BeginsAnew xs = λ is. anew (sets ∙ is) in
+    let tail : Reads (at m mid between) rest (fs ++ more) end =
+    second next xs more end last (subst (λ (s : GSet). Reads (at m s left) xs more end) sets behind) in
+    let opens : mid ≡ G1 → BeginsAnew rest =
+    λ is. subst (λ (s : GSet). BeginsAnew (placed_from next (written s qs) ++ xs)) (sym is) (begins_anew next qs xs begins (λ e. last (ap (λ (s : GSet). gl_after s qs) is ∙ e))) in
+    let parts : placed_from n (written gl (ps ++ qs)) ++ xs ≡ placed_from n (written gl ps) ++ rest =
+    ap (λ (bs : List ℕ). placed_from n bs ++ xs) (written-append gl ps qs)
+    ∙ ap (λ (ys : List Placed). ys ++ xs) (placed_from-append n (written gl ps) (written mid qs))
+    ∙ append_assoc (placed_from n (written gl ps)) (placed_from next (written mid qs)) xs in
+    subst (λ (ys : List Placed). Reads (at m gl work) ys ((es ++ fs) ++ more) end) (sym parts)
+    (subst (λ (ds : List Entry). Reads (at m gl work) (placed_from n (written gl ps) ++ rest) ds end) (sym (append_assoc es fs more))
+    (first n rest (fs ++ more) end opens tail))
+
+-- an opcode with its operands
+
+-- the byte is the opcode's
+abbrev pub Names : ℕ → Opcode → Type 0
+Names byte op = codes.front (sets_with G1) (byte ∷ []) ≡ codes.whole (code.Op op) 1 (sets_with G1)
+
+opcode_in_gl : (m : Machine) (work : Work) (byte : ℕ) (operands : List ℕ) (op : Opcode) (d : Drawn) → Names byte op → All IsOperandByte operands →
+    length operands ≤ run_limit → rule work op (spellings.words_of operands) ≡ Ok d →
+    (n : ℕ) (xs : List Placed) (more : List Entry) (end : Machine) → BeginsAnew xs → Reads (at m G1 d.work) xs more end →
+    Reads (at m G1 work) (placed_from n (byte ∷ operands) ++ xs) (d.entries ++ more) end
+unfolding placed_from
+opcode_in_gl m work byte operands op d names all few by n xs more end anew behind =
+    reads_run (at m G1 work) (record { byte = byte; place = n }) (placed_from (suc n) operands) op d xs more end
+    (spelled_run n byte operands op (sets_with G1) names all few)
+    (ap (rule work op) (words_of-placed (suc n) operands) ∙ by) anew behind
+
+-- SO
+shifts_out : (m : Machine) (gl : GSet) (work : Work) (n : ℕ) (xs : List Placed) (es : List Entry) (end : Machine) →
+    Reads (at m G1 work) xs es end → Reads (at m gl work) (placed_from n (0x0E ∷ []) ++ xs) es end
+unfolding walk
+shifts_out m gl work n xs es end behind =
+    code_reads (at m gl work) n [] 0x0E code.Shifted (sets_with G1) (drawn work []) xs es end tt shift_out refl behind
+
+-- the opcode where its set may have to be shifted in
+shifted_in : (m : Machine) (gl : GSet) (work : Work) (byte : ℕ) (operands : List ℕ) (n : ℕ) (xs : List Placed) (es : List Entry) (end : Machine) →
+    ((k : ℕ) → Reads (at m G1 work) (placed_from k (byte ∷ operands) ++ xs) es end) →
+    Reads (at m gl work) (placed_from n (piece_bytes gl (opcode byte operands)) ++ xs) es end
+unfolding placed_from
+shifted_in m G1 work byte operands n xs es end read = read n
+shifted_in m G0 work byte operands n xs es end read = shifts_out m G0 work n (placed_from (suc n) (byte ∷ operands) ++ xs) es end (read (suc n))
+shifted_in m G2 work byte operands n xs es end read = shifts_out m G2 work n (placed_from (suc n) (byte ∷ operands) ++ xs) es end (read (suc n))
+shifted_in m G3 work byte operands n xs es end read = shifts_out m G3 work n (placed_from (suc n) (byte ∷ operands) ++ xs) es end (read (suc n))
+
+pub opcode_acts : (m : Machine) (gl : GSet) (work : Work) (byte : ℕ) (operands : List ℕ) (op : Opcode) (d : Drawn) → Names byte op → All IsOperandByte operands →
+    length operands ≤ run_limit → rule work op (spellings.words_of operands) ≡ Ok d → Acts m gl work (opcode byte operands ∷ []) d.entries d.work
+unfolding written gl_after
+opcode_acts m gl work byte operands op d names all few by n xs more end anew behind =
+    subst (λ (bs : List ℕ). Reads (at m gl work) (placed_from n bs ++ xs) (d.entries ++ more) end) (sym (append-nil (piece_bytes gl (opcode byte operands))))
+    (shifted_in m gl work byte operands n xs (d.entries ++ more) end
+    (λ k. opcode_in_gl m work byte operands op d names all few by k xs more end (anew refl) behind))

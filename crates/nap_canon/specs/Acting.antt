@@ -1,0 +1,55 @@
+use Rattle.std.specs.Prelude.{ℕ, zero, suc, ◌≡◌, ◌≢◌, ◌+◌, List, [], ◌∷◌, ◌++◌, length, map, All}
+use Rattle.nap_values.specs.Domains.{OperandLengths}
+use Rattle.nap_codes.specs.declared.code.Code.{Code}
+use Rattle.nap_codes.specs.declared.code.Code.TheVariants as code
+use Rattle.nap_codes.specs.declared.opcode.Opcode.{Opcode}
+use Rattle.nap_codes.specs.declared.opcode.Opcode.TheVariants as opcodes
+use Rattle.nap_codes.specs.CodeSets.{start_sets}
+use Rattle.nap_codes.specs.Front as codes
+use Rattle.nap_codes.specs.Lexed.{lexed}
+use Rattle.nap_reader.specs.Course as course
+use Rattle.nap_reader.specs.Stream.{Placed, Machine, Front, bytes_of, front, start_machine, placed_from}
+
+-- an opcode, and the lengths of operands that stand where it acts
+pub record Acting : Type 0 where
+  pub op : Opcode
+  pub lengths : OperandLengths
+
+-- the opcode at a front, where one stands there
+abbrev pub acting_at : Machine → codes.Front → List Acting
+acting_at m (codes.whole (code.Op op) n sets) = record { op = op; lengths = m.work.domain } ∷ []
+acting_at m _ = []
+
+-- those behind a front that acts, where those of a list that begins later are known
+abbrev pub acting_behind : (Machine → List Placed → List Acting) → Front → List Acting
+acting_behind later (course.act entries m xs) = later m xs
+acting_behind later _ = []
+
+-- front after front, this many at most
+unfoldable pub acting_within : ℕ → Machine → List Placed → List Acting
+acting_within zero m xs = []
+acting_within (suc most) m xs = acting_at m (codes.front m.sets (bytes_of xs)) ++ acting_behind (acting_within most) (front m xs)
+
+-- Front after front, until nothing whole is left. Each code that acts lessens what is unread and what is left to
+-- charge, taken together, so this many fronts are enough.
+abbrev pub acting_from : Machine → List Placed → List Acting
+acting_from m xs = acting_within (suc (length xs + m.left)) m xs
+
+-- the opcodes that act in a stream, one after another: also one whose run the end of the stream ends
+abbrev pub acting : ℕ → List ℕ → List Acting
+acting budget p = acting_from (start_machine budget) (placed_from 0 p)
+
+-- the opcodes among codes
+abbrev pub opcodes_of : List Code → List Opcode
+opcodes_of [] = []
+opcodes_of (code.Op op ∷ rest) = op ∷ opcodes_of rest
+opcodes_of (_ ∷ rest) = opcodes_of rest
+
+-- But for DOMAIN and RESET, it acts under operands of eight words and of four.
+abbrev pub ActsUnderEightAndFour : Acting → Type 0
+ActsUnderEightAndFour a = a.op ≢ opcodes.Domain → a.op ≢ opcodes.Reset → a.lengths ≡ record { multi = 8; single = 4 }
+
+-- The opcodes that act in a stream are all the opcodes of the stream, and each acts so.
+pub record AllActUnderEightAndFour (budget : ℕ) (p : List ℕ) : Type 0 where
+  pub all : map (λ a. a.op) (acting budget p) ≡ opcodes_of (lexed start_sets p).codes
+  pub each : All ActsUnderEightAndFour (acting budget p)

@@ -1,0 +1,12 @@
+use Rattle.std.specs.Prelude.{IfSome}
+use Rattle.nap_values.specs.Coordinates.{IsInRange}
+use Rattle.nap_list.specs.declared.attribute.Held.{Held}
+use Rattle.nap_list.specs.Range.{PenInRange, ColourInRange, TextureInRange, TextInRange}
+
+-- The values that an entry holds are values of their types.
+pub record HeldInRange (h : Held) : Type 0 where
+  pub pen : IfSome h.pen PenInRange
+  pub pel : IfSome h.pel IsInRange
+  pub colour : IfSome h.colour ColourInRange
+  pub texture : IfSome h.texture TextureInRange
+  pub text : IfSome h.text TextInRange

@@ -1,0 +1,124 @@
+//! Streams by hand, with the bytes that the profile gives them.
+use crate::normalise;
+use nap_reader::{Budget, Fault, Refusal};
+use std::alloc::{AllocError, Global};
+use std::process::Abort;
+use std::test::Fail;
+
+/// The stream has this canonical one, which is its own.
+fn normalises(rt: &impl Abort, alloc: Global, bytes: &[u8], want: &[u8]) -> Result<(), AllocError> {
+    let text = normalise(alloc, Budget::usual(), bytes).map_err(|_| AllocError)?;
+    assert_eq!(rt; text.as_slice(), want);
+    let again = normalise(alloc, Budget::usual(), want).map_err(|_| AllocError)?;
+    assert_eq!(rt; again.as_slice(), want);
+    Ok(())
+}
+
+#[test]
+fn streams_with_a_canonical_one(rt: HostRuntime) -> Result<(), Fail> {
+    let alloc = rt.alloc();
+    let rows = [
+        (b"".as_slice(), b"\x0E!_".as_slice()),
+        (b"\x0E!_", b"\x0E!_"),
+        (b"\x0E&R@@", b"\x0E!_&R@@@@@@@"),
+        (b"\x0E)R@@", b"\x0E!_*@@@@@@@@R@@@@@@@"),
+        (b"\x0E&R", b"\x0E!_&R@@@@@@@"),
+        (b"\x0E.@@@I@@", b"\x0E!_.@@@@@@@@I@@@@@@@\x7F@@@@@@@"),
+        (b"\x0E.@@@I@@\x7F@@", b"\x0E!_.@@@@@@@@I@@@@@@@\x7F@@@@@@@"),
+        (b"\x0E>D<R>&R", b"\x0E!_>D@@@<R@@@@@@@>&R@@@@@@@"),
+        (b"\x0E>DH<R&R", b"\x0E!_>D@@@<R@@@@@@@>D@@@H@@@&R@@@@@@@"),
+        (b"\x0E A@&R", b"\x0E!_ A@!_&R@@@@@@@"),
+        (b"\x0E!DI&R@", b"\x0E!_!_I@@@@@@@&R@@@@@@@"),
+        (b"\x0E?DABC", b"\x0E!_?D@@@ABC"),
+        (b"\x0E?", b"\x0E!_?"),
+        (b"\x0E=EF", b"\x0E!_=E=F"),
+        (b"\x0E#CR)I@@", b"\x0E!_#CR@@@@@@@*@@@@@@@@I@@@@@@@"),
+        (
+            b"\x0E0I@@I@@(@@@",
+            b"\x0E!_2@@@@@@@@I@@@@@@@2H@@@@@@@I@@@@@@@*P@@@@@@@@@@@@@@@",
+        ),
+        (b"\x0E8", b"\x0E!_8"),
+        (
+            b"\x0E<\x7F&R@<@'@",
+            b"\x0E!_<\x7F@@@@@@@&R@@@@@@@<@@@@@@@@&R@@@@@@@",
+        ),
+        (b"\x0E \x7F\x7F&R", b"\x0E!_ \x7F\x7F!_&R@@@@@@@"),
+        (b"\x0E\"RA@&R", b"\x0E!_&R@@@@@@@"),
+        (b"\x0E1I@@", b"\x0E!_3@@@@@@@@I@@@@@@@"),
+        (b"\x0E5I@@I@@", b"\x0E!_7@@@@@@@@I@@@@@@@I@@@@@@@"),
+    ];
+    for (bytes, want) in rows {
+        normalises(&rt, alloc, bytes, want)?;
+    }
+    Ok(())
+}
+
+#[test]
+fn pages_with_text_and_glyphs(rt: HostRuntime) -> Result<(), Fail> {
+    let alloc = rt.alloc();
+    let rows = [
+        (
+            b"\x0E$P@@\x1BCA!@&I\x1BE(R@@".as_slice(),
+            b"\x0E!_\x1BCA&I@@@@@@@\x1BE*P@@@@@@@R@@@@@@@".as_slice(),
+        ),
+        (b"\x1BJA\x1BFB", b"\x0E!_\x1BJ\x0FAAA"),
+        (b"\x19A\x1DB\x1B({C", b"\x0E!_\x19A\x1DB\x1B+{\x1DC\x1B+}"),
+        (b"\x0E\"ABR@@\x0FA", b"\x0E!_\"ABR@@@@@@@\x0FA"),
+        (b"A\x0E$P@@ @@\x0FB", b"\x0E!_\x0FA\x0E$P@@@@@@@ @@\x0FB"),
+    ];
+    for (bytes, want) in rows {
+        normalises(&rt, alloc, bytes, want)?;
+    }
+    Ok(())
+}
+
+/// POINT ABS with this many operand bytes of zero.
+fn long_run(alloc: Global, count: usize) -> Result<Vec<u8>, AllocError> {
+    let mut bytes = Vec::from_slice(alloc, b"\x0E&")?;
+    for _ in 0..count {
+        bytes.push(0x40)?;
+    }
+    Ok(bytes)
+}
+
+/// The canonical stream of this many points in the corner.
+fn corners(alloc: Global, count: usize) -> Result<Vec<u8>, AllocError> {
+    let mut bytes = Vec::from_slice(alloc, b"\x0E!_")?;
+    for _ in 0..count {
+        bytes.extend_from_slice(b"&@@@@@@@@")?;
+    }
+    Ok(bytes)
+}
+
+#[test]
+fn the_longest_run(rt: HostRuntime) -> Result<(), Fail> {
+    let alloc = rt.alloc();
+    let longest = normalise(alloc, Budget::usual(), &long_run(alloc, 16_384)?);
+    assert_eq!(rt;
+        longest.map_err(|_| AllocError)?.as_slice(),
+        corners(alloc, 5_462)?.as_slice()
+    );
+    let longer = normalise(alloc, Budget::usual(), &long_run(alloc, 16_385)?);
+    let refusal = Refusal {
+        fault: Fault::LongRun,
+        place: 1,
+    };
+    assert_eq!(rt; longer.err(), Some(refusal));
+    Ok(())
+}
+
+#[test]
+fn streams_without_a_canonical_one(rt: HostRuntime) {
+    let alloc = rt.alloc();
+    let rows = [
+        (b"\x0E&".as_slice(), Fault::Missing, 1),
+        (b"\x0E&R@@\x80", Fault::EighthBit, 5),
+        (b"\x0E8)@@@", Fault::PenUnknown, 2),
+        (b"\x0E DD<R", Fault::NoAddress, 4),
+        (b"\x0E&R\x19", Fault::Cut, 4),
+    ];
+    for (bytes, fault, place) in rows {
+        let answer = normalise(alloc, Budget::usual(), bytes);
+        assert_eq!(rt; answer.err(), Some(Refusal { fault, place }));
+    }
+}

@@ -1,0 +1,214 @@
+//! Writes the canonical text of entries, one after another.
+ghost use Rattle.std.specs.Prelude.{◌≡◌, ◌+◌, ◌≤◌, ◌++◌, [], ◌∷◌, map, length, IfOk, OnOk, OnErr};
+ghost use Rattle.nap_codes.specs.declared.code_set.GSet.TheVariants.{G1};
+ghost use Rattle.nap_list.specs.State.{start, after, Fits};
+ghost use Rattle.nap_canon.specs.declared.piece.Piece.{Piece};
+ghost use Rattle.nap_canon.specs.Spelling.{size_byte, flag_byte, escape, command_piece};
+ghost use Rattle.nap_canon.specs.Text.{header, piece_bytes, written, gl_behind, gl_after, entry_pieces};
+
+use crate::byte_sink::ByteSink;
+use crate::command::{Command, Commands, Flag};
+use crate::piece::Piece;
+use nap_codes::{GSet, Size};
+use nap_list::{Entry, State};
+use nap_values::{put_addr, put_grb, put_move, put_point};
+
+mod spelling;
+
+mod opcodes {
+    pub(crate) const RESET: u8 = 0x20;
+
+    pub(crate) const DOMAIN: u8 = 0x21;
+
+    pub(crate) const TEXT: u8 = 0x22;
+
+    pub(crate) const TEXTURE: u8 = 0x23;
+
+    pub(crate) const POINT_SET_ABS: u8 = 0x24;
+
+    pub(crate) const POINT_ABS: u8 = 0x26;
+
+    pub(crate) const SET_LINE_ABS: u8 = 0x2A;
+
+    pub(crate) const SET_ARC: u8 = 0x2E;
+
+    pub(crate) const SET_RECT: u8 = 0x32;
+
+    pub(crate) const SET_POLY: u8 = 0x36;
+
+    pub(crate) const FIELD: u8 = 0x38;
+
+    pub(crate) const SET_COLOR: u8 = 0x3C;
+
+    pub(crate) const WAIT: u8 = 0x3D;
+
+    pub(crate) const SELECT_COLOR: u8 = 0x3E;
+
+    pub(crate) const BLINK: u8 = 0x3F;
+}
+
+/// The operand of DOMAIN: eight words and four words.
+const LENGTHS: u8 = 0x5F;
+
+/// Writes the text of entries.
+#[derive(Drop)]
+pub(crate) struct Writer<T: ByteSink + Drop> {
+    to: T,
+    gl: GSet,
+    state: State,
+}
+
+/// The control of a size that has a name.
+fn size_byte(size: Size) -> u8
+    ensures { result ≡ size_byte size }
+{
+    match size {
+        Size::Small => 0x4A,
+        Size::Medium => 0x4B,
+        Size::Normal => 0x4C,
+        Size::Tall => 0x4D,
+        Size::Double => 0x4F,
+    }
+}
+
+/// The control of a mode of text.
+fn flag_byte(flag: Flag, on: bool) -> u8
+    ensures { result ≡ flag_byte flag on }
+{
+    match (flag, on) {
+        (Flag::Reverse, true) => 0x48,
+        (Flag::Reverse, false) => 0x49,
+        (Flag::Underline, true) => 0x59,
+        (Flag::Underline, false) => 0x5A,
+        (Flag::Wrap, true) => 0x55,
+        (Flag::Wrap, false) => 0x56,
+        (Flag::Scroll, true) => 0x57,
+        (Flag::Scroll, false) => 0x58,
+    }
+}
+
+impl<T: ByteSink + Drop> Writer<T> {
+    /// Begins a text: SO brings the opcodes into GL, and DOMAIN makes the operands eight words and four words long.
+    pub(crate) fn begin(to: T) -> Result<Writer<T>, T::Fault>
+        ensures taken { IfOk result (λ writer. T.taken writer.to ≡ T.taken to ++ header) }
+        ensures gl { IfOk result (λ writer. writer.gl ≡ G1) }
+        ensures state { IfOk result (λ writer. writer.state ≡ start) }
+    {
+        let mut to = to;
+        to.take(&[0x0E, opcodes::DOMAIN, LENGTHS])?;
+        Ok(Writer {
+            to,
+            gl: GSet::G1,
+            state: State::start(),
+        })
+    }
+
+    /// What took the text.
+    pub(crate) fn into_inner(self) -> T
+        ensures { result ≡ self.to }
+    {
+        let Writer { to, .. } = self;
+        to
+    }
+
+    /// Takes the bytes of an opcode with its operands, behind which the opcodes are in GL.
+    fn drawn(&mut self, piece: Piece) -> Result<(), T::Fault>
+        ensures taken { OnOk result (T.taken self.new.to ≡ T.taken self.old.to ++ piece) }
+        ensures gl { self.new.gl ≡ G1 }
+        ensures state { self.new.state ≡ self.old.state }
+    {
+        self.gl = GSet::G1;
+        self.to.take(piece.as_slice())
+    }
+
+    /// Takes controls with the bytes that belong to them.
+    fn control(&mut self, bytes: &[u8]) -> Result<(), T::Fault>
+        ensures taken { OnOk result (T.taken self.new.to ≡ T.taken self.old.to ++ bytes.now) }
+        ensures gl { self.new.gl ≡ self.old.gl }
+        ensures state { self.new.state ≡ self.old.state }
+    {
+        self.to.take(bytes)
+    }
+
+    /// Takes a control of the C1 set.
+    fn escape(&mut self, byte: u8) -> Result<(), T::Fault>
+        ensures taken { OnOk result (T.taken self.new.to ≡ T.taken self.old.to ++ piece_bytes self.old.gl (escape byte)) }
+        ensures gl { self.new.gl ≡ self.old.gl }
+        ensures state { self.new.state ≡ self.old.state }
+    {
+        self.control(&[0x1B, byte])
+    }
+
+    fn command(&mut self, command: Command) -> Result<(), T::Fault>
+        ensures taken { OnOk result (T.taken self.new.to ≡ T.taken self.old.to ++ piece_bytes self.old.gl (command_piece command)) }
+        ensures gl { self.new.gl ≡ gl_behind self.old.gl (command_piece command) }
+        ensures state { self.new.state ≡ self.old.state }
+    {
+        let gl = self.gl;
+        match command {
+            Command::PointSet(point) => {
+                self.drawn(Piece::opcode(gl, opcodes::POINT_SET_ABS).with(&put_point(point)))
+            }
+            Command::Pel(pel) => self.drawn(
+                Piece::opcode(gl, opcodes::DOMAIN)
+                    .with(&[LENGTHS])
+                    .with(&put_move(pel)),
+            ),
+            Command::SelectBase => self.drawn(Piece::opcode(gl, opcodes::SELECT_COLOR)),
+            Command::SelectFront(addr) => {
+                self.drawn(Piece::opcode(gl, opcodes::SELECT_COLOR).with(&put_addr(addr)))
+            }
+            Command::SelectPair(front, back) => self.drawn(
+                Piece::opcode(gl, opcodes::SELECT_COLOR)
+                    .with(&put_addr(front))
+                    .with(&put_addr(back)),
+            ),
+            Command::SetColor(grb) => {
+                self.drawn(Piece::opcode(gl, opcodes::SET_COLOR).with(&put_grb(grb)))
+            }
+            Command::Texture(word) => self.drawn(Piece::opcode(gl, opcodes::TEXTURE).word(word)),
+            Command::TextureMask(word, mask) => self.drawn(
+                Piece::opcode(gl, opcodes::TEXTURE)
+                    .word(word)
+                    .with(&put_move(mask)),
+            ),
+            Command::Text(first, second) => {
+                self.drawn(Piece::opcode(gl, opcodes::TEXT).word(first).word(second))
+            }
+            Command::TextSize(first, second, size) => self.drawn(
+                Piece::opcode(gl, opcodes::TEXT)
+                    .word(first)
+                    .word(second)
+                    .with(&put_move(size)),
+            ),
+            Command::Named(size) => self.escape(size_byte(size)),
+            Command::Flag(flag, on) => self.escape(flag_byte(flag, on)),
+        }
+    }
+
+    fn commands(&mut self, commands: &Commands) -> Result<(), T::Fault>
+        ensures taken { OnOk result (T.taken self.new.to ≡ T.taken self.old.to ++ written self.old.gl (map command_piece commands.now)) }
+        ensures gl { OnOk result (self.new.gl ≡ gl_after self.old.gl (map command_piece commands.now)) }
+        ensures state { self.new.state ≡ self.old.state }
+    {
+        for command in commands.as_slice() {
+            self.command(*command)?;
+        }
+        Ok(())
+    }
+
+    /// Writes an entry that may come next: its bring, and its spelling. The state stays where this fails.
+    pub(crate) fn put_ref(&mut self, entry: &Entry) -> Result<(), T::Fault>
+        requires { Fits self.old.state entry.now }
+        ensures taken { OnOk result (T.taken self.new.to ≡ T.taken self.old.to ++ written self.old.gl (entry_pieces self.old.state entry.now)) }
+        ensures gl { OnOk result (self.new.gl ≡ gl_after self.old.gl (entry_pieces self.old.state entry.now)) }
+        ensures state { OnOk result (self.new.state ≡ after self.old.state entry.now) }
+        ensures still { OnErr result (self.new.state ≡ self.old.state) }
+    {
+        let bring = Commands::bring(&self.state.drawing, &entry.held());
+        self.commands(&bring)?;
+        self.spelling(entry)?;
+        self.state.step(entry);
+        Ok(())
+    }
+}

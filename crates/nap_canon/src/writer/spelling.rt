@@ -1,0 +1,220 @@
+//! How each entry is spelled where the values that it holds stand.
+ghost use Rattle.std.specs.Prelude.{◌≡◌, ◌<◌, ◌+◌, ◌++◌, [], ◌∷◌, if◌then◌else◌, OnOk};
+ghost use Rattle.nap_codes.specs.declared.code_set.GSet.TheVariants.{G0, G1};
+ghost use Rattle.nap_list.specs.Entry.{held};
+ghost use Rattle.nap_list.specs.State.{taking};
+ghost use Rattle.nap_canon.specs.Spelling.{word_byte, mask_byte, cursor_byte, step_bytes, area_bytes, onward_bytes, shape, char_piece, domain_again, opcode, primary, map_pieces, spelled};
+ghost use Rattle.nap_canon.specs.Text.{piece_bytes, written, gl_behind, gl_after};
+
+use crate::byte_sink::ByteSink;
+use crate::command::Commands;
+use crate::piece::Piece;
+use crate::writer::{LENGTHS, Writer, opcodes};
+use nap_codes::{CharSet, CursorKind, GSet, Mask, TextStep};
+use nap_list::{Area, Colour, Entry};
+use nap_values::{Addr, Grb, Point, Word, put_addr, put_grb, put_move, put_point};
+
+/// The argument of DEF TEXTURE.
+fn mask_byte(mask: Mask) -> u8
+    ensures { result ≡ mask_byte mask }
+{
+    match mask {
+        Mask::A => 0x41,
+        Mask::B => 0x42,
+        Mask::C => 0x43,
+        Mask::D => 0x44,
+    }
+}
+
+fn cursor_byte(kind: CursorKind) -> u8
+    ensures { result ≡ cursor_byte kind }
+{
+    match kind {
+        CursorKind::Flash => 0x5B,
+        CursorKind::Steady => 0x5C,
+        CursorKind::Off => 0x5D,
+    }
+}
+
+/// The opcode of the filled shape follows that of the outlined one.
+fn shape_opcode(outlined: u8, filled: bool) -> u8
+    requires { outlined < 255 }
+    ensures { result ≡ if filled then (outlined + 1) else outlined }
+{
+    if filled { outlined + 1 } else { outlined }
+}
+
+impl<T: ByteSink + Drop> Writer<T> {
+    /// The displacements from a point to the others in turn.
+    fn onward(&mut self, first: Point, others: &[Point]) -> Result<(), T::Fault>
+        ensures taken { OnOk result (T.taken self.new.to ≡ T.taken self.old.to ++ onward_bytes first others.now) }
+        ensures gl { self.new.gl ≡ self.old.gl }
+        ensures state { self.new.state ≡ self.old.state }
+    {
+        let mut from = first;
+        for to in others {
+            self.to.take(&put_move(from.to(*to)))?;
+            from = *to;
+        }
+        Ok(())
+    }
+
+    /// A shape through its points, by the opcode of the outlined one.
+    fn shape(&mut self, outlined: u8, filled: bool, points: &[Point]) -> Result<(), T::Fault>
+        requires { outlined < 255 }
+        ensures taken { OnOk result (T.taken self.new.to ≡ T.taken self.old.to ++ piece_bytes self.old.gl (shape outlined filled points.now)) }
+        ensures gl { self.new.gl ≡ G1 }
+        ensures state { self.new.state ≡ self.old.state }
+    {
+        let piece = Piece::opcode(self.gl, shape_opcode(outlined, filled));
+        match points.split_first() {
+            Some((first, others)) => {
+                self.drawn(piece.with(&put_point(*first)))?;
+                self.onward(*first, others)
+            }
+            None => self.drawn(piece),
+        }
+    }
+
+    /// A code of the primary characters, behind which they are in GL.
+    fn primary(&mut self, code: u8) -> Result<(), T::Fault>
+        ensures taken { OnOk result (T.taken self.new.to ≡ T.taken self.old.to ++ piece_bytes self.old.gl (primary code)) }
+        ensures gl { self.new.gl ≡ G0 }
+        ensures state { self.new.state ≡ self.old.state }
+    {
+        let piece = Piece::primary(self.gl, code);
+        self.gl = GSet::G0;
+        self.to.take(piece.as_slice())
+    }
+
+    /// A character: SS2 brings G2 and SS3 brings G3 for it alone, and a DRCS is G3 for that time.
+    fn character(&mut self, set: CharSet, code: u8) -> Result<(), T::Fault>
+        ensures taken { OnOk result (T.taken self.new.to ≡ T.taken self.old.to ++ piece_bytes self.old.gl (char_piece set code)) }
+        ensures gl { self.new.gl ≡ gl_behind self.old.gl (char_piece set code) }
+        ensures state { self.new.state ≡ self.old.state }
+    {
+        match set {
+            CharSet::Primary => self.primary(code),
+            CharSet::Supplementary => self.control(&[0x19, code]),
+            CharSet::Mosaic => self.control(&[0x1D, code]),
+            CharSet::Drcs => self.control(&[0x1B, 0x2B, 0x7B, 0x1D, code, 0x1B, 0x2B, 0x7D]),
+        }
+    }
+
+    /// A format effector.
+    fn text_move(&mut self, step: TextStep) -> Result<(), T::Fault>
+        ensures taken { OnOk result (T.taken self.new.to ≡ T.taken self.old.to ++ step_bytes step) }
+        ensures gl { self.new.gl ≡ self.old.gl }
+        ensures state { self.new.state ≡ self.old.state }
+    {
+        match step {
+            TextStep::Apb => self.control(&[0x08]),
+            TextStep::Apf => self.control(&[0x09]),
+            TextStep::Apd => self.control(&[0x0A]),
+            TextStep::Apu => self.control(&[0x0B]),
+            TextStep::Apr => self.control(&[0x0D]),
+            TextStep::Aph => self.control(&[0x1E]),
+            TextStep::Aps(a, b) => self.control(&[0x1C, a, b]),
+        }
+    }
+
+    /// SET COLOR at an address, which is brought where it isn't the colour.
+    fn map(&mut self, addr: Addr, grb: Grb) -> Result<(), T::Fault>
+        ensures taken { OnOk result (T.taken self.new.to ≡ T.taken self.old.to ++ written self.old.gl (map_pieces self.old.state.drawing addr grb)) }
+        ensures gl { OnOk result (self.new.gl ≡ gl_after self.old.gl (map_pieces self.old.state.drawing addr grb)) }
+        ensures state { self.new.state ≡ self.old.state }
+    {
+        let drawing = &self.state.drawing;
+        let bring = Commands::bring_colour(drawing.base, drawing.colour, Colour::Front(addr));
+        self.commands(&bring)?;
+        self.drawn(Piece::opcode(self.gl, opcodes::SET_COLOR).with(&put_grb(grb)))
+    }
+
+    /// RESET, and DOMAIN once more where that puts the lengths of operands back.
+    #[tactic(auto, unfolding(crate::specs::Text::written))]
+    fn reset(&mut self, first: Word, second: Word) -> Result<(), T::Fault>
+        ensures taken { OnOk result (T.taken self.new.to ≡ T.taken self.old.to ++ written self.old.gl (opcode 0x20 (word_byte first ∷ word_byte second ∷ []) ∷ domain_again first)) }
+        ensures gl { self.new.gl ≡ G1 }
+        ensures state { self.new.state ≡ self.old.state }
+    {
+        let piece = Piece::opcode(self.gl, opcodes::RESET);
+        let words = piece.word(first).word(second);
+        if first.get() % 2 == 0 {
+            return self.drawn(words);
+        }
+        self.drawn(words)?;
+        self.drawn(Piece::opcode(self.gl, opcodes::DOMAIN).with(&[LENGTHS]))
+    }
+
+    /// FIELD with its area.
+    fn field(&mut self, area: Area) -> Result<(), T::Fault>
+        ensures taken { OnOk result (T.taken self.new.to ≡ T.taken self.old.to ++ piece_bytes self.old.gl (opcode 0x38 (area_bytes area))) }
+        ensures gl { self.new.gl ≡ G1 }
+        ensures state { self.new.state ≡ self.old.state }
+    {
+        match area {
+            Area::Whole => self.drawn(Piece::opcode(self.gl, opcodes::FIELD)),
+            Area::Part { from, to } => self.shape(opcodes::FIELD, false, &[from, to]),
+        }
+    }
+
+    /// How an entry is spelled where the values that it holds stand.
+    #[tactic(auto, unfolding(crate::specs::Text::written, crate::specs::Text::gl_after))]
+    pub(super) fn spelling(&mut self, entry: &Entry) -> Result<(), T::Fault>
+        ensures taken { OnOk result (T.taken self.new.to ≡ T.taken self.old.to ++ written self.old.gl (spelled (taking self.old.state.drawing (held entry.now)) entry.now)) }
+        ensures gl { OnOk result (self.new.gl ≡ gl_after self.old.gl (spelled (taking self.old.state.drawing (held entry.now)) entry.now)) }
+        ensures state { self.new.state ≡ self.old.state }
+    {
+        let gl = self.gl;
+        match entry {
+            Entry::Point { at, .. } => {
+                self.drawn(Piece::opcode(gl, opcodes::POINT_ABS).with(&put_point(*at)))
+            }
+            Entry::Line { from, to, .. } => {
+                let piece = Piece::opcode(gl, opcodes::SET_LINE_ABS).with(&put_point(*from));
+                self.drawn(piece.with(&put_point(*to)))
+            }
+            Entry::Arc { filled, points, .. } => self.shape(
+                opcodes::SET_ARC,
+                *filled,
+                points.as_slice(),
+            ),
+            Entry::Rect {
+                filled,
+                from,
+                to,
+                ..
+            } => self.shape(opcodes::SET_RECT, *filled, &[*from, *to]),
+            Entry::Poly { filled, points, .. } => self.shape(
+                opcodes::SET_POLY,
+                *filled,
+                points.as_slice(),
+            ),
+            Entry::Char { set, code, .. } => self.character(*set, *code),
+            Entry::TextMove { step, .. } => self.text_move(*step),
+            Entry::ToEol { .. } => self.escape(0x47),
+            Entry::Map { addr, grb } => self.map(*addr, *grb),
+            Entry::Blink {
+                addr,
+                on,
+                off,
+                delay,
+                ..
+            } => {
+                let piece = Piece::opcode(gl, opcodes::BLINK).with(&put_addr(*addr));
+                self.drawn(piece.word(*on).word(*off).word(*delay))
+            }
+            Entry::BlinkEnd { .. } => self.drawn(Piece::opcode(gl, opcodes::BLINK)),
+            Entry::BlinkMark { on, .. } => self.escape(if *on { 0x4E } else { 0x5E }),
+            Entry::Wait(word) => self.drawn(Piece::opcode(gl, opcodes::WAIT).word(*word)),
+            Entry::Bell => self.control(&[0x07]),
+            Entry::Cursor(kind) => self.escape(cursor_byte(*kind)),
+            Entry::Field { area, .. } => self.field(*area),
+            Entry::Reset { first, second, .. } => self.reset(*first, *second),
+            Entry::Clear { .. } => self.control(&[0x0C]),
+            Entry::GlyphStart(code) => self.control(&[0x1B, 0x43, *code]),
+            Entry::MaskStart(mask) => self.control(&[0x1B, 0x44, mask_byte(*mask)]),
+            Entry::DefEnd => self.escape(0x45),
+        }
+    }
+}

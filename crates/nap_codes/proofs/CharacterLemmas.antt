@@ -1,0 +1,59 @@
+use Rattle.std.proofs.Common.{ℕ, ◌≡◌, ◌↔◌, [], ◌∷◌, Option, Some, None, refl}
+use Rattle.nap_codes.specs.declared.code.Code.TheVariants as codes
+use Rattle.nap_codes.specs.declared.code_set.CharSet.{CharSet}
+use Rattle.nap_codes.specs.declared.code_set.CodeSet.{CodeSet}
+use Rattle.nap_codes.specs.declared.code_set.CodeSet.TheVariants as code_sets
+use Rattle.nap_codes.specs.declared.code_set.CodeSets.{CodeSets}
+use Rattle.nap_codes.specs.declared.opcode.Left.{Left}
+use Rattle.nap_codes.specs.declared.opcode.Opcode.{Opcode}
+use Rattle.nap_codes.specs.CodeSets.{characters_of, set_at}
+use Rattle.nap_codes.specs.Front.{whole, plain_code, opcode_front, pdi_front, gl_front, control0_front, front}
+use Rattle.nap_codes.specs.Laws.{IsGraphic}
+use Rattle.nap_codes.specs.Lexer.{LexerState, IsCharacter}
+use Rattle.nap_codes.specs.Tables.{row_of, control0_rows, opcode_rows, left_out_opcode}
+use Rattle.nap_codes.proofs.TableLemmas.{graphic_test, no_control0}
+use Rattle.nap_codes.proofs.CodeRanges.{code_ranges}
+
+-- Which bytes are characters by themselves.
+
+-- an opcode is no character
+no_char_of_opcode : (sets : CodeSets) (op : Opcode) (left : Option Left) (set : CharSet) (byte : ℕ) →
+    opcode_front sets op left ≡ whole (codes.Char set byte) 1 sets → ⊥
+unfolding opcode_front
+no_char_of_opcode sets op None set byte e = cc
+no_char_of_opcode sets op (Some name) set byte e = cc
+
+-- no code of the PDI set is
+no_char_of_pdi : (sets : CodeSets) (found : Option Opcode) (set : CharSet) (byte : ℕ) →
+    pdi_front sets byte found ≡ whole (codes.Char set byte) 1 sets → ⊥
+unfolding pdi_front
+no_char_of_pdi sets None set byte e = cc
+no_char_of_pdi sets (Some op) set byte e = no_char_of_opcode sets op (left_out_opcode op) set byte e
+
+-- the code of a set is a character where the set is one of characters
+in_set : (sets : CodeSets) (byte : ℕ) (at : CodeSet) (set : CharSet) →
+    (characters_of at ≡ Some set) ↔ (gl_front sets byte (plain_code at byte) ≡ whole (codes.Char set byte) 1 sets)
+unfolding plain_code gl_front
+in_set sets byte code_sets.Primary set = (λ e. cc, λ e. cc)
+in_set sets byte code_sets.Supplementary set = (λ e. cc, λ e. cc)
+in_set sets byte code_sets.Mosaic set = (λ e. cc, λ e. cc)
+in_set sets byte code_sets.Drcs set = (λ e. cc, λ e. cc)
+in_set sets byte code_sets.Macros set = (λ e. cc, λ e. cc)
+in_set sets byte code_sets.Pdi set = (λ e. cc, λ e. absurd (no_char_of_pdi sets (row_of opcode_rows byte) set byte e))
+
+-- a byte from 20 to 7F is a character where a set of characters is in GL
+pub in_gl : (sets : CodeSets) (byte : ℕ) (set : CharSet) → IsGraphic byte →
+    (characters_of (set_at sets sets.gl) ≡ Some set) ↔ (front sets (byte ∷ []) ≡ whole (codes.Char set byte) 1 sets)
+unfolding front control0_front
+in_gl sets byte set range =
+    rw (no_control0 byte (row_of control0_rows byte) range.0 refl, graphic_test byte range.0 range.1)
+    (in_set sets byte (set_at sets sets.gl) set)
+
+-- no byte is one amid a code
+pub none_amid : (lexer : LexerState) (byte : ℕ) (set : CharSet) → (lexer.half ≡ [] → ⊥) → (None ≡ Some set) ↔ IsCharacter lexer byte set
+none_amid lexer byte set some = (λ e. cc, λ k. absurd (some k.0))
+
+-- no other byte is one
+pub none_beyond : (lexer : LexerState) (byte : ℕ) (set : CharSet) → (IsGraphic byte → ⊥) → (None ≡ Some set) ↔ IsCharacter lexer byte set
+none_beyond lexer byte set other =
+    (λ e. cc, λ k. absurd (other (code_ranges lexer.sets (byte ∷ []) (codes.Char set byte) 1 lexer.sets k.1)))

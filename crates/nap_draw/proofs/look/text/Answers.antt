@@ -1,7 +1,0 @@
-use Rattle.std.proofs.Common.{[], refl}
-use Rattle.nap_list.specs.State.{walk}
-use Rattle.nap_draw.proofs.look.text.Goals as goal
-
-pub returns : goal.returns
-unfolding walk
-returns c = rw (c.silent.ensures, c.text_after-look.ensures, c.first_move-size.ensures, c.words_from.ensures, c.text.ensures) ([], refl, refl)

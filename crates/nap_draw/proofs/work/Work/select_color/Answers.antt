@@ -1,0 +1,7 @@
+use Rattle.std.proofs.Common.{refl}
+use Rattle.nap_list.specs.State.{walk}
+use Rattle.nap_draw.proofs.work.Work.select_color.Goals as goal
+
+pub returns : goal.returns
+unfolding walk
+returns c = rw (c.selected-self.ensures, c.base-base.ensures) refl

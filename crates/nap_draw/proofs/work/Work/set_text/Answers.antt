@@ -1,0 +1,7 @@
+use Rattle.std.proofs.Common.{refl}
+use Rattle.nap_list.specs.State.{walk}
+use Rattle.nap_draw.proofs.work.Work.set_text.Goals as goal
+
+pub returns : goal.returns
+unfolding walk
+returns c = rw (c.text_after-look.ensures, c.first_move-size.ensures, c.words_from.ensures, c.look.ensures) refl

@@ -1,0 +1,139 @@
+//! Putting the entries of an opcode into a sink, one after another, up to the first that it doesn't take.
+ghost use Rattle.std.specs.Prelude.{◌≡◌, ◌+◌, ◌<◌, None, map, length, IfOk};
+ghost use Rattle.nap_list.specs.State.{AllFit};
+ghost use Rattle.nap_list.specs.declared.entry.Entry.TheVariants.{Wait};
+ghost use Rattle.nap_draw.specs.Operands.{operands};
+ghost use Rattle.nap_draw.specs.Geometry.{end_of};
+ghost use Rattle.nap_draw.specs.Rule.{point_on, blink};
+ghost use Rattle.nap_draw.specs.Doing.{Put, copies_in, linked, paired, stroke_on};
+
+use crate::operands::word_at;
+use crate::spans::{Figure, Span};
+use nap_list::{Drawing, Entry, Hand, LastChar, Pen, Sink, SinkFault};
+use nap_values::{Domain, Point, Word, single};
+
+/// A point at each of the points.
+pub(crate) fn put_points<S: Sink>(
+    points: &[Point],
+    drawing: &Drawing,
+    sink: &mut S,
+) -> Result<(), SinkFault>
+    requires { AllFit (S.state sink.old) (map (point_on drawing.now) points.now) }
+    ensures { Put S.Sink (map (point_on drawing.now) points.now) sink.old sink.new result }
+{
+    for at in points {
+        sink.put(Entry::Point {
+            at: *at,
+            pel: drawing.pel,
+            colour: drawing.colour,
+        })?;
+    }
+    Ok(())
+}
+
+/// The figure from this point to the first, and on from its end to each further one. Gives the last span.
+pub(crate) fn put_linked<S: Sink>(
+    figure: Figure,
+    from: Point,
+    points: &[Point],
+    drawing: &Drawing,
+    sink: &mut S,
+) -> Result<Option<Span>, SinkFault>
+    requires { AllFit (S.state sink.old) (map (stroke_on figure drawing.now) (linked figure from points.now)) }
+    ensures put { Put S.Sink (map (stroke_on figure drawing.now) (linked figure from points.now)) sink.old sink.new result }
+    ensures last { IfOk result (λ last. last ≡ end_of None (linked figure from points.now)) }
+{
+    let mut at = from;
+    let mut last = None;
+    for to in points {
+        sink.put(figure.entry(drawing, at, *to))?;
+        last = Some(Span { from: at, to: *to });
+        at = figure.after(at, *to);
+    }
+    Ok(last)
+}
+
+/// The figure between the points of each pair. Gives the last span.
+pub(crate) fn put_paired<S: Sink>(
+    figure: Figure,
+    points: &[Point],
+    drawing: &Drawing,
+    sink: &mut S,
+) -> Result<Option<Span>, SinkFault>
+    requires { AllFit (S.state sink.old) (map (stroke_on figure drawing.now) (paired points.now)) }
+    ensures put { Put S.Sink (map (stroke_on figure drawing.now) (paired points.now)) sink.old sink.new result }
+    ensures last { IfOk result (λ last. last ≡ end_of None (paired points.now)) }
+{
+    let mut last = None;
+    for pair in points.chunks_exact(2) {
+        let (from, to) = (pair[0], pair[1]);
+        sink.put(figure.entry(drawing, from, to))?;
+        last = Some(Span { from, to });
+    }
+    Ok(last)
+}
+
+/// The character this many times in this hand, and behind the first with the pen as text leaves it.
+pub(crate) fn put_copies<S: Sink>(
+    hand: Hand,
+    last: LastChar,
+    count: Word,
+    sink: &mut S,
+) -> Result<(), SinkFault>
+    requires { AllFit (S.state sink.old) (copies_in hand last count) }
+    ensures { Put S.Sink (copies_in hand last count) sink.old sink.new result }
+{
+    let mut pen = hand.pen;
+    for _ in 0..count.get() {
+        sink.put(Entry::Char {
+            set: last.set,
+            code: last.code,
+            hand: Hand { pen, ..hand },
+        })?;
+        pen = Pen::After;
+    }
+    Ok(())
+}
+
+/// A pause for each word.
+pub(crate) fn put_pauses<S: Sink>(run: &[Word], sink: &mut S) -> Result<(), SinkFault>
+    requires { AllFit (S.state sink.old) (map Wait run.now) }
+    ensures { Put S.Sink (map Wait run.now) sink.old sink.new result }
+{
+    for word in run {
+        sink.put(Entry::Wait(*word))?;
+    }
+    Ok(())
+}
+
+/// A blink for each group of BLINK.
+pub(crate) fn put_blinks<S: Sink>(
+    domain: Domain,
+    drawing: &Drawing,
+    run: &[Word],
+    sink: &mut S,
+) -> Result<(), SinkFault>
+    requires { AllFit (S.state sink.old) (map (blink domain.single drawing.now.colour) (operands (domain.single + 3) run.now)) }
+    ensures { Put S.Sink (map (blink domain.single drawing.now.colour) (operands (domain.single + 3) run.now)) sink.old sink.new result }
+{
+    for group in run.chunks(usize::from(domain.single()) + 3) {
+        sink.put(blink_of(domain, drawing, group))?;
+    }
+    Ok(())
+}
+
+/// The blink of one group: an address, and three words.
+fn blink_of(domain: Domain, drawing: &Drawing, group: &[Word]) -> Entry
+    requires { 0 < length group.now }
+    ensures { result ≡ blink domain.single drawing.now.colour group.now }
+{
+    let size = domain.single();
+    let (address, times) = group.split_at(usize::from(size).min(group.len()));
+    Entry::Blink {
+        addr: single(address, size),
+        on: word_at(times, 0),
+        off: word_at(times, 1),
+        delay: word_at(times, 2),
+        colour: drawing.colour,
+    }
+}

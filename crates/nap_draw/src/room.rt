@@ -1,0 +1,117 @@
+//! Decoding of a run into a room of points that the caller lends. What the room held before means nothing.
+ghost use Rattle.std.specs.Prelude.{◌≡◌, [], true, false, IfOk, IfErr};
+ghost use Rattle.nap_draw.specs.declared.fault.DrawFault.TheVariants.{Memory};
+ghost use Rattle.nap_draw.specs.Operands.{moves};
+ghost use Rattle.nap_draw.specs.Geometry.{points_at, reached, away, across};
+ghost use Rattle.nap_draw.specs.Doing.{Fills, paired, crossed};
+
+use crate::fault::DrawFault;
+use crate::spans::span_by;
+use nap_list::corner;
+use nap_values::{Domain, Point, Word, multi};
+
+/// Each operand as a point.
+pub(crate) fn points_into(
+    room: &mut Vec<Point>,
+    domain: Domain,
+    run: &[Word],
+) -> Result<(), DrawFault>
+    ensures { Fills (points_at (moves domain.multi run.now)) room.new.items result }
+{
+    let size = domain.multi();
+    let mut full = emptied(room, run.len().div_ceil(usize::from(size)));
+    for operand in run.chunks(usize::from(size)) {
+        let Some(point) = multi(operand, size).point() else {
+            return Err(DrawFault::Outside);
+        };
+        full |= room.push(point).is_err();
+    }
+    settled(full)
+}
+
+/// The points reached from this one, one after another.
+pub(crate) fn steps_into(
+    room: &mut Vec<Point>,
+    from: Point,
+    domain: Domain,
+    run: &[Word],
+) -> Result<(), DrawFault>
+    ensures { Fills (reached from (moves domain.multi run.now)) room.new.items result }
+{
+    let size = domain.multi();
+    let mut at = from;
+    let mut full = emptied(room, run.len().div_ceil(usize::from(size)));
+    for operand in run.chunks(usize::from(size)) {
+        let Some(point) = at.by(multi(operand, size)) else {
+            return Err(DrawFault::Outside);
+        };
+        full |= room.push(point).is_err();
+        at = point;
+    }
+    settled(full)
+}
+
+/// The far corners of rectangles: as far from this point as the first operand, and on from the corner straight across.
+pub(crate) fn corners_into(
+    room: &mut Vec<Point>,
+    from: Point,
+    domain: Domain,
+    run: &[Word],
+) -> Result<(), DrawFault>
+    ensures { Fills (across from (moves domain.multi run.now)) (crossed from room.new.items) result }
+{
+    let size = domain.multi();
+    let mut at = from;
+    let mut full = emptied(room, run.len().div_ceil(usize::from(size)));
+    for operand in run.chunks(usize::from(size)) {
+        let Some(point) = at.by(multi(operand, size)) else {
+            return Err(DrawFault::Outside);
+        };
+        full |= room.push(point).is_err();
+        at = corner(at, point);
+    }
+    settled(full)
+}
+
+/// Pairs of operands: a point, and the one as far from it as the second.
+pub(crate) fn pairs_into(
+    room: &mut Vec<Point>,
+    domain: Domain,
+    run: &[Word],
+) -> Result<(), DrawFault>
+    ensures { Fills (away (moves domain.multi run.now)) (paired room.new.items) result }
+{
+    let size = domain.multi();
+    let mut full = emptied(room, run.len().div_ceil(usize::from(size)));
+    let mut operands = run.chunks(usize::from(size));
+    while let Some(first) = operands.next() {
+        let Some(second) = operands.next() else {
+            return Err(DrawFault::Outside);
+        };
+        let Some(span) = span_by(multi(first, size).point(), multi(second, size)) else {
+            return Err(DrawFault::Outside);
+        };
+        full |= room.push(span.from).is_err();
+        full |= room.push(span.to).is_err();
+    }
+    settled(full)
+}
+
+/// Empties the room, and makes it large enough. Says whether there is no memory for that.
+fn emptied(room: &mut Vec<Point>, count: usize) -> bool
+    ensures { room.new.items ≡ [] }
+{
+    room.clear();
+    room.reserve_exact(count).is_err()
+}
+
+/// Want of memory, where a point had no room.
+fn settled(full: bool) -> Result<(), DrawFault>
+    ensures ok { IfOk result (λ _. full ≡ false) }
+    ensures err { IfErr result (λ fault. (full ≡ true) × (fault ≡ Memory)) }
+{
+    if full {
+        return Err(DrawFault::Memory);
+    }
+    Ok(())
+}

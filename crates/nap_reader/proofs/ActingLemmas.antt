@@ -1,0 +1,132 @@
+use Rattle.std.proofs.Common.{ℕ, ◌≡◌, ◌≢◌, List, [], ◌∷◌, ◌++◌, length, Bool, false, Option, Some, None, Result, Ok, Err, OnOk, IfOk, IfErr, refl, ap, sym, ◌∙◌, subst, append-nil}
+use Rattle.std.specs.Prelude.{IsOk, IsErrOf}
+use Rattle.nap_codes.specs.declared.code.Code.TheVariants as code
+use Rattle.nap_codes.specs.declared.code_set.CharSet.{CharSet}
+use Rattle.nap_codes.specs.Front as codes
+use Rattle.nap_codes.specs.Lexer.{LexerState, IsCharacter}
+use Rattle.nap_list.specs.declared.entry.Entry.{Entry}
+use Rattle.nap_list.specs.declared.sink.Sink.{Ghosts}
+use Rattle.nap_draw.specs.declared.fault.DrawFault.{DrawFault}
+use Rattle.nap_draw.specs.declared.fault.DrawFault.TheVariants as draw_faults
+use Rattle.nap_draw.specs.declared.work.Work.{Work}
+use Rattle.nap_draw.specs.Acts.{Acts, WantsBy, GivesSome}
+use Rattle.nap_draw.specs.Draws.{Cause, stream, memory, device}
+use Rattle.nap_draw.specs.Draws as draws
+use Rattle.nap_draw.specs.Rule.{Drawn}
+use Rattle.nap_reader.specs.declared.fault.Refusal.{Refusal}
+use Rattle.nap_reader.specs.Faults.{draw_fault}
+use Rattle.nap_reader.specs.Course as course
+use Rattle.nap_reader.specs.Course.{prepend, paused, onward}
+use Rattle.nap_reader.specs.Stream.{Placed, Machine, Outcome, nothing, refusal, after_drawing, drawn_front, front, outcome_from}
+use Rattle.nap_reader.specs.Breaking.{cause_of}
+use Rattle.nap_reader.specs.Holding.{Holding, IsHeld, Continues, ContinuesPast, BreaksPast, ReachesBy}
+use Rattle.nap_reader.proofs.HeldLemmas.{half_read_pauses}
+use Rattle.nap_reader.proofs.LeadsLemmas.{TookMore, TookBroke, by_front, leads_on, leads_to_fault, wants_part, fails_part}
+use Rattle.nap_reader.proofs.ReadingLemmas.{nothing_yet, reaches, reaches_refusal}
+use Rattle.nap_reader.proofs.StreamLemmas.{outcome_from-front}
+
+-- A character or a control acts.
+
+-- a character is the code at the front of what is half read, and its byte
+pub character_front : (lexer : LexerState) (byte : ℕ) (set : CharSet) → IsCharacter lexer byte set →
+    (codes.front lexer.sets (lexer.half ++ byte ∷ []) ≡ codes.whole (code.Char set byte) 1 lexer.sets) × (1 ≡ length (lexer.half ++ byte ∷ []))
+character_front lexer byte set k = (
+  ap (λ (half : List ℕ). codes.front lexer.sets (half ++ byte ∷ [])) k.0 ∙ k.1,
+  sym (ap (λ (half : List ℕ). length (half ++ byte ∷ [])) k.0),
+)
+
+-- nothing comes of nothing
+nothing_comes : (m : Machine) → outcome_from m [] ≡ paused m [] (Some nothing)
+nothing_comes m = outcome_from-front m [] ∙ ap (onward outcome_from m []) (half_read_pauses m [] [] refl (nothing_yet m.sets))
+
+not_empty : (first : List Entry) (next : Entry) (rest : List Entry) → first ++ next ∷ rest ≢ []
+not_empty [] next rest e = cc
+not_empty (x ∷ xs) next rest e = cc
+
+-- The last byte that came makes a code whole, which acts by a rule, and not all of its entries could be put.
+module _ {S : Type 0} (g : Ghosts S) (s : S) (known : List Entry) (o : Outcome) (t : S) (h : Holding) (x : Placed)
+    (k : ContinuesPast g s known o t h (x ∷ [])) (m : Machine) (by : Result Drawn DrawFault)
+    (acting : front h.machine (k.continues.rest ++ x ∷ []) ≡ drawn_front m x.place [] by) where
+  adds_drawn : (drawn : Drawn) → by ≡ Ok drawn → (o.entries ≡ known ++ drawn.entries) × (o.refusal ≡ None)
+  adds_drawn drawn is =
+      let m' : Machine = after_drawing m drawn in
+      let there =
+      by_front g s o t h (x ∷ []) k.continues (course.act drawn.entries m' []) (acting ∙ ap (drawn_front m x.place []) is)
+      ∙ ap (λ (y : Outcome). prepend k.continues.done (prepend drawn.entries y)) (nothing_comes m') in (
+        ap (λ (y : Outcome). y.entries) there
+            ∙ ap (λ (es : List Entry). k.continues.done ++ es) (append-nil drawn.entries)
+            ∙ ap (λ (es : List Entry). es ++ drawn.entries) k.done,
+        ap (λ (y : Outcome). y.refusal) there,
+      )
+
+  known_taken : g.took s known t
+  known_taken = subst (λ (es : List Entry). g.took s es t) k.done k.continues.taken
+
+  pub code_breaks : (u : S) → TookMore g → TookBroke g → (fault : DrawFault) →
+      draws.DrawsBy g.took g.broke g.failed by t u fault (draws.cause_of fault) →
+      (fault ≡ draw_faults.Memory → WantsBy g by t u) →
+      (fault ≡ draw_faults.Sink → GivesSome by) →
+      cause_of (draw_fault fault) ≢ stream → BreaksPast g s known o u (cause_of (draw_fault fault))
+  code_breaks u more broken draw_faults.Memory (drawn, is, part) wants gives broke =
+      let want = subst (λ (r : Result Drawn DrawFault). WantsBy g r t u) is (wants refl) in
+      record {
+        more = drawn.entries;
+        some = λ none. not_empty want.stops.0 want.stops.1 want.stops.2 (sym want.stops.3 ∙ none);
+        adds = (adds_drawn drawn is).0;
+        unrefused = (adds_drawn drawn is).1;
+        part = wants_part g s t u known drawn.entries known_taken more part;
+      }
+  code_breaks u more broken draw_faults.Sink (drawn, is, part) wants gives broke = record {
+    more = drawn.entries;
+    some = subst GivesSome is (gives refl);
+    adds = (adds_drawn drawn is).0;
+    unrefused = (adds_drawn drawn is).1;
+    part = fails_part g s t u known drawn.entries known_taken broken k.continues.clear part;
+  }
+  code_breaks u more broken _ drew wants gives broke = absurd (broke refl)
+
+-- the answer of a code that acts by a rule, and what is latched by it
+module _ {S A B : Type 0} (g : Ghosts S) (clears : A → Bool) (t u : S) (h : Holding) (x : Placed) (m : Machine) (by : Result Drawn DrawFault)
+    (v : Work) (answer : Result A DrawFault) (result : Result B Refusal) (latch old : Option Refusal)
+    (did : Acts g clears by h.machine.work v t u answer)
+    (ok : IfOk answer (λ _. IsOk result × (latch ≡ old)))
+    (err : IfErr answer (λ fault. (latch ≡ Some (refusal (draw_fault fault) x.place)) × (result ≡ Err (refusal (draw_fault fault) x.place)))) where
+  pub acted_reaches : TookMore g → old ≡ None → OnOk answer (g.failed t ≡ false → g.failed u ≡ false) → (s : S) (o : Outcome) (pending : List Placed) (h' : Holding) →
+      (k : Continues g s o t h (x ∷ pending)) → front h.machine (k.rest ++ x ∷ pending) ≡ drawn_front m x.place pending by →
+      h'.machine ≡ record m { work = v } → IsHeld [] h' →
+      ReachesBy g s o u h' pending latch
+  acted_reaches law live clear s o pending h' k acting same held = at answer did ok err clear
+    where
+      at : (a : Result A DrawFault) → Acts g clears by h.machine.work v t u a → IfOk a (λ _. IsOk result × (latch ≡ old)) →
+          IfErr a (λ fault. (latch ≡ Some (refusal (draw_fault fault) x.place)) × (result ≡ Err (refusal (draw_fault fault) x.place))) →
+          OnOk a (g.failed t ≡ false → g.failed u ≡ false) → ReachesBy g s o u h' pending latch
+      at (Ok a) did ok err clear =
+          reaches g s o u h' pending latch (ok.1 ∙ live)
+          (leads_on g s o t h (x ∷ pending) k u did.0 h' pending law held
+          (acting ∙ ap (drawn_front m x.place pending) did.1 ∙ ap (λ (m : Machine). course.act did.0 m pending) (sym same)) did.2 clear)
+      at (Err fault) did ok err clear =
+          reaches_refusal g s o u h' pending latch _ err.0 (λ own. leads_to_fault g s o t h (x ∷ pending) k u m x.place pending by acting fault did.1 own)
+
+  pub acted_breaks : TookMore g → TookBroke g → (IsErrOf answer draw_faults.Memory → WantsBy g by t u) →
+      (IsErrOf answer draw_faults.Sink → GivesSome by) →
+      ((s : S) (o : Outcome) → (k : Continues g s o t h (x ∷ [])) → front h.machine (k.rest ++ x ∷ []) ≡ drawn_front m x.place [] by) →
+      IfErr result (λ r. cause_of r.fault ≢ stream → (s : S) (known : List Entry) (o : Outcome) → ContinuesPast g s known o t h (x ∷ []) →
+      (r.place ≡ x.place) × BreaksPast g s known o u (cause_of r.fault))
+  acted_breaks more broken wants gives acting = at answer refl did ok err
+    where
+      unrefused : (P : Refusal → Type 0) (r : Result B Refusal) → IsOk r → IfErr r P
+      unrefused P (Ok b) done = tt
+      unrefused P (Err r) done = let bad : ⊥ = cc in absurd bad
+
+      at : (a : Result A DrawFault) → answer ≡ a → Acts g clears by h.machine.work v t u a → IfOk a (λ _. IsOk result × (latch ≡ old)) →
+          IfErr a (λ fault. (latch ≡ Some (refusal (draw_fault fault) x.place)) × (result ≡ Err (refusal (draw_fault fault) x.place))) →
+          IfErr result (λ r. cause_of r.fault ≢ stream → (s : S) (known : List Entry) (o : Outcome) → ContinuesPast g s known o t h (x ∷ []) →
+          (r.place ≡ x.place) × BreaksPast g s known o u (cause_of r.fault))
+      at (Ok a) same did ok err = unrefused _ result ok.0
+      at (Err fault) same did ok err =
+          rw err.1
+          (λ broke s known o k. (
+            refl,
+            code_breaks g s known o t h x k m by (acting s o k.continues) u more broken fault did.1
+                (λ memory. wants (same ∙ ap Err memory)) (λ device. gives (same ∙ ap Err device)) broke,
+          ))

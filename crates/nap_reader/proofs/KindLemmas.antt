@@ -1,0 +1,53 @@
+use Rattle.std.proofs.Common.{ℕ, ◌≡◌, List, arith}
+use Rattle.std.specs.Prelude.{⊤}
+use Rattle.nap_codes.specs.declared.code.Code.{Code}
+use Rattle.nap_codes.specs.declared.code.Code.TheVariants as code
+use Rattle.nap_codes.specs.declared.code_set.CodeSets.{CodeSets}
+use Rattle.nap_codes.specs.declared.control.TextStep.{TextStep}
+use Rattle.nap_codes.specs.declared.control.TextStep.TheVariants as steps
+use Rattle.nap_codes.specs.Front as codes
+use Rattle.nap_codes.specs.Laws.{IsGraphic, IsInRange}
+use Rattle.nap_codes.proofs.PublicLaws.{code_ranges}
+use Rattle.nap_list.specs.Entry.{IsCode, StepMade}
+use Rattle.nap_draw.specs.Codes.{IsMade}
+use Rattle.nap_reader.specs.declared.kind.Kind.{Kind}
+use Rattle.nap_reader.specs.declared.kind.Kind.TheVariants as kinds
+use Rattle.nap_reader.specs.Kinds.{kind_of}
+
+-- The codes that act have their bytes in range.
+
+graphic_code : (byte : ℕ) → IsGraphic byte → IsCode byte
+graphic_code byte range = (range.0, omega arith)
+
+step_made : (step : TextStep) → IsInRange (code.Step step) → StepMade step
+step_made (steps.Aps row column) ranges = (graphic_code row ranges.0, graphic_code column ranges.1)
+step_made _ ranges = tt
+
+range_made : (c : Code) → IsInRange c → IsMade c
+range_made (code.Char set byte) range = graphic_code byte range
+range_made (code.DefGlyph byte) range = graphic_code byte range
+range_made (code.Step step) ranges = step_made step ranges
+range_made _ range = tt
+
+-- a code that acts is made
+abbrev pub KindMade : Kind → Type 0
+KindMade (kinds.Acts c) = IsMade c
+KindMade _ = ⊤
+
+kind_made : (c : Code) → IsMade c → KindMade (kind_of c)
+kind_made (code.Op op) made = tt
+kind_made (code.Operand word) made = tt
+kind_made code.Fill made = tt
+kind_made code.Shifted made = tt
+kind_made (code.Designated number set) made = tt
+kind_made (code.Call name) made = tt
+kind_made (code.DefMacro name show) made = tt
+kind_made _ made = made
+
+-- the code at a front is made
+pub front_made : (sets : CodeSets) (xs : List ℕ) (c : Code) (n : ℕ) (after : CodeSets) → codes.front sets xs ≡ codes.whole c n after → IsMade c
+front_made sets xs c n after e = range_made c (code_ranges sets xs c n after e)
+
+-- and so is one that acts
+pub front_kind_made : (sets : CodeSets) (xs : List ℕ) (c : Code) (n : ℕ) (after : CodeSets) → codes.front sets xs ≡ codes.whole c n after → KindMade (kind_of c)
+front_kind_made sets xs c n after e = kind_made c (front_made sets xs c n after e)

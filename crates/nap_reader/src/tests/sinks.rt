@@ -1,0 +1,190 @@
+//! Readers whose sink fails.
+ghost use Rattle.std.specs.Prelude.{◌≡◌, ◌++◌, List, true};
+ghost use Rattle.std.proofs.Common.{sym, ap, ◌∙◌, append-nil, append_assoc};
+ghost use Rattle.nap_list.specs.State.{start, walk};
+ghost use Rattle.nap_list.specs.declared.entry.Entry.{Entry};
+
+use super::text::primary;
+use super::{dot, end, feed, refusal};
+use crate::{Budget, Fault, Reader, Refusal};
+use nap_list::{Entry, ListSink, Pen, Sink, SinkFault};
+use std::alloc::Global;
+use std::process::Abort;
+
+// Keeps the entries until its device fails, with some puts left before it does.
+#[derive(Drop)]
+struct Faltering {
+    list: ListSink,
+    left: usize,
+    failed: bool,
+}
+
+impl Sink for Faltering {
+    ghost state = { λ s. walk start s.list };
+
+    ghost grows = { λ s. true };
+
+    ghost failed = { λ s. s.failed };
+
+    ghost took = { λ s d t. t.list ≡ s.list ++ d };
+
+    ghost broke = { λ s d e t. t.list ≡ s.list ++ d };
+
+    fn put(&mut self, entry: Entry) -> Result<(), SinkFault> {
+        if self.failed {
+            return Err(SinkFault::Write);
+        }
+        if self.left == 0 {
+            self.failed = true;
+            return Err(SinkFault::Write);
+        }
+        self.list.put(entry)?;
+        self.left -= 1;
+        Ok(())
+    }
+
+    ghost took_none = { λ s. sym (append-nil s.list) };
+
+    ghost took_more = { λ s t u d e a b. b ∙ (ap (λ (list : List Entry). list ++ e) a ∙ append_assoc s.list d e) };
+
+    ghost took_broke = { λ s t u d e x a b. b ∙ (ap (λ (list : List Entry). list ++ e) a ∙ append_assoc s.list d e) };
+}
+
+#[test]
+#[tactic(auto, unfolding(nap_list::specs::State::walk))]
+fn a_sink_that_fails_stops_the_reading(rt: HostRuntime) {
+    let alloc = rt.alloc();
+    let points = &[
+        dot(4_194_304, 4_194_304),
+        dot(2_097_152, 2_097_152),
+        dot(4_194_304, 4_194_304),
+    ][..];
+    let stream = b"\x0E&R@@I@@&R@@\x0F".as_slice();
+    let open = b"\x0E&R@@I@@&R@@".as_slice();
+    let at = |place| refusal(Fault::Sink, place);
+    for (bytes, list, count, fed, ended) in [
+        (stream, &points[..0], 9, at(1), at(1)),
+        (stream, &points[..1], 9, at(1), at(1)),
+        (stream, &points[..2], 13, at(8), at(8)),
+        (stream, &points[..3], 13, None, None),
+        (open, &points[..2], 12, None, at(8)),
+    ] {
+        let stop = Stop {
+            bytes,
+            count,
+            fed,
+            ended,
+        };
+        stop.agrees(&rt, alloc, list);
+    }
+}
+
+#[test]
+fn a_sink_that_fails_between_two_definitions(rt: HostRuntime) {
+    let alloc = rt.alloc();
+    let list = &[Entry::GlyphStart(0x41), Entry::DefEnd][..];
+    for count in 1..3 {
+        let stop = Stop {
+            bytes: b"\x1BCA\x1BDA\x1BE",
+            count: 6,
+            fed: refusal(Fault::Sink, 5),
+            ended: refusal(Fault::Sink, 5),
+        };
+        stop.agrees(&rt, alloc, &list[..count]);
+    }
+}
+
+/// A stream, how many of its bytes are taken, and what a feed and the end answer.
+#[derive(Debug, Drop)]
+struct Stop<'a> {
+    bytes: &'a [u8],
+    count: u64,
+    fed: Option<Refusal>,
+    ended: Option<Refusal>,
+}
+
+impl Stop<'_> {
+    /// Whether this is so over a sink that has room for these entries, which it takes.
+    #[tactic(auto, unfolding(nap_list::specs::State::walk))]
+    fn agrees(&self, rt: &impl Abort, alloc: Global, list: &[Entry]) {
+        let sink = Faltering {
+            list: ListSink::new(alloc),
+            left: list.len(),
+            failed: false,
+        };
+        let mut reader = Reader::new(alloc, Budget::usual(), sink);
+        assert_eq!(rt; feed(rt, &mut reader, self.bytes).err(), self.fed);
+        assert_eq!(rt; reader.sink().failed, self.fed.is_some());
+        let counts = (reader.fed(), reader.turns(), reader.charged());
+        assert_eq!(rt; counts, (self.count, self.count, 0));
+        let (sink, refusal) = end(reader);
+        assert_eq!(rt; refusal, self.ended);
+        assert_eq!(rt; sink.failed, self.ended.is_some());
+        assert_eq!(rt; sink.list.into_list().as_slice(), list);
+    }
+}
+
+#[test]
+fn a_sink_that_fails_amid_a_repetition(rt: HostRuntime) {
+    let alloc = rt.alloc();
+    let list = &[
+        primary(0x41, Pen::Start),
+        primary(0x41, Pen::After),
+        primary(0x41, Pen::After),
+        primary(0x41, Pen::After),
+    ][..];
+    for (taken, count, answer) in [
+        (0, 1, refusal(Fault::Sink, 0)),
+        (1, 4, refusal(Fault::Sink, 3)),
+        (2, 4, refusal(Fault::Sink, 3)),
+        (3, 4, refusal(Fault::Sink, 3)),
+        (4, 4, None),
+    ] {
+        let stop = Stop {
+            bytes: b"A\x1BFC",
+            count,
+            fed: answer,
+            ended: answer,
+        };
+        stop.agrees(&rt, alloc, &list[..taken]);
+    }
+}
+
+#[test]
+fn a_byte_that_ends_a_run_and_acts_has_its_own_place(rt: HostRuntime) {
+    let alloc = rt.alloc();
+    let list = &[dot(4_194_304, 4_194_304), Entry::Bell][..];
+    for (taken, answer) in [
+        (0, refusal(Fault::Sink, 1)),
+        (1, refusal(Fault::Sink, 5)),
+        (2, None),
+    ] {
+        let stop = Stop {
+            bytes: b"\x0E&R@@\x07",
+            count: 6,
+            fed: answer,
+            ended: answer,
+        };
+        stop.agrees(&rt, alloc, &list[..taken]);
+    }
+}
+
+#[test]
+#[tactic(auto, unfolding(nap_list::specs::State::walk))]
+fn what_puts_nothing_passes_a_sink_that_has_failed(rt: HostRuntime) {
+    let alloc = rt.alloc();
+    for (bytes, want) in [
+        (b"\x0E\x1BJ\x1BH\x00".as_slice(), None),
+        (b"\x1BJA", refusal(Fault::Sink, 2)),
+        (b"\x1BJ\x07", refusal(Fault::Sink, 2)),
+    ] {
+        let sink = Faltering {
+            list: ListSink::new(alloc),
+            left: 1,
+            failed: true,
+        };
+        let mut reader = Reader::new(alloc, Budget::usual(), sink);
+        assert_eq!(rt; feed(&rt, &mut reader, bytes).err(), want, "of {bytes:?}");
+        assert!(rt; reader.into_sink().list.into_list().is_empty());
+    }
+}
