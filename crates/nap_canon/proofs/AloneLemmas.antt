@@ -29,55 +29,55 @@ use Rattle.nap_canon.proofs.ReadLemmas.{Reads}
 -- What a reader does with the pieces of canonical text that are no opcodes.
 
 -- a code that stays what it is whatever is in GL, and leaves that
-pub alone_acts : (m : Machine) (gl : GSet) (work : Work) (before : List ℕ) (last : ℕ) (c : Code) (d : Drawn) → IsAlone c →
+pub alone_acts : (budget : ℕ) (gl : GSet) (work : Work) (before : List ℕ) (last : ℕ) (c : Code) (d : Drawn) → IsAlone c →
     Spells (sets_with gl) (before ++ last ∷ []) c (sets_with gl) → code_rule work c ≡ Ok d →
-    Acts m gl work (control (before ++ last ∷ []) ∷ []) d.entries d.work
+    Acts budget gl work (control (before ++ last ∷ []) ∷ []) d.entries d.work
 unfolding written gl_after
-alone_acts m gl work before last c d alone spells by n xs more end anew behind =
-    subst (λ (bs : List ℕ). Reads (at m gl work) (placed_from n bs ++ xs) (d.entries ++ more) end) (sym (append-nil (before ++ last ∷ [])))
-    (code_reads (at m gl work) n before last c (sets_with gl) d xs more end alone spells by behind)
+alone_acts budget gl work before last c d alone spells by n xs more end anew behind =
+    subst (λ (bs : List ℕ). Reads (at budget gl work) (placed_from n bs ++ xs) (d.entries ++ more) end) (sym (append-nil (before ++ last ∷ [])))
+    (code_reads budget (sets_with gl) work n before last c (sets_with gl) d xs more end alone spells by behind)
 
 -- a control of the C0 set, and one of the C1 set
 
-pub control0_acts : (m : Machine) (gl : GSet) (work : Work) (byte : ℕ) (c : Code) (d : Drawn) → IsAlone c → row_of control0_rows byte ≡ Some (Whole c) →
-    c ≢ code.Shifted → code_rule work c ≡ Ok d → Acts m gl work (control (byte ∷ []) ∷ []) d.entries d.work
-control0_acts m gl work byte c d alone row no_shift by = alone_acts m gl work [] byte c d alone (control0 row no_shift) by
+pub control0_acts : (budget : ℕ) (gl : GSet) (work : Work) (byte : ℕ) (c : Code) (d : Drawn) → IsAlone c → row_of control0_rows byte ≡ Some (Whole c) →
+    c ≢ code.Shifted → code_rule work c ≡ Ok d → Acts budget gl work (control (byte ∷ []) ∷ []) d.entries d.work
+control0_acts budget gl work byte c d alone row no_shift by = alone_acts budget gl work [] byte c d alone (control0 row no_shift) by
 
-pub escape_acts : (m : Machine) (gl : GSet) (work : Work) (byte : ℕ) (c : Code) (d : Drawn) → IsAlone c → row_of control1_rows byte ≡ Some (Whole c) →
-    code_rule work c ≡ Ok d → Acts m gl work (escape byte ∷ []) d.entries d.work
-escape_acts m gl work byte c d alone row by = alone_acts m gl work (0x1B ∷ []) byte c d alone (control1 row) by
+pub escape_acts : (budget : ℕ) (gl : GSet) (work : Work) (byte : ℕ) (c : Code) (d : Drawn) → IsAlone c → row_of control1_rows byte ≡ Some (Whole c) →
+    code_rule work c ≡ Ok d → Acts budget gl work (escape byte ∷ []) d.entries d.work
+escape_acts budget gl work byte c d alone row by = alone_acts budget gl work (0x1B ∷ []) byte c d alone (control1 row) by
 
 -- SI
-shifts_in : (m : Machine) (gl : GSet) (work : Work) (n : ℕ) (xs : List Placed) (es : List Entry) (end : Machine) →
-    Reads (at m G0 work) xs es end → Reads (at m gl work) (placed_from n (0x0F ∷ []) ++ xs) es end
+shifts_in : (budget : ℕ) (gl : GSet) (work : Work) (n : ℕ) (xs : List Placed) (es : List Entry) (end : Machine) →
+    Reads (at budget G0 work) xs es end → Reads (at budget gl work) (placed_from n (0x0F ∷ []) ++ xs) es end
 unfolding walk
-shifts_in m gl work n xs es end behind =
-    code_reads (at m gl work) n [] 0x0F code.Shifted (sets_with G0) (drawn work []) xs es end tt shift_in refl behind
+shifts_in budget gl work n xs es end behind =
+    code_reads budget (sets_with gl) work n [] 0x0F code.Shifted (sets_with G0) (drawn work []) xs es end tt shift_in refl behind
 
 -- a primary character where its set may have to be shifted in
 
-primary_in_gl : (m : Machine) (work : Work) (byte : ℕ) (d : Drawn) → IsGraphic byte → code_rule work (code.Char chars.Primary byte) ≡ Ok d →
-    (n : ℕ) (xs : List Placed) (more : List Entry) (end : Machine) → Reads (at m G0 d.work) xs more end →
-    Reads (at m G0 work) (placed_from n (byte ∷ []) ++ xs) (d.entries ++ more) end
+primary_in_gl : (budget : ℕ) (work : Work) (byte : ℕ) (d : Drawn) → IsGraphic byte → code_rule work (code.Char chars.Primary byte) ≡ Ok d →
+    (n : ℕ) (xs : List Placed) (more : List Entry) (end : Machine) → Reads (at budget G0 d.work) xs more end →
+    Reads (at budget G0 work) (placed_from n (byte ∷ []) ++ xs) (d.entries ++ more) end
 unfolding plain_code
-primary_in_gl m work byte d graphic by n xs more end behind =
-    code_reads (at m G0 work) n [] byte (code.Char chars.Primary byte) (sets_with G0) d xs more end tt (in_gl graphic refl) by behind
+primary_in_gl budget work byte d graphic by n xs more end behind =
+    code_reads budget (sets_with G0) work n [] byte (code.Char chars.Primary byte) (sets_with G0) d xs more end tt (in_gl graphic refl) by behind
 
-primary_shifted : (m : Machine) (gl : GSet) (work : Work) (byte : ℕ) (n : ℕ) (xs : List Placed) (es : List Entry) (end : Machine) →
-    ((k : ℕ) → Reads (at m G0 work) (placed_from k (byte ∷ []) ++ xs) es end) →
-    Reads (at m gl work) (placed_from n (piece_bytes gl (primary byte)) ++ xs) es end
+primary_shifted : (budget : ℕ) (gl : GSet) (work : Work) (byte : ℕ) (n : ℕ) (xs : List Placed) (es : List Entry) (end : Machine) →
+    ((k : ℕ) → Reads (at budget G0 work) (placed_from k (byte ∷ []) ++ xs) es end) →
+    Reads (at budget gl work) (placed_from n (piece_bytes gl (primary byte)) ++ xs) es end
 unfolding placed_from
-primary_shifted m G0 work byte n xs es end read = read n
-primary_shifted m G1 work byte n xs es end read = shifts_in m G1 work n (placed_from (suc n) (byte ∷ []) ++ xs) es end (read (suc n))
-primary_shifted m G2 work byte n xs es end read = shifts_in m G2 work n (placed_from (suc n) (byte ∷ []) ++ xs) es end (read (suc n))
-primary_shifted m G3 work byte n xs es end read = shifts_in m G3 work n (placed_from (suc n) (byte ∷ []) ++ xs) es end (read (suc n))
+primary_shifted budget G0 work byte n xs es end read = read n
+primary_shifted budget G1 work byte n xs es end read = shifts_in budget G1 work n (placed_from (suc n) (byte ∷ []) ++ xs) es end (read (suc n))
+primary_shifted budget G2 work byte n xs es end read = shifts_in budget G2 work n (placed_from (suc n) (byte ∷ []) ++ xs) es end (read (suc n))
+primary_shifted budget G3 work byte n xs es end read = shifts_in budget G3 work n (placed_from (suc n) (byte ∷ []) ++ xs) es end (read (suc n))
 
-pub primary_acts : (m : Machine) (gl : GSet) (work : Work) (byte : ℕ) (d : Drawn) → IsGraphic byte → code_rule work (code.Char chars.Primary byte) ≡ Ok d →
-    Acts m gl work (primary byte ∷ []) d.entries d.work
+pub primary_acts : (budget : ℕ) (gl : GSet) (work : Work) (byte : ℕ) (d : Drawn) → IsGraphic byte → code_rule work (code.Char chars.Primary byte) ≡ Ok d →
+    Acts budget gl work (primary byte ∷ []) d.entries d.work
 unfolding written gl_after
-primary_acts m gl work byte d graphic by n xs more end anew behind =
-    subst (λ (bs : List ℕ). Reads (at m gl work) (placed_from n bs ++ xs) (d.entries ++ more) end) (sym (append-nil (piece_bytes gl (primary byte))))
-    (primary_shifted m gl work byte n xs (d.entries ++ more) end (λ k. primary_in_gl m work byte d graphic by k xs more end behind))
+primary_acts budget gl work byte d graphic by n xs more end anew behind =
+    subst (λ (bs : List ℕ). Reads (at budget gl work) (placed_from n bs ++ xs) (d.entries ++ more) end) (sym (append-nil (piece_bytes gl (primary byte))))
+    (primary_shifted budget gl work byte n xs (d.entries ++ more) end (λ k. primary_in_gl budget work byte d graphic by k xs more end behind))
 
 -- a character of the DRCS, which is in G3 for that time alone
 
@@ -97,17 +97,16 @@ drcs_spelled : (gl : GSet) (byte : ℕ) → IsGraphic byte → Spells (third gl)
 unfolding plain_code
 drcs_spelled gl byte graphic = single_shift3 graphic refl
 
-pub drcs_acts : (m : Machine) (gl : GSet) (work : Work) (byte : ℕ) (d : Drawn) → IsGraphic byte → code_rule work (code.Char chars.Drcs byte) ≡ Ok d →
-    Acts m gl work (char_piece chars.Drcs byte ∷ []) d.entries d.work
+pub drcs_acts : (budget : ℕ) (gl : GSet) (work : Work) (byte : ℕ) (d : Drawn) → IsGraphic byte → code_rule work (code.Char chars.Drcs byte) ≡ Ok d →
+    Acts budget gl work (char_piece chars.Drcs byte ∷ []) d.entries d.work
 unfolding written gl_after placed_from walk
-drcs_acts m gl work byte d graphic by n xs more end anew behind =
-    let opened : Machine = record m { work = work; sets = third gl } in
+drcs_acts budget gl work byte d graphic by n xs more end anew behind =
     let fourth : ℕ = suc (suc (suc n)) in
     let sixth : ℕ = suc (suc fourth) in
     let closing : List Placed = placed_from sixth (0x1B ∷ 0x2B ∷ 0x7D ∷ []) ++ xs in
     let shown : List Placed = placed_from fourth (0x1D ∷ byte ∷ []) ++ closing in
-    let closed = code_reads (record opened { work = d.work }) sixth (0x1B ∷ 0x2B ∷ []) 0x7D (code.Designated 3 code_sets.Mosaic) (sets_with gl) (drawn d.work []) xs more end
+    let closed = code_reads budget (third gl) d.work sixth (0x1B ∷ 0x2B ∷ []) 0x7D (code.Designated 3 code_sets.Mosaic) (sets_with gl) (drawn d.work []) xs more end
     tt (designates_mosaic gl) refl behind in
-    let drew = code_reads opened fourth (0x1D ∷ []) byte (code.Char chars.Drcs byte) (third gl) d closing more end tt (drcs_spelled gl byte graphic) by closed in
-    code_reads (at m gl work) n (0x1B ∷ 0x2B ∷ []) 0x7B (code.Designated 3 code_sets.Drcs) (third gl) (drawn work []) shown (d.entries ++ more) end
+    let drew = code_reads budget (third gl) work fourth (0x1D ∷ []) byte (code.Char chars.Drcs byte) (third gl) d closing more end tt (drcs_spelled gl byte graphic) by closed in
+    code_reads budget (sets_with gl) work n (0x1B ∷ 0x2B ∷ []) 0x7B (code.Designated 3 code_sets.Drcs) (third gl) (drawn work []) shown (d.entries ++ more) end
     tt (designates_drcs gl) refl drew

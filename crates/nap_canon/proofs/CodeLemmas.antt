@@ -1,4 +1,4 @@
-use Rattle.std.proofs.Common.{ℕ, ◌+◌, ◌≡◌, List, [], ◌∷◌, ◌++◌, length, take, Ok, ap, sym, subst, ◌∙◌, append_assoc, arith, length-append}
+use Rattle.std.proofs.Common.{ℕ, ◌+◌, ◌≡◌, List, [], ◌∷◌, ◌++◌, length, take, Ok, refl, ap, sym, subst, ◌∙◌, append_assoc, arith, length-append}
 use Rattle.std.proofs.lemmas.List.{take_all}
 use Rattle.nap_codes.specs.declared.code.Code.{Code}
 use Rattle.nap_codes.specs.declared.code_set.CodeSets.{CodeSets}
@@ -8,11 +8,12 @@ use Rattle.nap_codes.proofs.PublicLaws.{whole_is_spelled}
 use Rattle.nap_list.specs.declared.entry.Entry.{Entry}
 use Rattle.nap_draw.specs.Codes.{code_rule}
 use Rattle.nap_draw.specs.Rule.{Drawn}
+use Rattle.nap_draw.specs.declared.work.Work.{Work}
 use Rattle.nap_reader.specs.Laws.{IsAlone}
-use Rattle.nap_reader.specs.Stream.{Placed, Machine, bytes_of, drawn_front, front, placed_from}
+use Rattle.nap_reader.specs.Stream.{Placed, Machine, bytes_of, after_drawing, drawn_front, front, placed_from}
 use Rattle.nap_reader.proofs.PublicLaws.{code_acts}
 use Rattle.nap_canon.proofs.PlacedLemmas.{bytes_of-placed, length-placed, placed_from-append}
-use Rattle.nap_canon.proofs.ReadLemmas.{Reads, reads_act}
+use Rattle.nap_canon.proofs.ReadLemmas.{standing, stands_after, Reads, reads_act}
 
 -- What a reader does with the bytes that spell a code which is no opcode.
 
@@ -25,19 +26,21 @@ spelled_front sets before last c after spells =
     (whole_is_spelled sets bytes c (length before + 1) after).1 (omega (arith, size), subst (λ (bs : List ℕ). Spells sets bs c after) all spells)
 
 -- a code, and what is behind it
-pub code_reads : (m : Machine) (n : ℕ) (before : List ℕ) (last : ℕ) (c : Code) (after : CodeSets) (d : Drawn) (xs : List Placed) (more : List Entry) (end : Machine) →
-    IsAlone c → Spells m.sets (before ++ last ∷ []) c after → code_rule m.work c ≡ Ok d →
-    Reads (record m { work = d.work; sets = after }) xs more end → Reads m (placed_from n (before ++ last ∷ []) ++ xs) (d.entries ++ more) end
+pub code_reads : (budget : ℕ) (sets : CodeSets) (work : Work) (n : ℕ) (before : List ℕ) (last : ℕ) (c : Code) (after : CodeSets) (d : Drawn) (xs : List Placed) (more : List Entry) (end : Machine) →
+    IsAlone c → Spells sets (before ++ last ∷ []) c after → code_rule work c ≡ Ok d →
+    Reads (standing budget after d.work) xs more end → Reads (standing budget sets work) (placed_from n (before ++ last ∷ []) ++ xs) (d.entries ++ more) end
 unfolding placed_from
-code_reads m n before last c after d xs more end alone spells by behind =
+code_reads budget sets work n before last c after d xs more end alone spells by behind =
+    let m : Machine = standing budget sets work in
+    let next : Machine = standing budget after work in
     let first : List Placed = placed_from n before in
     let x : Placed = record { byte = last; place = n + length before } in
     let parts : placed_from n (before ++ last ∷ []) ++ xs ≡ first ++ x ∷ xs =
     ap (λ (ys : List Placed). ys ++ xs) (placed_from-append n before (last ∷ [])) ∙ append_assoc first (x ∷ []) xs in
-    let names : codes.front m.sets (bytes_of first ++ last ∷ []) ≡ codes.whole c (length first + 1) after =
-    rw (bytes_of-placed n before, length-placed n before) (spelled_front m.sets before last c after spells) in
-    reads_act m (placed_from n (before ++ last ∷ []) ++ xs) d.entries (record m { work = d.work; sets = after }) xs more end
+    let names : codes.front sets (bytes_of first ++ last ∷ []) ≡ codes.whole c (length first + 1) after =
+    rw (bytes_of-placed n before, length-placed n before) (spelled_front sets before last c after spells) in
+    reads_act m (placed_from n (before ++ last ∷ []) ++ xs) d.entries (after_drawing next d) xs more end
     (ap (front m) parts
-    ∙ code_acts m c first x after xs (record { alone = alone; names = names })
-    ∙ ap (drawn_front (record m { sets = after }) x.place xs) by)
-    behind
+    ∙ code_acts m c first x after xs (record { mode = refl; alone = alone; names = names })
+    ∙ ap (drawn_front next x.place xs) by)
+    (subst (λ (k : Machine). Reads k xs more end) (sym (stands_after budget after work d)) behind)

@@ -31,7 +31,7 @@ use Rattle.nap_draw.specs.declared.work.Work.{Work}
 use Rattle.nap_draw.specs.Geometry.{arc_points, poly_points}
 use Rattle.nap_draw.specs.Rule as rule
 use Rattle.nap_draw.specs.Rule.{Drawn, ink_of}
-use Rattle.nap_reader.specs.Stream.{Machine, run_limit}
+use Rattle.nap_reader.specs.Stream.{run_limit}
 use Rattle.nap_canon.specs.Range.{HeldInRange}
 use Rattle.nap_canon.specs.Spelling.{opcode, domain, word_byte, onward_bytes, shape_bytes, domain_again, map_pieces, command_piece, spelled}
 use Rattle.nap_canon.specs.declared.command.Command.{Command}
@@ -86,12 +86,12 @@ held_in_range (entries.Clear pen) inside = pen_in_range pen inside
 held_in_range _ inside = record { pen = tt; pel = tt; colour = tt; texture = tt; text = tt }
 
 -- an entry by one opcode
-opcode_draws : (m : Machine) (gl : GSet) (saved : OperandLengths) (s : State) (e : Entry) (byte : ℕ) (bytes : List ℕ) (size : ℕ) (op : Opcode) → Names byte op →
+opcode_draws : (budget : ℕ) (gl : GSet) (saved : OperandLengths) (s : State) (e : Entry) (byte : ℕ) (bytes : List ℕ) (size : ℕ) (op : Opcode) → Names byte op →
     AreOperands bytes size → size ≤ run_limit → rule.rule (held_work saved s e) op (spellings.words_of bytes) ≡ Ok (entry_drawn saved s e) →
-    Draws m gl saved s e (opcode byte bytes ∷ [])
-opcode_draws m gl saved s e byte bytes size op named operands few by =
-    drawn_draws m gl saved s e (opcode byte bytes ∷ [])
-    (opcode_acts m gl (held_work saved s e) byte bytes op (entry_drawn saved s e) named operands.carriers (omega (arith, operands.size_is, few)) by)
+    Draws budget gl saved s e (opcode byte bytes ∷ [])
+opcode_draws budget gl saved s e byte bytes size op named operands few by =
+    drawn_draws budget gl saved s e (opcode byte bytes ∷ [])
+    (opcode_acts budget gl (held_work saved s e) byte bytes op (entry_drawn saved s e) named operands.carriers (omega (arith, operands.size_is, few)) by)
 
 pub onward_operands : (p : Coordinates) (qs : List Coordinates) → IsInSquare p → All IsInSquare qs → AreOperands (onward_bytes p qs) (8 * length qs)
 unfolding onward_bytes
@@ -106,83 +106,83 @@ onward_operands p (q ∷ qs) inside all =
 pub shape_operands : (p : Coordinates) (qs : List Coordinates) → IsInSquare p → All IsInSquare qs → AreOperands (shape_bytes (p ∷ qs)) (8 + 8 * length qs)
 shape_operands p qs inside all = both_bytes (point_bytes p) (onward_bytes p qs) 8 (8 * length qs) (point_operand p inside) (onward_operands p qs inside all)
 
-arc_acts : (m : Machine) (gl : GSet) (saved : OperandLengths) (s : State) (filled : Bool) (p q r : Coordinates) (rs : List Coordinates) (ink : Ink) →
+arc_acts : (budget : ℕ) (gl : GSet) (saved : OperandLengths) (s : State) (filled : Bool) (p q r : Coordinates) (rs : List Coordinates) (ink : Ink) →
     All IsInSquare (p ∷ q ∷ r ∷ rs) → length (p ∷ q ∷ r ∷ rs) ≤ SHAPE_POINTS →
-    Acts m gl (work_at saved (holding s (entries.Arc filled (p ∷ q ∷ r ∷ rs) ink))) (spelled (taking s.drawing (ink_values ink)) (entries.Arc filled (p ∷ q ∷ r ∷ rs) ink))
+    Acts budget gl (work_at saved (holding s (entries.Arc filled (p ∷ q ∷ r ∷ rs) ink))) (spelled (taking s.drawing (ink_values ink)) (entries.Arc filled (p ∷ q ∷ r ∷ rs) ink))
     (entries.Arc filled (p ∷ q ∷ r ∷ rs) ink ∷ []) (work_at saved (after s (entries.Arc filled (p ∷ q ∷ r ∷ rs) ink)))
-arc_acts m gl saved s false p q r rs ink all few =
+arc_acts budget gl saved s false p q r rs ink all few =
     let first : IsInSquare p = All-head IsInSquare p (q ∷ r ∷ rs) all in
     let others : All IsInSquare (q ∷ r ∷ rs) = All-tail IsInSquare p (q ∷ r ∷ rs) all in
     let e : Entry = entries.Arc false (p ∷ q ∷ r ∷ rs) ink in
-    opcode_draws m gl saved s e 0x2E (shape_bytes (p ∷ q ∷ r ∷ rs)) (8 + 8 * length (q ∷ r ∷ rs)) opcodes.SetArcOutlined names.arc_outlined_named
+    opcode_draws budget gl saved s e 0x2E (shape_bytes (p ∷ q ∷ r ∷ rs)) (8 + 8 * length (q ∷ r ∷ rs)) opcodes.SetArcOutlined names.arc_outlined_named
     (shape_operands p (q ∷ r ∷ rs) first others) (omega (arith, few))
     (rules.shape_rule saved (holding s e) (rule.arc_on false) arc_points p q (r ∷ rs) first others (omega (arith, few)) (rules.arc_leads p q r rs))
-arc_acts m gl saved s true p q r rs ink all few =
+arc_acts budget gl saved s true p q r rs ink all few =
     let first : IsInSquare p = All-head IsInSquare p (q ∷ r ∷ rs) all in
     let others : All IsInSquare (q ∷ r ∷ rs) = All-tail IsInSquare p (q ∷ r ∷ rs) all in
     let e : Entry = entries.Arc true (p ∷ q ∷ r ∷ rs) ink in
-    opcode_draws m gl saved s e 0x2F (shape_bytes (p ∷ q ∷ r ∷ rs)) (8 + 8 * length (q ∷ r ∷ rs)) opcodes.SetArcFilled names.arc_filled_named
+    opcode_draws budget gl saved s e 0x2F (shape_bytes (p ∷ q ∷ r ∷ rs)) (8 + 8 * length (q ∷ r ∷ rs)) opcodes.SetArcFilled names.arc_filled_named
     (shape_operands p (q ∷ r ∷ rs) first others) (omega (arith, few))
     (rules.shape_rule saved (holding s e) (rule.arc_on true) arc_points p q (r ∷ rs) first others (omega (arith, few)) (rules.arc_leads p q r rs))
 
-poly_acts : (m : Machine) (gl : GSet) (saved : OperandLengths) (s : State) (filled : Bool) (p q : Coordinates) (qs : List Coordinates) (ink : Ink) →
+poly_acts : (budget : ℕ) (gl : GSet) (saved : OperandLengths) (s : State) (filled : Bool) (p q : Coordinates) (qs : List Coordinates) (ink : Ink) →
     All IsInSquare (p ∷ q ∷ qs) → length (p ∷ q ∷ qs) ≤ SHAPE_POINTS →
-    Acts m gl (work_at saved (holding s (entries.Poly filled (p ∷ q ∷ qs) ink))) (spelled (taking s.drawing (ink_values ink)) (entries.Poly filled (p ∷ q ∷ qs) ink))
+    Acts budget gl (work_at saved (holding s (entries.Poly filled (p ∷ q ∷ qs) ink))) (spelled (taking s.drawing (ink_values ink)) (entries.Poly filled (p ∷ q ∷ qs) ink))
     (entries.Poly filled (p ∷ q ∷ qs) ink ∷ []) (work_at saved (after s (entries.Poly filled (p ∷ q ∷ qs) ink)))
-poly_acts m gl saved s false p q qs ink all few =
+poly_acts budget gl saved s false p q qs ink all few =
     let first : IsInSquare p = All-head IsInSquare p (q ∷ qs) all in
     let others : All IsInSquare (q ∷ qs) = All-tail IsInSquare p (q ∷ qs) all in
     let e : Entry = entries.Poly false (p ∷ q ∷ qs) ink in
-    opcode_draws m gl saved s e 0x36 (shape_bytes (p ∷ q ∷ qs)) (8 + 8 * length (q ∷ qs)) opcodes.SetPolyOutlined names.poly_outlined_named
+    opcode_draws budget gl saved s e 0x36 (shape_bytes (p ∷ q ∷ qs)) (8 + 8 * length (q ∷ qs)) opcodes.SetPolyOutlined names.poly_outlined_named
     (shape_operands p (q ∷ qs) first others) (omega (arith, few))
     (rules.shape_rule saved (holding s e) (rule.poly_on false) poly_points p q qs first others (omega (arith, few)) (rules.poly_leads p (q ∷ qs)))
-poly_acts m gl saved s true p q qs ink all few =
+poly_acts budget gl saved s true p q qs ink all few =
     let first : IsInSquare p = All-head IsInSquare p (q ∷ qs) all in
     let others : All IsInSquare (q ∷ qs) = All-tail IsInSquare p (q ∷ qs) all in
     let e : Entry = entries.Poly true (p ∷ q ∷ qs) ink in
-    opcode_draws m gl saved s e 0x37 (shape_bytes (p ∷ q ∷ qs)) (8 + 8 * length (q ∷ qs)) opcodes.SetPolyFilled names.poly_filled_named
+    opcode_draws budget gl saved s e 0x37 (shape_bytes (p ∷ q ∷ qs)) (8 + 8 * length (q ∷ qs)) opcodes.SetPolyFilled names.poly_filled_named
     (shape_operands p (q ∷ qs) first others) (omega (arith, few))
     (rules.shape_rule saved (holding s e) (rule.poly_on true) poly_points p q qs first others (omega (arith, few)) (rules.poly_leads p (q ∷ qs)))
 
-rect_acts : (m : Machine) (gl : GSet) (saved : OperandLengths) (s : State) (filled : Bool) (p q : Coordinates) (ink : Ink) → IsInSquare p → IsInSquare q →
-    Acts m gl (work_at saved (holding s (entries.Rect filled p q ink))) (spelled (taking s.drawing (ink_values ink)) (entries.Rect filled p q ink))
+rect_acts : (budget : ℕ) (gl : GSet) (saved : OperandLengths) (s : State) (filled : Bool) (p q : Coordinates) (ink : Ink) → IsInSquare p → IsInSquare q →
+    Acts budget gl (work_at saved (holding s (entries.Rect filled p q ink))) (spelled (taking s.drawing (ink_values ink)) (entries.Rect filled p q ink))
     (entries.Rect filled p q ink ∷ []) (work_at saved (after s (entries.Rect filled p q ink)))
-rect_acts m gl saved s false p q ink first second =
+rect_acts budget gl saved s false p q ink first second =
     let all : All IsInSquare (q ∷ []) = All-cons IsInSquare q [] second (All-nil IsInSquare) in
     let e : Entry = entries.Rect false p q ink in
-    opcode_draws m gl saved s e 0x32 (shape_bytes (p ∷ q ∷ [])) 16 opcodes.SetRectOutlined names.rect_outlined_named (shape_operands p (q ∷ []) first all) (omega arith)
+    opcode_draws budget gl saved s e 0x32 (shape_bytes (p ∷ q ∷ [])) 16 opcodes.SetRectOutlined names.rect_outlined_named (shape_operands p (q ∷ []) first all) (omega arith)
     (rules.rect_outlined_rule saved (holding s e) p q first all)
-rect_acts m gl saved s true p q ink first second =
+rect_acts budget gl saved s true p q ink first second =
     let all : All IsInSquare (q ∷ []) = All-cons IsInSquare q [] second (All-nil IsInSquare) in
     let e : Entry = entries.Rect true p q ink in
-    opcode_draws m gl saved s e 0x33 (shape_bytes (p ∷ q ∷ [])) 16 opcodes.SetRectFilled names.rect_filled_named (shape_operands p (q ∷ []) first all) (omega arith)
+    opcode_draws budget gl saved s e 0x33 (shape_bytes (p ∷ q ∷ [])) 16 opcodes.SetRectFilled names.rect_filled_named (shape_operands p (q ∷ []) first all) (omega arith)
     (rules.rect_filled_rule saved (holding s e) p q first all)
 
-field_acts : (m : Machine) (gl : GSet) (saved : OperandLengths) (s : State) (area : Area) (pen : Pen) → AreaInRange area →
-    Acts m gl (work_at saved (holding s (entries.Field area pen))) (spelled (taking s.drawing (pen_alone pen)) (entries.Field area pen))
+field_acts : (budget : ℕ) (gl : GSet) (saved : OperandLengths) (s : State) (area : Area) (pen : Pen) → AreaInRange area →
+    Acts budget gl (work_at saved (holding s (entries.Field area pen))) (spelled (taking s.drawing (pen_alone pen)) (entries.Field area pen))
     (entries.Field area pen ∷ []) (work_at saved (after s (entries.Field area pen)))
-field_acts m gl saved s areas.Whole pen inside =
+field_acts budget gl saved s areas.Whole pen inside =
     let e : Entry = entries.Field areas.Whole pen in
-    opcode_draws m gl saved s e 0x38 [] 0 opcodes.Field names.field_named no_bytes (omega arith) (rules.whole_field_rule saved (holding s e))
-field_acts m gl saved s (areas.Part p q) pen inside =
+    opcode_draws budget gl saved s e 0x38 [] 0 opcodes.Field names.field_named no_bytes (omega arith) (rules.whole_field_rule saved (holding s e))
+field_acts budget gl saved s (areas.Part p q) pen inside =
     let all : All IsInSquare (q ∷ []) = All-cons IsInSquare q [] inside.1 (All-nil IsInSquare) in
     let e : Entry = entries.Field (areas.Part p q) pen in
-    opcode_draws m gl saved s e 0x38 (shape_bytes (p ∷ q ∷ [])) 16 opcodes.Field names.field_named (shape_operands p (q ∷ []) inside.0 all) (omega arith)
+    opcode_draws budget gl saved s e 0x38 (shape_bytes (p ∷ q ∷ [])) 16 opcodes.Field names.field_named (shape_operands p (q ∷ []) inside.0 all) (omega arith)
     (rules.part_field_rule saved (holding s e) p q inside.0 all)
 
-map_acts : (m : Machine) (gl : GSet) (saved : OperandLengths) (s : State) (a : ℕ) (grb : Components) → IsAddress a → HasSixteenBitParts grb →
-    InMode s.drawing.base s.drawing.colour → Acts m gl (work_at saved s) (map_pieces s.drawing a grb) (entries.Map a grb ∷ []) (work_at saved (after s (entries.Map a grb)))
-map_acts m gl saved s a grb address colour mode =
+map_acts : (budget : ℕ) (gl : GSet) (saved : OperandLengths) (s : State) (a : ℕ) (grb : Components) → IsAddress a → HasSixteenBitParts grb →
+    InMode s.drawing.base s.drawing.colour → Acts budget gl (work_at saved s) (map_pieces s.drawing a grb) (entries.Map a grb ∷ []) (work_at saved (after s (entries.Map a grb)))
+map_acts budget gl saved s a grb address colour mode =
     let front : Option Colour = Some (colours.Front a) in
     let cs : List Command = bring_colour s.drawing.base s.drawing.colour front in
     let between : Drawing = with_colour (colours.Front a) s.drawing in
     let leads : effects cs s.drawing ≡ between = colour_leads s.drawing s.drawing.base s.drawing.colour mode front tt in
-    let brought = commands_act m gl saved s cs (ranges.colour_in_range s.drawing.base s.drawing.colour front address) (takes_colour s.drawing front) in
+    let brought = commands_act budget gl saved s cs (ranges.colour_in_range s.drawing.base s.drawing.colour front address) (takes_colour s.drawing front) in
     let operands = colour_operand grb colour in
-    acts_behind m gl (map command_piece cs) (opcode 0x3C (grb_bytes grb) ∷ []) (work_at saved s) (work_at saved (record s { drawing = between })) (work_at saved (after s (entries.Map a grb))) []
+    acts_behind budget gl (map command_piece cs) (opcode 0x3C (grb_bytes grb) ∷ []) (work_at saved s) (work_at saved (record s { drawing = between })) (work_at saved (after s (entries.Map a grb))) []
     (entries.Map a grb ∷ []) (omega arith)
-    (subst (λ (d : Drawing). Acts m gl (work_at saved s) (map command_piece cs) [] (work_at saved (record s { drawing = d }))) leads brought)
-    (opcode_acts m (gl_after gl (map command_piece cs)) (work_at saved (record s { drawing = between })) 0x3C (grb_bytes grb) opcodes.SetColor
+    (subst (λ (d : Drawing). Acts budget gl (work_at saved s) (map command_piece cs) [] (work_at saved (record s { drawing = d }))) leads brought)
+    (opcode_acts budget (gl_after gl (map command_piece cs)) (work_at saved (record s { drawing = between })) 0x3C (grb_bytes grb) opcodes.SetColor
     (record { entries = entries.Map a grb ∷ []; work = work_at saved (after s (entries.Map a grb)); clears = false })
     names.set_color_named operands.carriers (omega (arith, operands.size_is)) (rules.map_rule saved s a grb colour))
 
@@ -190,27 +190,27 @@ map_acts m gl saved s a grb address colour mode =
 abbrev lengths_behind : Bool → OperandLengths
 lengths_behind back = if back then rule.start_domain else (record { multi = 8; single = 4 })
 
-pub domain_acts : (m : Machine) (gl : GSet) (work : Work) → Acts m gl work (domain [] ∷ []) [] (record work { domain = record { multi = 8; single = 4 } })
+pub domain_acts : (budget : ℕ) (gl : GSet) (work : Work) → Acts budget gl work (domain [] ∷ []) [] (record work { domain = record { multi = 8; single = 4 } })
 unfolding walk
-domain_acts m gl work =
+domain_acts budget gl work =
     let operands = word_bytes 31 [] 0 (omega arith) no_bytes in
-    opcode_acts m gl work 0x21 (0x5F ∷ []) opcodes.Domain (rule.drawn (record work { domain = record { multi = 8; single = 4 } }) []) names.domain_named
+    opcode_acts budget gl work 0x21 (0x5F ∷ []) opcodes.Domain (rule.drawn (record work { domain = record { multi = 8; single = 4 } }) []) names.domain_named
     operands.carriers (omega arith) (rules.domain_rule work)
 
-lengths_again : (m : Machine) (gl : GSet) (saved : OperandLengths) (s : State) (back : Bool) →
-    Acts m gl (record (work_at saved s) { domain = lengths_behind back }) (if back then domain [] ∷ [] else []) [] (work_at saved s)
-lengths_again m gl saved s true = domain_acts m gl (record (work_at saved s) { domain = rule.start_domain })
-lengths_again m gl saved s false = acts_nothing m gl (work_at saved s)
+lengths_again : (budget : ℕ) (gl : GSet) (saved : OperandLengths) (s : State) (back : Bool) →
+    Acts budget gl (record (work_at saved s) { domain = lengths_behind back }) (if back then domain [] ∷ [] else []) [] (work_at saved s)
+lengths_again budget gl saved s true = domain_acts budget gl (record (work_at saved s) { domain = rule.start_domain })
+lengths_again budget gl saved s false = acts_nothing budget gl (work_at saved s)
 
 again_begins : (back : Bool) → Begins (if back then domain [] ∷ [] else [])
 again_begins true = omega arith
 again_begins false = tt
 
-reset_acts : (m : Machine) (gl : GSet) (saved : OperandLengths) (s : State) (first second : ℕ) (pen : Pen) → IsWord first → IsWord second →
-    Acts m gl (work_at saved (holding s (entries.Reset first second pen))) (spelled (taking s.drawing (pen_alone pen)) (entries.Reset first second pen))
+reset_acts : (budget : ℕ) (gl : GSet) (saved : OperandLengths) (s : State) (first second : ℕ) (pen : Pen) → IsWord first → IsWord second →
+    Acts budget gl (work_at saved (holding s (entries.Reset first second pen))) (spelled (taking s.drawing (pen_alone pen)) (entries.Reset first second pen))
     (entries.Reset first second pen ∷ []) (work_at saved (after s (entries.Reset first second pen)))
 unfolding walk
-reset_acts m gl saved s first second pen one two =
+reset_acts budget gl saved s first second pen one two =
     let e : Entry = entries.Reset first second pen in
     let back : Bool = first % 2 == 1 in
     let bytes : List ℕ = word_byte first ∷ word_byte second ∷ [] in
@@ -218,52 +218,52 @@ reset_acts m gl saved s first second pen one two =
     let to : State → Drawn = λ t. record { entries = e ∷ []; work = record (work_at saved t) { domain = lengths_behind back }; clears = second / 16 % 2 == 1 } in
     let by : rule.rule (work_at saved (holding s e)) opcodes.Reset (spellings.words_of bytes) ≡ Ok (to (after s e)) =
     rw (word_of first, word_of second) (ap (λ (t : State). Ok (to t)) (after_holding s e)) in
-    acts_behind m gl (opcode 0x20 bytes ∷ []) (domain_again first) (work_at saved (holding s e)) (to (after s e)).work (work_at saved (after s e)) (e ∷ []) [] (again_begins back)
-    (opcode_acts m gl (work_at saved (holding s e)) 0x20 bytes opcodes.Reset (to (after s e)) names.reset_named operands.carriers (omega (arith, operands.size_is)) by)
-    (lengths_again m (gl_after gl (opcode 0x20 bytes ∷ [])) saved (after s e) back)
+    acts_behind budget gl (opcode 0x20 bytes ∷ []) (domain_again first) (work_at saved (holding s e)) (to (after s e)).work (work_at saved (after s e)) (e ∷ []) [] (again_begins back)
+    (opcode_acts budget gl (work_at saved (holding s e)) 0x20 bytes opcodes.Reset (to (after s e)) names.reset_named operands.carriers (omega (arith, operands.size_is)) by)
+    (lengths_again budget (gl_after gl (opcode 0x20 bytes ∷ [])) saved (after s e) back)
 
 -- each kind of entry
-pub entry_acts : (m : Machine) (gl : GSet) (saved : OperandLengths) (s : State) (e : Entry) → InRange e → Fits s e → InMode s.drawing.base s.drawing.colour →
+pub entry_acts : (budget : ℕ) (gl : GSet) (saved : OperandLengths) (s : State) (e : Entry) → InRange e → Fits s e → InMode s.drawing.base s.drawing.colour →
     SavesLengths saved s.definition →
-    Acts m gl (work_at saved (holding s e)) (spelled (taking s.drawing (held e)) e) (e ∷ []) (work_at (saved_after saved e) (after s e))
-entry_acts m gl saved s (entries.Point at pel colour) inside fits mode saves =
+    Acts budget gl (work_at saved (holding s e)) (spelled (taking s.drawing (held e)) e) (e ∷ []) (work_at (saved_after saved e) (after s e))
+entry_acts budget gl saved s (entries.Point at pel colour) inside fits mode saves =
     let e : Entry = entries.Point at pel colour in
-    opcode_draws m gl saved s e 0x26 (point_bytes at) 8 opcodes.PointAbs names.point_named (point_operand at inside.0) (omega arith)
+    opcode_draws budget gl saved s e 0x26 (point_bytes at) 8 opcodes.PointAbs names.point_named (point_operand at inside.0) (omega arith)
     (rules.point_rule saved (holding s e) at inside.0)
-entry_acts m gl saved s (entries.Line from to ink) inside fits mode saves =
+entry_acts budget gl saved s (entries.Line from to ink) inside fits mode saves =
     let e : Entry = entries.Line from to ink in
-    opcode_draws m gl saved s e 0x2A (point_bytes from ++ point_bytes to) 16 opcodes.SetLineAbs names.line_named
+    opcode_draws budget gl saved s e 0x2A (point_bytes from ++ point_bytes to) 16 opcodes.SetLineAbs names.line_named
     (both_bytes (point_bytes from) (point_bytes to) 8 8 (point_operand from inside.0) (point_operand to inside.1)) (omega arith)
     (rules.line_rule saved (holding s e) from to inside.0 inside.1)
-entry_acts m gl saved s (entries.Arc filled [] ink) inside fits mode saves = absurd (omega (arith, fits.made.0))
-entry_acts m gl saved s (entries.Arc filled (p ∷ []) ink) inside fits mode saves = absurd (omega (arith, fits.made.0))
-entry_acts m gl saved s (entries.Arc filled (p ∷ q ∷ []) ink) inside fits mode saves = absurd (omega (arith, fits.made.0))
-entry_acts m gl saved s (entries.Arc filled (p ∷ q ∷ r ∷ rs) ink) inside fits mode saves = arc_acts m gl saved s filled p q r rs ink inside.0 fits.made.1
-entry_acts m gl saved s (entries.Rect filled from to ink) inside fits mode saves = rect_acts m gl saved s filled from to ink inside.0 inside.1
-entry_acts m gl saved s (entries.Poly filled [] ink) inside fits mode saves = absurd (omega (arith, fits.made.0))
-entry_acts m gl saved s (entries.Poly filled (p ∷ []) ink) inside fits mode saves = absurd (omega (arith, fits.made.0))
-entry_acts m gl saved s (entries.Poly filled (p ∷ q ∷ qs) ink) inside fits mode saves = poly_acts m gl saved s filled p q qs ink inside.0 fits.made.1
-entry_acts m gl saved s (entries.Map a grb) inside fits mode saves = map_acts m gl saved s a grb inside.0 inside.1 mode
-entry_acts m gl saved s (entries.Blink a on off delay colour) inside fits mode saves =
+entry_acts budget gl saved s (entries.Arc filled [] ink) inside fits mode saves = absurd (omega (arith, fits.made.0))
+entry_acts budget gl saved s (entries.Arc filled (p ∷ []) ink) inside fits mode saves = absurd (omega (arith, fits.made.0))
+entry_acts budget gl saved s (entries.Arc filled (p ∷ q ∷ []) ink) inside fits mode saves = absurd (omega (arith, fits.made.0))
+entry_acts budget gl saved s (entries.Arc filled (p ∷ q ∷ r ∷ rs) ink) inside fits mode saves = arc_acts budget gl saved s filled p q r rs ink inside.0 fits.made.1
+entry_acts budget gl saved s (entries.Rect filled from to ink) inside fits mode saves = rect_acts budget gl saved s filled from to ink inside.0 inside.1
+entry_acts budget gl saved s (entries.Poly filled [] ink) inside fits mode saves = absurd (omega (arith, fits.made.0))
+entry_acts budget gl saved s (entries.Poly filled (p ∷ []) ink) inside fits mode saves = absurd (omega (arith, fits.made.0))
+entry_acts budget gl saved s (entries.Poly filled (p ∷ q ∷ qs) ink) inside fits mode saves = poly_acts budget gl saved s filled p q qs ink inside.0 fits.made.1
+entry_acts budget gl saved s (entries.Map a grb) inside fits mode saves = map_acts budget gl saved s a grb inside.0 inside.1 mode
+entry_acts budget gl saved s (entries.Blink a on off delay colour) inside fits mode saves =
     let e : Entry = entries.Blink a on off delay colour in
     let times : List ℕ = word_byte on ∷ word_byte off ∷ word_byte delay ∷ [] in
     let words = word_bytes on (word_byte off ∷ word_byte delay ∷ []) 2 inside.1 (word_bytes off (word_byte delay ∷ []) 1 inside.2 (word_bytes delay [] 0 inside.3 no_bytes)) in
-    opcode_draws m gl saved s e 0x3F (addr_bytes a ++ times) 7 opcodes.Blink names.blink_named (both_bytes (addr_bytes a) times 4 3 (address_operand a inside.0) words) (omega arith)
+    opcode_draws budget gl saved s e 0x3F (addr_bytes a ++ times) 7 opcodes.Blink names.blink_named (both_bytes (addr_bytes a) times 4 3 (address_operand a inside.0) words) (omega arith)
     (rules.blink_rule saved (holding s e) a on off delay inside.0)
-entry_acts m gl saved s (entries.BlinkEnd colour) inside fits mode saves =
-    opcode_draws m gl saved s (entries.BlinkEnd colour) 0x3F [] 0 opcodes.Blink names.blink_named no_bytes (omega arith) (rules.blink_end_rule saved (holding s (entries.BlinkEnd colour)))
-entry_acts m gl saved s (entries.Wait word) inside fits mode saves =
-    opcode_draws m gl saved s (entries.Wait word) 0x3D (word_byte word ∷ []) 1 opcodes.Wait names.wait_named (word_bytes word [] 0 inside no_bytes) (omega arith)
+entry_acts budget gl saved s (entries.BlinkEnd colour) inside fits mode saves =
+    opcode_draws budget gl saved s (entries.BlinkEnd colour) 0x3F [] 0 opcodes.Blink names.blink_named no_bytes (omega arith) (rules.blink_end_rule saved (holding s (entries.BlinkEnd colour)))
+entry_acts budget gl saved s (entries.Wait word) inside fits mode saves =
+    opcode_draws budget gl saved s (entries.Wait word) 0x3D (word_byte word ∷ []) 1 opcodes.Wait names.wait_named (word_bytes word [] 0 inside no_bytes) (omega arith)
     (rules.wait_rule saved (holding s (entries.Wait word)) word)
-entry_acts m gl saved s (entries.Field area pen) inside fits mode saves = field_acts m gl saved s area pen inside.0
-entry_acts m gl saved s (entries.Reset first second pen) inside fits mode saves = reset_acts m gl saved s first second pen inside.0 inside.1
-entry_acts m gl saved s (entries.Char set byte hand) inside fits mode saves = controls.char_draws m gl saved s set byte hand fits.made
-entry_acts m gl saved s (entries.TextMove step hand) inside fits mode saves = controls.step_draws m gl saved s step hand fits.made
-entry_acts m gl saved s (entries.ToEol hand) inside fits mode saves = controls.to_eol_draws m gl saved s hand fits.comes
-entry_acts m gl saved s (entries.BlinkMark on colour) inside fits mode saves = controls.blink_mark_draws m gl saved s on colour
-entry_acts m gl saved s entries.Bell inside fits mode saves = controls.bell_draws m gl saved s
-entry_acts m gl saved s (entries.Cursor kind) inside fits mode saves = controls.cursor_draws m gl saved s kind
-entry_acts m gl saved s (entries.Clear pen) inside fits mode saves = controls.clear_draws m gl saved s pen
-entry_acts m gl saved s (entries.GlyphStart byte) inside fits mode saves = definitions.glyph_draws m gl saved s byte fits.made fits.comes
-entry_acts m gl saved s (entries.MaskStart mask) inside fits mode saves = definitions.mask_draws m gl saved s mask fits.comes
-entry_acts m gl saved s entries.DefEnd inside fits mode saves = definitions.end_draws m gl saved s fits.comes saves
+entry_acts budget gl saved s (entries.Field area pen) inside fits mode saves = field_acts budget gl saved s area pen inside.0
+entry_acts budget gl saved s (entries.Reset first second pen) inside fits mode saves = reset_acts budget gl saved s first second pen inside.0 inside.1
+entry_acts budget gl saved s (entries.Char set byte hand) inside fits mode saves = controls.char_draws budget gl saved s set byte hand fits.made
+entry_acts budget gl saved s (entries.TextMove step hand) inside fits mode saves = controls.step_draws budget gl saved s step hand fits.made
+entry_acts budget gl saved s (entries.ToEol hand) inside fits mode saves = controls.to_eol_draws budget gl saved s hand fits.comes
+entry_acts budget gl saved s (entries.BlinkMark on colour) inside fits mode saves = controls.blink_mark_draws budget gl saved s on colour
+entry_acts budget gl saved s entries.Bell inside fits mode saves = controls.bell_draws budget gl saved s
+entry_acts budget gl saved s (entries.Cursor kind) inside fits mode saves = controls.cursor_draws budget gl saved s kind
+entry_acts budget gl saved s (entries.Clear pen) inside fits mode saves = controls.clear_draws budget gl saved s pen
+entry_acts budget gl saved s (entries.GlyphStart byte) inside fits mode saves = definitions.glyph_draws budget gl saved s byte fits.made fits.comes
+entry_acts budget gl saved s (entries.MaskStart mask) inside fits mode saves = definitions.mask_draws budget gl saved s mask fits.comes
+entry_acts budget gl saved s entries.DefEnd inside fits mode saves = definitions.end_draws budget gl saved s fits.comes saves

@@ -1,4 +1,4 @@
-use Rattle.std.proofs.Common.{◌≡◌, List, [], ◌∷◌, Option, Some, None, refl, ap, subst}
+use Rattle.std.proofs.Common.{ℕ, ◌≡◌, List, [], ◌∷◌, Option, Some, None, refl, ap, subst}
 use Rattle.std.specs.Prelude.{unwrap_or}
 use Rattle.nap_values.specs.Domains.{OperandLengths}
 use Rattle.nap_codes.specs.declared.code_set.GSet.{GSet}
@@ -14,7 +14,6 @@ use Rattle.nap_list.specs.State.{base_shown, taking, drawn, definition_after, la
 use Rattle.nap_draw.specs.declared.work.Work.{Work}
 use Rattle.nap_draw.specs.Rule as rule
 use Rattle.nap_draw.specs.Rule.{Drawn}
-use Rattle.nap_reader.specs.Stream.{Machine}
 use Rattle.nap_canon.specs.Spelling.{Piece}
 use Rattle.nap_canon.proofs.CommandRules.{work_at}
 use Rattle.nap_canon.proofs.PieceLemmas.{Acts}
@@ -61,10 +60,10 @@ abbrev pub entry_drawn : OperandLengths → State → Entry → Drawn
 entry_drawn saved s e = rule.drawn (held_work saved s e) (e ∷ [])
 
 -- a reader on these pieces draws the entry
-abbrev pub Draws : Machine → GSet → OperandLengths → State → Entry → List Piece → Type 0
-Draws m gl saved s e ps = Acts m gl (held_work saved s e) ps (e ∷ []) (work_at saved (after s e))
+abbrev pub Draws : ℕ → GSet → OperandLengths → State → Entry → List Piece → Type 0
+Draws budget gl saved s e ps = Acts budget gl (held_work saved s e) ps (e ∷ []) (work_at saved (after s e))
 
-pub drawn_draws : (m : Machine) (gl : GSet) (saved : OperandLengths) (s : State) (e : Entry) (ps : List Piece) →
-    Acts m gl (held_work saved s e) ps (e ∷ []) (entry_drawn saved s e).work → Draws m gl saved s e ps
+pub drawn_draws : (budget : ℕ) (gl : GSet) (saved : OperandLengths) (s : State) (e : Entry) (ps : List Piece) →
+    Acts budget gl (held_work saved s e) ps (e ∷ []) (entry_drawn saved s e).work → Draws budget gl saved s e ps
 unfolding walk
-drawn_draws m gl saved s e ps acts = subst (λ (t : State). Acts m gl (held_work saved s e) ps (e ∷ []) (work_at saved t)) (after_holding s e) acts
+drawn_draws budget gl saved s e ps acts = subst (λ (t : State). Acts budget gl (held_work saved s e) ps (e ∷ []) (work_at saved t)) (after_holding s e) acts

@@ -101,32 +101,32 @@ list_begins s [] = tt
 list_begins s (e ∷ es) = begins_behind (entry_pieces s e) (pieces (after s e) es) (entry_begins s e) (list_begins (after s e) es)
 
 -- an entry: its bring leads to the values that it holds, and its spelling draws it
-pub whole_acts : (m : Machine) (gl : GSet) (saved : OperandLengths) (s : State) (e : Entry) → InRange e → Fits s e → IsInMode s → SavesLengths saved s.definition →
-    Acts m gl (work_at saved s) (entry_pieces s e) (e ∷ []) (work_at (saved_after saved e) (after s e))
-whole_acts m gl saved s e inside fits mode saves =
+pub whole_acts : (budget : ℕ) (gl : GSet) (saved : OperandLengths) (s : State) (e : Entry) → InRange e → Fits s e → IsInMode s → SavesLengths saved s.definition →
+    Acts budget gl (work_at saved s) (entry_pieces s e) (e ∷ []) (work_at (saved_after saved e) (after s e))
+whole_acts budget gl saved s e inside fits mode saves =
     let h = held e in
     let cs : List Command = bring s.drawing h in
-    let brought = commands_act m gl saved s cs (bring_in_range s.drawing h (held_in_range e inside)) (takes_bring s.drawing h mode.drawing fits.values) in
-    acts_behind m gl (map command_piece cs) (spelled (taking s.drawing h) e) (work_at saved s) (work_at saved (holding s e)) (work_at (saved_after saved e) (after s e)) [] (e ∷ [])
+    let brought = commands_act budget gl saved s cs (bring_in_range s.drawing h (held_in_range e inside)) (takes_bring s.drawing h mode.drawing fits.values) in
+    acts_behind budget gl (map command_piece cs) (spelled (taking s.drawing h) e) (work_at saved s) (work_at saved (holding s e)) (work_at (saved_after saved e) (after s e)) [] (e ∷ [])
     (spelled_begins (taking s.drawing h) e)
-    (subst (λ (d : Drawing). Acts m gl (work_at saved s) (map command_piece cs) [] (work_at saved (record s { drawing = d }))) (held_leads s.drawing h mode.drawing fits.values) brought)
-    (entry_acts m (gl_after gl (map command_piece cs)) saved s e inside fits mode.drawing saves)
+    (subst (λ (d : Drawing). Acts budget gl (work_at saved s) (map command_piece cs) [] (work_at saved (record s { drawing = d }))) (held_leads s.drawing h mode.drawing fits.values) brought)
+    (entry_acts budget (gl_after gl (map command_piece cs)) saved s e inside fits mode.drawing saves)
 
-pub list_acts : (m : Machine) (gl : GSet) (saved : OperandLengths) (s : State) (es : List Entry) → AllInRange es → AllFit s es → IsInMode s → SavesLengths saved s.definition →
-    Acts m gl (work_at saved s) (pieces s es) es (work_at (saved_along saved es) (walk s es))
+pub list_acts : (budget : ℕ) (gl : GSet) (saved : OperandLengths) (s : State) (es : List Entry) → AllInRange es → AllFit s es → IsInMode s → SavesLengths saved s.definition →
+    Acts budget gl (work_at saved s) (pieces s es) es (work_at (saved_along saved es) (walk s es))
 unfolding pieces walk AllFit saved_along
-list_acts m gl saved s [] inside fits mode saves = acts_nothing m gl (work_at saved s)
-list_acts m gl saved s (e ∷ es) inside fits mode saves =
+list_acts budget gl saved s [] inside fits mode saves = acts_nothing budget gl (work_at saved s)
+list_acts budget gl saved s (e ∷ es) inside fits mode saves =
     let next : State = after s e in
     let kept : OperandLengths = saved_after saved e in
-    acts_behind m gl (entry_pieces s e) (pieces next es) (work_at saved s) (work_at kept next) (work_at (saved_along kept es) (walk next es)) (e ∷ []) es
+    acts_behind budget gl (entry_pieces s e) (pieces next es) (work_at saved s) (work_at kept next) (work_at (saved_along kept es) (walk next es)) (e ∷ []) es
     (list_begins next es)
-    (whole_acts m gl saved s e (All-head InRange e es inside) fits.0 mode saves)
-    (list_acts m (gl_after gl (entry_pieces s e)) kept next es (All-tail InRange e es inside) fits.1 (in_mode_after s e mode fits.0) (saves_after saved s e saves))
+    (whole_acts budget gl saved s e (All-head InRange e es inside) fits.0 mode saves)
+    (list_acts budget (gl_after gl (entry_pieces s e)) kept next es (All-tail InRange e es inside) fits.1 (in_mode_after s e mode fits.0) (saves_after saved s e saves))
 
 -- the machine behind the text of a list
 abbrev pub text_machine : ℕ → List Entry → Machine
-text_machine budget es = at (start_machine budget) (gl_after G1 (pieces start es)) (work_at (saved_along start_domain es) (walk start es))
+text_machine budget es = at budget (gl_after G1 (pieces start es)) (work_at (saved_along start_domain es) (walk start es))
 
 pub text_reads : (budget : ℕ) (es : List Entry) → AllInRange es → AllFit start es →
     Reads (start_machine budget) (placed_from 0 (text es)) es (text_machine budget es)
@@ -134,12 +134,12 @@ unfolding written gl_after
 text_reads budget es inside fits =
     let m : Machine = start_machine budget in
     let left = work_at (saved_along start_domain es) (walk start es) in
-    let whole = acts_behind m G0 (domain [] ∷ []) (pieces start es) start_work (work_at start_domain start) left [] es (list_begins start es)
-    (domain_acts m G0 start_work) (list_acts m G1 start_domain start es inside fits start_in_mode tt) in
+    let whole = acts_behind budget G0 (domain [] ∷ []) (pieces start es) start_work (work_at start_domain start) left [] es (list_begins start es)
+    (domain_acts budget G0 start_work) (list_acts budget G1 start_domain start es inside fits start_in_mode tt) in
     let end : Machine = text_machine budget es in
     subst (λ (xs : List Placed). Reads m xs es end) (append-nil (placed_from 0 (text es)))
     (subst (λ (ds : List Entry). Reads m (placed_from 0 (text es) ++ []) ds end) (append-nil es)
-    (whole 0 [] [] end (λ is. tt) (reads_nothing end)))
+    (whole 0 [] [] end (λ is. tt) (reads_nothing budget end.sets end.work)))
 
 -- what the text of a list means: the list, and nothing is charged
 pub means_text : (budget : ℕ) (es : List Entry) → AllInRange es → Legal es → means budget (text es) ≡ settled es (text_machine budget es)

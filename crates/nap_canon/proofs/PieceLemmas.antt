@@ -21,7 +21,7 @@ use Rattle.nap_canon.specs.Text.{piece_bytes, written, gl_after}
 use Rattle.nap_canon.proofs.TextLemmas.{written-append, gl_after-append}
 use Rattle.nap_canon.proofs.PlacedLemmas.{words_of-placed, placed_from-append, spelled_run}
 use Rattle.nap_canon.proofs.CodeLemmas.{code_reads}
-use Rattle.nap_canon.proofs.ReadLemmas.{Reads, BeginsAnew, reads_run}
+use Rattle.nap_canon.proofs.ReadLemmas.{standing, Reads, BeginsAnew, reads_run}
 
 -- What a reader does with pieces of canonical text.
 
@@ -30,14 +30,14 @@ abbrev pub sets_with : GSet → CodeSets
 sets_with gl = record start_sets { gl = gl }
 
 -- the machine with this set in GL, and this work
-abbrev pub at : Machine → GSet → Work → Machine
-at m gl work = record m { work = work; sets = sets_with gl }
+abbrev pub at : ℕ → GSet → Work → Machine
+at budget gl work = standing budget (sets_with gl) work
 
 -- Pieces are read as these entries, and leave this work. Where G1 is in GL behind them, no operand byte may come first there.
-abbrev pub Acts : Machine → GSet → Work → List Piece → List Entry → Work → Type 0
-Acts m gl work ps es left = (n : ℕ) (xs : List Placed) (more : List Entry) (end : Machine) →
-    (gl_after gl ps ≡ G1 → BeginsAnew xs) → Reads (at m (gl_after gl ps) left) xs more end →
-    Reads (at m gl work) (placed_from n (written gl ps) ++ xs) (es ++ more) end
+abbrev pub Acts : ℕ → GSet → Work → List Piece → List Entry → Work → Type 0
+Acts budget gl work ps es left = (n : ℕ) (xs : List Placed) (more : List Entry) (end : Machine) →
+    (gl_after gl ps ≡ G1 → BeginsAnew xs) → Reads (at budget (gl_after gl ps) left) xs more end →
+    Reads (at budget gl work) (placed_from n (written gl ps) ++ xs) (es ++ more) end
 
 -- no operand byte comes first in the bytes of pieces where G1 is in GL
 abbrev pub Begins : List Piece → Type 0
@@ -59,30 +59,30 @@ begins_anew n (control [] ∷ ps) xs begins behind = absurd begins
 begins_anew n (control (byte ∷ bytes) ∷ ps) xs begins behind = no_operand byte (omega (arith, begins))
 
 -- no pieces
-pub acts_nothing : (m : Machine) (gl : GSet) (work : Work) → Acts m gl work [] [] work
+pub acts_nothing : (budget : ℕ) (gl : GSet) (work : Work) → Acts budget gl work [] [] work
 unfolding written gl_after placed_from
-acts_nothing m gl work n xs more end anew behind = behind
+acts_nothing budget gl work n xs more end anew behind = behind
 
 -- pieces behind others
-pub acts_behind : (m : Machine) (gl : GSet) (ps qs : List Piece) (work between left : Work) (es fs : List Entry) → Begins qs →
-    Acts m gl work ps es between → Acts m (gl_after gl ps) between qs fs left → Acts m gl work (ps ++ qs) (es ++ fs) left
-acts_behind m gl ps qs work between left es fs begins first second n xs more end anew behind =
+pub acts_behind : (budget : ℕ) (gl : GSet) (ps qs : List Piece) (work between left : Work) (es fs : List Entry) → Begins qs →
+    Acts budget gl work ps es between → Acts budget (gl_after gl ps) between qs fs left → Acts budget gl work (ps ++ qs) (es ++ fs) left
+acts_behind budget gl ps qs work between left es fs begins first second n xs more end anew behind =
     let mid : GSet = gl_after gl ps in
     let next : ℕ = n + length (written gl ps) in
     let rest : List Placed = placed_from next (written mid qs) ++ xs in
     let whole : GSet = gl_after gl (ps ++ qs) in
     let sets : whole ≡ gl_after mid qs = gl_after-append gl ps qs in
     let last : gl_after mid qs ≡ G1 → BeginsAnew xs = λ is. anew (sets ∙ is) in
-    let tail : Reads (at m mid between) rest (fs ++ more) end =
-    second next xs more end last (subst (λ (s : GSet). Reads (at m s left) xs more end) sets behind) in
+    let tail : Reads (at budget mid between) rest (fs ++ more) end =
+    second next xs more end last (subst (λ (s : GSet). Reads (at budget s left) xs more end) sets behind) in
     let opens : mid ≡ G1 → BeginsAnew rest =
     λ is. subst (λ (s : GSet). BeginsAnew (placed_from next (written s qs) ++ xs)) (sym is) (begins_anew next qs xs begins (λ e. last (ap (λ (s : GSet). gl_after s qs) is ∙ e))) in
     let parts : placed_from n (written gl (ps ++ qs)) ++ xs ≡ placed_from n (written gl ps) ++ rest =
     ap (λ (bs : List ℕ). placed_from n bs ++ xs) (written-append gl ps qs)
     ∙ ap (λ (ys : List Placed). ys ++ xs) (placed_from-append n (written gl ps) (written mid qs))
     ∙ append_assoc (placed_from n (written gl ps)) (placed_from next (written mid qs)) xs in
-    subst (λ (ys : List Placed). Reads (at m gl work) ys ((es ++ fs) ++ more) end) (sym parts)
-    (subst (λ (ds : List Entry). Reads (at m gl work) (placed_from n (written gl ps) ++ rest) ds end) (sym (append_assoc es fs more))
+    subst (λ (ys : List Placed). Reads (at budget gl work) ys ((es ++ fs) ++ more) end) (sym parts)
+    (subst (λ (ds : List Entry). Reads (at budget gl work) (placed_from n (written gl ps) ++ rest) ds end) (sym (append_assoc es fs more))
     (first n rest (fs ++ more) end opens tail))
 
 -- an opcode with its operands
@@ -91,37 +91,37 @@ acts_behind m gl ps qs work between left es fs begins first second n xs more end
 abbrev pub Names : ℕ → Opcode → Type 0
 Names byte op = codes.front (sets_with G1) (byte ∷ []) ≡ codes.whole (code.Op op) 1 (sets_with G1)
 
-opcode_in_gl : (m : Machine) (work : Work) (byte : ℕ) (operands : List ℕ) (op : Opcode) (d : Drawn) → Names byte op → All IsOperandByte operands →
+opcode_in_gl : (budget : ℕ) (work : Work) (byte : ℕ) (operands : List ℕ) (op : Opcode) (d : Drawn) → Names byte op → All IsOperandByte operands →
     length operands ≤ run_limit → rule work op (spellings.words_of operands) ≡ Ok d →
-    (n : ℕ) (xs : List Placed) (more : List Entry) (end : Machine) → BeginsAnew xs → Reads (at m G1 d.work) xs more end →
-    Reads (at m G1 work) (placed_from n (byte ∷ operands) ++ xs) (d.entries ++ more) end
+    (n : ℕ) (xs : List Placed) (more : List Entry) (end : Machine) → BeginsAnew xs → Reads (at budget G1 d.work) xs more end →
+    Reads (at budget G1 work) (placed_from n (byte ∷ operands) ++ xs) (d.entries ++ more) end
 unfolding placed_from
-opcode_in_gl m work byte operands op d names all few by n xs more end anew behind =
-    reads_run (at m G1 work) (record { byte = byte; place = n }) (placed_from (suc n) operands) op d xs more end
-    (spelled_run n byte operands op (sets_with G1) names all few)
+opcode_in_gl budget work byte operands op d names all few by n xs more end anew behind =
+    reads_run budget (sets_with G1) work (record { byte = byte; place = n }) (placed_from (suc n) operands) op d xs more end
+    (spelled_run n byte operands op (at budget G1 work) refl names all few)
     (ap (rule work op) (words_of-placed (suc n) operands) ∙ by) anew behind
 
 -- SO
-shifts_out : (m : Machine) (gl : GSet) (work : Work) (n : ℕ) (xs : List Placed) (es : List Entry) (end : Machine) →
-    Reads (at m G1 work) xs es end → Reads (at m gl work) (placed_from n (0x0E ∷ []) ++ xs) es end
+shifts_out : (budget : ℕ) (gl : GSet) (work : Work) (n : ℕ) (xs : List Placed) (es : List Entry) (end : Machine) →
+    Reads (at budget G1 work) xs es end → Reads (at budget gl work) (placed_from n (0x0E ∷ []) ++ xs) es end
 unfolding walk
-shifts_out m gl work n xs es end behind =
-    code_reads (at m gl work) n [] 0x0E code.Shifted (sets_with G1) (drawn work []) xs es end tt shift_out refl behind
+shifts_out budget gl work n xs es end behind =
+    code_reads budget (sets_with gl) work n [] 0x0E code.Shifted (sets_with G1) (drawn work []) xs es end tt shift_out refl behind
 
 -- the opcode where its set may have to be shifted in
-shifted_in : (m : Machine) (gl : GSet) (work : Work) (byte : ℕ) (operands : List ℕ) (n : ℕ) (xs : List Placed) (es : List Entry) (end : Machine) →
-    ((k : ℕ) → Reads (at m G1 work) (placed_from k (byte ∷ operands) ++ xs) es end) →
-    Reads (at m gl work) (placed_from n (piece_bytes gl (opcode byte operands)) ++ xs) es end
+shifted_in : (budget : ℕ) (gl : GSet) (work : Work) (byte : ℕ) (operands : List ℕ) (n : ℕ) (xs : List Placed) (es : List Entry) (end : Machine) →
+    ((k : ℕ) → Reads (at budget G1 work) (placed_from k (byte ∷ operands) ++ xs) es end) →
+    Reads (at budget gl work) (placed_from n (piece_bytes gl (opcode byte operands)) ++ xs) es end
 unfolding placed_from
-shifted_in m G1 work byte operands n xs es end read = read n
-shifted_in m G0 work byte operands n xs es end read = shifts_out m G0 work n (placed_from (suc n) (byte ∷ operands) ++ xs) es end (read (suc n))
-shifted_in m G2 work byte operands n xs es end read = shifts_out m G2 work n (placed_from (suc n) (byte ∷ operands) ++ xs) es end (read (suc n))
-shifted_in m G3 work byte operands n xs es end read = shifts_out m G3 work n (placed_from (suc n) (byte ∷ operands) ++ xs) es end (read (suc n))
+shifted_in budget G1 work byte operands n xs es end read = read n
+shifted_in budget G0 work byte operands n xs es end read = shifts_out budget G0 work n (placed_from (suc n) (byte ∷ operands) ++ xs) es end (read (suc n))
+shifted_in budget G2 work byte operands n xs es end read = shifts_out budget G2 work n (placed_from (suc n) (byte ∷ operands) ++ xs) es end (read (suc n))
+shifted_in budget G3 work byte operands n xs es end read = shifts_out budget G3 work n (placed_from (suc n) (byte ∷ operands) ++ xs) es end (read (suc n))
 
-pub opcode_acts : (m : Machine) (gl : GSet) (work : Work) (byte : ℕ) (operands : List ℕ) (op : Opcode) (d : Drawn) → Names byte op → All IsOperandByte operands →
-    length operands ≤ run_limit → rule work op (spellings.words_of operands) ≡ Ok d → Acts m gl work (opcode byte operands ∷ []) d.entries d.work
+pub opcode_acts : (budget : ℕ) (gl : GSet) (work : Work) (byte : ℕ) (operands : List ℕ) (op : Opcode) (d : Drawn) → Names byte op → All IsOperandByte operands →
+    length operands ≤ run_limit → rule work op (spellings.words_of operands) ≡ Ok d → Acts budget gl work (opcode byte operands ∷ []) d.entries d.work
 unfolding written gl_after
-opcode_acts m gl work byte operands op d names all few by n xs more end anew behind =
-    subst (λ (bs : List ℕ). Reads (at m gl work) (placed_from n bs ++ xs) (d.entries ++ more) end) (sym (append-nil (piece_bytes gl (opcode byte operands))))
-    (shifted_in m gl work byte operands n xs (d.entries ++ more) end
-    (λ k. opcode_in_gl m work byte operands op d names all few by k xs more end (anew refl) behind))
+opcode_acts budget gl work byte operands op d names all few by n xs more end anew behind =
+    subst (λ (bs : List ℕ). Reads (at budget gl work) (placed_from n bs ++ xs) (d.entries ++ more) end) (sym (append-nil (piece_bytes gl (opcode byte operands))))
+    (shifted_in budget gl work byte operands n xs (d.entries ++ more) end
+    (λ k. opcode_in_gl budget work byte operands op d names all few by k xs more end (anew refl) behind))

@@ -2,11 +2,11 @@ use Rattle.std.proofs.Common.{ℕ, suc, ◌+◌, ◌≡◌, ◌≤◌, List, [],
 use Rattle.nap_values.specs.Laws.{IsOperandByte}
 use Rattle.nap_values.specs.Spellings as spellings
 use Rattle.nap_codes.specs.declared.code.Code.TheVariants as code
-use Rattle.nap_codes.specs.declared.code_set.CodeSets.{CodeSets}
 use Rattle.nap_codes.specs.declared.opcode.Opcode.{Opcode}
 use Rattle.nap_codes.specs.Front as codes
+use Rattle.nap_reader.specs.Bodies.{between}
 use Rattle.nap_reader.specs.Laws.{IsRun}
-use Rattle.nap_reader.specs.Stream.{Placed, bytes_of, words_of, run_limit, placed_from}
+use Rattle.nap_reader.specs.Stream.{Placed, Machine, bytes_of, words_of, run_limit, placed_from}
 
 -- bytes with their places
 
@@ -34,10 +34,11 @@ placed_from-append n (x ∷ xs) ys =
     (placed_from-append (suc n) xs ys ∙ ap (λ (k : ℕ). placed_from (suc n) xs ++ placed_from k ys) places)
 
 -- an opcode and the bytes of its operands are a run
-pub spelled_run : (n : ℕ) (opcode : ℕ) (operands : List ℕ) (op : Opcode) (sets : CodeSets) →
-    codes.front sets (opcode ∷ []) ≡ codes.whole (code.Op op) 1 sets → All IsOperandByte operands → length operands ≤ run_limit →
-    IsRun sets op (record { byte = opcode; place = n }) (placed_from (suc n) operands)
-spelled_run n opcode operands op sets names all few = record {
+pub spelled_run : (n : ℕ) (opcode : ℕ) (operands : List ℕ) (op : Opcode) (m : Machine) → m.mode ≡ between →
+    codes.front m.sets (opcode ∷ []) ≡ codes.whole (code.Op op) 1 m.sets → All IsOperandByte operands → length operands ≤ run_limit →
+    IsRun m op (record { byte = opcode; place = n }) (placed_from (suc n) operands)
+spelled_run n opcode operands op m mode names all few = record {
+  mode = mode;
   names = names;
   carriers = subst (All IsOperandByte) (sym (bytes_of-placed (suc n) operands)) all;
   few = omega (arith, few, length-placed (suc n) operands);

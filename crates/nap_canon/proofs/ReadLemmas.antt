@@ -1,4 +1,4 @@
-use Rattle.std.proofs.Common.{ℕ, ◌≡◌, List, [], ◌∷◌, ◌++◌, length, false, Option, None, Some, Result, Ok, Err, refl, ap, sym, subst, ◌∙◌, append_assoc, append-nil}
+use Rattle.std.proofs.Common.{ℕ, ◌≡◌, List, [], ◌∷◌, ◌++◌, length, false, true, Bool, cond, Option, None, Some, Result, Ok, Err, refl, ap, sym, subst, ◌∙◌, append_assoc, append-nil}
 use Rattle.std.specs.Prelude.{⊤}
 use Rattle.nap_codes.specs.declared.code_set.CodeSets.{CodeSets}
 use Rattle.nap_codes.specs.declared.opcode.Opcode.{Opcode}
@@ -6,11 +6,27 @@ use Rattle.nap_codes.specs.Front as codes
 use Rattle.nap_list.specs.declared.entry.Entry.{Entry}
 use Rattle.nap_draw.specs.Rule.{Drawn, rule}
 use Rattle.nap_draw.specs.declared.fault.DrawFault.{DrawFault}
+use Rattle.nap_draw.specs.declared.work.Work.{Work}
+use Rattle.nap_reader.specs.Bodies.{no_names}
 use Rattle.nap_reader.specs.Course as course
 use Rattle.nap_reader.specs.Course.{prepend, paused, onward}
 use Rattle.nap_reader.specs.Laws.{IsRun}
-use Rattle.nap_reader.specs.Stream.{Placed, Machine, Outcome, Unfinished, nothing, open_run, words_of, is_operand, front, drawn_front, outcome_from, with_run, with_run_by, with_drawn, with_definition, with_end, placed_from, start_machine, means, ended, ended_by}
+use Rattle.nap_reader.specs.Stream.{Placed, Machine, Outcome, Unfinished, nothing, open_run, words_of, is_operand, front, after_drawing, drawn_front, outcome_from, with_run, with_run_by, with_drawn, with_definition, with_end, placed_from, start_machine, means, ended, ended_by}
 use Rattle.nap_reader.proofs.PublicLaws.{front_after_front, run_acts, run_waits}
+
+-- The machine along canonical text.
+
+-- between two codes, where no macro is bound and nothing was charged
+abbrev pub standing : ℕ → CodeSets → Work → Machine
+standing budget sets work = record (start_machine budget) { work = work; sets = sets }
+
+-- Where no macro is bound, clearing them changes nothing.
+pub stands_after : (budget : ℕ) (sets : CodeSets) (work : Work) (d : Drawn) → after_drawing (standing budget sets work) d ≡ standing budget sets d.work
+stands_after budget sets work d = by d.clears
+  where
+    by : (clears : Bool) → record (standing budget sets d.work) { names = cond clears no_names no_names } ≡ standing budget sets d.work
+    by true = refl
+    by false = refl
 
 -- What comes of a list once an open run at its end has acted.
 
@@ -42,14 +58,17 @@ no_code : (sets : CodeSets) → codes.front sets [] ≡ codes.unfinished
 unfolding codes.front
 no_code sets = refl
 
-nothing_read : (m : Machine) → outcome_from m [] ≡ settled [] m
+nothing_read : (budget : ℕ) (sets : CodeSets) (work : Work) → outcome_from (standing budget sets work) [] ≡ settled [] (standing budget sets work)
 unfolding front
-nothing_read m =
-    let none : front m [] ≡ course.pause nothing = rw (no_code m.sets) refl in
+nothing_read budget sets work =
+    let m : Machine = standing budget sets work in
+    let none : front m [] ≡ course.pause nothing = rw (no_code sets) refl in
     front_after_front m [] ∙ ap (onward outcome_from m []) none
 
-pub reads_nothing : (m : Machine) → Reads m [] [] m
-reads_nothing m = record { going = ap (λ (o : Outcome). o.refusal) (nothing_read m); acts = ap with_run (nothing_read m) }
+pub reads_nothing : (budget : ℕ) (sets : CodeSets) (work : Work) → Reads (standing budget sets work) [] [] (standing budget sets work)
+reads_nothing budget sets work =
+    let is = nothing_read budget sets work in
+    record { going = ap (λ (o : Outcome). o.refusal) is; acts = ap with_run is }
 
 -- a code that acts
 pub reads_act : (m : Machine) (xs : List Placed) (ds : List Entry) (next : Machine) (ys : List Placed) (es : List Entry) (after : Machine) →
@@ -63,8 +82,8 @@ reads_act m xs ds next ys es after e rest =
 
 -- an opcode whose run reaches the end
 
-reads_last : (m : Machine) (x : Placed) (operands : List Placed) (op : Opcode) (drawn : Drawn) → IsRun m.sets op x operands →
-    rule m.work op (words_of operands) ≡ Ok drawn → Reads m (x ∷ operands) drawn.entries (record m { work = drawn.work })
+reads_last : (m : Machine) (x : Placed) (operands : List Placed) (op : Opcode) (drawn : Drawn) → IsRun m op x operands →
+    rule m.work op (words_of operands) ≡ Ok drawn → Reads m (x ∷ operands) drawn.entries (after_drawing m drawn)
 reads_last m x operands op drawn run by =
     let waiting : Outcome = paused m (x ∷ operands) (Some (open_run op x.place (words_of operands))) in
     let is : outcome_from m (x ∷ operands) ≡ waiting =
@@ -80,21 +99,29 @@ BeginsAnew [] = ⊤
 BeginsAnew (x ∷ xs) = is_operand x ≡ false
 
 -- an opcode with its run, and what is behind it
-pub reads_run : (m : Machine) (x : Placed) (operands : List Placed) (op : Opcode) (drawn : Drawn) (xs : List Placed) (es : List Entry) (after : Machine) →
-    IsRun m.sets op x operands → rule m.work op (words_of operands) ≡ Ok drawn → BeginsAnew xs →
-    Reads (record m { work = drawn.work }) xs es after → Reads m ((x ∷ operands) ++ xs) (drawn.entries ++ es) after
-reads_run m x operands op drawn [] es after run by anew behind =
-    let none = reads_nothing (record m { work = drawn.work }) in
-    let same : settled [] (record m { work = drawn.work }) ≡ settled es after = sym none.acts ∙ behind.acts in
-    let last = reads_last m x operands op drawn run by in
-    subst (λ (ys : List Placed). Reads m ys (drawn.entries ++ es) after) (sym (append-nil (x ∷ operands)))
-    (subst (λ (ds : List Entry). Reads m (x ∷ operands) (drawn.entries ++ ds) after) (ap (λ (o : Outcome). o.entries) same)
-    (subst (λ (n : Machine). Reads m (x ∷ operands) (drawn.entries ++ []) n) (ap (λ (o : Outcome). o.machine) same)
-    (subst (λ (ds : List Entry). Reads m (x ∷ operands) ds (record m { work = drawn.work })) (sym (append-nil drawn.entries)) last)))
-reads_run m x operands op drawn (y ∷ ys) es after run by anew behind =
-    reads_act m ((x ∷ operands) ++ y ∷ ys) drawn.entries (record m { work = drawn.work }) (y ∷ ys) es after
-    (run_acts m op x operands y ys run anew ∙ ap (drawn_front m x.place (y ∷ ys)) by)
-    behind
+module _ (budget : ℕ) (sets : CodeSets) (work : Work) (x : Placed) (operands : List Placed) (op : Opcode) (drawn : Drawn) where
+  abbrev here : Machine
+  here = standing budget sets work
+
+  abbrev next : Machine
+  next = standing budget sets drawn.work
+
+  drawn_last : IsRun here op x operands → rule work op (words_of operands) ≡ Ok drawn → Reads here (x ∷ operands) drawn.entries next
+  drawn_last run by = subst (Reads here (x ∷ operands) drawn.entries) (stands_after budget sets work drawn) (reads_last here x operands op drawn run by)
+
+  pub reads_run : (xs : List Placed) (es : List Entry) (after : Machine) → IsRun here op x operands → rule work op (words_of operands) ≡ Ok drawn →
+      BeginsAnew xs → Reads next xs es after → Reads here ((x ∷ operands) ++ xs) (drawn.entries ++ es) after
+  reads_run [] es after run by anew behind =
+      let none = reads_nothing budget sets drawn.work in
+      let same : settled [] next ≡ settled es after = sym none.acts ∙ behind.acts in
+      subst (λ (ys : List Placed). Reads here ys (drawn.entries ++ es) after) (sym (append-nil (x ∷ operands)))
+      (subst (λ (ds : List Entry). Reads here (x ∷ operands) (drawn.entries ++ ds) after) (ap (λ (o : Outcome). o.entries) same)
+      (subst (λ (n : Machine). Reads here (x ∷ operands) (drawn.entries ++ []) n) (ap (λ (o : Outcome). o.machine) same)
+      (subst (λ (ds : List Entry). Reads here (x ∷ operands) ds next) (sym (append-nil drawn.entries)) (drawn_last run by))))
+  reads_run (y ∷ ys) es after run by anew behind =
+      reads_act here ((x ∷ operands) ++ y ∷ ys) drawn.entries (after_drawing here drawn) (y ∷ ys) es after
+      (run_acts here op x operands y ys run anew ∙ ap (drawn_front here x.place (y ∷ ys)) by)
+      (subst (λ (n : Machine). Reads n (y ∷ ys) es after) (sym (stands_after budget sets work drawn)) behind)
 
 -- the end of a stream
 ends_settled : (n : ℕ) (o : Outcome) (es : List Entry) (m : Machine) → o.refusal ≡ None → with_run o ≡ settled es m →

@@ -7,18 +7,24 @@ use Rattle.nap_codes.specs.declared.opcode.Opcode.TheVariants as opcodes
 use Rattle.nap_codes.specs.CodeSets.{start_sets}
 use Rattle.nap_codes.specs.Front as codes
 use Rattle.nap_codes.specs.Lexed.{lexed}
+use Rattle.nap_reader.specs.Bodies.{Mode, between, in_body}
 use Rattle.nap_reader.specs.Course as course
-use Rattle.nap_reader.specs.Stream.{Placed, Machine, Front, bytes_of, front, start_machine, placed_from}
+use Rattle.nap_reader.specs.Stream.{Placed, Machine, Front, bytes_of, front, left_of, start_machine, placed_from}
 
 -- an opcode, and the lengths of operands that stand where it acts
 pub record Acting : Type 0 where
   pub op : Opcode
   pub lengths : OperandLengths
 
--- the opcode at a front, where one stands there
+-- the opcode at a front between two codes, where one stands there
 abbrev pub acting_at : Machine → codes.Front → List Acting
 acting_at m (codes.whole (code.Op op) n sets) = record { op = op; lengths = m.work.domain } ∷ []
 acting_at m _ = []
+
+-- the opcode at the front of a list; none acts in a body
+abbrev pub acting_in : Mode → Machine → List Placed → List Acting
+acting_in between m xs = acting_at m (codes.front m.sets (bytes_of xs))
+acting_in (in_body name show) m xs = []
 
 -- those behind a front that acts, where those of a list that begins later are known
 abbrev pub acting_behind : (Machine → List Placed → List Acting) → Front → List Acting
@@ -28,12 +34,12 @@ acting_behind later _ = []
 -- front after front, this many at most
 unfoldable pub acting_within : ℕ → Machine → List Placed → List Acting
 acting_within zero m xs = []
-acting_within (suc most) m xs = acting_at m (codes.front m.sets (bytes_of xs)) ++ acting_behind (acting_within most) (front m xs)
+acting_within (suc most) m xs = acting_in m.mode m xs ++ acting_behind (acting_within most) (front m xs)
 
--- Front after front, until nothing whole is left. Each code that acts lessens what is unread and what is left to
--- charge, taken together, so this many fronts are enough.
+-- Front after front, until nothing whole is left. Each front that acts lessens what is unread and what is left to
+-- charge, with one for the end of a body, taken together. So this many fronts are enough.
 abbrev pub acting_from : Machine → List Placed → List Acting
-acting_from m xs = acting_within (suc (length xs + m.left)) m xs
+acting_from m xs = acting_within (suc (length xs + left_of m)) m xs
 
 -- the opcodes that act in a stream, one after another: also one whose run the end of the stream ends
 abbrev pub acting : ℕ → List ℕ → List Acting

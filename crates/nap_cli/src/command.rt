@@ -65,7 +65,6 @@ what goes wrong to standard error; 'check' prints a refusal as its answer.";
 const STATUSES: &str = "Statuses:
   0  accepted
   1  refused, as 'refused 10 Outside at 5': the number and the name of the fault, and the place of the byte, from 0.
-     'refused 23 Unbuilt' stands for what this version doesn't read: macros
   2  a wrong command line
   3  a fault of reading or writing, bad hexadecimal text, or no memory outside the reading of the page
 

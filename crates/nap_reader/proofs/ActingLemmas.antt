@@ -1,5 +1,6 @@
-use Rattle.std.proofs.Common.{ℕ, ◌≡◌, ◌≢◌, List, [], ◌∷◌, ◌++◌, length, Bool, false, Option, Some, None, Result, Ok, Err, OnOk, IfOk, IfErr, refl, ap, sym, ◌∙◌, subst, append-nil}
+use Rattle.std.proofs.Common.{ℕ, ◌≡◌, ◌≢◌, ◌<◌, ◌≤◌, List, [], ◌∷◌, ◌++◌, length, Bool, false, Option, Some, None, Result, Ok, Err, OnOk, IfOk, IfErr, refl, ap, sym, ◌∙◌, subst, inl, inr, ltb, arith, append-nil}
 use Rattle.std.specs.Prelude.{IsOk, IsErrOf}
+use Rattle.std.proofs.lemmas.Bool.{cond-false, le-ltb}
 use Rattle.nap_codes.specs.declared.code.Code.TheVariants as code
 use Rattle.nap_codes.specs.declared.code_set.CharSet.{CharSet}
 use Rattle.nap_codes.specs.Front as codes
@@ -15,15 +16,16 @@ use Rattle.nap_draw.specs.Draws as draws
 use Rattle.nap_draw.specs.Rule.{Drawn}
 use Rattle.nap_reader.specs.declared.fault.Refusal.{Refusal}
 use Rattle.nap_reader.specs.Faults.{draw_fault}
+use Rattle.nap_reader.specs.Bodies.{Mode, between, in_body, body_front}
 use Rattle.nap_reader.specs.Course as course
 use Rattle.nap_reader.specs.Course.{prepend, paused, onward}
-use Rattle.nap_reader.specs.Stream.{Placed, Machine, Outcome, nothing, refusal, after_drawing, drawn_front, front, outcome_from}
-use Rattle.nap_reader.specs.Breaking.{cause_of}
-use Rattle.nap_reader.specs.Holding.{Holding, IsHeld, Continues, ContinuesPast, BreaksPast, ReachesBy}
+use Rattle.nap_reader.specs.Stream.{Placed, Machine, Outcome, Unfinished, nothing, open_body, refusal, all_at, charged, after_drawing, drawn_front, shown_front, front_in, front, outcome_from}
+use Rattle.nap_reader.specs.Breaking.{cause_of, BreaksFrom, TakesPart, TookFront, TookPart}
+use Rattle.nap_reader.specs.Holding.{Holding, IsHeld, Continues, ContinuesPast, BreaksPast, BreaksSome, ReachesBy}
 use Rattle.nap_reader.proofs.HeldLemmas.{half_read_pauses}
 use Rattle.nap_reader.proofs.LeadsLemmas.{TookMore, TookBroke, by_front, leads_on, leads_to_fault, wants_part, fails_part}
 use Rattle.nap_reader.proofs.ReadingLemmas.{nothing_yet, reaches, reaches_refusal}
-use Rattle.nap_reader.proofs.StreamLemmas.{outcome_from-front}
+use Rattle.nap_reader.proofs.StreamLemmas.{outcome_from-front, outcome_from-left}
 
 -- A character or a control acts.
 
@@ -36,8 +38,16 @@ character_front lexer byte set k = (
 )
 
 -- nothing comes of nothing
-nothing_comes : (m : Machine) → outcome_from m [] ≡ paused m [] (Some nothing)
-nothing_comes m = outcome_from-front m [] ∙ ap (onward outcome_from m []) (half_read_pauses m [] [] refl (nothing_yet m.sets))
+nothing_comes : (m : Machine) → (u : Unfinished) × (outcome_from m [] ≡ paused m [] (Some u))
+unfolding front body_front
+nothing_comes m = in_mode m.mode refl
+  where
+    waits : (u : Unfinished) → front m [] ≡ course.pause u → outcome_from m [] ≡ paused m [] (Some u)
+    waits u e = outcome_from-front m [] ∙ ap (onward outcome_from m []) e
+
+    in_mode : (mode : Mode) → m.mode ≡ mode → (u : Unfinished) × (outcome_from m [] ≡ paused m [] (Some u))
+    in_mode between mode = (nothing, waits nothing (half_read_pauses m [] [] mode refl (nothing_yet m.sets)))
+    in_mode (in_body name show) mode = (open_body, waits open_body (ap (λ (mode : Mode). front_in mode m []) mode))
 
 not_empty : (first : List Entry) (next : Entry) (rest : List Entry) → first ++ next ∷ rest ≢ []
 not_empty [] next rest e = cc
@@ -52,7 +62,7 @@ module _ {S : Type 0} (g : Ghosts S) (s : S) (known : List Entry) (o : Outcome) 
       let m' : Machine = after_drawing m drawn in
       let there =
       by_front g s o t h (x ∷ []) k.continues (course.act drawn.entries m' []) (acting ∙ ap (drawn_front m x.place []) is)
-      ∙ ap (λ (y : Outcome). prepend k.continues.done (prepend drawn.entries y)) (nothing_comes m') in (
+      ∙ ap (λ (y : Outcome). prepend k.continues.done (prepend drawn.entries y)) (nothing_comes m').1 in (
         ap (λ (y : Outcome). y.entries) there
             ∙ ap (λ (es : List Entry). k.continues.done ++ es) (append-nil drawn.entries)
             ∙ ap (λ (es : List Entry). es ++ drawn.entries) k.done,
@@ -93,9 +103,9 @@ module _ {S A B : Type 0} (g : Ghosts S) (clears : A → Bool) (t u : S) (h : Ho
     (err : IfErr answer (λ fault. (latch ≡ Some (refusal (draw_fault fault) x.place)) × (result ≡ Err (refusal (draw_fault fault) x.place)))) where
   pub acted_reaches : TookMore g → old ≡ None → OnOk answer (g.failed t ≡ false → g.failed u ≡ false) → (s : S) (o : Outcome) (pending : List Placed) (h' : Holding) →
       (k : Continues g s o t h (x ∷ pending)) → front h.machine (k.rest ++ x ∷ pending) ≡ drawn_front m x.place pending by →
-      h'.machine ≡ record m { work = v } → IsHeld [] h' →
+      ((a : A) → h'.machine ≡ after_drawing m (record { entries = []; work = v; clears = clears a })) → h'.machine.left ≡ h.machine.left → IsHeld [] h' →
       ReachesBy g s o u h' pending latch
-  acted_reaches law live clear s o pending h' k acting same held = at answer did ok err clear
+  acted_reaches law live clear s o pending h' k acting same left held = at answer did ok err clear
     where
       at : (a : Result A DrawFault) → Acts g clears by h.machine.work v t u a → IfOk a (λ _. IsOk result × (latch ≡ old)) →
           IfErr a (λ fault. (latch ≡ Some (refusal (draw_fault fault) x.place)) × (result ≡ Err (refusal (draw_fault fault) x.place))) →
@@ -103,15 +113,16 @@ module _ {S A B : Type 0} (g : Ghosts S) (clears : A → Bool) (t u : S) (h : Ho
       at (Ok a) did ok err clear =
           reaches g s o u h' pending latch (ok.1 ∙ live)
           (leads_on g s o t h (x ∷ pending) k u did.0 h' pending law held
-          (acting ∙ ap (drawn_front m x.place pending) did.1 ∙ ap (λ (m : Machine). course.act did.0 m pending) (sym same)) did.2 clear)
+          (acting ∙ ap (drawn_front m x.place pending) did.1 ∙ ap (λ (m : Machine). course.act did.0 m pending) (sym (same a))) did.2 clear)
       at (Err fault) did ok err clear =
-          reaches_refusal g s o u h' pending latch _ err.0 (λ own. leads_to_fault g s o t h (x ∷ pending) k u m x.place pending by acting fault did.1 own)
+          reaches_refusal g s o u h' pending latch _ err.0 (λ own.
+          let r = leads_to_fault g s o t h (x ∷ pending) k u m x.place pending by acting fault did.1 own in (r.0, r.1, r.2 ∙ sym left))
 
   pub acted_breaks : TookMore g → TookBroke g → (IsErrOf answer draw_faults.Memory → WantsBy g by t u) →
       (IsErrOf answer draw_faults.Sink → GivesSome by) →
       ((s : S) (o : Outcome) → (k : Continues g s o t h (x ∷ [])) → front h.machine (k.rest ++ x ∷ []) ≡ drawn_front m x.place [] by) →
       IfErr result (λ r. cause_of r.fault ≢ stream → (s : S) (known : List Entry) (o : Outcome) → ContinuesPast g s known o t h (x ∷ []) →
-      (r.place ≡ x.place) × BreaksPast g s known o u (cause_of r.fault))
+      (r.place ≡ x.place) × BreaksSome g s known o u h (cause_of r.fault))
   acted_breaks more broken wants gives acting = at answer refl did ok err
     where
       unrefused : (P : Refusal → Type 0) (r : Result B Refusal) → IsOk r → IfErr r P
@@ -121,12 +132,58 @@ module _ {S A B : Type 0} (g : Ghosts S) (clears : A → Bool) (t u : S) (h : Ho
       at : (a : Result A DrawFault) → answer ≡ a → Acts g clears by h.machine.work v t u a → IfOk a (λ _. IsOk result × (latch ≡ old)) →
           IfErr a (λ fault. (latch ≡ Some (refusal (draw_fault fault) x.place)) × (result ≡ Err (refusal (draw_fault fault) x.place))) →
           IfErr result (λ r. cause_of r.fault ≢ stream → (s : S) (known : List Entry) (o : Outcome) → ContinuesPast g s known o t h (x ∷ []) →
-          (r.place ≡ x.place) × BreaksPast g s known o u (cause_of r.fault))
+          (r.place ≡ x.place) × BreaksSome g s known o u h (cause_of r.fault))
       at (Ok a) same did ok err = unrefused _ result ok.0
       at (Err fault) same did ok err =
           rw err.1
           (λ broke s known o k. (
             refl,
-            code_breaks g s known o t h x k m by (acting s o k.continues) u more broken fault did.1
-                (λ memory. wants (same ∙ ap Err memory)) (λ device. gives (same ∙ ap Err device)) broke,
+            inl (code_breaks g s known o t h x k m by (acting s o k.continues) u more broken fault did.1
+                (λ memory. wants (same ∙ ap Err memory)) (λ device. gives (same ∙ ap Err device)) broke),
           ))
+
+-- A body could be charged, and couldn't be read for want of memory.
+pub call_breaks : {S : Type 0} (g : Ghosts S) (s : S) (known : List Entry) (o : Outcome) (t : S) (h : Holding) (x : Placed) (k : ContinuesPast g s known o t h (x ∷ []))
+    (m : Machine) (place : ℕ) (bytes : List ℕ) (ys : List Placed) → front h.machine (k.continues.rest ++ x ∷ []) ≡ shown_front m place bytes ys →
+    m.left ≡ h.machine.left → 0 < length bytes → length bytes ≤ m.left →
+    (o.machine.left < h.machine.left) × BreaksFrom g s known o t memory
+call_breaks g s known o t h x k m place bytes ys shows same some few =
+    let e = shows ∙ cond-false (ltb m.left (length bytes)) _ _ (le-ltb m.left (length bytes) few) in
+    let is = by_front g s o t h (x ∷ []) k.continues (course.act [] (charged m (length bytes)) (all_at place bytes ++ ys)) e in
+    let falls = outcome_from-left (charged m (length bytes)) (all_at place bytes ++ ys) in
+    let there : o.machine.left ≡ (outcome_from (charged m (length bytes)) (all_at place bytes ++ ys)).machine.left = ap (λ (o : Outcome). o.machine.left) is in
+    let more = (outcome_from (charged m (length bytes)) (all_at place bytes ++ ys)).entries in (
+      omega (arith, falls, there, same),
+      record {
+        more = more;
+        adds = ap (λ (o : Outcome). o.entries) is ∙ ap (λ (es : List Entry). es ++ more) k.done;
+        part = ([], more, refl, subst (λ (es : List Entry). g.took s es t) (sym (append-nil known)) (subst (λ (es : List Entry). g.took s es t) k.done k.continues.taken));
+      },
+    )
+
+-- memory was wanting before any further entry
+pub wants_from : {S : Type 0} (g : Ghosts S) (s : S) (known : List Entry) (o : Outcome) (t : S) (h : Holding) (xs : List Placed) (k : ContinuesPast g s known o t h xs) →
+    BreaksFrom g s known o t memory
+wants_from g s known o t h xs k =
+    let more = (outcome_from h.machine (k.continues.rest ++ xs)).entries in
+    record {
+      more = more;
+      adds = ap (λ (o : Outcome). o.entries) k.continues.leads ∙ ap (λ (es : List Entry). es ++ more) k.done;
+      part = ([], more, refl, subst (λ (es : List Entry). g.took s es t) (sym (append-nil known)) (subst (λ (es : List Entry). g.took s es t) k.done k.continues.taken));
+    }
+
+-- what breaks behind what was known has a part of what comes
+pub breaks_from : {S : Type 0} (g : Ghosts S) (s : S) (known : List Entry) (o : Outcome) (t : S) (h : Holding) (cause : Cause) → BreaksSome g s known o t h cause →
+    BreaksFrom g s known o t cause
+breaks_from {S} g s known o t h cause (inr (less, from)) = from
+breaks_from {S} g s known o t h cause (inl past) = record { more = past.more; adds = past.adds; part = at cause past.part }
+  where
+    none : g.took s known t → TakesPart g s known past.more t
+    none took = ([], past.more, refl, subst (λ (es : List Entry). g.took s es t) (sym (append-nil known)) took)
+
+    at : (cause : Cause) → TookPart g s known past.more t cause → TookFront g s known past.more t cause
+    at stream part = part
+    at memory (inl took) = none took
+    at memory (inr (first, next, rest, parts, took)) = (first, next ∷ rest, parts, took)
+    at device (inl (set, took)) = inl (set, none took)
+    at device (inr broke) = inr broke

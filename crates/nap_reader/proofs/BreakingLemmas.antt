@@ -1,21 +1,26 @@
-use Rattle.std.proofs.Common.{ℕ, ◌≡◌, ◌≢◌, ◌<◌, List, [], ◌∷◌, ◌++◌, length, Bool, true, false, cond, Some, None, refl, ap, sym, ◌∙◌, subst, inl, inr, arith, length-append}
+use Rattle.std.proofs.Common.{ℕ, ◌≡◌, ◌≢◌, ◌<◌, ◌≤◌, ◌⊎◌, List, [], ◌∷◌, ◌++◌, length, Bool, true, false, cond, Option, Some, None, Result, Ok, Err, refl, ap, sym, ◌∙◌, subst, inl, inr, arith, append-nil, length-append}
 use Rattle.nap_list.specs.declared.sink.Sink.{Ghosts}
 use Rattle.nap_list.specs.declared.entry.Entry.{Entry}
 use Rattle.nap_codes.specs.declared.code.CodeFault.{CodeFault}
 use Rattle.nap_codes.specs.declared.code.CodeFault.TheVariants as code_faults
+use Rattle.nap_draw.specs.declared.fault.DrawFault.{DrawFault}
 use Rattle.nap_draw.specs.Draws.{Cause, stream, memory, device}
+use Rattle.nap_draw.specs.Rule.{Drawn, rule}
 use Rattle.nap_reader.specs.declared.fault.Fault.{Fault}
 use Rattle.nap_reader.specs.declared.fault.Fault.TheVariants as faults
 use Rattle.nap_reader.specs.declared.fault.Refusal.{Refusal}
+use Rattle.nap_reader.specs.declared.body.OpenBody.{OpenBody}
 use Rattle.nap_reader.specs.declared.reader.OpenRun.{OpenRun}
 use Rattle.nap_reader.specs.Faults.{code_fault}
-use Rattle.nap_reader.specs.Stream.{Outcome, is_operand_byte, run_limit, refusal, placed_from, begun, with_run}
-use Rattle.nap_reader.specs.Breaking.{cause_of, closed_by, TookPart, CanBreakAt, BreaksAt, BreaksInRun}
-use Rattle.nap_reader.specs.Holding.{Holding, Continues, ContinuesPast, BreaksPast, ClosesInto}
-use Rattle.nap_reader.proofs.EndLemmas.{open_place_is, run_still}
-use Rattle.nap_reader.proofs.LeadsLemmas.{leads_entries, leads_taken, leads_unrefused, leads_more}
+use Rattle.nap_reader.specs.Stream as model
+use Rattle.nap_reader.specs.Stream.{Machine, Outcome, Unfinished, is_operand_byte, run_limit, refusal, placed_from, begun, with_run}
+use Rattle.nap_reader.specs.Breaking.{cause_of, closed_by, TookPart, UsesBody, CanBreakAt, BreaksAt, BreaksFrom, BreaksWith, BreaksInRun}
+use Rattle.nap_reader.specs.Holding.{Holding, Continues, ContinuesPast, BreaksPast, BreaksSome, ClosesInto}
+use Rattle.nap_reader.proofs.EndLemmas.{open_place_is, run_still, body_open}
+use Rattle.nap_reader.proofs.LeadsLemmas.{leads_entries, leads_taken, leads_unrefused, leads_machine, leads_more}
 use Rattle.nap_reader.proofs.ReadingLemmas.{word_joins}
 use Rattle.nap_reader.proofs.LawLemmas.{more_bytes_keep_entries}
+use Rattle.nap_reader.proofs.PartLemmas.{breaks_longer}
 
 -- a fault of a code is the stream's own
 pub code_fault_own : (fault : CodeFault) → cause_of (code_fault fault) ≡ stream
@@ -41,22 +46,22 @@ closed_by_operand o b word = rw word refl
 
 -- the run that a byte joins could not grow
 pub growth_breaks : {S : Type 0} (g : Ghosts S) (s : S) (budget : ℕ) (p : List ℕ) (b : ℕ) (t : S) (h : Holding) (open_run : OpenRun) →
-    h.open_run ≡ Some open_run → is_operand_byte b ≡ true → length h.run < run_limit → Continues g s (begun budget p) t h [] →
+    h.open_body ≡ None → h.open_run ≡ Some open_run → is_operand_byte b ≡ true → length h.run < run_limit → Continues g s (begun budget p) t h [] →
     BreaksAt g s budget p b t (refusal faults.Memory (length p))
 unfolding placed_from
-growth_breaks g s budget p b t h open_run is word few k =
-    let joined = word_joins g s (begun budget (p ++ b ∷ [])) t h open_run is (record { byte = b; place = length p }) [] (leads_more g s budget p (b ∷ []) t h k) word few in
+growth_breaks g s budget p b t h open_run no_body is word few k =
+    let joined = word_joins g s (begun budget (p ++ b ∷ [])) t h open_run no_body is (record { byte = b; place = length p }) [] (leads_more g s budget p (b ∷ []) t h k) word few in
     let more = more_bytes_keep_entries budget p (b ∷ []) in
     let same = ap (λ (o : Outcome). o.entries) (closed_by_operand (begun budget p) b word) in
     inr (record {
       place = refl;
-      brings = inl (word, rw (open_place_is g s (begun budget p) t h k open_run is) refl);
-      part = record {
+      brings = inl (word, rw (open_place_is g s (begun budget p) t h k open_run no_body is) refl);
+      part = inl (record {
         more = more.0;
         unrefused = leads_unrefused g s (begun budget (p ++ b ∷ [])) t _ joined;
         adds = more.1 ∙ ap (λ (es : List Entry). es ++ more.0) (sym same);
         part = inl (subst (λ (es : List Entry). g.took s es t) (sym same) (leads_taken g s (begun budget p) t h k));
-      };
+      });
     })
 
 closed_by_still : {S : Type 0} (g : Ghosts S) (s : S) (o : Outcome) (t : S) (h : Holding) (b : ℕ) → Continues g s o t h [] → h.open_run ≡ None → closed_by o b ≡ o
@@ -86,26 +91,77 @@ pub brings_breaks : {S : Type 0} (g : Ghosts S) (s : S) (budget : ℕ) (p : List
 brings_breaks g s budget p b t r known same place h =
     inr (record {
       place = place;
-      brings = inr (λ none. h.some (nothing_more known h.more (sym h.adds ∙ none ∙ sym same)));
-      part = record {
+      brings = inr (inl (λ none. h.some (nothing_more known h.more (sym h.adds ∙ none ∙ sym same))));
+      part = inl (record {
         more = h.more;
         adds = h.adds ∙ ap (λ (es : List Entry). es ++ h.more) same;
         unrefused = h.unrefused;
         part = subst (λ (es : List Entry). TookPart g s es h.more t (cause_of r.fault)) same h.part;
-      };
+      });
     })
+
+-- a byte breaks that uses a body
+pub uses_breaks : {S : Type 0} (g : Ghosts S) (s : S) (budget : ℕ) (p : List ℕ) (b : ℕ) (t : S) (r : Refusal) →
+    r.place ≡ length p → UsesBody budget p b → BreaksFrom g s (begun budget p).entries (begun budget (p ++ b ∷ [])) t (cause_of r.fault) →
+    BreaksAt g s budget p b t r
+uses_breaks g s budget p b t r place uses h = inr (record { place = place; brings = inr (inr uses); part = inr (uses, h) })
+
+-- the entries of an open run come behind those before it
+run_more : (o : Outcome) → (es : List Entry) × ((with_run o).entries ≡ o.entries ++ es)
+run_more o = at o.unfinished
+  where
+    still : (es : List Entry) × (o.entries ≡ o.entries ++ es)
+    still = ([], sym (append-nil o.entries))
+
+    drew : (place : ℕ) (by : Result Drawn DrawFault) → (es : List Entry) × ((model.with_drawn o place by).entries ≡ o.entries ++ es)
+    drew place (Ok drawn) = (drawn.entries, refl)
+    drew place (Err fault) = still
+
+    at : (u : Option Unfinished) → (es : List Entry) × ((model.with_run_by o u).entries ≡ o.entries ++ es)
+    at (Some (model.open_run op place run)) = drew place (rule o.machine.work op run)
+    at (Some model.nothing) = still
+    at (Some (model.half_code bytes)) = still
+    at (Some model.open_body) = still
+    at None = still
+
+-- a byte breaks by what it brings, or by what it calls or shows
+some_breaks : {S : Type 0} (g : Ghosts S) (s : S) (budget : ℕ) (p : List ℕ) (b : ℕ) (t : S) (h : Holding) (r : Refusal) (known es : List Entry) →
+    known ≡ (closed_by (begun budget p) b).entries → known ≡ (begun budget p).entries ++ es → r.place ≡ length p → h.machine.left ≤ (begun budget p).machine.left →
+    BreaksSome g s known (begun budget (p ++ b ∷ [])) t h (cause_of r.fault) → BreaksAt g s budget p b t r
+some_breaks g s budget p b t h r known es same more place left (inl past) = brings_breaks g s budget p b t r known same place past
+some_breaks g s budget p b t h r known es same more place left (inr (less, from)) =
+    uses_breaks g s budget p b t r place (inr (omega arith))
+    (breaks_longer g s (begun budget p).entries es (begun budget (p ++ b ∷ [])) t (cause_of r.fault)
+    (subst (λ (es : List Entry). BreaksFrom g s es (begun budget (p ++ b ∷ [])) t (cause_of r.fault)) more from))
+
+-- a byte breaks that is read in a body
+pub body_breaks : {S : Type 0} (g : Ghosts S) (s : S) (budget : ℕ) (p : List ℕ) (b : ℕ) (t : S) (h : Holding) (body : OpenBody) (r : Refusal) →
+    h.open_body ≡ Some body → Continues g s (begun budget p) t h [] → r ≡ refusal faults.Memory (length p) → BreaksAt g s budget p b t r
+body_breaks g s budget p b t h body r in_body k is =
+    let o = begun budget p in
+    let more = more_bytes_keep_entries budget p (b ∷ []) in
+    subst (BreaksAt g s budget p b t) (sym is)
+    (uses_breaks g s budget p b t (refusal faults.Memory (length p)) refl (inl (body_open g s o t h k body in_body))
+    (record {
+      more = more.0;
+      adds = more.1;
+      part = ([], more.0, refl, subst (λ (es : List Entry). g.took s es t) (sym (append-nil o.entries)) (leads_taken g s o t h k));
+    }))
 
 -- where no run is open
 pub still_breaks : {S : Type 0} (g : Ghosts S) (s : S) (budget : ℕ) (p : List ℕ) (b : ℕ) (t : S) (h : Holding) (u : S) (r : Refusal) → Continues g s (begun budget p) t h [] →
-    h.open_run ≡ None → r.place ≡ length p → BreaksPast g s (begun budget p).entries (begun budget (p ++ b ∷ [])) u (cause_of r.fault) → BreaksAt g s budget p b u r
+    h.open_run ≡ None → r.place ≡ length p → BreaksSome g s (begun budget p).entries (begun budget (p ++ b ∷ [])) u h (cause_of r.fault) → BreaksAt g s budget p b u r
 still_breaks g s budget p b t h u r k is place broke =
-    brings_breaks g s budget p b u r (begun budget p).entries (ap (λ (o : Outcome). o.entries) (sym (closed_by_still g s (begun budget p) t h b k is))) place broke
+    some_breaks g s budget p b u h r (begun budget p).entries [] (ap (λ (o : Outcome). o.entries) (sym (closed_by_still g s (begun budget p) t h b k is))) (sym (append-nil (begun budget p).entries)) place
+    (let same = ap (λ (m : Machine). m.left) (leads_machine g s (begun budget p) t h k) in omega arith) broke
 
 -- where the byte has ended one
-pub past_breaks : {S : Type 0} (g : Ghosts S) (s : S) (budget : ℕ) (p : List ℕ) (b : ℕ) (u : S) (r : Refusal) → is_operand_byte b ≡ false →
-    r.place ≡ length p → BreaksPast g s (with_run (begun budget p)).entries (begun budget (p ++ b ∷ [])) u (cause_of r.fault) → BreaksAt g s budget p b u r
-past_breaks g s budget p b u r other place broke =
-    brings_breaks g s budget p b u r (with_run (begun budget p)).entries (rw other refl) place broke
+pub past_breaks : {S : Type 0} (g : Ghosts S) (s : S) (budget : ℕ) (p : List ℕ) (b : ℕ) (u : S) (h : Holding) (r : Refusal) → is_operand_byte b ≡ false →
+    r.place ≡ length p → h.machine.left ≤ (begun budget p).machine.left →
+    BreaksSome g s (with_run (begun budget p)).entries (begun budget (p ++ b ∷ [])) u h (cause_of r.fault) → BreaksAt g s budget p b u r
+past_breaks g s budget p b u h r other place left broke =
+    let more = run_more (begun budget p) in
+    some_breaks g s budget p b u h r (with_run (begun budget p)).entries more.0 (rw other refl) more.1 place left broke
 
 -- the opcode breaks whose run a byte ends
 pub run_breaks : {S : Type 0} (g : Ghosts S) (s : S) (budget : ℕ) (p : List ℕ) (b : ℕ) (t : S) (r : Refusal) (cause : Cause) →
@@ -124,4 +180,15 @@ in_run g s budget p t r device broke h = h.1
 pub breaks_there : {S : Type 0} (g : Ghosts S) (s : S) (budget : ℕ) (p : List ℕ) (b : ℕ) (t : S) (r : Refusal) →
     BreaksAt g s budget p b t r → CanBreakAt budget p b r.place
 breaks_there g s budget p b t r (inl (other, first, h)) = inl (other, h.place, h.part.unrefused)
-breaks_there g s budget p b t r (inr h) = inr (h.place, h.brings, h.part.unrefused)
+breaks_there g s budget p b t r (inr h) = inr (h.place, h.brings, at h.part)
+  where
+    at : BreaksWith g s budget p b t (cause_of r.fault) → UsesBody budget p b ⊎ ((begun budget (p ++ b ∷ [])).refusal ≡ None)
+    at (inl between) = inr between.unrefused
+    at (inr (uses, from)) = inl uses
+
+-- a byte breaks that is read in a body, or behind its end
+pub in_body_breaks : {S : Type 0} (g : Ghosts S) (s : S) (budget : ℕ) (p : List ℕ) (b : ℕ) (t : S) (h : Holding) (body : OpenBody) (u : S) (r : Refusal) →
+    h.open_body ≡ Some body → Continues g s (begun budget p) t h [] → r.place ≡ length p →
+    BreaksFrom g s (begun budget p).entries (begun budget (p ++ b ∷ [])) u (cause_of r.fault) → BreaksAt g s budget p b u r
+in_body_breaks g s budget p b t h body u r in_body k place from =
+    uses_breaks g s budget p b u r place (inl (body_open g s (begun budget p) t h k body in_body)) from

@@ -1,4 +1,4 @@
-use Rattle.std.proofs.Common.{ℕ, suc, zero, ◌+◌, ◌≡◌, ◌<◌, List, ◌++◌, length, Option, Some, None, refl, ap, sym, arith, append_assoc, ◌∙◌}
+use Rattle.std.proofs.Common.{ℕ, suc, zero, ◌+◌, ◌≡◌, ◌<◌, ◌≤◌, List, ◌++◌, length, Option, Some, None, refl, ap, sym, arith, append_assoc}
 use Rattle.nap_reader.specs.Course.{Front, pause, refuse, act, Outcome, prepend, onward, go, outcome, continue_by, continue, Lessens, Stays}
 
 pub prepend-append : {M E F U B : Type 0} (ds es : List E) (o : Outcome M E F U B) → prepend (ds ++ es) o ≡ prepend ds (prepend es o)
@@ -12,27 +12,27 @@ continue-prepend {M} {E} {F} {U} {B} next es o ys = at o.refusal
     at (Some f) = refl
     at None = prepend-append es o.entries (next o.machine (o.rest ++ ys))
 
--- each code that acts leaves this count as it was
-abbrev pub Keeps : {M E F U B : Type 0} → (M → List B → Front M E F U B) → (M → ℕ) → Type 0
-Keeps {M} {E} {F} {U} {B} front count = (m : M) (xs : List B) (es : List E) (m' : M) (ys : List B) →
-    front m xs ≡ act es m' ys → count m' ≡ count m
+-- no code that acts raises this count
+abbrev pub Falls : {M E F U B : Type 0} → (M → List B → Front M E F U B) → (M → ℕ) → Type 0
+Falls {M} {E} {F} {U} {B} front count = (m : M) (xs : List B) (es : List E) (m' : M) (ys : List B) →
+    front m xs ≡ act es m' ys → count m' ≤ count m
 
-module _ (M E F U B : Type 0) (front : M → List B → Front M E F U B) (left count : M → ℕ) (keeps : Keeps front count) where
-  go-keeps : (f : ℕ) (m : M) (xs : List B) → count (go front f m xs).machine ≡ count m
+module _ (M E F U B : Type 0) (front : M → List B → Front M E F U B) (left count : M → ℕ) (falls : Falls front count) where
+  go-falls : (f : ℕ) (m : M) (xs : List B) → count (go front f m xs).machine ≤ count m
   unfolding go
-  go-keeps zero m xs = refl
-  go-keeps (suc f) m xs = at (front m xs) refl (λ m' ys. go-keeps f m' ys)
+  go-falls zero m xs = omega arith
+  go-falls (suc f) m xs = at (front m xs) refl (λ m' ys. go-falls f m' ys)
     where
-      at : (n : Front M E F U B) → front m xs ≡ n → ((m' : M) (ys : List B) → count (go front f m' ys).machine ≡ count m') →
-          count (onward (go front f) m xs n).machine ≡ count m
-      at (pause u) e ih = refl
-      at (refuse x) e ih = refl
-      at (act es m' ys) e ih = ih m' ys ∙ keeps m xs es m' ys e
+      at : (n : Front M E F U B) → front m xs ≡ n → ((m' : M) (ys : List B) → count (go front f m' ys).machine ≤ count m') →
+          count (onward (go front f) m xs n).machine ≤ count m
+      at (pause u) e ih = omega arith
+      at (refuse x) e ih = omega arith
+      at (act es m' ys) e ih = omega (arith, ih m' ys, falls m xs es m' ys e)
 
-  -- what comes of an input leaves the count as it was
-  pub outcome-keeps : (m : M) (xs : List B) → count (outcome front left m xs).machine ≡ count m
+  -- what comes of an input doesn't raise it
+  pub outcome-falls : (m : M) (xs : List B) → count (outcome front left m xs).machine ≤ count m
   unfolding outcome
-  outcome-keeps m xs = go-keeps (suc (length xs + left m)) m xs
+  outcome-falls m xs = go-falls (suc (length xs + left m)) m xs
 
 module _ (M E F U B : Type 0) (front : M → List B → Front M E F U B) (left : M → ℕ) (lessens : Lessens front left) where
   -- fronts to spare change nothing

@@ -8,6 +8,7 @@ use Rattle.nap_draw.specs.Draws.{Cause, stream, memory, device, Draws}
 use Rattle.nap_draw.specs.Draws as draws
 use Rattle.nap_reader.specs.declared.fault.Fault.TheVariants as faults
 use Rattle.nap_reader.specs.declared.fault.Refusal.{Refusal}
+use Rattle.nap_reader.specs.declared.body.OpenBody.{OpenBody}
 use Rattle.nap_reader.specs.declared.reader.OpenRun.{OpenRun}
 use Rattle.nap_reader.specs.Faults.{draw_fault}
 use Rattle.nap_reader.specs.Stream as model
@@ -15,54 +16,72 @@ use Rattle.nap_reader.specs.Course as course
 use Rattle.nap_reader.specs.Stream.{Placed, Machine, Unfinished, Outcome, is_operand, is_operand_byte, half_read, refusal, after_drawing, drawn_front, front, outcome_from, placed_from, begun, with_drawn, with_run, with_code, ended_by, means}
 use Rattle.nap_reader.specs.Breaking.{cause_of, open_place, run_place, BreaksBetween}
 use Rattle.nap_reader.specs.Standing.{IsTaken}
-use Rattle.nap_reader.specs.Holding.{Holding, IsHeld, unfinished_by, Continues, ContinuesPast, Ends, BeginsAll, ClosesInto}
+use Rattle.nap_reader.specs.Holding.{Holding, IsHeld, IsHeldIn, IsOpenBody, unfinished_by, Continues, ContinuesPast, Ends, BeginsAll, ClosesInto}
 use Rattle.nap_reader.proofs.HeldLemmas.{front_run}
-use Rattle.nap_reader.proofs.LeadsLemmas.{TookMore, TookBroke, Stopped, same_cause, fault_answer, is_open_run, by_front, leads_on, leads_more, leads_entries, leads_unrefused, leads_taken, leads_machine, leads_unfinished}
+use Rattle.nap_reader.proofs.LeadsLemmas.{TookMore, is_between, TookBroke, Stopped, same_cause, fault_answer, is_open_run, by_front, leads_on, leads_more, leads_entries, leads_unrefused, leads_taken, leads_machine, leads_unfinished}
 
 -- what is unfinished behind p is what is held
 module _ {S : Type 0} (g : Ghosts S) (s : S) (o : Outcome) (t : S) (h : Holding) (k : Continues g s o t h []) where
-  pub unfinished_is : (open_run : Option OpenRun) → h.open_run ≡ open_run → o.unfinished ≡ Some (unfinished_by open_run h.half h.run)
-  unfinished_is open_run is = leads_unfinished g s o t h k ∙ ap (λ (r : Option OpenRun). Some (unfinished_by r h.half h.run)) is
+  pub unfinished_is : (body : Option OpenBody) (open_run : Option OpenRun) → h.open_body ≡ body → h.open_run ≡ open_run →
+      o.unfinished ≡ Some (unfinished_by body open_run h.half h.run)
+  unfinished_is body open_run in_body is =
+      leads_unfinished g s o t h k
+      ∙ ap (λ (b : Option OpenBody). Some (unfinished_by b h.open_run h.half h.run)) in_body
+      ∙ ap (λ (r : Option OpenRun). Some (unfinished_by body r h.half h.run)) is
 
   -- the place of an open run is that of the outcome
-  pub open_place_is : (open_run : OpenRun) → h.open_run ≡ Some open_run → open_place o ≡ Some open_run.place
-  open_place_is open_run is = ap run_place (unfinished_is (Some open_run) is)
+  pub open_place_is : (open_run : OpenRun) → h.open_body ≡ None → h.open_run ≡ Some open_run → open_place o ≡ Some open_run.place
+  open_place_is open_run no_body is = ap run_place (unfinished_is None (Some open_run) no_body is)
 
   -- no run is open
   pub run_still : h.open_run ≡ None → with_run o ≡ o
-  run_still is = ap (model.with_run_by o) (unfinished_is None is) ∙ still h.half
+  run_still is = ap (model.with_run_by o) (unfinished_is h.open_body None refl is) ∙ in_mode h.open_body
     where
       still : (half : List ℕ) → model.with_run_by o (Some (half_read half)) ≡ o
       still [] = refl
       still (b ∷ bs) = refl
 
+      in_mode : (body : Option OpenBody) → model.with_run_by o (Some (unfinished_by body None h.half h.run)) ≡ o
+      in_mode None = still h.half
+      in_mode (Some body) = refl
+
+  -- a body is open
+  pub still_run : (body : OpenBody) → h.open_body ≡ Some body → h.open_run ≡ None
+  still_run body in_body = let held : IsOpenBody k.rest body h = subst (IsHeldIn k.rest h) in_body k.held in held.at.still
+
+  pub body_still : (body : OpenBody) → h.open_body ≡ Some body → with_run o ≡ o
+  body_still body in_body = run_still (still_run body in_body)
+
+  pub body_open : (body : OpenBody) → h.open_body ≡ Some body → o.unfinished ≡ Some model.open_body
+  body_open body in_body = unfinished_is (Some body) h.open_run in_body refl
+
   -- the same at the end
-  pub ends_still : h.open_run ≡ None → Ends g s (with_run o) t h
-  ends_still is = subst (λ (x : Outcome). Ends g s x t h) (sym (run_still is)) here
+  pub ends_still : h.open_body ≡ None → h.open_run ≡ None → Ends g s (with_run o) t h
+  ends_still no_body is = subst (λ (x : Outcome). Ends g s x t h) (sym (run_still is)) here
     where
       here : Ends g s o t h
       here = record {
         refusal = leads_unrefused g s o t h k;
         taken = leads_taken g s o t h k;
         work = ap (λ (m : Machine). m.work) (leads_machine g s o t h k);
-        half = unfinished_is None is;
+        half = unfinished_is None None no_body is;
       }
 
 -- an open run acts behind p
-module _ {S : Type 0} (g : Ghosts S) (s : S) (budget : ℕ) (p : List ℕ) (t : S) (h : Holding) (open_run : OpenRun) (is : h.open_run ≡ Some open_run)
+module _ {S : Type 0} (g : Ghosts S) (s : S) (budget : ℕ) (p : List ℕ) (t : S) (h : Holding) (open_run : OpenRun) (no_body : h.open_body ≡ None) (is : h.open_run ≡ Some open_run)
     (k : Continues g s (begun budget p) t h []) where
   abbrev o : Outcome
   o = begun budget p
 
   run_at_end : with_run o ≡ with_drawn o open_run.place (rule h.machine.work open_run.op h.run)
   run_at_end =
-      ap (model.with_run_by o) (unfinished_is g s o t h k (Some open_run) is)
+      ap (model.with_run_by o) (unfinished_is g s o t h k None (Some open_run) no_body is)
       ∙ ap (λ (m : Machine). with_drawn o open_run.place (rule m.work open_run.op h.run)) (leads_machine g s o t h k)
 
   run_over : (drawn : Drawn) → rule h.machine.work open_run.op h.run ≡ Ok drawn → (x : Placed) → is_operand x ≡ false →
       front h.machine (k.rest ++ x ∷ []) ≡ course.act drawn.entries (after_drawing h.machine drawn) (x ∷ [])
   run_over drawn by x other =
-      front_run h.machine k.rest open_run h.run x [] (is_open_run h k.rest open_run is k.held).0 other
+      front_run h.machine k.rest open_run h.run x [] (is_between h k.rest no_body k.held).mode (is_open_run h k.rest open_run no_body is k.held).0 other
       ∙ ap (drawn_front h.machine open_run.place (x ∷ [])) by
 
   run_entries : (drawn : Drawn) → rule h.machine.work open_run.op h.run ≡ Ok drawn → (with_run o).entries ≡ k.done ++ drawn.entries
@@ -134,8 +153,8 @@ module _ {S : Type 0} (g : Ghosts S) (s : S) (budget : ℕ) (p : List ℕ) (t : 
 
       by_cause : (cause : Cause) → cause_of r.fault ≡ cause → Stopped g s o (with_run o) u r cause → ClosesInto g s budget p u r cause
       by_cause stream e d = d
-      by_cause memory e d = (memory_acts (drew_by memory e), record { place = open_place_is g s o t h k open_run is; part = subst (BreaksBetween g s o (with_run o) u) (sym e) d })
-      by_cause device e d = (device_acts (drew_by device e), record { place = open_place_is g s o t h k open_run is; part = subst (BreaksBetween g s o (with_run o) u) (sym e) d })
+      by_cause memory e d = (memory_acts (drew_by memory e), record { place = open_place_is g s o t h k open_run no_body is; part = subst (BreaksBetween g s o (with_run o) u) (sym e) d })
+      by_cause device e d = (device_acts (drew_by device e), record { place = open_place_is g s o t h k open_run no_body is; part = subst (BreaksBetween g s o (with_run o) u) (sym e) d })
 
 -- what is unfinished at the end
 module _ {S : Type 0} (g : Ghosts S) (s : S) (o : Outcome) (t : S) (h : Holding) (n : ℕ) (k : Ends g s o t h) where
@@ -178,3 +197,17 @@ pub ended_taken : {S : Type 0} (g : Ghosts S) (s : S) (budget : ℕ) (p : List �
 ended_taken g s budget p t h u answer fed live k all taken =
     subst (λ (o : Outcome). IsTaken g s o u answer)
     (ap (λ (n : ℕ). with_code (with_run (begun budget p)) n (with_run (begun budget p)).unfinished) all ∙ sym (means_settled budget p live k.refusal)) taken
+
+-- an open body is refused at the end
+pub body_ended : {S : Type 0} (g : Ghosts S) (s : S) (budget : ℕ) (p : List ℕ) (t : S) (h : Holding) (body : OpenBody) (fed : ℕ) →
+    Continues g s (begun budget p) t h [] → h.open_body ≡ Some body → fed ≡ length p → IsTaken g s (means budget p) t (Some (refusal faults.Unended fed))
+body_ended g s budget p t h body fed k in_body all =
+    let o : Outcome = begun budget p in
+    let live = leads_unrefused g s o t h k in
+    let still = body_still g s o t h k body in_body in
+    let is : means budget p ≡ record o { refusal = Some (refusal faults.Unended (length p)) } =
+    means_settled budget p live (ap (λ (x : Outcome). x.refusal) still ∙ live)
+    ∙ ap (λ (x : Outcome). with_code x (length p) x.unfinished) still
+    ∙ ap (with_code o (length p)) (body_open g s o t h k body in_body) in
+    subst (λ (x : Outcome). IsTaken g s x t (Some (refusal faults.Unended fed))) (sym is)
+    (ap (λ (n : ℕ). Some (refusal faults.Unended n)) (sym all), leads_taken g s o t h k)

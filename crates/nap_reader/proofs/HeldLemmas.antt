@@ -14,11 +14,12 @@ use Rattle.nap_codes.proofs.PublicLaws.{whole_stays, refused_stays}
 use Rattle.nap_draw.specs.Rule.{rule}
 use Rattle.nap_reader.specs.declared.fault.Fault.TheVariants as faults
 use Rattle.nap_reader.specs.declared.reader.OpenRun.{OpenRun}
+use Rattle.nap_reader.specs.Bodies.{Mode, between}
 use Rattle.nap_reader.specs.Kinds.{kind_of}
 use Rattle.nap_reader.specs.Course as course
 use Rattle.nap_reader.specs.Faults.{code_fault}
 use Rattle.nap_reader.specs.Stream as model
-use Rattle.nap_reader.specs.Stream.{Placed, Machine, half_read, bytes_of, words_of, is_operand, run_length, run_limit, refusal, drawn_front, opcode_front, code_front, place_at, front_by, front}
+use Rattle.nap_reader.specs.Stream.{Placed, Machine, half_read, bytes_of, words_of, is_operand, run_length, run_limit, refusal, drawn_front, opcode_front, code_front, place_at, front_by, front_in, front}
 use Rattle.nap_reader.specs.Holding.{IsOpenRun}
 use Rattle.nap_reader.proofs.StreamLemmas.{bytes_of-append, words_of-append}
 
@@ -42,37 +43,41 @@ bytes_past rest x pending half is =
 length_past : (rest : List Placed) (half : List ℕ) → bytes_of rest ≡ half → length half ≡ length rest
 length_past rest half is = ap length (sym is) ∙ length-map rest _
 
+-- the front between two codes
+pub front_between : (m : Machine) (xs : List Placed) → m.mode ≡ between → front m xs ≡ front_by m xs (codes.front m.sets (bytes_of xs))
+unfolding front
+front_between m xs mode = ap (λ (mode : Mode). front_in mode m xs) mode
+
 -- a half-read code, which this byte makes whole
-pub front_code : (m : Machine) (rest : List Placed) (x : Placed) (pending : List Placed) (half : List ℕ) (c : Code) (n : ℕ) (after : CodeSets) →
+pub front_code : (m : Machine) (rest : List Placed) (x : Placed) (pending : List Placed) (half : List ℕ) (c : Code) (n : ℕ) (after : CodeSets) → m.mode ≡ between →
     bytes_of rest ≡ half → codes.front m.sets (half ++ x.byte ∷ []) ≡ codes.whole c n after → n ≡ length (half ++ x.byte ∷ []) →
     front m (rest ++ x ∷ pending) ≡ code_front (record m { sets = after }) (kind_of c) x.place pending
-unfolding front
-front_code m rest x pending half c n after is e len =
+front_code m rest x pending half c n after mode is e len =
     let found : codes.front m.sets (bytes_of (rest ++ x ∷ pending)) ≡ codes.whole c n after =
     rw (bytes_past rest x pending half is) (whole_stays m.sets (half ++ x.byte ∷ []) (bytes_of pending) c n after e) in
     let count : n ≡ suc (length rest) = omega (arith, len, length-append half (x.byte ∷ []), length_past rest half is) in
     let last : n - 1 ≡ length rest = omega (arith, count) in
-    rw (found, last, place_at-past rest x pending, drop_past rest x pending n count) refl
+    front_between m (rest ++ x ∷ pending) mode
+    ∙ rw (found, last, place_at-past rest x pending, drop_past rest x pending n count) refl
 
 -- a half-read code, which this byte can't continue
-pub front_fault : (m : Machine) (rest : List Placed) (x : Placed) (pending : List Placed) (half : List ℕ) (fault : CodeFault) (i : ℕ) →
+pub front_fault : (m : Machine) (rest : List Placed) (x : Placed) (pending : List Placed) (half : List ℕ) (fault : CodeFault) (i : ℕ) → m.mode ≡ between →
     bytes_of rest ≡ half → codes.front m.sets (half ++ x.byte ∷ []) ≡ codes.refused fault i → i ≡ length half →
     front m (rest ++ x ∷ pending) ≡ course.refuse (refusal (code_fault fault) x.place)
-unfolding front
-front_fault m rest x pending half fault i is e index =
+front_fault m rest x pending half fault i mode is e index =
     let found : codes.front m.sets (bytes_of (rest ++ x ∷ pending)) ≡ codes.refused fault i =
     rw (bytes_past rest x pending half is) (refused_stays m.sets (half ++ x.byte ∷ []) (bytes_of pending) fault i e) in
     let at : i ≡ length rest = index ∙ length_past rest half is in
-    rw (found, at, place_at-past rest x pending) refl
+    front_between m (rest ++ x ∷ pending) mode ∙ rw (found, at, place_at-past rest x pending) refl
 
 -- an open run and what is behind it
 
-opcode_first : (m : Machine) (rest : List Placed) (open_run : OpenRun) (run : List ℕ) (pending : List Placed) →
+opcode_first : (m : Machine) (rest : List Placed) (open_run : OpenRun) (run : List ℕ) (pending : List Placed) → m.mode ≡ between →
     (h : IsOpenRun rest open_run run m.sets) →
     front m (rest ++ pending) ≡ opcode_front m open_run.op open_run.place (h.operands ++ pending)
-unfolding front
-opcode_first m rest open_run run pending h =
-    rw (
+opcode_first m rest open_run run pending mode h =
+    front_between m (rest ++ pending) mode
+    ∙ rw (
       h.is,
       whole_stays m.sets (h.opcode.byte ∷ []) (bytes_of (h.operands ++ pending)) (code.Op open_run.op) 1 m.sets h.names,
       h.place,
@@ -99,17 +104,17 @@ short_run rest open_run run sets h =
     not_long (length h.operands) (omega (arith, h.short, ap length h.words, length-words_of h.operands))
 
 -- an open run is over where a byte comes that is no operand byte
-pub front_run : (m : Machine) (rest : List Placed) (open_run : OpenRun) (run : List ℕ) (x : Placed) (pending : List Placed) →
+pub front_run : (m : Machine) (rest : List Placed) (open_run : OpenRun) (run : List ℕ) (x : Placed) (pending : List Placed) → m.mode ≡ between →
     IsOpenRun rest open_run run m.sets → is_operand x ≡ false →
     front m (rest ++ x ∷ pending) ≡ drawn_front m open_run.place (x ∷ pending) (rule m.work open_run.op run)
-front_run m rest open_run run x pending h other =
+front_run m rest open_run run x pending mode h other =
     let ends = run_ends x h.operands pending other h.all in
     let taken : take (length h.operands) (h.operands ++ x ∷ pending) ≡ h.operands =
     take-append-le (length h.operands) h.operands (x ∷ pending) (omega arith) ∙ take_all (length h.operands) h.operands (omega arith) in
     let dropped : drop (length h.operands) (h.operands ++ x ∷ pending) ≡ x ∷ pending =
     drop-append-le (length h.operands) h.operands (x ∷ pending) (omega arith)
     ∙ ap (λ (xs : List Placed). xs ++ x ∷ pending) (drop_of_length-le h.operands {i = length h.operands} (omega arith)) in
-    opcode_first m rest open_run run (x ∷ pending) h
+    opcode_first m rest open_run run (x ∷ pending) mode h
     ∙ rw (ends, taken, dropped, short_run rest open_run run m.sets h, h.words) refl
 
 -- an open run that goes on
@@ -118,35 +123,35 @@ run_goes_on : (operands pending : List Placed) → run_length operands ≡ lengt
 run_goes_on operands pending all = rw (prefix_len-append is_operand operands pending, all, eq-eqb (length operands) (length operands) refl) refl
 
 -- an operand byte too many
-pub front_long : (m : Machine) (rest : List Placed) (open_run : OpenRun) (run : List ℕ) (x : Placed) (pending : List Placed) →
+pub front_long : (m : Machine) (rest : List Placed) (open_run : OpenRun) (run : List ℕ) (x : Placed) (pending : List Placed) → m.mode ≡ between →
     IsOpenRun rest open_run run m.sets → is_operand x ≡ true → run_limit ≤ length run →
     front m (rest ++ x ∷ pending) ≡ course.refuse (refusal faults.LongRun open_run.place)
-front_long m rest open_run run x pending h word many =
+front_long m rest open_run run x pending mode h word many =
     let one : run_length (x ∷ pending) ≡ 1 + run_length pending = rw word refl in
     let goes = run_goes_on h.operands (x ∷ pending) h.all in
     let long : run_limit < length (take (run_length (h.operands ++ x ∷ pending)) (h.operands ++ x ∷ pending)) =
     omega (arith, length-prefix_len is_operand (h.operands ++ x ∷ pending), goes, one, many, ap length h.words, length-words_of h.operands) in
-    opcode_first m rest open_run run (x ∷ pending) h ∙ rw (lt-ltb run_limit _ long) refl
+    opcode_first m rest open_run run (x ∷ pending) mode h ∙ rw (lt-ltb run_limit _ long) refl
 
 -- An open run waits for more.
-pub open_run_pauses : (m : Machine) (rest : List Placed) (open_run : OpenRun) (run : List ℕ) → IsOpenRun rest open_run run m.sets →
+pub open_run_pauses : (m : Machine) (rest : List Placed) (open_run : OpenRun) (run : List ℕ) → m.mode ≡ between → IsOpenRun rest open_run run m.sets →
     front m rest ≡ course.pause (model.open_run open_run.op open_run.place run)
-open_run_pauses m rest open_run run h =
+open_run_pauses m rest open_run run mode h =
     let none : drop (length h.operands) (h.operands ++ []) ≡ [] =
     ap (drop (length h.operands)) (append-nil h.operands) ∙ drop_of_length-le h.operands {i = length h.operands} (omega arith) in
     let all : run_length (h.operands ++ []) ≡ length h.operands = ap run_length (append-nil h.operands) ∙ h.all in
     let taken : take (length h.operands) (h.operands ++ []) ≡ h.operands =
     ap (take (length h.operands)) (append-nil h.operands) ∙ take_all (length h.operands) h.operands (omega arith) in
     ap (front m) (sym (append-nil rest))
-    ∙ opcode_first m rest open_run run [] h
+    ∙ opcode_first m rest open_run run [] mode h
     ∙ rw (all, none, taken, short_run rest open_run run m.sets h, h.words) refl
 
 -- A half-read code waits for more.
-pub half_read_pauses : (m : Machine) (rest : List Placed) (half : List ℕ) → bytes_of rest ≡ half →
+pub half_read_pauses : (m : Machine) (rest : List Placed) (half : List ℕ) → m.mode ≡ between → bytes_of rest ≡ half →
     codes.front m.sets half ≡ codes.unfinished → front m rest ≡ course.pause (half_read half)
-unfolding front
-half_read_pauses m rest half is e =
-    ap (front_by m rest) (ap (codes.front m.sets) is ∙ e) ∙ ap (λ (bs : List ℕ). course.pause (half_read bs)) is
+half_read_pauses m rest half mode is e =
+    front_between m rest mode
+    ∙ ap (front_by m rest) (ap (codes.front m.sets) is ∙ e) ∙ ap (λ (bs : List ℕ). course.pause (half_read bs)) is
 
 -- an opcode opens a run
 pub opens_run : (x : Placed) (op : Opcode) (sets : CodeSets) → codes.front sets (x.byte ∷ []) ≡ codes.whole (code.Op op) 1 sets →

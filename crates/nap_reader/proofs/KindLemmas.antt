@@ -1,4 +1,4 @@
-use Rattle.std.proofs.Common.{ℕ, ◌≡◌, List, arith}
+use Rattle.std.proofs.Common.{ℕ, ◌≡◌, List, Bool, arith}
 use Rattle.std.specs.Prelude.{⊤}
 use Rattle.nap_codes.specs.declared.code.Code.{Code}
 use Rattle.nap_codes.specs.declared.code.Code.TheVariants as code
@@ -29,20 +29,22 @@ range_made (code.DefGlyph byte) range = graphic_code byte range
 range_made (code.Step step) ranges = step_made step ranges
 range_made _ range = tt
 
--- a code that acts is made
+-- a code that acts is made, and the name of a macro is in range
 abbrev pub KindMade : Kind → Type 0
 KindMade (kinds.Acts c) = IsMade c
+KindMade (kinds.Calls name) = IsGraphic name
+KindMade (kinds.Binds name show) = IsGraphic name
 KindMade _ = ⊤
 
-kind_made : (c : Code) → IsMade c → KindMade (kind_of c)
-kind_made (code.Op op) made = tt
-kind_made (code.Operand word) made = tt
-kind_made code.Fill made = tt
-kind_made code.Shifted made = tt
-kind_made (code.Designated number set) made = tt
-kind_made (code.Call name) made = tt
-kind_made (code.DefMacro name show) made = tt
-kind_made _ made = made
+kind_made : (c : Code) → IsInRange c → IsMade c → KindMade (kind_of c)
+kind_made (code.Op op) range made = tt
+kind_made (code.Operand word) range made = tt
+kind_made code.Fill range made = tt
+kind_made code.Shifted range made = tt
+kind_made (code.Designated number set) range made = tt
+kind_made (code.Call name) range made = range
+kind_made (code.DefMacro name show) range made = range
+kind_made _ range made = made
 
 -- the code at a front is made
 pub front_made : (sets : CodeSets) (xs : List ℕ) (c : Code) (n : ℕ) (after : CodeSets) → codes.front sets xs ≡ codes.whole c n after → IsMade c
@@ -50,4 +52,9 @@ front_made sets xs c n after e = range_made c (code_ranges sets xs c n after e)
 
 -- and so is one that acts
 pub front_kind_made : (sets : CodeSets) (xs : List ℕ) (c : Code) (n : ℕ) (after : CodeSets) → codes.front sets xs ≡ codes.whole c n after → KindMade (kind_of c)
-front_kind_made sets xs c n after e = kind_made c (front_made sets xs c n after e)
+front_kind_made sets xs c n after e = kind_made c (code_ranges sets xs c n after e) (front_made sets xs c n after e)
+
+-- the code that defines a macro
+pub binds_code : (c : Code) (name : ℕ) (show : Bool) → kind_of c ≡ kinds.Binds name show → c ≡ code.DefMacro name show
+binds_code (code.DefMacro name' show') name show e = let same : name' ≡ name = cc in let also : show' ≡ show = cc in cc
+binds_code _ name show e = let bad : ⊥ = cc in absurd bad

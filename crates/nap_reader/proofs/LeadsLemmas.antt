@@ -1,22 +1,27 @@
-use Rattle.std.proofs.Common.{ℕ, ◌≡◌, ◌⊎◌, List, [], ◌∷◌, ◌++◌, length, Bool, true, false, Option, Some, None, Result, Ok, Err, refl, ap, sym, ◌∙◌, subst, inl, inr, append_assoc, append-nil}
+use Rattle.std.proofs.Common.{ℕ, ◌≡◌, ◌<◌, ◌≤◌, ◌-◌, ◌⊎◌, List, [], ◌∷◌, ◌++◌, length, Bool, true, false, Option, Some, None, Result, Ok, Err, ltb, refl, ap, sym, ◌∙◌, subst, arith, inl, inr, append_assoc, append-nil}
+use Rattle.std.proofs.lemmas.Bool.{cond-true, cond-false, lt-ltb, le-ltb}
 use Rattle.nap_list.specs.declared.sink.Sink.{Ghosts}
 use Rattle.nap_list.specs.declared.entry.Entry.{Entry}
 use Rattle.nap_draw.specs.declared.fault.DrawFault.{DrawFault}
 use Rattle.nap_draw.specs.declared.fault.DrawFault.TheVariants as draw_faults
 use Rattle.nap_draw.specs.Rule.{Drawn}
-use Rattle.nap_draw.specs.Draws.{Cause, stream, memory, device}
+use Rattle.nap_draw.specs.Draws.{Cause, stream, memory, device, Draws}
 use Rattle.nap_draw.specs.Draws as draws
+use Rattle.nap_reader.specs.declared.fault.Fault.TheVariants as faults
 use Rattle.nap_reader.specs.declared.fault.Refusal.{Refusal}
 use Rattle.nap_reader.specs.declared.reader.OpenRun.{OpenRun}
+use Rattle.nap_reader.specs.declared.body.OpenBody.{OpenBody}
+use Rattle.nap_reader.specs.Bodies as bodies
+use Rattle.nap_reader.specs.Bodies.{Mode, between, in_body, store_limit, body_front}
 use Rattle.nap_reader.specs.Course as course
 use Rattle.nap_reader.specs.Course.{prepend, paused, onward, continue}
 use Rattle.nap_reader.specs.Faults.{draw_fault}
-use Rattle.nap_reader.specs.Stream.{Placed, Machine, Outcome, Front, refusal, drawn_front, front, outcome_from, placed_from, begun}
+use Rattle.nap_reader.specs.Stream.{Placed, Machine, Outcome, Front, bytes_of, all_at, charged, refusal, drawn_front, shown_front, body_front_by, front_in, front, outcome_from, placed_from, begun}
 use Rattle.nap_reader.specs.Breaking.{cause_of, TookPart, BreaksBetween}
-use Rattle.nap_reader.specs.Holding.{Holding, unfinished_of, IsHeld, IsHeldBy, IsOpenRun, IsRefused, Continues}
+use Rattle.nap_reader.specs.Holding.{Holding, unfinished_by, unfinished_of, held_escape, past, IsHeld, IsHeldIn, IsHalf, IsHeldBy, IsOpenBody, IsOpenRun, IsRefused, Continues}
 use Rattle.nap_reader.proofs.CourseLemmas.{prepend-append}
 use Rattle.nap_reader.proofs.HeldLemmas.{open_run_pauses, half_read_pauses}
-use Rattle.nap_reader.proofs.StreamLemmas.{outcome_from-front, begun-append}
+use Rattle.nap_reader.proofs.StreamLemmas.{bytes_of-append, outcome_from-front, outcome_from-left, begun-append}
 
 -- one list was taken after another
 abbrev pub TookMore : {S : Type 0} → Ghosts S → Type 0
@@ -26,21 +31,61 @@ TookMore {S} g = (s t u : S) (d e : List Entry) → g.took s d t → g.took t e 
 abbrev pub TookBroke : {S : Type 0} → Ghosts S → Type 0
 TookBroke {S} g = (s t u : S) (d e : List Entry) (x : Entry) → g.took s d t → g.broke t e x u → g.broke s (d ++ e) x u
 
+-- between two codes
+pub is_between : (h : Holding) (rest : List Placed) → h.open_body ≡ None → IsHeld rest h → IsHalf rest h
+is_between h rest no_body held = subst (IsHeldIn rest h) no_body held
+
+pub holds_between : (h : Holding) (rest : List Placed) → h.open_body ≡ None → IsHalf rest h → IsHeld rest h
+holds_between h rest no_body held = subst (IsHeldIn rest h) (sym no_body) held
+
+-- no end of a body is seen yet
+escape_waits : (room : ℕ) (escape : Option ℕ) → body_front room (bytes_of (held_escape escape)) ≡ bodies.unfinished
+unfolding body_front
+escape_waits room None = refl
+escape_waits room (Some place) = refl
+
+open_body_waits : (rest : List Placed) (body : OpenBody) (h : Holding) → IsOpenBody rest body h →
+    body_front (store_limit - h.machine.stored) (bytes_of rest) ≡ bodies.unfinished
+open_body_waits rest body h k =
+    let room = store_limit - h.machine.stored in
+    let all : bytes_of rest ≡ h.body ++ bytes_of (held_escape body.escape) =
+    ap bytes_of k.is ∙ bytes_of-append k.bytes (held_escape body.escape) ∙ ap (λ (bs : List ℕ). bs ++ bytes_of (held_escape body.escape)) k.at.body in
+    let none = append-nil (bytes_of (held_escape body.escape)) in
+    ap (body_front room) (all ∙ ap (λ (bs : List ℕ). h.body ++ bs) (sym none))
+    ∙ k.at.goes_on []
+    ∙ ap (past (length h.body)) (ap (body_front (room - length h.body)) none ∙ escape_waits (room - length h.body) body.escape)
+
+-- what stands at the front of an open body
+pub front_body : (rest : List Placed) (body : OpenBody) (h : Holding) (pending : List Placed) → h.machine.mode ≡ in_body body.name body.show →
+    front h.machine (rest ++ pending)
+    ≡ body_front_by h.machine body.name body.show (rest ++ pending) (body_front (store_limit - h.machine.stored) (bytes_of (rest ++ pending)))
+unfolding front
+front_body rest body h pending mode = ap (λ (mode : Mode). front_in mode h.machine (rest ++ pending)) mode
+
 -- what is held back waits for more
 pub held_pauses : (h : Holding) (rest : List Placed) → IsHeld rest h → front h.machine rest ≡ course.pause (unfinished_of h)
-held_pauses h rest held = at h.open_run held
+unfolding front
+held_pauses h rest held = in_mode h.open_body held
   where
-    at : (open_run : Option OpenRun) → IsHeldBy rest h open_run → front h.machine rest ≡ course.pause (unfinished_of (record h { open_run = open_run }))
-    at None k = half_read_pauses h.machine rest h.half k.0 k.1
-    at (Some open_run) k = open_run_pauses h.machine rest open_run h.run k.0
+    at : (open_run : Option OpenRun) → h.machine.mode ≡ between → IsHeldBy rest h open_run →
+        front h.machine rest ≡ course.pause (unfinished_by None open_run h.half h.run)
+    at None mode k = half_read_pauses h.machine rest h.half mode k.0 k.1
+    at (Some open_run) mode k = open_run_pauses h.machine rest open_run h.run mode k.0
 
-pub is_open_run : (h : Holding) (rest : List Placed) (open_run : OpenRun) → h.open_run ≡ Some open_run → IsHeld rest h →
+    in_mode : (body : Option OpenBody) → IsHeldIn rest h body → front h.machine rest ≡ course.pause (unfinished_by body h.open_run h.half h.run)
+    in_mode None k = at h.open_run k.mode k.half
+    in_mode (Some body) k =
+        ap (λ (mode : Mode). front_in mode h.machine rest) k.at.mode
+        ∙ ap (body_front_by h.machine body.name body.show rest) (open_body_waits rest body h k)
+
+pub is_open_run : (h : Holding) (rest : List Placed) (open_run : OpenRun) → h.open_body ≡ None → h.open_run ≡ Some open_run → IsHeld rest h →
     IsOpenRun rest open_run h.run h.machine.sets × (h.half ≡ [])
-is_open_run h rest open_run is held = subst (IsHeldBy rest h) is held
+is_open_run h rest open_run no_body is held = subst (IsHeldBy rest h) is (is_between h rest no_body held).half
 
-pub holds_open_run : (h : Holding) (rest : List Placed) (open_run : OpenRun) → h.open_run ≡ Some open_run →
-    IsOpenRun rest open_run h.run h.machine.sets → h.half ≡ [] → IsHeld rest h
-holds_open_run h rest open_run is held none = subst (IsHeldBy rest h) (sym is) (held, none)
+pub holds_open_run : (h : Holding) (rest : List Placed) (open_run : OpenRun) → h.open_body ≡ None → h.machine.mode ≡ between → h.body ≡ [] →
+    h.open_run ≡ Some open_run → IsOpenRun rest open_run h.run h.machine.sets → h.half ≡ [] → IsHeld rest h
+holds_open_run h rest open_run no_body mode empty is held none =
+    holds_between h rest no_body (record { mode = mode; body = empty; half = subst (IsHeldBy rest h) (sym is) (held, none) })
 
 -- a fault of a rule has one cause, for the rule and for the reader
 pub same_cause : (fault : DrawFault) → cause_of (draw_fault fault) ≡ draws.cause_of fault
@@ -86,20 +131,36 @@ module _ {S : Type 0} (g : Ghosts S) (s : S) (o : Outcome) (t : S) (h : Holding)
   }
 
   -- what stands at the front is refused
-  pub leads_to_refusal : (r : Refusal) → front h.machine (k.rest ++ pending) ≡ course.refuse r → IsRefused g s o t r
+  pub leads_to_refusal : (r : Refusal) → front h.machine (k.rest ++ pending) ≡ course.refuse r → IsRefused g s o t h r
   leads_to_refusal r e =
       let is = by_front (course.refuse r) e in (
         ap (λ (x : Outcome). x.refusal) is,
         subst (λ (es : List Entry). g.took s es t) (sym (ap (λ (x : Outcome). x.entries) is ∙ append-nil k.done)) k.taken,
+        ap (λ (x : Outcome). x.machine.left) is,
       )
+
+  -- what stands at the front is a body that comes next
+  pub leads_shown : (m : Machine) (place : ℕ) (bytes : List ℕ) (ys : List Placed) → front h.machine (k.rest ++ pending) ≡ shown_front m place bytes ys →
+      length bytes ≤ m.left → (h' : Holding) → h'.machine ≡ charged m (length bytes) → IsHeld [] h' → Continues g s o t h' (all_at place bytes ++ ys)
+  leads_shown m place bytes ys e few h' same held =
+      leads_past h' (all_at place bytes ++ ys) held
+      (e
+      ∙ cond-false (ltb m.left (length bytes)) _ _ (le-ltb m.left (length bytes) few)
+      ∙ ap (λ (m : Machine). course.act [] m (all_at place bytes ++ ys)) (sym same))
+
+  -- or it can't be charged
+  pub leads_budget : (m : Machine) (place : ℕ) (bytes : List ℕ) (ys : List Placed) → front h.machine (k.rest ++ pending) ≡ shown_front m place bytes ys →
+      m.left < length bytes → IsRefused g s o t h (refusal faults.Budget place)
+  leads_budget m place bytes ys e many =
+      leads_to_refusal (refusal faults.Budget place) (e ∙ cond-true (ltb m.left (length bytes)) _ _ (lt-ltb m.left (length bytes) many))
 
   -- the rule of what stands at the front is refused
   pub leads_to_fault : (u : S) (m : Machine) (place : ℕ) (ys : List Placed) (by : Result Drawn DrawFault) → front h.machine (k.rest ++ pending) ≡ drawn_front m place ys by →
       (fault : DrawFault) → draws.DrawsBy g.took g.broke g.failed by t u fault (draws.cause_of fault) → cause_of (draw_fault fault) ≡ stream →
-      IsRefused g s o u (refusal (draw_fault fault) place)
+      IsRefused g s o u h (refusal (draw_fault fault) place)
   leads_to_fault u m place ys by at fault drew own =
       let d = subst (draws.DrawsBy g.took g.broke g.failed by t u fault) (sym (same_cause fault) ∙ own) drew in
-      subst (λ (v : S). IsRefused g s o v (refusal (draw_fault fault) place)) (sym d.1)
+      subst (λ (v : S). IsRefused g s o v h (refusal (draw_fault fault) place)) (sym d.1)
       (leads_to_refusal (refusal (draw_fault fault) place) (at ∙ ap (drawn_front m place ys) d.0))
 
 -- what is held back takes the first of what pends
@@ -138,6 +199,12 @@ module _ {S : Type 0} (g : Ghosts S) (s : S) (o : Outcome) (t : S) (h : Holding)
 
   pub leads_unfinished : o.unfinished ≡ Some (unfinished_of h)
   leads_unfinished = ap (λ (x : Outcome). x.unfinished) leads_paused
+
+-- no more is left to charge than is left where it leads on
+pub leads_left : {S : Type 0} (g : Ghosts S) (s : S) (o : Outcome) (t : S) (h : Holding) (pending : List Placed) → Continues g s o t h pending → o.machine.left ≤ h.machine.left
+leads_left g s o t h pending k =
+    let there = ap (λ (x : Outcome). x.machine.left) k.leads in
+    omega (arith, there, outcome_from-left h.machine (k.rest ++ pending))
 
 -- more of the stream has come
 unfoldable pub leads_more : {S : Type 0} (g : Ghosts S) (s : S) (budget : ℕ) (p q : List ℕ) (t : S) (h : Holding) →

@@ -5,7 +5,6 @@ use Rattle.std.proofs.lemmas.List.Elements.{All-head, All-tail}
 use Rattle.nap_values.specs.Laws.{IsOperandByte}
 use Rattle.nap_codes.specs.declared.code.Code.{Code}
 use Rattle.nap_codes.specs.declared.code.Code.TheVariants as code
-use Rattle.nap_codes.specs.declared.code_set.CodeSets.{CodeSets}
 use Rattle.nap_codes.specs.declared.opcode.Opcode.{Opcode}
 use Rattle.nap_list.specs.State.{walk}
 use Rattle.nap_draw.specs.Codes.{code_rule}
@@ -32,9 +31,9 @@ all_operands [] all = refl
 all_operands (x ∷ xs) all =
     rw (operand_byte x.byte (All-head IsOperandByte x.byte (bytes_of xs) all), all_operands xs (All-tail IsOperandByte x.byte (bytes_of xs) all)) (omega arith)
 
-is_open_run : (sets : CodeSets) (op : Opcode) (x : Placed) (operands : List Placed) → IsRun sets op x operands →
-    IsOpenRun (x ∷ operands) (record { op = op; place = x.place }) (words_of operands) sets
-is_open_run sets op x operands run = record {
+is_open_run : (m : Machine) (op : Opcode) (x : Placed) (operands : List Placed) → IsRun m op x operands →
+    IsOpenRun (x ∷ operands) (record { op = op; place = x.place }) (words_of operands) m.sets
+is_open_run m op x operands run = record {
   opcode = x;
   operands = operands;
   is = refl;
@@ -47,11 +46,11 @@ is_open_run sets op x operands run = record {
 
 pub run_acts : RunActs
 run_acts m op x operands y ys run other =
-    front_run m (x ∷ operands) (record { op = op; place = x.place }) (words_of operands) y ys (is_open_run m.sets op x operands run) other
+    front_run m (x ∷ operands) (record { op = op; place = x.place }) (words_of operands) y ys run.mode (is_open_run m op x operands run) other
 
 pub run_waits : RunWaits
 run_waits m op x operands run =
-    open_run_pauses m (x ∷ operands) (record { op = op; place = x.place }) (words_of operands) (is_open_run m.sets op x operands run)
+    open_run_pauses m (x ∷ operands) (record { op = op; place = x.place }) (words_of operands) run.mode (is_open_run m op x operands run)
 
 alone_front : (m : Machine) (c : Code) (place : ℕ) (ys : List Placed) → IsAlone c →
     code_front m (kind_of c) place ys ≡ drawn_front m place ys (code_rule m.work c)
@@ -66,7 +65,7 @@ pub code_acts : CodeActs
 code_acts m c before last after ys is =
     let size : length before + 1 ≡ length (bytes_of before ++ last.byte ∷ []) =
     omega (arith, length-append (bytes_of before) (last.byte ∷ []), length-map before (λ (y : Placed). y.byte)) in
-    front_code m before last ys (bytes_of before) c (length before + 1) after refl is.names size
+    front_code m before last ys (bytes_of before) c (length before + 1) after is.mode refl is.names size
     ∙ alone_front (record m { sets = after }) c last.place ys is.alone
 
 pub more_bytes_keep_entries : MoreBytesKeepEntries

@@ -4,6 +4,7 @@ use Rattle.std.proofs.lemmas.Bool.{cond_both}
 use Rattle.std.proofs.lemmas.Bool.Decides.{nat_tests}
 use Rattle.std.proofs.lemmas.List.Elements.{All-nil, All-cons, All-append}
 use Rattle.nap_values.specs.Laws.{IsWord}
+use Rattle.nap_codes.specs.declared.code.Code.TheVariants as code
 use Rattle.nap_codes.specs.declared.opcode.Opcode.{Opcode}
 use Rattle.nap_codes.specs.Front as codes
 use Rattle.nap_list.specs.declared.entry.Entry.{Entry}
@@ -17,11 +18,13 @@ use Rattle.nap_draw.proofs.PublicLaws.{drawn_values_are_in_range, code_values_ar
 use Rattle.nap_reader.specs.declared.fault.Refusal.{Refusal}
 use Rattle.nap_reader.specs.declared.kind.Kind.{Kind}
 use Rattle.nap_reader.specs.declared.kind.Kind.TheVariants as kinds
+use Rattle.nap_reader.specs.Bodies as bodies
+use Rattle.nap_reader.specs.Bodies.{Mode, between, in_body, body_of, store_limit, body_front}
 use Rattle.nap_reader.specs.Kinds.{kind_of}
 use Rattle.nap_reader.specs.Course as course
 use Rattle.nap_reader.specs.Course.{go, outcome, onward}
 use Rattle.nap_reader.specs.Stream as model
-use Rattle.nap_reader.specs.Stream.{Placed, Machine, Unfinished, Outcome, Front, half_read, bytes_of, words_of, is_operand, is_operand_byte, run_length, run_limit, drawn_front, closed_front, run_front, opcode_front, code_front, place_at, front_by, front, refusal, placed_from, start_machine, begun, with_drawn, with_run_by, with_run, with_definition, with_code, with_end, ended_by}
+use Rattle.nap_reader.specs.Stream.{Placed, Machine, Unfinished, Outcome, Front, half_read, bytes_of, words_of, is_operand, is_operand_byte, run_length, run_limit, drawn_front, closed_front, run_front, opcode_front, shown_front, code_front, place_at, front_by, after_body, bound_front, body_front_by, front_in, front, refusal, placed_from, start_machine, begun, with_drawn, with_run_by, with_run, with_definition, with_code, with_end, ended_by}
 use Rattle.nap_reader.specs.Laws.{ReadValuesAreInRange}
 use Rattle.nap_reader.proofs.KindLemmas.{KindMade, front_kind_made}
 
@@ -66,6 +69,9 @@ closed_ranged m op place run [] r words = words
 closed_ranged m op place run (x ∷ xs) r words =
     drawn_ranged m place (x ∷ xs) (rule m.work op (words_of run)) (λ d is. drawn_values_are_in_range m.work op (words_of run) d is r words)
 
+shown_ranged : (m : Machine) (place : ℕ) (bytes : List ℕ) (rest : List Placed) → StateInRange m.work.state → FrontRanged (shown_front m place bytes rest)
+shown_ranged m place bytes rest r = cond_both (ltb m.left (length bytes)) _ _ FrontRanged (λ _. tt) (λ _. (All-nil InRange, r))
+
 code_ranged : (m : Machine) (kind : Kind) (place : ℕ) (rest : List Placed) → StateInRange m.work.state → KindMade kind →
     FrontRanged (code_front m kind place rest)
 code_ranged m (kinds.Opens op) place rest r made =
@@ -75,7 +81,10 @@ code_ranged m kinds.Strays place rest r made = tt
 code_ranged m kinds.AddsNothing place rest r made = (All-nil InRange, r)
 code_ranged m (kinds.Acts c) place rest r made =
     drawn_ranged m place rest (code_rule m.work c) (λ d is. code_values_are_in_range m.work c d is made r)
-code_ranged m kinds.Unbuilt place rest r made = tt
+code_ranged m (kinds.Calls name) place rest r made = shown_ranged m place (body_of m.names name) rest r
+code_ranged m (kinds.Binds name show) place rest r made =
+    drawn_ranged (record m { mode = in_body name show }) place rest (code_rule m.work (code.DefMacro name show))
+    (λ d is. code_values_are_in_range m.work (code.DefMacro name show) d is tt r)
 
 half_ranged : (bytes : List ℕ) → UnfinishedRanged (half_read bytes)
 half_ranged [] = tt
@@ -88,9 +97,24 @@ by_ranged m xs (codes.refused fault i) e r = tt
 by_ranged m xs (codes.whole c n sets) e r =
     code_ranged (record m { sets = sets }) (kind_of c) (place_at xs (n - 1)) (drop n xs) r (front_kind_made m.sets (bytes_of xs) c n sets e)
 
+bound_ranged : (m : Machine) (name : ℕ) (show : Bool) (n : ℕ) (xs : List Placed) → StateInRange m.work.state → FrontRanged (bound_front m name show n xs)
+bound_ranged m name false n xs r = (All-nil InRange, r)
+bound_ranged m name true n xs r =
+    shown_ranged (after_body m name (take n (bytes_of xs))) (place_at xs (n + 1)) (take (n + 2) (bytes_of xs)) (drop (n + 2) xs) r
+
+body_ranged : (m : Machine) (name : ℕ) (show : Bool) (xs : List Placed) (f : bodies.BodyFront) → StateInRange m.work.state →
+    FrontRanged (body_front_by m name show xs f)
+body_ranged m name show xs bodies.unfinished r = tt
+body_ranged m name show xs (bodies.refused fault i) r = tt
+body_ranged m name show xs (bodies.ended n) r = bound_ranged m name show n xs r
+
+in_ranged : (mode : Mode) (m : Machine) (xs : List Placed) → StateInRange m.work.state → FrontRanged (front_in mode m xs)
+in_ranged between m xs r = by_ranged m xs (codes.front m.sets (bytes_of xs)) refl r
+in_ranged (in_body name show) m xs r = body_ranged m name show xs (body_front (store_limit - m.stored) (bytes_of xs)) r
+
 front_ranged : (m : Machine) (xs : List Placed) → StateInRange m.work.state → FrontRanged (front m xs)
 unfolding front
-front_ranged m xs r = by_ranged m xs (codes.front m.sets (bytes_of xs)) refl r
+front_ranged m xs r = in_ranged m.mode m xs r
 
 -- An outcome's entries are in range, its state is, and so is what is unfinished.
 record Ranged (o : Outcome) : Type 0 where
@@ -144,6 +168,7 @@ with_run_ranged : (o : Outcome) (u : Option Unfinished) → IfSome u UnfinishedR
 with_run_ranged o (Some (model.open_run op place run)) words r = with_drawn_ranged o op place run (rule o.machine.work op run) refl r words
 with_run_ranged o (Some model.nothing) words r = r.entries
 with_run_ranged o (Some (model.half_code bytes)) words r = r.entries
+with_run_ranged o (Some model.open_body) words r = r.entries
 with_run_ranged o None words r = r.entries
 
 with_definition-entries : (o : Outcome) (n : ℕ) (opened : Option Opened) → (with_definition o n opened).entries ≡ o.entries
@@ -152,6 +177,7 @@ with_definition-entries o n (Some opened) = refl
 
 with_code-entries : (o : Outcome) (n : ℕ) (u : Option Unfinished) → (with_code o n u).entries ≡ o.entries
 with_code-entries o n (Some (model.half_code bytes)) = refl
+with_code-entries o n (Some model.open_body) = refl
 with_code-entries o n (Some model.nothing) = with_definition-entries o n o.machine.work.state.definition
 with_code-entries o n (Some (model.open_run op place run)) = with_definition-entries o n o.machine.work.state.definition
 with_code-entries o n None = with_definition-entries o n o.machine.work.state.definition

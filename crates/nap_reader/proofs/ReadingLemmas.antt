@@ -1,4 +1,4 @@
-use Rattle.std.proofs.Common.{ℕ, ◌-◌, ◌≡◌, ◌<◌, ◌≤◌, List, [], ◌∷◌, ◌++◌, length, true, false, Option, Some, None, Result, Ok, Err, OnOk, IfErr, MatchResult, refl, ap, sym, ◌∙◌, subst, arith, length-append}
+use Rattle.std.proofs.Common.{ℕ, ◌-◌, ◌≡◌, ◌<◌, ◌≤◌, List, [], ◌∷◌, ◌++◌, length, Bool, true, false, Option, Some, None, Result, Ok, Err, OnOk, IfErr, MatchResult, refl, ap, sym, ◌∙◌, subst, arith, append_assoc, length-append}
 use Rattle.nap_codes.specs.declared.code.Code.{Code}
 use Rattle.nap_codes.specs.declared.code.Code.TheVariants as code
 use Rattle.nap_codes.specs.declared.code.CodeFault.{CodeFault}
@@ -15,22 +15,25 @@ use Rattle.nap_codes.proofs.PublicLaws.{code_ranges, one_byte_opcode}
 use Rattle.nap_list.specs.declared.sink.Sink.{Ghosts}
 use Rattle.nap_draw.specs.declared.fault.DrawFault.{DrawFault}
 use Rattle.nap_draw.specs.Codes.{code_rule}
-use Rattle.nap_draw.specs.Rule.{Drawn, IsDrawn, rule, start_work}
-use Rattle.nap_draw.specs.Draws.{stream}
+use Rattle.nap_draw.specs.Rule.{Drawn, IsDrawn, rule}
+use Rattle.nap_draw.specs.Draws.{stream, Draws}
 use Rattle.nap_draw.specs.Draws as draws
 use Rattle.nap_reader.specs.declared.fault.Fault.TheVariants as faults
 use Rattle.nap_reader.specs.declared.fault.Refusal.{Refusal}
 use Rattle.nap_reader.specs.declared.reader.OpenRun.{OpenRun}
+use Rattle.nap_reader.specs.declared.reader.Reader.{Reader}
 use Rattle.nap_reader.specs.declared.kind.Kind.{Kind}
 use Rattle.nap_reader.specs.declared.kind.Kind.TheVariants as kinds
+use Rattle.nap_reader.specs.Bodies.{between, in_body, body_of}
+use Rattle.nap_reader.specs.Course as course
 use Rattle.nap_reader.specs.Kinds.{kind_of}
 use Rattle.nap_reader.specs.Faults.{code_fault, draw_fault}
-use Rattle.nap_reader.specs.Stream.{Placed, Outcome, bytes_of, is_operand, run_limit, refusal, after_drawing, drawn_front, code_front, front, outcome_from, placed_from, begun}
+use Rattle.nap_reader.specs.Stream.{Placed, Machine, Outcome, bytes_of, is_operand, run_limit, refusal, all_at, charged, after_drawing, drawn_front, shown_front, code_front, front, start_machine, outcome_from, placed_from, begun}
 use Rattle.nap_reader.specs.Breaking.{cause_of}
-use Rattle.nap_reader.specs.Holding.{Holding, IsHeld, IsHeldBy, IsOwn, IsRefused, Continues, ReachesBy}
+use Rattle.nap_reader.specs.Holding.{Holding, IsHeld, IsHalf, IsHeldBy, IsOpenRun, IsOwn, IsRefused, Continues, Presents, ReachesBy, ReachesWith, Shows, ShowsBy, frames_left, holding_of, machine_of}
 use Rattle.nap_reader.proofs.StreamLemmas.{bytes_of-append}
 use Rattle.nap_reader.proofs.HeldLemmas.{front_code, front_fault, front_run, front_long, opens_run, joins_run}
-use Rattle.nap_reader.proofs.LeadsLemmas.{TookMore, is_open_run, holds_open_run, leads_on, leads_past, leads_to_refusal, leads_to_fault, leads_shift}
+use Rattle.nap_reader.proofs.LeadsLemmas.{TookMore, is_between, holds_between, is_open_run, holds_open_run, leads_on, leads_past, leads_to_refusal, leads_to_fault, leads_shift}
 
 -- no byte is an unfinished code
 pub nothing_yet : (sets : CodeSets) → codes.front sets [] ≡ codes.unfinished
@@ -87,28 +90,33 @@ reaches g s o t h pending r e k = subst (ReachesBy g s o t h pending) (sym e) k
 
 -- one with a refusal reaches it
 pub reaches_refusal : {S : Type 0} (g : Ghosts S) (s : S) (o : Outcome) (t : S) (h : Holding) (pending : List Placed) (r : Option Refusal) (x : Refusal) → r ≡ Some x →
-    (IsOwn x → IsRefused g s o t x) → ReachesBy g s o t h pending r
+    (IsOwn x → IsRefused g s o t h x) → ReachesBy g s o t h pending r
 reaches_refusal g s o t h pending r x e k = subst (ReachesBy g s o t h pending) (sym e) k
 
 -- a word joins the open run
-module _ {S : Type 0} (g : Ghosts S) (s : S) (o : Outcome) (t : S) (h : Holding) (open_run : OpenRun) (is : h.open_run ≡ Some open_run) (x : Placed) (pending : List Placed)
+module _ {S : Type 0} (g : Ghosts S) (s : S) (o : Outcome) (t : S) (h : Holding) (open_run : OpenRun) (no_body : h.open_body ≡ None) (is : h.open_run ≡ Some open_run) (x : Placed) (pending : List Placed)
     (k : Continues g s o t h (x ∷ pending)) where
+  half_of : IsHalf k.rest h
+  half_of = is_between h k.rest no_body k.held
+
+  open_of : IsOpenRun k.rest open_run h.run h.machine.sets × (h.half ≡ [])
+  open_of = is_open_run h k.rest open_run no_body is k.held
+
   pub word_joins : is_operand x ≡ true → length h.run < run_limit → Continues g s o t (record h { run = h.run ++ (x.byte - 64) ∷ [] }) pending
   word_joins word few =
-      let held = is_open_run h k.rest open_run is k.held in
       let h' : Holding = record h { run = h.run ++ (x.byte - 64) ∷ [] } in
       leads_shift g s o t h x pending h' k refl
-      (holds_open_run h' (k.rest ++ x ∷ []) open_run is (joins_run k.rest open_run h.run h.machine.sets x held.0 word few) held.1)
+      (holds_open_run h' (k.rest ++ x ∷ []) open_run no_body half_of.mode half_of.body is (joins_run k.rest open_run h.run h.machine.sets x open_of.0 word few) open_of.1)
 
-  pub word_too_many : is_operand x ≡ true → run_limit ≤ length h.run → IsRefused g s o t (refusal faults.LongRun open_run.place)
+  pub word_too_many : is_operand x ≡ true → run_limit ≤ length h.run → IsRefused g s o t h (refusal faults.LongRun open_run.place)
   word_too_many word many =
       leads_to_refusal g s o t h (x ∷ pending) k _
-      (front_long h.machine k.rest open_run h.run x pending (is_open_run h k.rest open_run is k.held).0 word many)
+      (front_long h.machine k.rest open_run h.run x pending half_of.mode open_of.0 word many)
 
-  over : is_operand x ≡ false → (by : Result Drawn DrawFault) → rule h.machine.work open_run.op h.run ≡ by →
+  pub over : is_operand x ≡ false → (by : Result Drawn DrawFault) → rule h.machine.work open_run.op h.run ≡ by →
       front h.machine (k.rest ++ x ∷ pending) ≡ drawn_front h.machine open_run.place (x ∷ pending) by
   over other by e =
-      front_run h.machine k.rest open_run h.run x pending (is_open_run h k.rest open_run is k.held).0 other
+      front_run h.machine k.rest open_run h.run x pending half_of.mode open_of.0 other
       ∙ ap (drawn_front h.machine open_run.place (x ∷ pending)) e
 
   -- the run is over, and its opcode acts
@@ -116,16 +124,54 @@ module _ {S : Type 0} (g : Ghosts S) (s : S) (o : Outcome) (t : S) (h : Holding)
       (g.failed t ≡ false → g.failed u ≡ false) →
       Continues g s o u (record h { machine = after_drawing h.machine drawn; open_run = None; run = [] }) (x ∷ pending)
   run_acts u drawn law other by took clear =
-      let none = (is_open_run h k.rest open_run is k.held).1 in
-      leads_on g s o t h (x ∷ pending) k u drawn.entries (record h { machine = after_drawing h.machine drawn; open_run = None; run = [] }) (x ∷ pending) law
-      (sym none, ap (codes.front h.machine.sets) none ∙ nothing_yet h.machine.sets) (over other _ by) took clear
+      let h' : Holding = record h { machine = after_drawing h.machine drawn; open_run = None; run = [] } in
+      leads_on g s o t h (x ∷ pending) k u drawn.entries h' (x ∷ pending) law
+      (holds_between h' [] no_body (record { mode = half_of.mode; body = half_of.body; half = (sym open_of.1, ap (codes.front h.machine.sets) open_of.1 ∙ nothing_yet h.machine.sets) }))
+      (over other _ by) took clear
 
   -- the run is over, and its opcode is refused
   pub run_refused : (u : S) → is_operand x ≡ false → (fault : DrawFault) →
       draws.DrawsBy g.took g.broke g.failed (rule h.machine.work open_run.op h.run) t u fault (draws.cause_of fault) → cause_of (draw_fault fault) ≡ stream →
-      IsRefused g s o u (refusal (draw_fault fault) open_run.place)
+      IsRefused g s o u h (refusal (draw_fault fault) open_run.place)
   run_refused u other fault drew own =
       leads_to_fault g s o t h (x ∷ pending) k u h.machine open_run.place (x ∷ pending) _ (over other _ refl) fault drew own
+
+-- bytes that were charged come next
+pub presented : {S E : Type 0} {g : Ghosts S} (old new : Reader S g) (result : Result E Refusal) (bytes : List ℕ) (place : ℕ) →
+    MatchResult result (λ _. new.refusal ≡ None) (λ r. new.refusal ≡ Some r) → OnOk result (Presents old new bytes place) →
+    IfErr result (λ r. r ≡ refusal faults.Memory place) → new.sink ≡ old.sink → (s : S) (o : Outcome) (inputs : List Placed) →
+    Continues g s o old.sink (record (holding_of old) { machine = charged (machine_of old) (length bytes) }) (all_at place bytes ++ (frames_left old ++ inputs)) →
+    ReachesWith new s o inputs
+presented {S} {E} {g} old new (Ok x) bytes place answered presents wants sink s o inputs k =
+    let all : all_at place bytes ++ (frames_left old ++ inputs) ≡ frames_left new ++ inputs =
+    sym (append_assoc (all_at place bytes) (frames_left old) inputs) ∙ ap (λ (xs : List Placed). xs ++ inputs) (sym presents.frames) in
+    reaches g s o new.sink (holding_of new) (frames_left new ++ inputs) new.refusal answered
+    (subst (λ (t : S). Continues g s o t (holding_of new) (frames_left new ++ inputs)) (sym sink)
+    (subst (λ (h : Holding). Continues g s o old.sink h (frames_left new ++ inputs)) (sym presents.holding)
+    (subst (Continues g s o old.sink (record (holding_of old) { machine = charged (machine_of old) (length bytes) })) all k)))
+presented {S} {E} {g} old new (Err r) bytes place answered presents wants sink s o inputs k =
+    reaches_refusal g s o new.sink (holding_of new) (frames_left new ++ inputs) new.refusal r answered
+    (λ own. let bad = sym own ∙ ap (λ (r : Refusal). cause_of r.fault) wants in cc)
+
+-- bytes come next, or they can't be charged
+pub shows_reach : {S : Type 0} {g : Ghosts S} (old new : Reader S g) (bytes : List ℕ) (place : ℕ) → Shows old new bytes place → new.sink ≡ old.sink →
+    (s : S) (o : Outcome) (inputs : List Placed) →
+    (length bytes ≤ (machine_of old).left →
+    Continues g s o old.sink (record (holding_of old) { machine = charged (machine_of old) (length bytes) }) (all_at place bytes ++ (frames_left old ++ inputs))) →
+    ((machine_of old).left < length bytes → IsRefused g s o old.sink (holding_of old) (refusal faults.Budget place)) → ReachesWith new s o inputs
+shows_reach {S} {g} old new bytes place shows sink s o inputs k refused = at new.refusal shows
+  where
+    at : (r : Option Refusal) → ShowsBy old new bytes place r → ReachesBy g s o new.sink (holding_of new) (frames_left new ++ inputs) r
+    at None (few, presents) =
+        let all : all_at place bytes ++ (frames_left old ++ inputs) ≡ frames_left new ++ inputs =
+        sym (append_assoc (all_at place bytes) (frames_left old) inputs) ∙ ap (λ (xs : List Placed). xs ++ inputs) (sym presents.frames) in
+        subst (λ (t : S). Continues g s o t (holding_of new) (frames_left new ++ inputs)) (sym sink)
+        (subst (λ (h : Holding). Continues g s o old.sink h (frames_left new ++ inputs)) (sym presents.holding)
+        (subst (Continues g s o old.sink (record (holding_of old) { machine = charged (machine_of old) (length bytes) })) all (k few)))
+    at (Some r) answers = λ own.
+        let a = answers own in
+        let there = refused a.1 in
+        (there.0 ∙ ap Some (sym a.0), subst (g.took s o.entries) (sym sink) there.1, there.2 ∙ ap (λ (h : Holding). h.machine.left) (sym a.2))
 
 -- what a step of the lexer says of the front
 
@@ -147,41 +193,41 @@ fault_of codes.unfinished old b fault new h = let bad : ⊥ = cc in absurd bad
 fault_of (codes.whole c n after) old b fault new h = let bad : ⊥ = cc in absurd bad
 fault_of (codes.refused fault' i) old b fault new h = let same : fault' ≡ fault = cc in (i, ap (λ (k : CodeFault). codes.refused k i) same, h.1)
 
-pub is_half : (h : Holding) (rest : List Placed) → h.open_run ≡ None → IsHeld rest h →
+pub is_half : (h : Holding) (rest : List Placed) → h.open_body ≡ None → h.open_run ≡ None → IsHeld rest h →
     (bytes_of rest ≡ h.half) × (codes.front h.machine.sets h.half ≡ codes.unfinished)
-is_half h rest is held = subst (IsHeldBy rest h) is held
+is_half h rest no_body is held = subst (IsHeldBy rest h) is (is_between h rest no_body held).half
 
-pub holds_half : (h : Holding) (rest : List Placed) → h.open_run ≡ None → bytes_of rest ≡ h.half → codes.front h.machine.sets h.half ≡ codes.unfinished →
-    IsHeld rest h
-holds_half h rest is bytes unfinished = subst (IsHeldBy rest h) (sym is) (bytes, unfinished)
-
--- nothing is held
-pub holds_nothing : (h : Holding) → h.open_run ≡ None → h.half ≡ [] → IsHeld [] h
-holds_nothing h is none = holds_half h [] is (sym none) (ap (codes.front h.machine.sets) none ∙ nothing_yet h.machine.sets)
+pub holds_half : (h : Holding) (rest : List Placed) → h.open_body ≡ None → h.machine.mode ≡ between → h.body ≡ [] → h.open_run ≡ None →
+    bytes_of rest ≡ h.half → codes.front h.machine.sets h.half ≡ codes.unfinished → IsHeld rest h
+holds_half h rest no_body mode empty is bytes unfinished =
+    holds_between h rest no_body (record { mode = mode; body = empty; half = subst (IsHeldBy rest h) (sym is) (bytes, unfinished) })
 
 -- a byte where no run is open
-module _ {S : Type 0} (g : Ghosts S) (s : S) (o : Outcome) (t : S) (h : Holding) (is : h.open_run ≡ None) (x : Placed) (pending : List Placed)
+module _ {S : Type 0} (g : Ghosts S) (s : S) (o : Outcome) (t : S) (h : Holding) (no_body : h.open_body ≡ None) (is : h.open_run ≡ None) (x : Placed) (pending : List Placed)
     (k : Continues g s o t h (x ∷ pending)) where
-  half_held : (bytes_of k.rest ≡ h.half) × (codes.front h.machine.sets h.half ≡ codes.unfinished)
-  half_held = is_half h k.rest is k.held
+  pub between_held : IsHalf k.rest h
+  between_held = is_between h k.rest no_body k.held
+
+  pub half_held : (bytes_of k.rest ≡ h.half) × (codes.front h.machine.sets h.half ≡ codes.unfinished)
+  half_held = is_half h k.rest no_body is k.held
 
   -- what is held once a code or its beginning was read
   abbrev pub reading : CodeSets → List ℕ → Holding
   reading sets half = record h { machine = record h.machine { sets = sets }; half = half }
 
   -- the code is still half read
-  pub code_goes_on : codes.front h.machine.sets (h.half ++ x.byte ∷ []) ≡ codes.unfinished →
+  unfoldable pub code_goes_on : codes.front h.machine.sets (h.half ++ x.byte ∷ []) ≡ codes.unfinished →
       Continues g s o t (reading h.machine.sets (h.half ++ x.byte ∷ [])) pending
   code_goes_on e =
       leads_shift g s o t h x pending (reading h.machine.sets (h.half ++ x.byte ∷ [])) k refl
-      (holds_half (reading h.machine.sets (h.half ++ x.byte ∷ [])) _ is
+      (holds_half (reading h.machine.sets (h.half ++ x.byte ∷ [])) _ no_body between_held.mode between_held.body is
       (bytes_of-append k.rest (x ∷ []) ∙ ap (λ (bs : List ℕ). bs ++ x.byte ∷ []) half_held.0) e)
 
   -- the byte is refused
   pub byte_refused : (fault : CodeFault) (i : ℕ) → codes.front h.machine.sets (h.half ++ x.byte ∷ []) ≡ codes.refused fault i →
-      i ≡ length h.half → IsRefused g s o t (refusal (code_fault fault) x.place)
+      i ≡ length h.half → IsRefused g s o t h (refusal (code_fault fault) x.place)
   byte_refused fault i e at =
-      leads_to_refusal g s o t h (x ∷ pending) k _ (front_fault h.machine k.rest x pending h.half fault i half_held.0 e at)
+      leads_to_refusal g s o t h (x ∷ pending) k _ (front_fault h.machine k.rest x pending h.half fault i between_held.mode half_held.0 e at)
 
   -- a whole code
   module _ (c : Code) (n : ℕ) (after : CodeSets) (e : codes.front h.machine.sets (h.half ++ x.byte ∷ []) ≡ codes.whole c n after)
@@ -189,27 +235,55 @@ module _ {S : Type 0} (g : Ghosts S) (s : S) (o : Outcome) (t : S) (h : Holding)
     whole : (kind : Kind) → kind_of c ≡ kind →
         front h.machine (k.rest ++ x ∷ pending) ≡ code_front (record h.machine { sets = after }) kind x.place pending
     whole kind same =
-        front_code h.machine k.rest x pending h.half c n after half_held.0 e len
+        front_code h.machine k.rest x pending h.half c n after between_held.mode half_held.0 e len
         ∙ ap (λ (k : Kind). code_front (record h.machine { sets = after }) k x.place pending) same
 
     -- it adds nothing
     pub code_acts : kind_of c ≡ kinds.AddsNothing → Continues g s o t (reading after []) pending
     code_acts kind =
         leads_past g s o t h (x ∷ pending) k (reading after []) pending
-        (holds_half (reading after []) [] is refl (nothing_yet after)) (whole _ kind)
+        (holds_half (reading after []) [] no_body between_held.mode between_held.body is refl (nothing_yet after)) (whole _ kind)
 
     -- it is an operand outside a run
-    pub code_strays : kind_of c ≡ kinds.Strays → IsRefused g s o t (refusal faults.Stray x.place)
+    pub code_strays : kind_of c ≡ kinds.Strays → IsRefused g s o t h (refusal faults.Stray x.place)
     code_strays kind = leads_to_refusal g s o t h (x ∷ pending) k _ (whole _ kind)
 
-    -- a character or a control acts by its rule
+    -- it acts by a rule
+    module _ (m : Machine) (by : Result Drawn DrawFault) (acts : front h.machine (k.rest ++ x ∷ pending) ≡ drawn_front m x.place pending by) where
+      -- its entries are put
+      pub code_draws : (u : S) (drawn : Drawn) (h' : Holding) → TookMore g → by ≡ Ok drawn → g.took t drawn.entries u → (g.failed t ≡ false → g.failed u ≡ false) →
+          h'.machine ≡ after_drawing m drawn → IsHeld [] h' → Continues g s o u h' pending
+      code_draws u drawn h' law is_drawn took clear same held =
+          leads_on g s o t h (x ∷ pending) k u drawn.entries h' pending law held
+          (acts ∙ ap (drawn_front m x.place pending) is_drawn ∙ ap (λ (m : Machine). course.act drawn.entries m pending) (sym same)) took clear
+
+      -- it is refused
+      pub code_refused : (u : S) (fault : DrawFault) →
+          draws.DrawsBy g.took g.broke g.failed by t u fault (draws.cause_of fault) → cause_of (draw_fault fault) ≡ stream →
+          IsRefused g s o u h (refusal (draw_fault fault) x.place)
+      code_refused u fault drew own = leads_to_fault g s o t h (x ∷ pending) k u m x.place pending by acts fault drew own
+
+    -- a character or a control
     pub acts : (acting : Code) → kind_of c ≡ kinds.Acts acting →
         front h.machine (k.rest ++ x ∷ pending) ≡ drawn_front (record h.machine { sets = after }) x.place pending (code_rule h.machine.work acting)
     acts acting kind = whole (kinds.Acts acting) kind
 
-    -- it isn't built
-    pub code_unbuilt : kind_of c ≡ kinds.Unbuilt → IsRefused g s o t (refusal faults.Unbuilt x.place)
-    code_unbuilt kind = leads_to_refusal g s o t h (x ∷ pending) k _ (whole _ kind)
+    -- what is held once it has acted
+    pub still_between : (h' : Holding) → h'.open_body ≡ None → h'.machine.mode ≡ h.machine.mode → h'.body ≡ h.body → h'.open_run ≡ None → h'.half ≡ [] → IsHeld [] h'
+    still_between h' no_body' mode body is' none =
+        holds_half h' [] no_body' (mode ∙ between_held.mode) (body ∙ between_held.body) is' (sym none)
+        (ap (codes.front h'.machine.sets) none ∙ nothing_yet h'.machine.sets)
+
+    -- a call
+    pub calls : (name : ℕ) → kind_of c ≡ kinds.Calls name →
+        front h.machine (k.rest ++ x ∷ pending) ≡ shown_front (record h.machine { sets = after }) x.place (body_of h.machine.names name) pending
+    calls name kind = whole (kinds.Calls name) kind
+
+    -- the definition of a macro
+    pub defines : (name : ℕ) (show : Bool) → kind_of c ≡ kinds.Binds name show →
+        front h.machine (k.rest ++ x ∷ pending)
+        ≡ drawn_front (record h.machine { sets = after; mode = in_body name show }) x.place pending (code_rule h.machine.work (code.DefMacro name show))
+    defines name show kind = whole (kinds.Binds name show) kind
 
   opens_run_of : (op : Opcode) (n : ℕ) (after : CodeSets) → codes.front h.machine.sets (h.half ++ x.byte ∷ []) ≡ codes.whole (code.Op op) n after →
       n ≡ length (h.half ++ x.byte ∷ []) →
@@ -220,8 +294,9 @@ module _ {S : Type 0} (g : Ghosts S) (s : S) (o : Outcome) (t : S) (h : Holding)
       let alone : codes.front after (x.byte ∷ []) ≡ codes.whole (code.Op op) 1 after =
       sym (ap (λ (bs : List ℕ). codes.front after (bs ++ x.byte ∷ [])) none) ∙ ap (λ (sets : CodeSets). codes.front sets (h.half ++ x.byte ∷ [])) one.1 ∙ e ∙ ap (λ (k : ℕ). codes.whole (code.Op op) k after) one.0 in
       let empty : k.rest ≡ [] = rest_of_nothing k.rest (half_held.0 ∙ none) in
-      leads_shift g s o t h x pending _ k (ap (λ (sets : CodeSets). record h.machine { sets = sets }) one.1)
-      (rw empty (opens_run x op after alone, refl))
+      let h' : Holding = record (reading after []) { open_run = Some (record { op = op; place = x.place }); run = [] } in
+      leads_shift g s o t h x pending h' k (ap (λ (sets : CodeSets). record h.machine { sets = sets }) one.1)
+      (rw empty (holds_open_run h' (x ∷ []) (record { op = op; place = x.place }) no_body between_held.mode between_held.body refl (opens_run x op after alone) refl))
 
   -- an opcode opens a run
   pub run_opens : (c : Code) (op : Opcode) (n : ℕ) (after : CodeSets) → kind_of c ≡ kinds.Opens op →
@@ -232,13 +307,14 @@ module _ {S : Type 0} (g : Ghosts S) (s : S) (o : Outcome) (t : S) (h : Holding)
 
 -- a reader that was fed nothing
 pub begins : {S : Type 0} (g : Ghosts S) (s : S) (budget left : ℕ) → left ≡ budget → g.took s [] s →
-    Continues g s (begun budget []) s (record { machine = record { work = start_work; sets = start_sets; left = left }; half = []; open_run = None; run = [] }) []
+    Continues g s (begun budget []) s
+    (record { machine = record (start_machine budget) { left = left }; half = []; open_run = None; run = []; open_body = None; body = [] }) []
 unfolding placed_from
 begins g s budget left same none = record {
   done = [];
   taken = none;
   clear = λ before. before;
   rest = [];
-  held = (refl, nothing_yet start_sets);
-  leads = ap (λ (left : ℕ). outcome_from (record { work = start_work; sets = start_sets; left = left }) []) (sym same);
+  held = record { mode = refl; body = refl; half = (refl, nothing_yet start_sets) };
+  leads = ap (λ (left : ℕ). outcome_from (record (start_machine budget) { left = left }) []) (sym same);
 }

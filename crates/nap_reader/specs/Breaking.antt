@@ -5,7 +5,7 @@ use Rattle.nap_draw.specs.Draws.{Cause, stream, memory, device, Stops, Breaks}
 use Rattle.nap_reader.specs.declared.fault.Fault.{Fault}
 use Rattle.nap_reader.specs.declared.fault.Fault.TheVariants as faults
 use Rattle.nap_reader.specs.declared.fault.Refusal.{Refusal}
-use Rattle.nap_reader.specs.Stream.{Outcome, Unfinished, open_run, is_operand_byte, begun, with_run}
+use Rattle.nap_reader.specs.Stream.{Outcome, Unfinished, open_run, open_body, is_operand_byte, begun, with_run}
 
 -- Where a reading breaks that the stream itself doesn't refuse: memory is wanting, or the sink's device fails.
 
@@ -31,15 +31,29 @@ closed_by o b = if is_operand_byte b then o else with_run o
 abbrev pub Joins : Outcome → ℕ → Type 0
 Joins o b = (is_operand_byte b ≡ true) × IsSome (open_place o)
 
--- A byte behind p joins an open run, or brings entries: more than those of the run that it ends.
-abbrev pub Brings : ℕ → List ℕ → ℕ → Type 0
-Brings budget p b = Joins (begun budget p) b ⊎ ((begun budget (p ++ b ∷ [])).entries ≢ (closed_by (begun budget p) b).entries)
+-- the byte stands in a body
+abbrev pub StandsInBody : Outcome → Type 0
+StandsInBody o = o.unfinished ≡ Some open_body
 
--- a byte behind p can break here: at the opcode whose run it ends, or at itself; where the stream itself refuses nothing
+-- a body that is called or shown by a byte behind p is charged
+abbrev pub IsCharged : ℕ → List ℕ → ℕ → Type 0
+IsCharged budget p b = (begun budget (p ++ b ∷ [])).machine.left < (begun budget p).machine.left
+
+-- A byte behind p stands in a body, or calls or shows one, of which further bytes are read then.
+abbrev pub UsesBody : ℕ → List ℕ → ℕ → Type 0
+UsesBody budget p b = StandsInBody (begun budget p) ⊎ IsCharged budget p b
+
+-- A byte behind p joins an open run, or brings entries: more than those of the run that it ends. Or it uses a body.
+abbrev pub Brings : ℕ → List ℕ → ℕ → Type 0
+Brings budget p b =
+    Joins (begun budget p) b ⊎ ((begun budget (p ++ b ∷ [])).entries ≢ (closed_by (begun budget p) b).entries) ⊎ UsesBody budget p b
+
+-- A byte behind p can break here: at the opcode whose run it ends, or at itself; where the stream itself refuses nothing,
+-- but that it may refuse what comes later of a body.
 abbrev pub CanBreakAt : ℕ → List ℕ → ℕ → ℕ → Type 0
 CanBreakAt budget p b place =
     ((is_operand_byte b ≡ false) × (open_place (begun budget p) ≡ Some place) × ((with_run (begun budget p)).refusal ≡ None))
-    ⊎ ((place ≡ length p) × Brings budget p b × ((begun budget (p ++ b ∷ [])).refusal ≡ None))
+    ⊎ ((place ≡ length p) × Brings budget p b × (UsesBody budget p b ⊎ ((begun budget (p ++ b ∷ [])).refusal ≡ None)))
 
 -- A whole stream can break here: where one of its bytes is read, or at the opcode that acts at its end.
 abbrev pub BreaksWithin : ℕ → List ℕ → ℕ → Type 0
@@ -62,16 +76,40 @@ pub record BreaksBetween {S : Type 0} (g : Ghosts S) (s : S) (before after : Out
   pub unrefused : after.refusal ≡ None
   pub part : TookPart g s before.entries more t cause
 
+-- a part of a list was taken, or all of it
+abbrev pub TakesPart : {S : Type 0} → Ghosts S → S → List Entry → List Entry → S → Type 0
+TakesPart g s known more t = (first : List Entry) × (rest : List Entry) × (more ≡ first ++ rest) × g.took s (known ++ first) t
+
+-- What a sink has then where a body is used: what was known, and of the entries that come next a part; or one of them broke.
+abbrev pub TookFront : {S : Type 0} → Ghosts S → S → List Entry → List Entry → S → Cause → Type 0
+TookFront g s known more t stream = ⊥
+TookFront g s known more t memory = TakesPart g s known more t
+TookFront g s known more t device =
+    ((g.failed s ≡ true) × TakesPart g s known more t) ⊎ Breaks (λ s es e t. g.broke s (known ++ es) e t) s more t
+
+-- A sink that was s has the entries that were known, and a part of those that the outcome has more.
+pub record BreaksFrom {S : Type 0} (g : Ghosts S) (s : S) (known : List Entry) (o : Outcome) (t : S) (cause : Cause) : Type 0 where
+  pub more : List Entry
+  pub adds : o.entries ≡ known ++ more
+  pub part : TookFront g s known more t cause
+
 -- the opcode whose run is open behind p acts, and breaks
 pub record BreaksInRun {S : Type 0} (g : Ghosts S) (s : S) (budget : ℕ) (p : List ℕ) (t : S) (r : Refusal) : Type 0 where
   pub place : open_place (begun budget p) ≡ Some r.place
   pub part : BreaksBetween g s (begun budget p) (with_run (begun budget p)) t (cause_of r.fault)
 
+-- What is known once the byte behind p shows whether a run is over is there, and of what is known with the byte a part, not
+-- all of it; or what was known before, and as much as came by the use of a body.
+abbrev pub BreaksWith : {S : Type 0} → Ghosts S → S → ℕ → List ℕ → ℕ → S → Cause → Type 0
+BreaksWith g s budget p b t cause =
+    BreaksBetween g s (closed_by (begun budget p) b) (begun budget (p ++ b ∷ [])) t cause
+    ⊎ (UsesBody budget p b × BreaksFrom g s (begun budget p).entries (begun budget (p ++ b ∷ [])) t cause)
+
 -- The byte behind p breaks at its own place: what it joins or brings isn't all there, but what the run gives that it ends.
 pub record BreaksAtByte {S : Type 0} (g : Ghosts S) (s : S) (budget : ℕ) (p : List ℕ) (b : ℕ) (t : S) (r : Refusal) : Type 0 where
   pub place : r.place ≡ length p
   pub brings : Brings budget p b
-  pub part : BreaksBetween g s (closed_by (begun budget p) b) (begun budget (p ++ b ∷ [])) t (cause_of r.fault)
+  pub part : BreaksWith g s budget p b t (cause_of r.fault)
 
 -- the entries of the one outcome are the first of the other's
 abbrev pub Begins : Outcome → Outcome → Type 0

@@ -30,7 +30,6 @@ number_of faults.Cut = 19
 number_of faults.Unended = 20
 number_of faults.Memory = 21
 number_of faults.Sink = 22
-number_of faults.Unbuilt = 23
 
 -- the name by which it is printed
 abbrev pub name_of : Fault → List ℕ
@@ -56,7 +55,6 @@ name_of faults.Cut = codes "Cut"
 name_of faults.Unended = codes "Unended"
 name_of faults.Memory = codes "Memory"
 name_of faults.Sink = codes "Sink"
-name_of faults.Unbuilt = codes "Unbuilt"
 
 -- the reader's name of a fault of a code
 abbrev pub code_fault : CodeFault → Fault

@@ -1,29 +1,48 @@
-use Rattle.std.specs.Prelude.{◌≡◌, ◌≢◌, ◌≤◌, ◌-◌, ◌++◌, ℕ, false, true, List, [], ◌∷◌, Option, Some, None, length}
+use Rattle.std.specs.Prelude.{⊤, All, ◌≡◌, ◌≢◌, ◌<◌, ◌≤◌, ◌⊎◌, ◌-◌, ◌+◌, ◌++◌, ℕ, false, true, List, [], ◌∷◌, Option, Some, None, length}
 use Rattle.nap_codes.specs.declared.code.Code.TheVariants as code
 use Rattle.nap_codes.specs.declared.code_set.CodeSets.{CodeSets}
 use Rattle.nap_codes.specs.Front as codes
 use Rattle.nap_list.specs.declared.sink.Sink.{Ghosts}
 use Rattle.nap_list.specs.declared.entry.Entry.{Entry}
 use Rattle.nap_draw.specs.Draws.{Cause, stream}
+use Rattle.nap_reader.specs.declared.fault.Fault.TheVariants as faults
 use Rattle.nap_reader.specs.declared.fault.Refusal.{Refusal}
+use Rattle.nap_reader.specs.declared.body.OpenBody.{OpenBody}
 use Rattle.nap_reader.specs.declared.reader.OpenRun.{OpenRun}
 use Rattle.nap_reader.specs.declared.reader.Reader.{Reader}
+use Rattle.nap_reader.specs.Bodies as bodies
+use Rattle.nap_reader.specs.Bodies.{Mode, between, in_body, BodyFront, store_limit, body_front}
+use Rattle.nap_reader.specs.Framed.{unread}
 use Rattle.nap_reader.specs.Course.{prepend}
 use Rattle.nap_reader.specs.Stream as model
-use Rattle.nap_reader.specs.Stream.{Placed, Machine, Outcome, Unfinished, bytes_of, words_of, is_operand, is_operand_byte, run_length, run_limit, half_read, outcome_from, begun, with_run}
-use Rattle.nap_reader.specs.Breaking.{cause_of, TookPart, BreaksInRun, Begins}
+use Rattle.nap_reader.specs.Stream.{Placed, Machine, Outcome, Unfinished, open_body, all_at, charged, refusal, bytes_of, words_of, is_operand, is_operand_byte, run_length, run_limit, half_read, outcome_from, begun, with_run}
+use Rattle.nap_reader.specs.Breaking.{cause_of, TookPart, BreaksInRun, BreaksFrom, Begins}
 
 -- What a reader keeps between two bytes, and how it leads to what the stream means. No one sees this.
 
--- the machine, the bytes of a half-read code, and the open run with its words
+-- the machine, the bytes of a half-read code, the open run with its words, and the open body with its bytes
 pub record Holding : Type 0 where
   pub machine : Machine
   pub half : List ℕ
   pub open_run : Option OpenRun
   pub run : List ℕ
+  pub open_body : Option OpenBody
+  pub body : List ℕ
+
+-- where the stream stands
+abbrev pub mode_of : Option OpenBody → Mode
+mode_of None = between
+mode_of (Some body) = in_body body.name body.show
 
 abbrev pub machine_of : {S : Type 0} {g : Ghosts S} → Reader S g → Machine
-machine_of reader = record { work = reader.work; sets = reader.lexer.sets; left = reader.budget - reader.charged }
+machine_of reader = record {
+  work = reader.work;
+  sets = reader.lexer.sets;
+  left = reader.budget - reader.charged;
+  names = reader.store.names;
+  stored = reader.store.stored;
+  mode = mode_of reader.open_body;
+}
 
 abbrev pub holding_of : {S : Type 0} {g : Ghosts S} → Reader S g → Holding
 holding_of reader = record {
@@ -31,15 +50,22 @@ holding_of reader = record {
   half = reader.lexer.half;
   open_run = reader.open_run;
   run = reader.run.items;
+  open_body = reader.open_body;
+  body = reader.store.body;
 }
 
-abbrev pub unfinished_by : Option OpenRun → List ℕ → List ℕ → Unfinished
-unfinished_by None half run = half_read half
-unfinished_by (Some open_run) half run = model.open_run open_run.op open_run.place run
+-- what the bodies that are being read have still to give
+abbrev pub frames_left : {S : Type 0} {g : Ghosts S} → Reader S g → List Placed
+frames_left reader = unread reader.store.bytes reader.frames.stack.items
+
+abbrev pub unfinished_by : Option OpenBody → Option OpenRun → List ℕ → List ℕ → Unfinished
+unfinished_by (Some body) open_run half run = open_body
+unfinished_by None None half run = half_read half
+unfinished_by None (Some open_run) half run = model.open_run open_run.op open_run.place run
 
 -- what is unfinished where a reader holds this
 abbrev pub unfinished_of : Holding → Unfinished
-unfinished_of h = unfinished_by h.open_run h.half h.run
+unfinished_of h = unfinished_by h.open_body h.open_run h.half h.run
 
 -- these bytes are an opcode and the words of its run
 pub record IsOpenRun (rest : List Placed) (open_run : OpenRun) (run : List ℕ) (sets : CodeSets) : Type 0 where
@@ -56,9 +82,49 @@ abbrev pub IsHeldBy : List Placed → Holding → Option OpenRun → Type 0
 IsHeldBy rest h (Some open_run) = IsOpenRun rest open_run h.run h.machine.sets × (h.half ≡ [])
 IsHeldBy rest h None = (bytes_of rest ≡ h.half) × (codes.front h.machine.sets h.half ≡ codes.unfinished)
 
--- these bytes are held back: an open run, else those of a half-read code
+-- ESC, where one is held of which isn't known yet whether it belongs to a body
+abbrev pub held_escape : Option ℕ → List Placed
+held_escape None = []
+held_escape (Some place) = record { byte = 0x1B; place = place } ∷ []
+
+-- what is known of a body where this many bytes of it come first
+abbrev pub past : ℕ → BodyFront → BodyFront
+past n bodies.unfinished = bodies.unfinished
+past n (bodies.refused fault i) = bodies.refused fault (n + i)
+past n (bodies.ended k) = bodies.ended (n + k)
+
+-- These are bytes of a body where the next bytes come behind them: what stands there is then seen as if it stood behind the
+-- name, with less room.
+abbrev pub AreOfBody : ℕ → List ℕ → List ℕ → Type 0
+AreOfBody room body next = (more : List ℕ) → body_front room (body ++ (next ++ more)) ≡ past (length body) (body_front (room - length body) (next ++ more))
+
+-- these bytes are those of a body that hasn't ended, where the next bytes come behind them
+pub record AtBody (rest : List Placed) (b : OpenBody) (h : Holding) (next : List ℕ) : Type 0 where
+  pub mode : h.machine.mode ≡ in_body b.name b.show
+  pub body : bytes_of rest ≡ h.body
+  pub goes_on : AreOfBody (store_limit - h.machine.stored) h.body next
+  pub still : h.open_run ≡ None
+  pub half : h.half ≡ []
+
+-- these bytes are those of a body that hasn't ended, and maybe a held ESC
+pub record IsOpenBody (rest : List Placed) (b : OpenBody) (h : Holding) : Type 0 where
+  pub bytes : List Placed
+  pub is : rest ≡ bytes ++ held_escape b.escape
+  pub at : AtBody bytes b h (bytes_of (held_escape b.escape))
+
+-- between two codes, these bytes are an open run, else those of a half-read code
+pub record IsHalf (rest : List Placed) (h : Holding) : Type 0 where
+  pub mode : h.machine.mode ≡ between
+  pub body : h.body ≡ []
+  pub half : IsHeldBy rest h h.open_run
+
+abbrev pub IsHeldIn : List Placed → Holding → Option OpenBody → Type 0
+IsHeldIn rest h None = IsHalf rest h
+IsHeldIn rest h (Some body) = IsOpenBody rest body h
+
+-- these bytes are held back: an open body, an open run, or a half-read code
 abbrev pub IsHeld : List Placed → Holding → Type 0
-IsHeld rest h = IsHeldBy rest h h.open_run
+IsHeld rest h = IsHeldIn rest h h.open_body
 
 -- A sink that was s took the first entries of the outcome; the others come of what is held back and then of what pends.
 pub record Continues {S : Type 0} (g : Ghosts S) (s : S) (o : Outcome) (t : S) (h : Holding) (pending : List Placed) : Type 0 where
@@ -69,10 +135,25 @@ pub record Continues {S : Type 0} (g : Ghosts S) (s : S) (o : Outcome) (t : S) (
   pub held : IsHeld rest h
   pub leads : o ≡ prepend done (outcome_from h.machine (rest ++ pending))
 
+-- The same, where what is held back are bytes of the body before this byte.
+pub record ReadsOn {S : Type 0} (g : Ghosts S) (s : S) (o : Outcome) (t : S) (h : Holding) (b : OpenBody) (x : Placed) (pending : List Placed) : Type 0 where
+  pub done : List Entry
+  pub taken : g.took s done t
+  pub clear : g.failed s ≡ false → g.failed t ≡ false
+  pub rest : List Placed
+  pub at : AtBody rest b h (x.byte ∷ [])
+  pub leads : o ≡ prepend done (outcome_from h.machine (rest ++ x ∷ pending))
+
 -- the same, where these are the first entries
 pub record ContinuesPast {S : Type 0} (g : Ghosts S) (s : S) (known : List Entry) (o : Outcome) (t : S) (h : Holding) (pending : List Placed) : Type 0 where
   pub continues : Continues g s o t h pending
   pub done : continues.done ≡ known
+
+-- the same, where these are the first of them
+pub record ContinuesFrom {S : Type 0} (g : Ghosts S) (s : S) (known : List Entry) (o : Outcome) (t : S) (h : Holding) (pending : List Placed) : Type 0 where
+  pub continues : Continues g s o t h pending
+  pub more : List Entry
+  pub done : continues.done ≡ known ++ more
 
 -- A sink that was s has the entries that were known, and a part of those that the outcome has more: some. That has no refusal.
 pub record BreaksPast {S : Type 0} (g : Ghosts S) (s : S) (known : List Entry) (o : Outcome) (t : S) (cause : Cause) : Type 0 where
@@ -82,21 +163,29 @@ pub record BreaksPast {S : Type 0} (g : Ghosts S) (s : S) (known : List Entry) (
   pub unrefused : o.refusal ≡ None
   pub part : TookPart g s known more t cause
 
+-- The same; or a body is charged, and the sink has a part of what comes.
+abbrev pub BreaksSome : {S : Type 0} → Ghosts S → S → List Entry → Outcome → S → Holding → Cause → Type 0
+BreaksSome g s known o t h cause = BreaksPast g s known o t cause ⊎ ((o.machine.left < h.machine.left) × BreaksFrom g s known o t cause)
+
 -- the refusal is the stream's own
 abbrev pub IsOwn : Refusal → Type 0
 IsOwn r = cause_of r.fault ≡ stream
 
--- the outcome is refused, and a sink that was s has its entries
-abbrev pub IsRefused : {S : Type 0} → Ghosts S → S → Outcome → S → Refusal → Type 0
-IsRefused g s o t r = (o.refusal ≡ Some r) × g.took s o.entries t
+-- the outcome is refused, a sink that was s has its entries, and as much is left to charge
+abbrev pub IsRefused : {S : Type 0} → Ghosts S → S → Outcome → S → Holding → Refusal → Type 0
+IsRefused g s o t h r = (o.refusal ≡ Some r) × g.took s o.entries t × (o.machine.left ≡ h.machine.left)
 
--- what is held continues; or it was refused, as the outcome is where the fault is the stream's own
+-- the same; or it was refused, as the outcome is where the fault is the stream's own, and as much is left to charge
 abbrev pub ReachesBy : {S : Type 0} → Ghosts S → S → Outcome → S → Holding → List Placed → Option Refusal → Type 0
 ReachesBy g s o t h pending None = Continues g s o t h pending
-ReachesBy g s o t h pending (Some r) = IsOwn r → IsRefused g s o t r
+ReachesBy g s o t h pending (Some r) = IsOwn r → IsRefused g s o t h r
 
 abbrev pub Reaches : {S : Type 0} {g : Ghosts S} → Reader S g → S → Outcome → List Placed → Type 0
 Reaches {S} {g} reader s o pending = ReachesBy g s o reader.sink (holding_of reader) pending reader.refusal
+
+-- what pends behind what is held: what the bodies have still to give, and then the input
+abbrev pub ReachesWith : {S : Type 0} {g : Ghosts S} → Reader S g → S → Outcome → List Placed → Type 0
+ReachesWith reader s o inputs = Reaches reader s o (frames_left reader ++ inputs)
 
 -- an operand byte that carries this word
 abbrev pub CarriesWord : Placed → ℕ → Type 0
@@ -129,7 +218,70 @@ pub record SameCounts {S : Type 0} {g : Ghosts S} (old new : Reader S g) : Type 
   pub turns : new.turns ≡ old.turns
   pub charged : new.charged ≡ old.charged
 
+-- what the bodies have still to give, and what is left to charge, taken together
+abbrev pub to_come : {S : Type 0} {g : Ghosts S} → Reader S g → ℕ
+to_come reader = length (frames_left reader) + (reader.budget - reader.charged)
+
+-- the counts and the budget stay, but that more may be charged, for which as much comes
+pub record Charges {S : Type 0} {g : Ghosts S} (old new : Reader S g) : Type 0 where
+  pub budget : new.budget ≡ old.budget
+  pub fed : new.fed ≡ old.fed
+  pub turns : new.turns ≡ old.turns
+  pub charged : old.charged ≤ new.charged
+  pub to_come : to_come new ≤ to_come old
+
+-- bodies that were being read are read to their end, or up to a refusal
+pub record Drains {S : Type 0} {g : Ghosts S} (old new : Reader S g) : Type 0 where
+  pub budget : new.budget ≡ old.budget
+  pub fed : new.fed ≡ old.fed
+  pub turns : old.turns ≤ new.turns
+  pub charged : old.charged ≤ new.charged
+
+-- what is kept of bodies stays
+pub record SameBodies {S : Type 0} {g : Ghosts S} (old new : Reader S g) : Type 0 where
+  pub store : new.store ≡ old.store
+  pub frames : new.frames.stack.items ≡ old.frames.stack.items
+
+-- their bytes do
+pub record SameBytes {S : Type 0} {g : Ghosts S} (old new : Reader S g) : Type 0 where
+  pub store : new.store.bytes ≡ old.store.bytes
+  pub frames : new.frames.stack.items ≡ old.frames.stack.items
+
+-- these bytes were charged, and come next at this place
+pub record Presents {S : Type 0} {g : Ghosts S} (old new : Reader S g) (bytes : List ℕ) (place : ℕ) : Type 0 where
+  pub holding : holding_of new ≡ record (holding_of old) { machine = charged (machine_of old) (length bytes) }
+  pub frames : frames_left new ≡ all_at place bytes ++ frames_left old
+
+-- these bytes come next, or they can't be charged
+abbrev pub ShowsBy : {S : Type 0} {g : Ghosts S} → Reader S g → Reader S g → List ℕ → ℕ → Option Refusal → Type 0
+ShowsBy old new bytes place None = (length bytes ≤ (machine_of old).left) × Presents old new bytes place
+ShowsBy old new bytes place (Some r) =
+    IsOwn r → (r ≡ refusal faults.Budget place) × ((machine_of old).left < length bytes) × (holding_of new ≡ holding_of old)
+
+abbrev pub Shows : {S : Type 0} {g : Ghosts S} → Reader S g → Reader S g → List ℕ → ℕ → Type 0
+Shows old new bytes place = ShowsBy old new bytes place new.refusal
+
 -- the place of the opcode whose run is open
 abbrev pub held_place : Option OpenRun → Option ℕ
 held_place None = None
 held_place (Some open_run) = Some open_run.place
+
+-- what the bodies have still to give is at this place
+abbrev pub AllAt : {S : Type 0} {g : Ghosts S} → ℕ → Reader S g → Type 0
+AllAt n reader = All (λ (x : Placed). x.place ≡ n) (frames_left reader)
+
+-- the open run is, where there is one
+abbrev pub RunAt : ℕ → Option OpenRun → Type 0
+RunAt n None = ⊤
+RunAt n (Some open_run) = open_run.place ≡ n
+
+-- the bodies have still to give what they had, and the same run is open
+pub record IsStill {S : Type 0} {g : Ghosts S} (old new : Reader S g) : Type 0 where
+  pub left : frames_left new ≡ frames_left old
+  pub open_run : new.open_run ≡ old.open_run
+
+-- A byte at this place was taken. What it calls or shows is at that place too, and so is the run that is open then; or neither
+-- changed.
+pub record Places {S : Type 0} {g : Ghosts S} (old new : Reader S g) (place : ℕ) : Type 0 where
+  pub left : AllAt place old → AllAt place new
+  pub run : RunAt place new.open_run ⊎ IsStill old new

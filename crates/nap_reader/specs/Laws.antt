@@ -11,6 +11,7 @@ use Rattle.nap_list.specs.declared.entry.Entry.{Entry}
 use Rattle.nap_list.specs.State.{Legal}
 use Rattle.nap_list.specs.Range.{AllInRange}
 use Rattle.nap_reader.specs.declared.fault.Refusal.{Refusal}
+use Rattle.nap_reader.specs.Bodies.{between}
 use Rattle.nap_reader.specs.Course.{pause, continue, onward}
 use Rattle.nap_reader.specs.Stream.{Placed, Machine, Outcome, bytes_of, words_of, is_operand, run_limit, open_run, drawn_front, front, placed_from, outcome_from, begun, means}
 
@@ -18,20 +19,21 @@ use Rattle.nap_reader.specs.Stream.{Placed, Machine, Outcome, bytes_of, words_of
 abbrev pub FrontAfterFront : Type 0
 FrontAfterFront = (m : Machine) (xs : List Placed) → outcome_from m xs ≡ onward outcome_from m xs (front m xs)
 
--- the byte of an opcode, and behind it operand bytes, no more than a run may have
-pub record IsRun (sets : CodeSets) (op : Opcode) (x : Placed) (operands : List Placed) : Type 0 where
-  pub names : codes.front sets (x.byte ∷ []) ≡ codes.whole (code.Op op) 1 sets
+-- between two codes, the byte of an opcode, and behind it operand bytes, no more than a run may have
+pub record IsRun (m : Machine) (op : Opcode) (x : Placed) (operands : List Placed) : Type 0 where
+  pub mode : m.mode ≡ between
+  pub names : codes.front m.sets (x.byte ∷ []) ≡ codes.whole (code.Op op) 1 m.sets
   pub carriers : All IsOperandByte (bytes_of operands)
   pub few : length operands ≤ run_limit
 
 -- An opcode acts by its rule where a byte comes behind its run that is no operand byte.
 abbrev pub RunActs : Type 0
-RunActs = (m : Machine) (op : Opcode) (x : Placed) (operands : List Placed) (y : Placed) (ys : List Placed) → IsRun m.sets op x operands → is_operand y ≡ false →
+RunActs = (m : Machine) (op : Opcode) (x : Placed) (operands : List Placed) (y : Placed) (ys : List Placed) → IsRun m op x operands → is_operand y ≡ false →
     front m ((x ∷ operands) ++ y ∷ ys) ≡ drawn_front m x.place (y ∷ ys) (rule m.work op (words_of operands))
 
 -- It waits where nothing comes behind.
 abbrev pub RunWaits : Type 0
-RunWaits = (m : Machine) (op : Opcode) (x : Placed) (operands : List Placed) → IsRun m.sets op x operands →
+RunWaits = (m : Machine) (op : Opcode) (x : Placed) (operands : List Placed) → IsRun m op x operands →
     front m (x ∷ operands) ≡ pause (open_run op x.place (words_of operands))
 
 -- It is a code by itself: neither an opcode nor an operand, and it neither calls a macro nor defines one.
@@ -42,14 +44,15 @@ IsAlone (code.Call name) = ⊥
 IsAlone (code.DefMacro name show) = ⊥
 IsAlone _ = ⊤
 
--- the bytes of a code that acts alone, the last of which is this one, and the code sets after it
-pub record IsCodeAlone (sets : CodeSets) (c : Code) (before : List Placed) (last : Placed) (after : CodeSets) : Type 0 where
+-- between two codes, the bytes of a code that acts alone, the last of which is this one, and the code sets after it
+pub record IsCodeAlone (m : Machine) (c : Code) (before : List Placed) (last : Placed) (after : CodeSets) : Type 0 where
+  pub mode : m.mode ≡ between
   pub alone : IsAlone c
-  pub names : codes.front sets (bytes_of before ++ last.byte ∷ []) ≡ codes.whole c (length before + 1) after
+  pub names : codes.front m.sets (bytes_of before ++ last.byte ∷ []) ≡ codes.whole c (length before + 1) after
 
 -- It acts by its rule, or adds nothing, whatever stands behind it.
 abbrev pub CodeActs : Type 0
-CodeActs = (m : Machine) (c : Code) (before : List Placed) (last : Placed) (after : CodeSets) (ys : List Placed) → IsCodeAlone m.sets c before last after →
+CodeActs = (m : Machine) (c : Code) (before : List Placed) (last : Placed) (after : CodeSets) (ys : List Placed) → IsCodeAlone m c before last after →
     front m (before ++ last ∷ ys) ≡ drawn_front (record m { sets = after }) last.place ys (code_rule m.work c)
 
 -- More bytes behind add entries at the end alone.

@@ -1,4 +1,5 @@
 -- what a stream means
+pub mod Bodies
 pub mod Course
 pub mod Faults
 pub mod Kinds
@@ -9,4 +10,6 @@ pub mod Standing
 pub mod Laws
 -- what a reader keeps, which no one sees
 pub mod Carried
+pub mod Stored
+pub mod Framed
 pub mod Holding

@@ -1,11 +1,11 @@
-use Rattle.std.specs.Prelude.{◌≡◌, ◌-◌, ◌+◌, ◌<◌, ◌++◌, ℕ, List, [], ◌∷◌, Option, Some, None, length, take, slice_index}
+use Rattle.std.specs.Prelude.{◌≡◌, ◌-◌, ◌+◌, ◌<◌, ◌≤◌, ◌++◌, ℕ, List, [], ◌∷◌, Option, Some, None, length, take, slice_index}
 use Rattle.nap_list.specs.declared.sink.Sink.{Ghosts}
 use Rattle.nap_draw.specs.Draws.{Cause, stream}
 use Rattle.nap_reader.specs.declared.fault.Refusal.{Refusal}
 use Rattle.nap_reader.specs.declared.reader.Reader.{Reader}
 use Rattle.nap_reader.specs.Stream.{Outcome, begun}
 use Rattle.nap_reader.specs.Breaking.{cause_of, BreaksAt}
-use Rattle.nap_reader.specs.Holding.{Continues, holding_of}
+use Rattle.nap_reader.specs.Holding.{Continues, holding_of, frames_left}
 
 -- what a reader shows
 
@@ -37,11 +37,12 @@ pub record IsKnown {S : Type 0} (g : Ghosts S) (s : S) (o : Outcome) (t : S) (n 
   pub taken : g.took s o.entries t
   pub left : o.machine.left ≡ n
 
--- Reading broke at the byte behind p, up to which nothing was refused.
+-- Reading broke at the byte behind p, up to which nothing was refused. What is charged for the byte was charged or wasn't yet.
 pub record IsBroken {S : Type 0} (g : Ghosts S) (s : S) (budget : ℕ) (p : List ℕ) (b : ℕ) (t : S) (n : ℕ) (r : Refusal) : Type 0 where
   pub before : (begun budget p).refusal ≡ None
   pub breaks : BreaksAt g s budget p b t r
-  pub left : (begun budget p).machine.left ≡ n
+  pub left : n ≤ (begun budget p).machine.left
+  pub charged : (begun budget (p ++ b ∷ [])).machine.left ≤ n
 
 -- Reading stopped at the byte behind p with this refusal: the stream's own, or it broke.
 abbrev pub StopsBy : {S : Type 0} → Ghosts S → S → ℕ → List ℕ → ℕ → S → ℕ → Refusal → Cause → Type 0
@@ -63,6 +64,7 @@ Answers g s budget p t left (Some r) = AnswersBy g s budget p t left r (cause_of
 pub record Stands {S : Type 0} {g : Ghosts S} (reader : Reader S g) (s : S) (p : List ℕ) : Type 0 where
   pub answers : Answers g s (budget_of reader) p (sink_of reader) (left_of reader) (refusal_of reader)
   pub fed : refusal_of reader ≡ None → fed_of reader ≡ length p
+  pub empty : refusal_of reader ≡ None → frames_left reader ≡ []
   pub continues : refusal_of reader ≡ None → Continues g s (begun (budget_of reader) p) (sink_of reader) (holding_of reader) []
 
 -- The refusal came at the byte with this index, behind which nothing was taken.

@@ -1,5 +1,6 @@
-use Rattle.std.specs.Prelude.{ℕ, zero, suc, ◌-◌, ◌&&◌, nat_lt, nat_le, Bool, if◌then◌else◌, List, [], ◌∷◌, ◌++◌, length, map, take, drop, Option, Some, None, Result, Ok, Err}
+use Rattle.std.specs.Prelude.{ℕ, zero, suc, ◌+◌, ◌-◌, ◌&&◌, nat_lt, nat_le, Bool, true, false, if◌then◌else◌, List, [], ◌∷◌, ◌++◌, length, map, take, drop, Option, Some, None, Result, Ok, Err}
 use Rattle.std.specs.List.{prefix_len}
+use Rattle.nap_codes.specs.declared.code.Code.TheVariants as code
 use Rattle.nap_codes.specs.declared.code_set.CodeSets.{CodeSets}
 use Rattle.nap_codes.specs.declared.opcode.Opcode.{Opcode}
 use Rattle.nap_codes.specs.CodeSets.{start_sets}
@@ -18,6 +19,8 @@ use Rattle.nap_reader.specs.declared.kind.Kind.TheVariants as kinds
 use Rattle.nap_draw.specs.declared.act.TheConstants.{RUN_LIMIT}
 use Rattle.nap_reader.specs.Faults.{code_fault, draw_fault}
 use Rattle.nap_reader.specs.Kinds.{kind_of}
+use Rattle.nap_reader.specs.Bodies as bodies
+use Rattle.nap_reader.specs.Bodies.{Mode, between, in_body, no_names, body_of, bind, store_limit, body_front}
 use Rattle.nap_reader.specs.Course as course
 
 -- a byte, and the place that it has in the input
@@ -33,11 +36,19 @@ placed_from n (b ∷ bs) = record { byte = b; place = n } ∷ placed_from (suc n
 abbrev pub bytes_of : List Placed → List ℕ
 bytes_of xs = map (λ x. x.byte) xs
 
--- what stands between two codes: the drawing state, the code sets, and what may still be charged
+-- these bytes, all of them at this place
+abbrev pub all_at : ℕ → List ℕ → List Placed
+all_at place bytes = map (λ b. record { byte = b; place = place }) bytes
+
+-- what stands between two codes, or before a body: the drawing state, the code sets, what may still be charged, the
+-- bodies by their names, and how many bytes of bodies there were
 pub record Machine : Type 0 where
   pub work : Work
   pub sets : CodeSets
   pub left : ℕ
+  pub names : List (List ℕ)
+  pub stored : ℕ
+  pub mode : Mode
 
 -- what a stream has begun where nothing whole is left
 pub data Unfinished : Type 0 where
@@ -46,6 +57,8 @@ pub data Unfinished : Type 0 where
   half_code : List ℕ → Unfinished
   -- an opcode, its place, and the words of its run so far
   open_run : Opcode → ℕ → List ℕ → Unfinished
+  -- the body of a macro
+  open_body : Unfinished
 
 abbrev pub Outcome : Type 0
 Outcome = course.Outcome Machine Entry Refusal Unfinished Placed
@@ -72,9 +85,9 @@ run_length xs = prefix_len is_operand xs
 abbrev pub words_of : List Placed → List ℕ
 words_of xs = map (λ x. x.byte - 64) xs
 
--- the machine once a code has drawn; no name is bound yet that it could clear
+-- the machine once a code has drawn, which may unbind all names
 abbrev pub after_drawing : Machine → Drawn → Machine
-after_drawing m drawn = record m { work = drawn.work }
+after_drawing m drawn = record m { work = drawn.work; names = if drawn.clears then no_names else m.names }
 
 -- the rule of an opcode, a character or a control has acted
 abbrev pub drawn_front : Machine → ℕ → List Placed → Result Drawn DrawFault → Front
@@ -100,13 +113,25 @@ run_front m op place run rest =
 abbrev pub opcode_front : Machine → Opcode → ℕ → List Placed → Front
 opcode_front m op place xs = run_front m op place (take (run_length xs) xs) (drop (run_length xs) xs)
 
+-- the machine once so many bytes were charged
+abbrev pub charged : Machine → ℕ → Machine
+charged m n = record m { left = m.left - n }
+
+-- bytes of a body come next, all of them at this place, where they can be charged
+abbrev pub shown_front : Machine → ℕ → List ℕ → List Placed → Front
+shown_front m place bytes rest =
+    if nat_lt m.left (length bytes) then course.refuse (refusal faults.Budget place)
+    else course.act [] (charged m (length bytes)) (all_at place bytes ++ rest)
+
 -- what stands at the front where a code of this kind ends at this place, and this stands behind it
 abbrev pub code_front : Machine → Kind → ℕ → List Placed → Front
 code_front m (kinds.Opens op) place rest = opcode_front m op place rest
 code_front m kinds.Strays place rest = course.refuse (refusal faults.Stray place)
 code_front m kinds.AddsNothing place rest = course.act [] m rest
 code_front m (kinds.Acts code) place rest = drawn_front m place rest (code_rule m.work code)
-code_front m kinds.Unbuilt place rest = course.refuse (refusal faults.Unbuilt place)
+code_front m (kinds.Calls name) place rest = shown_front m place (body_of m.names name) rest
+code_front m (kinds.Binds name show) place rest =
+    drawn_front (record m { mode = in_body name show }) place rest (code_rule m.work (code.DefMacro name show))
 
 -- the place of the byte at this index
 abbrev pub place_at : List Placed → ℕ → ℕ
@@ -124,12 +149,38 @@ front_by m xs codes.unfinished = course.pause (half_read (bytes_of xs))
 front_by m xs (codes.refused fault i) = course.refuse (refusal (code_fault fault) (place_at xs i))
 front_by m xs (codes.whole code n sets) = code_front (record m { sets = sets }) (kind_of code) (place_at xs (n - 1)) (drop n xs)
 
--- what stands at the front of the list
-unfoldable pub front : Machine → List Placed → Front
-front m xs = front_by m xs (codes.front m.sets (bytes_of xs))
+-- the machine once the name is bound to the body
+abbrev pub after_body : Machine → ℕ → List ℕ → Machine
+after_body m name body = record m { names = bind m.names name body; stored = m.stored + length body; mode = between }
 
+-- The body is whole. Its first bytes are so many, and behind them stand the two that end it, which are the next code of
+-- the stream. A body that is shown comes next once more, with these two, and then what stands behind them.
+abbrev pub bound_front : Machine → ℕ → Bool → ℕ → List Placed → Front
+bound_front m name false n xs = course.act [] (after_body m name (take n (bytes_of xs))) (drop n xs)
+bound_front m name true n xs =
+    shown_front (after_body m name (take n (bytes_of xs))) (place_at xs (n + 1)) (take (n + 2) (bytes_of xs)) (drop (n + 2) xs)
+
+abbrev pub body_front_by : Machine → ℕ → Bool → List Placed → bodies.BodyFront → Front
+body_front_by m name show xs bodies.unfinished = course.pause open_body
+body_front_by m name show xs (bodies.refused fault i) = course.refuse (refusal fault (place_at xs i))
+body_front_by m name show xs (bodies.ended n) = bound_front m name show n xs
+
+-- what stands at the front of the list, in this mode
+abbrev pub front_in : Mode → Machine → List Placed → Front
+front_in between m xs = front_by m xs (codes.front m.sets (bytes_of xs))
+front_in (in_body name show) m xs = body_front_by m name show xs (body_front (store_limit - m.stored) (bytes_of xs))
+
+unfoldable pub front : Machine → List Placed → Front
+front m xs = front_in m.mode m xs
+
+-- An empty body takes no byte, and nothing is charged for it: its end alone is a step.
+abbrev pub ends_of : Mode → ℕ
+ends_of between = 0
+ends_of (in_body name show) = 1
+
+-- what each front lessens, with the length of the list
 abbrev pub left_of : Machine → ℕ
-left_of m = m.left
+left_of m = m.left + ends_of m.mode
 
 -- what comes of a list from here on
 abbrev pub outcome_from : Machine → List Placed → Outcome
@@ -137,7 +188,7 @@ outcome_from m xs = course.outcome front left_of m xs
 
 -- the machine at the start of a reading with this budget
 abbrev pub start_machine : ℕ → Machine
-start_machine budget = record { work = start_work; sets = start_sets; left = budget }
+start_machine budget = record { work = start_work; sets = start_sets; left = budget; names = no_names; stored = 0; mode = between }
 
 -- what is known of a stream that may go on
 abbrev pub begun : ℕ → List ℕ → Outcome
@@ -169,9 +220,10 @@ abbrev pub with_definition : Outcome → ℕ → Option Opened → Outcome
 with_definition o n None = o
 with_definition o n (Some opened) = record o { refusal = Some (refusal faults.Unended n) }
 
--- a code that is unfinished at the end is refused there
+-- a code or a body that is unfinished at the end is refused there
 abbrev pub with_code : Outcome → ℕ → Option Unfinished → Outcome
 with_code o n (Some (half_code bytes)) = record o { refusal = Some (refusal faults.Cut n) }
+with_code o n (Some open_body) = record o { refusal = Some (refusal faults.Unended n) }
 with_code o n _ = with_definition o n o.machine.work.state.definition
 
 abbrev pub with_end : Outcome → ℕ → Option Refusal → Outcome

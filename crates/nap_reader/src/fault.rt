@@ -75,9 +75,6 @@ pub enum Fault {
     /// The sink's device failed.
     #[error("the device behind the sink failed")]
     Sink,
-    /// What isn't built yet.
-    #[error("this part of the format isn't built yet")]
-    Unbuilt,
 }
 
 impl Fault {
@@ -108,7 +105,6 @@ impl Fault {
             Fault::Unended => 20,
             Fault::Memory => 21,
             Fault::Sink => 22,
-            Fault::Unbuilt => 23,
         }
     }
 
@@ -139,7 +135,6 @@ impl Fault {
             Fault::Unended => "Unended",
             Fault::Memory => "Memory",
             Fault::Sink => "Sink",
-            Fault::Unbuilt => "Unbuilt",
         }
     }
 }

@@ -15,8 +15,15 @@ pub(crate) enum Kind {
     AddsNothing,
     /// It is a character or a control, which acts by itself.
     Acts(Code),
-    /// It isn't built yet.
-    Unbuilt,
+    /// It calls the macro of this name.
+    Calls(u8),
+    /// It defines the macro of this name, whose body comes next.
+    Binds {
+        /// The name.
+        name: u8,
+        /// Whether the body is shown once it has ended.
+        show: bool,
+    },
 }
 
 impl Kind {
@@ -27,10 +34,9 @@ impl Kind {
         match code {
             Code::Op(op) => Kind::Opens(op),
             Code::Operand(_) => Kind::Strays,
-            Code::Fill | Code::Shifted | Code::Designated(_, _) | Code::Call(_) => {
-                Kind::AddsNothing
-            }
-            Code::DefMacro { .. } => Kind::Unbuilt,
+            Code::Fill | Code::Shifted | Code::Designated(_, _) => Kind::AddsNothing,
+            Code::Call(name) => Kind::Calls(name),
+            Code::DefMacro { name, show } => Kind::Binds { name, show },
             _ => Kind::Acts(code),
         }
     }

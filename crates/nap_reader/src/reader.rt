@@ -1,18 +1,23 @@
 //! Reads a stream in pieces.
-ghost use Rattle.std.specs.Prelude.{◌≡◌, ◌≢◌, ◌+◌, ◌-◌, ◌^◌, ◌<◌, ◌≤◌, ℕ, List, [], ◌∷◌, ◌++◌, Option, None, Some, Err, true, false, length, vec_len, OnOk, IfOk, IsOk, IfErr, IfSome, MatchOption, MatchResult};
+ghost use Rattle.std.specs.Prelude.{◌⊎◌, ◌≡◌, ◌≢◌, ◌+◌, ◌-◌, ◌^◌, ◌<◌, ◌≤◌, ℕ, List, [], ◌∷◌, ◌++◌, Option, None, Some, Err, true, false, length, vec_len, OnOk, IfOk, IsOk, IfErr, IfSome, IsSome, MatchOption, MatchResult};
 ghost use Rattle.std.specs.Option.{ForNone};
 ghost use Rattle.nap_list.specs.State.{start};
 ghost use Rattle.std.proofs.Props.{props};
 ghost use Rattle.nap_list.specs.Agreement.{StatesAgree};
 ghost use Rattle.nap_list.specs.Propositions.{StatesAgree-prop};
-ghost use Rattle.nap_reader.specs.Carried.{HasRule, HasRule-prop};
+ghost use Rattle.nap_reader.specs.Carried.{HasName, HasName-prop, HasRule, HasRule-prop};
+ghost use Rattle.nap_reader.specs.Framed.{FramesIn, unread};
 ghost use Rattle.nap_reader.specs.Faults.{draw_fault};
+ghost use Rattle.nap_codes.specs.Laws.{IsGraphic};
 ghost use Rattle.nap_reader.specs.Stream.{is_operand_byte, refusal, run_limit};
 ghost use Rattle.nap_reader.specs.declared.budget.TheConstants.Budget.{MOST};
 
+use crate::body::{OpenBody, ends_body};
 use crate::budget::Budget;
 use crate::fault::{Fault, Refusal};
+use crate::frames::Frames;
 use crate::kind::Kind;
+use crate::store::{Span, Store};
 use nap_codes::{Lexer, Opcode, Step};
 use nap_draw::{DrawFault, RUN_LIMIT, Work};
 use nap_list::Sink;
@@ -38,6 +43,9 @@ pub struct Reader<S: Sink> {
     open_run: Option<OpenRun>,
     run: Vec<Word>,
     room: Vec<Point>,
+    open_body: Option<OpenBody>,
+    store: Store,
+    frames: Frames,
     refusal: Option<Refusal>,
     fed: u64,
     turns: u64,
@@ -47,7 +55,9 @@ pub struct Reader<S: Sink> {
     ghost rule: { HasRule open_run } by { HasRule-prop open_run },
     ghost within: { charged ≤ budget },
     ghost small: { charged ≤ MOST },
-    ghost turned: { turns ≡ fed + charged },
+    ghost named: { HasName open_body } by { HasName-prop open_body },
+    ghost framed: { FramesIn (length store.bytes) frames.stack.items },
+    ghost turned: { turns + length (unread store.bytes frames.stack.items) ≡ fed + charged },
     ghost agrees: { ForNone refusal (StatesAgree work.state (S.state sink)) } by { Prim.hlevel (props, StatesAgree-prop work.state (S.state sink)) },
 }
 
@@ -55,8 +65,12 @@ impl<S: Sink> Reader<S> {
     ghost use Rattle.nap_list.specs.declared.entry.Entry.{Entry};
     ghost use Rattle.nap_reader.specs.Stream.{Placed, Outcome, begun, is_operand, means, with_code, with_run};
     ghost use Rattle.nap_draw.specs.Draws.{stream};
-    ghost use Rattle.nap_reader.specs.Breaking.{BreaksAt, BreaksInRun, cause_of};
-    ghost use Rattle.nap_reader.specs.Holding.{BreaksPast, CarriesWord, ClosesBy, Continues, ContinuesPast, Ends, IsOwn, Reaches, SameCounts, holding_of};
+    ghost use Rattle.nap_reader.specs.Breaking.{BreaksAt, BreaksFrom, BreaksInRun, cause_of};
+    ghost use Rattle.nap_reader.specs.Bodies as bodies;
+    ghost use Rattle.nap_reader.specs.Bodies.{body_of};
+    ghost use Rattle.nap_reader.specs.Framed.{placed_at};
+    ghost use Rattle.nap_reader.specs.Stored.{part_at};
+    ghost use Rattle.nap_reader.specs.Holding.{AllAt, BreaksSome, CarriesWord, Charges, ClosesBy, Continues, ContinuesPast, Drains, Ends, IsOwn, IsStill, Places, Presents, Reaches, ReachesWith, ReadsOn, RunAt, SameBodies, SameBytes, SameCounts, Shows, frames_left, held_place, holding_of};
     ghost use Rattle.nap_reader.specs.Standing.{Answers, IsTaken, Stands, StopsAt, budget_of, charged_of, fed_of, left_of, refusal_of, sink_of, turns_of};
 
     /// A reader at the start of a stream, which puts the entries into this sink.
@@ -77,6 +91,9 @@ impl<S: Sink> Reader<S> {
             open_run: None,
             run: Vec::new(alloc),
             room: Vec::new(alloc),
+            open_body: None,
+            store: Store::new(alloc),
+            frames: Frames::new(alloc),
             refusal: None,
             fed: 0,
             turns: 0,
@@ -99,7 +116,9 @@ impl<S: Sink> Reader<S> {
         // All of the piece was taken, or the bytes up to and with the one that is refused.
         ensures fed { OnOk result (fed_of self.new ≡ fed_of self.old + length piece.now) }
         ensures stops { IfErr result (λ r. refusal_of self.old ≡ None → (i : ℕ) × StopsAt self.old self.new piece.now r i) }
-        ensures turns { turns_of self.new ≡ fed_of self.new + charged_of self.new }
+        // What is charged is read to its end, unless it is refused before.
+        ensures turns { OnOk result (turns_of self.old ≡ fed_of self.old + charged_of self.old → turns_of self.new ≡ fed_of self.new + charged_of self.new) }
+        ensures turned { turns_of self.new ≤ fed_of self.new + charged_of self.new }
         ensures more_turns { turns_of self.old ≤ turns_of self.new }
     {
         if let Some(refusal) = self.refusal {
@@ -110,6 +129,31 @@ impl<S: Sink> Reader<S> {
             self.fed += 1;
             self.turns += 1;
             self.turn(*byte, place)?;
+            self.drain()?;
+        }
+        Ok(())
+    }
+
+    /// Takes what the bodies have still to give that are being read.
+    fn drain(&mut self) -> Result<(), Refusal>
+        requires live { self.old.refusal ≡ None }
+        requires few { fed_of self.old < 2 ^ 63 }
+        ensures answered { MatchResult result (λ _. (self.new.refusal ≡ None) × (self.new.frames.stack.items ≡ [])) (λ r. self.new.refusal ≡ Some r) }
+        ensures reaches { (s : S) (o : Outcome) (inputs : List Placed) →
+            Continues S.Sink s o self.old.sink (holding_of self.old) (frames_left self.old ++ inputs) → ReachesWith self.new s o inputs }
+        ensures amid { IfErr result (λ r. cause_of r.fault ≢ stream → (s : S) (o : Outcome) (inputs : List Placed) →
+            Continues S.Sink s o self.old.sink (holding_of self.old) (frames_left self.old ++ inputs) →
+            BreaksFrom S.Sink s [] o self.new.sink (cause_of r.fault) × ((n : ℕ) → AllAt n self.old → RunAt n self.old.open_run → r.place ≡ n)) }
+        ensures some { IfErr result (λ _. 0 < length (frames_left self.old)) }
+        ensures failed { IfErr result (λ r. r.fault ≡ Fault.Sink → S.failed self.new.sink ≡ true) }
+        ensures clear { OnOk result (S.failed self.old.sink ≡ false → S.failed self.new.sink ≡ false) }
+        ensures counts { Drains self.old self.new }
+        ensures left { IfErr result (λ _. (s : S) (o : Outcome) (inputs : List Placed) →
+            Continues S.Sink s o self.old.sink (holding_of self.old) (frames_left self.old ++ inputs) → o.machine.left ≤ left_of self.new) }
+    {
+        while let Some((byte, place)) = self.frames.next(self.store.bytes()) {
+            self.turns += 1;
+            self.turn(byte, place)?;
         }
         Ok(())
     }
@@ -118,15 +162,23 @@ impl<S: Sink> Reader<S> {
     fn turn(&mut self, byte: u8, place: u64) -> Result<(), Refusal>
         requires { self.old.refusal ≡ None }
         ensures answered { MatchResult result (λ _. self.new.refusal ≡ None) (λ r. self.new.refusal ≡ Some r) }
-        ensures reaches { (s : S) (o : Outcome) (pending : List Placed) →
-            Continues S.Sink s o self.old.sink (holding_of self.old) (record { byte = byte; place = place } ∷ pending) → Reaches self.new s o pending }
+        ensures reaches { (s : S) (o : Outcome) (inputs : List Placed) →
+            Continues S.Sink s o self.old.sink (holding_of self.old) (placed_at byte place ∷ frames_left self.old ++ inputs) → ReachesWith self.new s o inputs }
         ensures breaks { IfErr result (λ r. cause_of r.fault ≢ stream → (s : S) (p : List ℕ) →
             Continues S.Sink s (begun (budget_of self.old) p) self.old.sink (holding_of self.old) [] → place ≡ length p →
             BreaksAt S.Sink s (budget_of self.old) p byte self.new.sink r) }
+        ensures amid { IfErr result (λ r. cause_of r.fault ≢ stream → (s : S) (o : Outcome) →
+            Continues S.Sink s o self.old.sink (holding_of self.old) (placed_at byte place ∷ []) →
+            BreaksFrom S.Sink s [] o self.new.sink (cause_of r.fault) × ((r.place ≡ place) ⊎ (held_place self.old.open_run ≡ Some r.place))) }
+        ensures placed { OnOk result (Places self.old self.new place) }
         ensures failed { IfErr result (λ r. r.fault ≡ Fault.Sink → S.failed self.new.sink ≡ true) }
         ensures clear { OnOk result (S.failed self.old.sink ≡ false → S.failed self.new.sink ≡ false) }
-        ensures counts { SameCounts self.old self.new }
+        ensures counts { Charges self.old self.new }
+        ensures uncharged { IfErr result (λ _. self.new.charged ≡ self.old.charged) }
     {
+        if let Some(body) = self.open_body {
+            return self.read_body(body, byte, place);
+        }
         let Some(open_run) = self.open_run else {
             return self.lex(byte, place);
         };
@@ -140,6 +192,7 @@ impl<S: Sink> Reader<S> {
     /// A word joins the open run.
     fn join(&mut self, open_run: OpenRun, word: Word, place: u64) -> Result<(), Refusal>
         requires live { self.old.refusal ≡ None }
+        requires between { self.old.open_body ≡ None }
         requires opened { self.old.open_run ≡ Some open_run }
         ensures answered { MatchResult result (λ _. self.new.refusal ≡ None) (λ r. self.new.refusal ≡ Some r) }
         ensures reaches { (s : S) (o : Outcome) (x : Placed) (pending : List Placed) → CarriesWord x word →
@@ -147,6 +200,8 @@ impl<S: Sink> Reader<S> {
         ensures breaks { IfErr result (λ r. cause_of r.fault ≢ stream → (r ≡ refusal Fault.Memory place) × (length self.old.run.items < run_limit)) }
         ensures sink { self.new.sink ≡ self.old.sink }
         ensures counts { SameCounts self.old self.new }
+        ensures bodies { SameBodies self.old self.new }
+        ensures run { self.new.open_run ≡ self.old.open_run }
     {
         if self.run.len() >= RUN_LIMIT {
             return refuse(&mut self.refusal, Fault::LongRun, open_run.place);
@@ -160,6 +215,7 @@ impl<S: Sink> Reader<S> {
     /// The open run is over, and its opcode acts.
     fn close(&mut self, open_run: OpenRun) -> Result<(), Refusal>
         requires live { self.old.refusal ≡ None }
+        requires between { self.old.open_body ≡ None }
         requires opened { self.old.open_run ≡ Some open_run }
         ensures answered { MatchResult result (λ _. self.new.refusal ≡ None) (λ r. self.new.refusal ≡ Some r) }
         ensures reaches { (s : S) (o : Outcome) (x : Placed) (pending : List Placed) → is_operand x ≡ false →
@@ -170,10 +226,15 @@ impl<S: Sink> Reader<S> {
             Continues S.Sink s (begun (budget_of self.old) p) self.old.sink (holding_of self.old) [] →
             ContinuesPast S.Sink s (with_run (begun (budget_of self.old) p)).entries (begun (budget_of self.old) (p ++ b ∷ [])) self.new.sink (holding_of self.new)
             (record { byte = b; place = length p } ∷ [])) }
+        ensures amid { IfErr result (λ r. cause_of r.fault ≢ stream → (s : S) (o : Outcome) (x : Placed) → is_operand x ≡ false →
+            Continues S.Sink s o self.old.sink (holding_of self.old) (x ∷ []) → BreaksFrom S.Sink s [] o self.new.sink (cause_of r.fault)) }
         ensures closed { self.new.refusal ≡ None → self.new.open_run ≡ None }
+        ensures place { IfErr result (λ r. r.place ≡ open_run.place) }
+        ensures between { self.new.open_body ≡ None }
         ensures failed { IfErr result (λ r. r.fault ≡ Fault.Sink → S.failed self.new.sink ≡ true) }
         ensures clear { OnOk result (S.failed self.old.sink ≡ false → S.failed self.new.sink ≡ false) }
         ensures counts { SameCounts self.old self.new }
+        ensures bytes { SameBytes self.old self.new }
     {
         match self.work.act(
             self.alloc,
@@ -182,7 +243,8 @@ impl<S: Sink> Reader<S> {
             &self.run,
             &mut self.sink,
         ) {
-            Ok(_) => {
+            Ok(clears) => {
+                self.store.clear_if(clears);
                 self.open_run = None;
                 self.run.clear();
                 Ok(())
@@ -191,19 +253,22 @@ impl<S: Sink> Reader<S> {
         }
     }
 
-    /// Takes a byte where no run is open.
+    /// Takes a byte where no run is open, and no body.
     fn lex(&mut self, byte: u8, place: u64) -> Result<(), Refusal>
         requires live { self.old.refusal ≡ None }
+        requires between { self.old.open_body ≡ None }
         requires closed { self.old.open_run ≡ None }
         ensures answered { MatchResult result (λ _. self.new.refusal ≡ None) (λ r. self.new.refusal ≡ Some r) }
-        ensures reaches { (s : S) (o : Outcome) (pending : List Placed) →
-            Continues S.Sink s o self.old.sink (holding_of self.old) (record { byte = byte; place = place } ∷ pending) → Reaches self.new s o pending }
+        ensures reaches { (s : S) (o : Outcome) (inputs : List Placed) →
+            Continues S.Sink s o self.old.sink (holding_of self.old) (placed_at byte place ∷ frames_left self.old ++ inputs) → ReachesWith self.new s o inputs }
         ensures breaks { IfErr result (λ r. cause_of r.fault ≢ stream → (s : S) (known : List Entry) (o : Outcome) →
             ContinuesPast S.Sink s known o self.old.sink (holding_of self.old) (record { byte = byte; place = place } ∷ []) →
-            (r.place ≡ place) × BreaksPast S.Sink s known o self.new.sink (cause_of r.fault)) }
+            (r.place ≡ place) × BreaksSome S.Sink s known o self.new.sink (holding_of self.old) (cause_of r.fault)) }
         ensures failed { IfErr result (λ r. r.fault ≡ Fault.Sink → S.failed self.new.sink ≡ true) }
         ensures clear { OnOk result (S.failed self.old.sink ≡ false → S.failed self.new.sink ≡ false) }
-        ensures counts { SameCounts self.old self.new }
+        ensures counts { Charges self.old self.new }
+        ensures uncharged { IfErr result (λ _. self.new.charged ≡ self.old.charged) }
+        ensures placed { OnOk result (Places self.old self.new place) }
     {
         if let Some(set) = self.lexer.character(byte) {
             let put = self.work.text(set, byte, &mut self.sink);
@@ -226,8 +291,211 @@ impl<S: Sink> Reader<S> {
                 let acted = self.work.control(&code, &mut self.sink);
                 latched(&mut self.refusal, acted, place)
             }
-            Kind::Unbuilt => refuse(&mut self.refusal, Fault::Unbuilt, place),
+            Kind::Calls(name) => self.call(name, place),
+            Kind::Binds { name, show } => {
+                let opened = self.work.control(&code, &mut self.sink);
+                self.open_body = Some(OpenBody {
+                    name,
+                    show,
+                    escape: None,
+                });
+                latched(&mut self.refusal, opened, place)
+            }
         }
+    }
+
+    /// Takes a byte of the open body.
+    fn read_body(&mut self, body: OpenBody, byte: u8, place: u64) -> Result<(), Refusal>
+        requires live { self.old.refusal ≡ None }
+        requires opened { self.old.open_body ≡ Some body }
+        ensures answered { MatchResult result (λ _. self.new.refusal ≡ None) (λ r. self.new.refusal ≡ Some r) }
+        ensures reaches { (s : S) (o : Outcome) (inputs : List Placed) →
+            Continues S.Sink s o self.old.sink (holding_of self.old) (placed_at byte place ∷ frames_left self.old ++ inputs) → ReachesWith self.new s o inputs }
+        ensures breaks { IfErr result (λ r. cause_of r.fault ≢ stream → (s : S) (known : List Entry) (o : Outcome) →
+            ContinuesPast S.Sink s known o self.old.sink (holding_of self.old) (placed_at byte place ∷ []) →
+            (r.place ≡ place) × BreaksFrom S.Sink s known o self.new.sink (cause_of r.fault)) }
+        ensures failed { IfErr result (λ r. r.fault ≡ Fault.Sink → S.failed self.new.sink ≡ true) }
+        ensures clear { OnOk result (S.failed self.old.sink ≡ false → S.failed self.new.sink ≡ false) }
+        ensures counts { Charges self.old self.new }
+        ensures uncharged { IfErr result (λ _. self.new.charged ≡ self.old.charged) }
+        ensures placed { OnOk result (Places self.old self.new place) }
+    {
+        if byte >= 0x80 {
+            return refuse(&mut self.refusal, Fault::EighthBit, place);
+        }
+        let Some(escape) = body.escape else {
+            return self.keep(body, byte, place);
+        };
+        if ends_body(byte) {
+            return self.end_body(body, escape, byte, place);
+        }
+        if self.store.is_full() {
+            return refuse(&mut self.refusal, Fault::Store, escape);
+        }
+        let Ok(()) = self.store.push(0x1B) else {
+            return refuse(&mut self.refusal, Fault::Memory, place);
+        };
+        self.keep(body, byte, place)
+    }
+
+    /// Takes a byte of the open body, of which no ESC is held.
+    fn keep(&mut self, body: OpenBody, byte: u8, place: u64) -> Result<(), Refusal>
+        requires live { self.old.refusal ≡ None }
+        requires named { IsGraphic body.name }
+        requires low { byte < 0x80 }
+        ensures answered { MatchResult result (λ _. self.new.refusal ≡ None) (λ r. self.new.refusal ≡ Some r) }
+        ensures reaches { (s : S) (o : Outcome) (inputs : List Placed) →
+            ReadsOn S.Sink s o self.old.sink (holding_of self.old) body (placed_at byte place) (frames_left self.old ++ inputs) → ReachesWith self.new s o inputs }
+        ensures breaks { IfErr result (λ r. cause_of r.fault ≢ stream → r ≡ refusal Fault.Memory place) }
+        ensures sink { self.new.sink ≡ self.old.sink }
+        ensures counts { Charges self.old self.new }
+        ensures uncharged { IfErr result (λ _. self.new.charged ≡ self.old.charged) }
+        ensures still { OnOk result (IsStill self.old self.new) }
+    {
+        if byte == 0x1B {
+            self.open_body = Some(OpenBody {
+                name: body.name,
+                show: body.show,
+                escape: Some(place),
+            });
+            return Ok(());
+        }
+        if self.store.is_full() {
+            return refuse(&mut self.refusal, Fault::Store, place);
+        }
+        let Ok(()) = self.store.push(byte) else {
+            return refuse(&mut self.refusal, Fault::Memory, place);
+        };
+        self.open_body = Some(OpenBody {
+            name: body.name,
+            show: body.show,
+            escape: None,
+        });
+        Ok(())
+    }
+
+    /// This byte behind a held ESC ends the open body.
+    fn end_body(
+        &mut self,
+        body: OpenBody,
+        escape: u64,
+        ender: u8,
+        place: u64,
+    ) -> Result<(), Refusal>
+        requires live { self.old.refusal ≡ None }
+        requires opened { self.old.open_body ≡ Some body }
+        requires held { body.escape ≡ Some escape }
+        requires ends { bodies.ends_body ender ≡ true }
+        ensures answered { MatchResult result (λ _. self.new.refusal ≡ None) (λ r. self.new.refusal ≡ Some r) }
+        ensures reaches { (s : S) (o : Outcome) (inputs : List Placed) →
+            Continues S.Sink s o self.old.sink (holding_of self.old) (placed_at ender place ∷ frames_left self.old ++ inputs) → ReachesWith self.new s o inputs }
+        ensures breaks { IfErr result (λ r. cause_of r.fault ≢ stream → (s : S) (known : List Entry) (o : Outcome) →
+            ContinuesPast S.Sink s known o self.old.sink (holding_of self.old) (placed_at ender place ∷ []) →
+            (r.place ≡ place) × BreaksFrom S.Sink s known o self.new.sink (cause_of r.fault)) }
+        ensures failed { IfErr result (λ r. r.fault ≡ Fault.Sink → S.failed self.new.sink ≡ true) }
+        ensures clear { OnOk result (S.failed self.old.sink ≡ false → S.failed self.new.sink ≡ false) }
+        ensures counts { Charges self.old self.new }
+        ensures uncharged { IfErr result (λ _. self.new.charged ≡ self.old.charged) }
+        ensures placed { OnOk result (Places self.old self.new place) }
+    {
+        if body.show {
+            return self.show_body(body, escape, ender, place);
+        }
+        self.store.bind(body.name);
+        self.open_body = None;
+        // (no run is open in a body)
+        self.open_run = None;
+        // The two bytes that end the body are the next code.
+        let _ = self.lexer.step(0x1B);
+        self.lex(ender, place)
+    }
+
+    /// The open body is shown: it comes next, with the two bytes that end it.
+    fn show_body(
+        &mut self,
+        body: OpenBody,
+        escape: u64,
+        byte: u8,
+        place: u64,
+    ) -> Result<(), Refusal>
+        requires live { self.old.refusal ≡ None }
+        requires opened { self.old.open_body ≡ Some body }
+        requires held { body.escape ≡ Some escape }
+        requires ends { bodies.ends_body byte ≡ true }
+        requires shows { body.show ≡ true }
+        ensures answered { MatchResult result (λ _. self.new.refusal ≡ None) (λ r. self.new.refusal ≡ Some r) }
+        ensures reaches { (s : S) (o : Outcome) (inputs : List Placed) →
+            Continues S.Sink s o self.old.sink (holding_of self.old) (placed_at byte place ∷ frames_left self.old ++ inputs) → ReachesWith self.new s o inputs }
+        ensures breaks { IfErr result (λ r. cause_of r.fault ≢ stream → r ≡ refusal Fault.Memory place) }
+        ensures sink { self.new.sink ≡ self.old.sink }
+        ensures counts { Charges self.old self.new }
+        ensures uncharged { IfErr result (λ _. self.new.charged ≡ self.old.charged) }
+        ensures placed { OnOk result (Places self.old self.new place) }
+    {
+        let count = self.store.open_len() as u64 + 2;
+        if count > self.left() {
+            return refuse(&mut self.refusal, Fault::Budget, place);
+        }
+        let Ok(span) = self.store.show(body.name, byte) else {
+            return refuse(&mut self.refusal, Fault::Memory, place);
+        };
+        self.open_body = None;
+        // (no run is open in a body)
+        self.open_run = None;
+        self.present(span, count, place)
+    }
+
+    /// Calls the macro of this name.
+    fn call(&mut self, name: u8, place: u64) -> Result<(), Refusal>
+        requires live { self.old.refusal ≡ None }
+        requires named { IsGraphic name }
+        ensures answered { MatchResult result (λ _. self.new.refusal ≡ None) (λ r. self.new.refusal ≡ Some r) }
+        ensures shows { Shows self.old self.new (body_of self.old.store.names name) place }
+        ensures breaks { IfErr result (λ r. cause_of r.fault ≢ stream →
+            (r ≡ refusal Fault.Memory place) × (0 < length (body_of self.old.store.names name)) × (length (body_of self.old.store.names name) ≤ left_of self.old)) }
+        ensures sink { self.new.sink ≡ self.old.sink }
+        ensures counts { Charges self.old self.new }
+        ensures uncharged { IfErr result (λ _. self.new.charged ≡ self.old.charged) }
+    {
+        let span = self.store.span(name);
+        let count = (span.end - span.start) as u64;
+        if count == 0 {
+            return Ok(());
+        }
+        if count > self.left() {
+            return refuse(&mut self.refusal, Fault::Budget, place);
+        }
+        self.present(span, count, place)
+    }
+
+    /// This part of the store comes next, at this place, and is charged.
+    fn present(&mut self, span: Span, count: u64, place: u64) -> Result<(), Refusal>
+        requires live { self.old.refusal ≡ None }
+        requires some { span.start < span.end }
+        requires within { span.end ≤ length self.old.store.bytes }
+        requires counted { count + span.start ≡ span.end }
+        requires few { count + self.old.charged ≤ self.old.budget }
+        requires most { count + self.old.charged ≤ MOST }
+        ensures answered { MatchResult result (λ _. self.new.refusal ≡ None) (λ r. self.new.refusal ≡ Some r) }
+        ensures shown { OnOk result (Presents self.old self.new (part_at self.old.store.bytes span) place) }
+        ensures wants { IfErr result (λ r. r ≡ refusal Fault.Memory place) }
+        ensures sink { self.new.sink ≡ self.old.sink }
+        ensures counts { Charges self.old self.new }
+        ensures uncharged { IfErr result (λ _. self.new.charged ≡ self.old.charged) }
+    {
+        let Ok(()) = self.frames.push(span, place) else {
+            return refuse(&mut self.refusal, Fault::Memory, place);
+        };
+        self.charged += count;
+        Ok(())
+    }
+
+    /// What is left to charge.
+    fn left(&self) -> u64
+        ensures left { result ≡ left_of self.now }
+        ensures most { result + self.now.charged ≤ MOST }
+    {
+        u64::from(self.budget.get()) - self.charged
     }
 
     /// The stream ends here: an open run acts, and then what is unfinished is refused.
@@ -245,6 +513,9 @@ impl<S: Sink> Reader<S> {
         if let Some(latched) = self.refusal {
             return Err(latched);
         }
+        if let Some(_) = self.open_body {
+            return refuse(&mut self.refusal, Fault::Unended, self.fed);
+        }
         let Some(open_run) = self.open_run else {
             return self.settle();
         };
@@ -252,7 +523,7 @@ impl<S: Sink> Reader<S> {
         self.settle()
     }
 
-    /// No run is open at the end, and what is unfinished is refused.
+    /// No run is open at the end, nor a body, and what is unfinished is refused.
     fn settle(&mut self) -> Result<(), Refusal>
         requires { self.old.refusal ≡ None }
         ensures settled { (s : S) (o : Outcome) → Ends S.Sink s o self.old.sink (holding_of self.old) →
@@ -314,6 +585,9 @@ impl<S: Sink> Reader<S> {
             open_run: _,
             run: _,
             room: _,
+            open_body: _,
+            store: _,
+            frames: _,
             refusal: _,
             fed: _,
             turns: _,

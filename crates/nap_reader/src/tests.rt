@@ -12,6 +12,7 @@ use std::test::Fail;
 
 mod definitions;
 mod faults;
+mod macros;
 mod sinks;
 mod text;
 
@@ -397,7 +398,6 @@ fn faults_have_numbers_and_names(rt: HostRuntime) {
         (Fault::from(DrawFault::Outside), 10, "Outside"),
         (Fault::LongRun, 13, "LongRun"),
         (Fault::Sink, 22, "Sink"),
-        (Fault::Unbuilt, 23, "Unbuilt"),
     ] {
         assert_eq!(rt; (fault.number(), fault.name()), (number, name));
     }

@@ -1,18 +1,9 @@
 //! Streams by hand, with the bytes that the profile gives them.
+use super::{normalises, refuses};
 use crate::normalise;
-use nap_reader::{Budget, Fault, Refusal};
+use nap_reader::{Budget, Fault};
 use std::alloc::{AllocError, Global};
-use std::process::Abort;
 use std::test::Fail;
-
-/// The stream has this canonical one, which is its own.
-fn normalises(rt: &impl Abort, alloc: Global, bytes: &[u8], want: &[u8]) -> Result<(), AllocError> {
-    let text = normalise(alloc, Budget::usual(), bytes).map_err(|_| AllocError)?;
-    assert_eq!(rt; text.as_slice(), want);
-    let again = normalise(alloc, Budget::usual(), want).map_err(|_| AllocError)?;
-    assert_eq!(rt; again.as_slice(), want);
-    Ok(())
-}
 
 #[test]
 fn streams_with_a_canonical_one(rt: HostRuntime) -> Result<(), Fail> {
@@ -98,12 +89,8 @@ fn the_longest_run(rt: HostRuntime) -> Result<(), Fail> {
         longest.map_err(|_| AllocError)?.as_slice(),
         corners(alloc, 5_462)?.as_slice()
     );
-    let longer = normalise(alloc, Budget::usual(), &long_run(alloc, 16_385)?);
-    let refusal = Refusal {
-        fault: Fault::LongRun,
-        place: 1,
-    };
-    assert_eq!(rt; longer.err(), Some(refusal));
+    let longer = long_run(alloc, 16_385)?;
+    refuses(&rt, alloc, &longer, Fault::LongRun, 1);
     Ok(())
 }
 
@@ -118,7 +105,6 @@ fn streams_without_a_canonical_one(rt: HostRuntime) {
         (b"\x0E&R\x19", Fault::Cut, 4),
     ];
     for (bytes, fault, place) in rows {
-        let answer = normalise(alloc, Budget::usual(), bytes);
-        assert_eq!(rt; answer.err(), Some(Refusal { fault, place }));
+        refuses(&rt, alloc, bytes, fault, place);
     }
 }

@@ -42,7 +42,7 @@ fn refused_pages(rt: HostRuntime) -> Result<(), Fail> {
         (
             "canon",
             b"1B 40 21".as_slice(),
-            "refused 23 Unbuilt at 2\n",
+            "refused 20 Unended at 3\n",
             1,
         ),
         ("check", b"0E2".as_slice(), "hex fault\n", 3),

@@ -123,33 +123,6 @@ fn definitions_that_are_refused(rt: HostRuntime) -> Result<(), Fail> {
 }
 
 #[test]
-fn macros_are_not_built(rt: HostRuntime) -> Result<(), Fail> {
-    let alloc = rt.alloc();
-    let glyph = &[Entry::GlyphStart(0x41)][..];
-    let point = &[middle()][..];
-    let none: &[Entry] = &[];
-    let rows = [
-        (b"\x1B@!".as_slice(), none, Fault::Unbuilt, 2, 3),
-        (b"\x1BA!", none, Fault::Unbuilt, 2, 3),
-        (b"\x0E&R\x1B@!A", point, Fault::Unbuilt, 5, 6),
-        (b"\x1BCA\x1B@!\x1BE", glyph, Fault::Unbuilt, 5, 6),
-        (b"\x1B@", none, Fault::Cut, 2, 2),
-        (b"\x1B@\x80", none, Fault::EighthBit, 2, 3),
-    ];
-    for (bytes, list, fault, place, fed) in rows {
-        let row = Row {
-            bytes,
-            list,
-            refusal: refusal(fault, place),
-            fed,
-        };
-        row.agrees_in_every_cut(&rt, alloc)?;
-    }
-    accepted(b"\x1B/z\x1D!\x0E&R", &[middle()]).agrees_in_every_cut(&rt, alloc)?;
-    Ok(())
-}
-
-#[test]
 fn starts_and_ends_are_no_characters(rt: HostRuntime) -> Result<(), Fail> {
     let alloc = rt.alloc();
     let list = [

@@ -1,8 +1,11 @@
-use Rattle.std.proofs.Common.{Some, None}
-use Rattle.nap_reader.specs.Holding.{holding_of}
+use Rattle.std.proofs.Common.{Some, None, subst, ◌∙◌}
+use Rattle.std.proofs.lemmas.Result.{err_from_is_err_and}
+use Rattle.nap_reader.specs.Breaking.{cause_of}
+use Rattle.nap_reader.specs.Holding.{ClosesBy, holding_of}
 use Rattle.nap_reader.specs.Standing.{IsTaken}
 use Rattle.nap_reader.specs.Stream.{begun, with_run, with_code}
-use Rattle.nap_reader.proofs.EndLemmas.{ends_still, ended_taken}
+use Rattle.nap_reader.proofs.BreakingLemmas.{in_run}
+use Rattle.nap_reader.proofs.EndLemmas.{body_ended, ends_still, ended_taken}
 use Rattle.nap_reader.proofs.LeadsLemmas.{leads_unrefused}
 use Rattle.nap_reader.proofs.ReadingLemmas.{on_ok_by, if_err_by, matched_ok, matched_err}
 use Rattle.nap_reader.proofs.reader.Reader.end.Goals as goal
@@ -15,7 +18,7 @@ returns-in_default-open_run-clause-ended g c =
     let o = begun r.budget p in
     let w = with_run o in
     let k = h.continues c.in_default.is in
-    let e = ends_still g.S.Sink s o r.sink (holding_of r) k c.in_default-open_run.is in
+    let e = ends_still g.S.Sink s o r.sink (holding_of r) k c.in_default-open_body.is c.in_default-open_run.is in
     ended_taken g.S.Sink s r.budget p r.sink (holding_of r) u.sink None r.fed (leads_unrefused g.S.Sink s o r.sink (holding_of r) k) e (h.fed c.in_default.is)
     (matched_ok (λ _. IsTaken g.S.Sink s (with_code w r.fed w.unfinished) u.sink None) (λ f. IsTaken g.S.Sink s (with_code w r.fed w.unfinished) u.sink (Some f)) c.settle.result a is (c.settle.ensures.settled s w e)))
 
@@ -27,6 +30,49 @@ returns-in_default-open_run-clause-refused g c =
     let o = begun r.budget p in
     let w = with_run o in
     let k = h.continues c.in_default.is in
-    let e = ends_still g.S.Sink s o r.sink (holding_of r) k c.in_default-open_run.is in
+    let e = ends_still g.S.Sink s o r.sink (holding_of r) k c.in_default-open_body.is c.in_default-open_run.is in
     ended_taken g.S.Sink s r.budget p r.sink (holding_of r) u.sink (Some f) r.fed (leads_unrefused g.S.Sink s o r.sink (holding_of r) k) e (h.fed c.in_default.is)
     (matched_err (λ _. IsTaken g.S.Sink s (with_code w r.fed w.unfinished) u.sink None) (λ f. IsTaken g.S.Sink s (with_code w r.fed w.unfinished) u.sink (Some f)) c.settle.result f is (c.settle.ensures.settled s w e)))
+
+pub returns-in-Some-open_body-clause-refused : goal.returns-in-Some-open_body-clause-refused
+returns-in-Some-open_body-clause-refused g c =
+    let r = c.args.self.now in
+    rw c.refuse.ensures.answer
+    (λ own s p h. body_ended g.S.Sink s r.budget p r.sink (holding_of r) c.in-Some-open_body.field-0 r.fed (h.continues c.in_default.is) c.in-Some-open_body.is (h.fed c.in_default.is))
+
+pub returns-in_err-close-clause-breaks : goal.returns-in_err-close-clause-breaks
+returns-in_err-close-clause-breaks g c =
+    let e = err_from_is_err_and c.from_residual.result c.from_residual.ensures.1 in
+    let r = c.args.self.now in
+    let u = c.close.new.self in
+    let f = c.in_err-close.field-0.0 in
+    rw (e.1, e.2)
+    (λ live broke s p h.
+    in_run g.S.Sink s r.budget p u.sink f (cause_of f.fault) broke
+    (subst (ClosesBy g.S.Sink s r.budget p u.sink (holding_of u)) c.in_err-close.ensures.answered (c.close.ensures.closes s p (h.continues live))))
+
+pub returns-clause-ended : goal.returns-clause-ended
+returns-clause-ended g c =
+    on_ok_by c.settle-2.result (λ a is s p h.
+    let r = c.args.self.now in
+    let t = c.close.new.self in
+    let u = c.settle-2.new.self in
+    let o = begun r.budget p in
+    let w = with_run o in
+    let k = h.continues c.in_default.is in
+    let e = subst (ClosesBy g.S.Sink s r.budget p t.sink (holding_of t)) c.in_ok-close.ensures.answered (c.close.ensures.closes s p k) in
+    ended_taken g.S.Sink s r.budget p t.sink (holding_of t) u.sink None t.fed (leads_unrefused g.S.Sink s o r.sink (holding_of r) k) e (c.close.ensures.counts.fed ∙ h.fed c.in_default.is)
+    (matched_ok (λ _. IsTaken g.S.Sink s (with_code w t.fed w.unfinished) u.sink None) (λ f. IsTaken g.S.Sink s (with_code w t.fed w.unfinished) u.sink (Some f)) c.settle-2.result a is (c.settle-2.ensures.settled s w e)))
+
+pub returns-clause-refused : goal.returns-clause-refused
+returns-clause-refused g c =
+    if_err_by c.settle-2.result (λ f is own s p h.
+    let r = c.args.self.now in
+    let t = c.close.new.self in
+    let u = c.settle-2.new.self in
+    let o = begun r.budget p in
+    let w = with_run o in
+    let k = h.continues c.in_default.is in
+    let e = subst (ClosesBy g.S.Sink s r.budget p t.sink (holding_of t)) c.in_ok-close.ensures.answered (c.close.ensures.closes s p k) in
+    ended_taken g.S.Sink s r.budget p t.sink (holding_of t) u.sink (Some f) t.fed (leads_unrefused g.S.Sink s o r.sink (holding_of r) k) e (c.close.ensures.counts.fed ∙ h.fed c.in_default.is)
+    (matched_err (λ _. IsTaken g.S.Sink s (with_code w t.fed w.unfinished) u.sink None) (λ f. IsTaken g.S.Sink s (with_code w t.fed w.unfinished) u.sink (Some f)) c.settle-2.result f is (c.settle-2.ensures.settled s w e)))

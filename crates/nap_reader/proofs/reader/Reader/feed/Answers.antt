@@ -1,10 +1,13 @@
-use Rattle.std.proofs.Common.{◌≡◌, ◌+◌, ℕ, List, ◌++◌, None, take, drop, get_or, refl, subst, sym, ◌∙◌, arith}
+use Rattle.std.proofs.Common.{◌≡◌, ◌+◌, ℕ, List, ◌++◌, None, length, ap, take, drop, get_or, subst, sym, ◌∙◌, arith}
 use Rattle.std.proofs.lemmas.List.{take_all}
 use Rattle.std.proofs.lemmas.Result.{err_from_is_err_and}
+use Rattle.nap_reader.specs.declared.frames.Frame.{Frame}
+use Rattle.nap_reader.specs.Framed.{unread}
 use Rattle.nap_reader.specs.Stream.{begun}
 use Rattle.nap_reader.specs.Breaking.{cause_of}
 use Rattle.nap_reader.specs.Standing.{Answers, Stands, StopsBy, left_of}
-use Rattle.nap_reader.proofs.StandingLemmas.{taken_more, taken_all, one_more, stops_by, stays, stands_stopped}
+use Rattle.nap_reader.proofs.StandingLemmas.{taken_more, taken_all, one_more, through, turn_stops, drain_stops, drain_breaks, stays, stands_stopped}
+use Rattle.nap_reader.proofs.PlaceLemmas.{places_first}
 use Rattle.nap_reader.proofs.reader.Reader.feed.Goals as goal
 
 pub returns-in-Some-clause-stands : goal.returns-in-Some-clause-stands
@@ -16,18 +19,27 @@ loop-byte-preserved g c =
     let piece = c.args.piece.now in
     let b = get_or piece i 0 in
     let now = c.loop-byte.self in
+    let d = c.drain.new.self in
     record {
-      live = c.in_ok-turn.ensures.answered;
-      budget = c.turn.ensures.counts.budget ∙ c.loop-byte.invariant.budget;
-      fed = omega (arith, c.turn.ensures.counts.fed, c.loop-byte.invariant.fed);
-      turns = omega (arith, c.turn.ensures.counts.turns, c.loop-byte.invariant.turns);
-      charged = c.turn.ensures.counts.charged ∙ c.loop-byte.invariant.charged;
-      clear = λ before. c.in_ok-turn.ensures.clear (c.loop-byte.invariant.clear before);
+      live = c.in_ok-drain.ensures.answered.0;
+      budget = c.drain.ensures.counts.budget ∙ c.turn.ensures.counts.budget ∙ c.loop-byte.invariant.budget;
+      fed = omega (arith, c.drain.ensures.counts.fed, c.turn.ensures.counts.fed, c.loop-byte.invariant.fed);
+      turns = omega (arith, c.drain.ensures.counts.turns, c.turn.ensures.counts.turns, c.loop-byte.invariant.turns);
+      charged = omega (arith, c.drain.ensures.counts.charged, c.turn.ensures.counts.charged, c.loop-byte.invariant.charged);
+      whole = λ _. let none = ap (λ (frames : List Frame). length (unread d.store.bytes frames)) c.in_ok-drain.ensures.answered.1 in omega (arith, d.turned, none);
+      clear = λ before. c.in_ok-drain.ensures.clear (c.in_ok-turn.ensures.clear (c.loop-byte.invariant.clear before));
       stands = λ s p h.
           let st = c.loop-byte.invariant.stands s p h in
-          subst (λ (q : List ℕ). Stands c.turn.new.self s q) (taken_more p piece i c.loop-byte-test.true)
-          (one_more _ c.turn.new.self b now.fed c.turn.ensures.counts s (p ++ take i piece) (st.fed c.loop-byte.invariant.live) (st.continues c.loop-byte.invariant.live) (c.turn.ensures.reaches s) c.in_ok-turn.ensures.answered refl);
+          let live = c.loop-byte.invariant.live in
+          subst (λ (q : List ℕ). Stands d s q) (taken_more p piece i c.loop-byte-test.true)
+          (one_more now d b now.fed (c.drain.ensures.counts.budget ∙ c.turn.ensures.counts.budget) s (p ++ take i piece) (st.fed live) (st.continues live)
+          (through now c.turn.new.self d b now.fed s (st.empty live) (c.turn.ensures.reaches s) c.in_ok-turn.ensures.answered (c.drain.ensures.reaches s))
+          c.in_ok-drain.ensures.answered.0 (omega (arith, c.drain.ensures.counts.fed, c.turn.ensures.counts.fed)) (ap (unread d.store.bytes) c.in_ok-drain.ensures.answered.1));
     }
+
+pub returns-clause-stands : goal.returns-clause-stands
+returns-clause-stands g c s p h =
+    subst (λ (q : List ℕ). Stands c.loop-byte.self s (p ++ q)) (take_all c.loop-byte.byte-index c.args.piece.now (omega arith)) (c.loop-byte.invariant.stands s p h)
 
 pub returns-in_err-turn-clause-stands : goal.returns-in_err-turn-clause-stands
 returns-in_err-turn-clause-stands g c s p h =
@@ -37,11 +49,11 @@ returns-in_err-turn-clause-stands g c s p h =
     let now = c.loop-byte.self in
     let u = c.turn.new.self in
     let r = c.in_err-turn.field-0.0 in
+    let live = c.loop-byte.invariant.live in
     let st = c.loop-byte.invariant.stands s p h in
-    let all = st.fed c.loop-byte.invariant.live in
-    let k = st.continues c.loop-byte.invariant.live in
-    let stop = stops_by _ u b now.fed c.turn.ensures.counts s (p ++ take i piece) all k (c.turn.ensures.reaches s) r c.in_err-turn.ensures.answered
-    (λ broke. c.in_err-turn.ensures.breaks broke s (p ++ take i piece) k all) in
+    let stop =
+    turn_stops now u b now.fed c.turn.ensures.counts.budget s (p ++ take i piece) (st.fed live) (st.empty live) (st.continues live) (c.turn.ensures.reaches s) r c.in_err-turn.ensures.answered
+    (λ broke. c.in_err-turn.ensures.breaks broke s (p ++ take i piece) (st.continues live) (st.fed live)) c.in_err-turn.ensures.uncharged in
     subst (λ (q : List ℕ). Stands u s q) (taken_all p piece i c.loop-byte-test.true)
     (stands_stopped u r s (p ++ take i piece) b (drop (i + 1) piece) c.in_err-turn.ensures.answered
     (subst (λ (budget : ℕ). StopsBy g.S.Sink s budget (p ++ take i piece) b u.sink (left_of u) r (cause_of r.fault)) (sym c.turn.ensures.counts.budget) stop))
@@ -55,6 +67,7 @@ returns-in_err-turn-clause-stops g c =
     let now = c.loop-byte.self in
     let u = c.turn.new.self in
     let r = c.in_err-turn.field-0.0 in
+    let live = c.loop-byte.invariant.live in
     rw (e.1, e.2) (λ unrefused. (
       i,
       record {
@@ -63,17 +76,69 @@ returns-in_err-turn-clause-stops g c =
         before = λ s p h.
             let st = c.loop-byte.invariant.stands s p h in
             subst (λ (budget : ℕ). (begun budget (p ++ take i piece)).refusal ≡ None) c.loop-byte.invariant.budget
-            (subst (Answers g.S.Sink s now.budget (p ++ take i piece) now.sink (left_of now)) c.loop-byte.invariant.live st.answers).refusal;
+            (subst (Answers g.S.Sink s now.budget (p ++ take i piece) now.sink (left_of now)) live st.answers).refusal;
         there = λ s p h.
             let st = c.loop-byte.invariant.stands s p h in
-            let all = st.fed c.loop-byte.invariant.live in
-            let k = st.continues c.loop-byte.invariant.live in
             subst (λ (budget : ℕ). StopsBy g.S.Sink s budget (p ++ take i piece) b u.sink (left_of u) r (cause_of r.fault)) c.loop-byte.invariant.budget
-            (stops_by _ u b now.fed c.turn.ensures.counts s (p ++ take i piece) all k (c.turn.ensures.reaches s) r c.in_err-turn.ensures.answered
-            (λ broke. c.in_err-turn.ensures.breaks broke s (p ++ take i piece) k all));
+            (turn_stops now u b now.fed c.turn.ensures.counts.budget s (p ++ take i piece) (st.fed live) (st.empty live) (st.continues live) (c.turn.ensures.reaches s) r c.in_err-turn.ensures.answered
+            (λ broke. c.in_err-turn.ensures.breaks broke s (p ++ take i piece) (st.continues live) (st.fed live)) c.in_err-turn.ensures.uncharged);
       },
     ))
 
-pub returns-clause-stands : goal.returns-clause-stands
-returns-clause-stands g c s p h =
-    subst (λ (q : List ℕ). Stands c.loop-byte.self s (p ++ q)) (take_all c.loop-byte.byte-index c.args.piece.now (omega arith)) (c.loop-byte.invariant.stands s p h)
+pub returns-in_err-drain-clause-stands : goal.returns-in_err-drain-clause-stands
+returns-in_err-drain-clause-stands g c s p h =
+    let i = c.loop-byte.byte-index in
+    let piece = c.args.piece.now in
+    let b = get_or piece i 0 in
+    let now = c.loop-byte.self in
+    let t = c.turn.new.self in
+    let u = c.drain.new.self in
+    let r = c.in_err-drain.field-0.0 in
+    let live = c.loop-byte.invariant.live in
+    let st = c.loop-byte.invariant.stands s p h in
+    let same = c.drain.ensures.counts.budget ∙ c.turn.ensures.counts.budget in
+    let there = places_first _ t now.fed (st.empty live) c.in_ok-turn.ensures.placed c.in_err-drain.ensures.some in
+    let stop =
+    drain_stops now t u b now.fed c.turn.ensures.counts.budget same c.turn.ensures.counts.charged c.drain.ensures.counts.charged s (p ++ take i piece) (st.fed live) (st.empty live) (st.continues live) (c.turn.ensures.reaches s)
+    c.in_ok-turn.ensures.answered (c.drain.ensures.reaches s) (c.in_err-drain.ensures.left s) r c.in_err-drain.ensures.answered
+    (λ broke.
+    drain_breaks now t u b now.fed c.turn.ensures.counts.budget (sym c.turn.ensures.counts.turns) (sym c.turn.ensures.counts.fed) g.met.S.Sink.took_more g.met.S.Sink.took_broke g.met.S.Sink.took_none
+    s (p ++ take i piece) (st.fed live) (st.empty live) (st.continues live) c.turn.ensures.reaches c.in_ok-turn.ensures.answered c.in_err-drain.ensures.some r
+    (λ s o inputs k. let h = c.in_err-drain.ensures.amid broke s o inputs k in (h.0, h.1 now.fed there.0 there.1 ∙ st.fed live))) in
+    subst (λ (q : List ℕ). Stands u s q) (taken_all p piece i c.loop-byte-test.true)
+    (stands_stopped u r s (p ++ take i piece) b (drop (i + 1) piece) c.in_err-drain.ensures.answered
+    (subst (λ (budget : ℕ). StopsBy g.S.Sink s budget (p ++ take i piece) b u.sink (left_of u) r (cause_of r.fault)) (sym same) stop))
+
+pub returns-in_err-drain-clause-stops : goal.returns-in_err-drain-clause-stops
+returns-in_err-drain-clause-stops g c =
+    let e = err_from_is_err_and c.from_residual-in_err-drain.result c.from_residual-in_err-drain.ensures.1 in
+    let i = c.loop-byte.byte-index in
+    let piece = c.args.piece.now in
+    let b = get_or piece i 0 in
+    let now = c.loop-byte.self in
+    let t = c.turn.new.self in
+    let u = c.drain.new.self in
+    let r = c.in_err-drain.field-0.0 in
+    let live = c.loop-byte.invariant.live in
+    let same = c.drain.ensures.counts.budget ∙ c.turn.ensures.counts.budget in
+    rw (e.1, e.2) (λ unrefused. (
+      i,
+      record {
+        within = c.loop-byte-test.true;
+        fed = omega (arith, c.drain.ensures.counts.fed, c.turn.ensures.counts.fed, c.loop-byte.invariant.fed);
+        before = λ s p h.
+            let st = c.loop-byte.invariant.stands s p h in
+            subst (λ (budget : ℕ). (begun budget (p ++ take i piece)).refusal ≡ None) c.loop-byte.invariant.budget
+            (subst (Answers g.S.Sink s now.budget (p ++ take i piece) now.sink (left_of now)) live st.answers).refusal;
+        there = λ s p h.
+            let st = c.loop-byte.invariant.stands s p h in
+            let there = places_first _ t now.fed (st.empty live) c.in_ok-turn.ensures.placed c.in_err-drain.ensures.some in
+            subst (λ (budget : ℕ). StopsBy g.S.Sink s budget (p ++ take i piece) b u.sink (left_of u) r (cause_of r.fault)) c.loop-byte.invariant.budget
+            (drain_stops now t u b now.fed c.turn.ensures.counts.budget same c.turn.ensures.counts.charged c.drain.ensures.counts.charged s (p ++ take i piece) (st.fed live) (st.empty live) (st.continues live) (c.turn.ensures.reaches s)
+            c.in_ok-turn.ensures.answered (c.drain.ensures.reaches s) (c.in_err-drain.ensures.left s) r c.in_err-drain.ensures.answered
+            (λ broke.
+            drain_breaks now t u b now.fed c.turn.ensures.counts.budget (sym c.turn.ensures.counts.turns) (sym c.turn.ensures.counts.fed) g.met.S.Sink.took_more g.met.S.Sink.took_broke g.met.S.Sink.took_none
+            s (p ++ take i piece) (st.fed live) (st.empty live) (st.continues live) c.turn.ensures.reaches c.in_ok-turn.ensures.answered c.in_err-drain.ensures.some r
+            (λ s o inputs k. let h = c.in_err-drain.ensures.amid broke s o inputs k in (h.0, h.1 now.fed there.0 there.1 ∙ st.fed live))));
+      },
+    ))

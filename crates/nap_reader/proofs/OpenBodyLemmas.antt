@@ -1,0 +1,412 @@
+use Rattle.std.proofs.Common.{ℕ, ◌+◌, ◌-◌, ◌≡◌, ◌≢◌, ◌<◌, ◌≤◌, List, [], ◌∷◌, ◌++◌, length, take, drop, Bool, true, false, cond, eqb, leb, Option, Some, None, refl, ap, sym, ◌∙◌, subst, arith, append_assoc, append-nil, length-append}
+use Rattle.std.proofs.lemmas.List.{length-map, take-append-le, take_all, drop-append-le}
+use Rattle.std.proofs.lemmas.Bool.Decides.{nat_tests}
+use Rattle.std.proofs.Math.ListN.{drop_of_length-le}
+use Rattle.nap_codes.specs.declared.code_set.CodeSets.{CodeSets}
+use Rattle.nap_codes.specs.Tables.{row_of, control0_rows}
+use Rattle.nap_codes.specs.declared.code.Step.{Step}
+use Rattle.nap_codes.specs.Lexer.{LexerState, StepsBy}
+use Rattle.nap_codes.specs.Front as codes
+use Rattle.nap_list.specs.declared.entry.Entry.{Entry}
+use Rattle.nap_list.specs.declared.sink.Sink.{Ghosts}
+use Rattle.nap_reader.specs.declared.body.OpenBody.{OpenBody}
+use Rattle.nap_reader.specs.declared.fault.Fault.TheVariants as faults
+use Rattle.nap_reader.specs.Bodies as bodies
+use Rattle.nap_reader.specs.Bodies.{Mode, between, in_body, BodyFront, one_further, stores, ends_body, store_limit, body_front}
+use Rattle.nap_reader.specs.Course as course
+use Rattle.nap_reader.specs.Course.{prepend, onward}
+use Rattle.nap_reader.specs.Stream.{Placed, Machine, Outcome, bytes_of, refusal, place_at, after_body, bound_front, shown_front, body_front_by, front, outcome_from}
+use Rattle.nap_reader.specs.Holding.{Holding, held_escape, past, AreOfBody, AtBody, IsOpenBody, IsHeld, IsHeldIn, IsRefused, Continues, ReadsOn}
+use Rattle.nap_reader.proofs.LeadsLemmas.{front_body, leads_to_refusal, leads_past, leads_shift}
+use Rattle.nap_reader.proofs.ReadingLemmas.{holds_half, nothing_yet, code_goes_on}
+use Rattle.nap_reader.proofs.StreamLemmas.{bytes_of-append, outcome_from-front}
+
+-- What the next byte of an open body does.
+
+-- a byte that is neither ESC nor has the eighth bit
+pub record IsPlain (byte : ℕ) : Type 0 where
+  pub low : byte < 128
+  pub other : byte ≢ 27
+
+past-further : (n : ℕ) (f : BodyFront) → past n (one_further f) ≡ past (n + 1) f
+past-further n bodies.unfinished = refl
+past-further n (bodies.refused fault i) = ap (bodies.refused fault) (omega arith)
+past-further n (bodies.ended k) = ap bodies.ended (omega arith)
+
+pub stores-some : (room : ℕ) (f : BodyFront) → room ≢ 0 → stores room f ≡ one_further f
+stores-some room f some = at (eqb room 0) refl
+  where
+    at : (b : Bool) → eqb room 0 ≡ b → cond b (bodies.refused faults.Store 0) (one_further f) ≡ one_further f
+    at true e = absurd (some (grind (arith, nat_tests)))
+    at false e = refl
+
+pub stores-none : (room : ℕ) (f : BodyFront) → room ≡ 0 → stores room f ≡ bodies.refused faults.Store 0
+stores-none room f none = rw none refl
+
+pub plain_front : (room byte : ℕ) (bytes : List ℕ) → IsPlain byte → body_front room (byte ∷ bytes) ≡ stores room (body_front (room - 1) bytes)
+unfolding body_front
+plain_front room byte bytes plain =
+    let low : leb 128 byte ≡ false = grind (arith, nat_tests, plain.low) in
+    let other : eqb byte 27 ≡ false = grind (arith, nat_tests, plain.other) in
+    rw (low, other) refl
+
+-- ESC, and behind it a byte that doesn't end the body
+pub escape_front : (room byte : ℕ) (bytes : List ℕ) → byte < 128 → ends_body byte ≡ false →
+    body_front room (27 ∷ byte ∷ bytes) ≡ stores room (body_front (room - 1) (byte ∷ bytes))
+unfolding body_front
+escape_front room byte bytes few ends =
+    let low : leb 128 byte ≡ false = grind (arith, nat_tests) in
+    rw (low, ends) refl
+
+-- ESC, and behind it a byte that ends the body
+pub ended_front : (room byte : ℕ) (bytes : List ℕ) → ends_body byte ≡ true → body_front room (27 ∷ byte ∷ bytes) ≡ bodies.ended 0
+unfolding body_front
+ended_front room byte bytes ends =
+    let low : leb 128 byte ≡ false = grind (arith, nat_tests, ends) in
+    rw (low, ends) refl
+
+eighth_front : (room byte : ℕ) (bytes : List ℕ) → 128 ≤ byte → body_front room (byte ∷ bytes) ≡ bodies.refused faults.EighthBit 0
+unfolding body_front
+eighth_front room byte bytes high =
+    let test : leb 128 byte ≡ true = grind (arith, nat_tests) in
+    rw test refl
+
+eighth_escape : (room byte : ℕ) (bytes : List ℕ) → 128 ≤ byte → body_front room (27 ∷ byte ∷ bytes) ≡ bodies.refused faults.EighthBit 1
+unfolding body_front
+eighth_escape room byte bytes high =
+    let test : leb 128 byte ≡ true = grind (arith, nat_tests) in
+    rw test refl
+
+-- a byte that belongs to the body, whatever comes behind it
+of_body : (room : ℕ) (body : List ℕ) (byte : ℕ) (next more : List ℕ) →
+    body_front room (body ++ (byte ∷ (next ++ more))) ≡ past (length body) (stores (room - length body) (body_front (room - length body - 1) (next ++ more))) →
+    room - length body ≢ 0 →
+    body_front room ((body ++ byte ∷ []) ++ (next ++ more)) ≡ past (length (body ++ byte ∷ [])) (body_front (room - length (body ++ byte ∷ [])) (next ++ more))
+of_body room body byte next more is some =
+    let n = length body in
+    let longer : length (body ++ byte ∷ []) ≡ n + 1 = length-append body (byte ∷ []) in
+    let less : room - n - 1 ≡ room - length (body ++ byte ∷ []) = omega (arith, longer) in
+    ap (body_front room) (append_assoc body (byte ∷ []) (next ++ more))
+    ∙ is
+    ∙ ap (past n) (stores-some (room - n) (body_front (room - n - 1) (next ++ more)) some)
+    ∙ past-further n (body_front (room - n - 1) (next ++ more))
+    ∙ ap (λ (k : ℕ). past k (body_front (room - n - 1) (next ++ more))) (sym longer)
+    ∙ ap (λ (k : ℕ). past (length (body ++ byte ∷ [])) (body_front k (next ++ more))) less
+
+past-none : (f : BodyFront) → past 0 f ≡ f
+past-none bodies.unfinished = refl
+past-none (bodies.refused fault i) = ap (bodies.refused fault) (omega arith)
+past-none (bodies.ended k) = ap bodies.ended (omega arith)
+
+-- ESC is a half-read code
+pub escape_unfinished : (sets : CodeSets) → codes.front sets (27 ∷ []) ≡ codes.unfinished
+unfolding codes.front codes.control0_front row_of control0_rows codes.one_further codes.more_front codes.escape_front
+escape_unfinished sets = refl
+
+-- what the lexer does with ESC
+pub escape_steps : (old : LexerState) (step : Step) (new : LexerState) → old.half ≡ [] → StepsBy (codes.front old.sets (old.half ++ 27 ∷ [])) old 27 step new →
+    new ≡ record { sets = old.sets; half = 27 ∷ [] }
+escape_steps old step new none h =
+    let front : codes.front old.sets (old.half ++ 27 ∷ []) ≡ codes.unfinished = ap (λ (bs : List ℕ). codes.front old.sets (bs ++ 27 ∷ [])) none ∙ escape_unfinished old.sets in
+    let k = subst (λ (f : codes.Front). StepsBy f old 27 step new) front h in
+    k.1 ∙ ap (λ (bs : List ℕ). record { sets = old.sets; half = bs ++ 27 ∷ [] }) none
+
+-- a body begins
+pub body_begins : (b : OpenBody) (h : Holding) → b.escape ≡ None → h.machine.mode ≡ in_body b.name b.show → h.body ≡ [] → h.open_run ≡ None → h.half ≡ [] →
+    IsOpenBody [] b h
+body_begins b h none mode empty still half =
+    let room = store_limit - h.machine.stored in
+    let at : AtBody [] b h [] = record {
+      mode = mode;
+      body = sym empty;
+      goes_on = λ more.
+          rw empty
+          (sym (past-none (body_front (room - 0) more) ∙ ap (λ (n : ℕ). body_front n more) (let e : room - 0 ≡ room = omega arith in e)));
+      still = still;
+      half = half;
+    } in
+    record {
+      bytes = [];
+      is = ap held_escape (sym none);
+      at = subst (λ (e : Option ℕ). AtBody [] b h (bytes_of (held_escape e))) (sym none) at;
+    }
+
+-- places
+
+place_at-behind : (rest : List Placed) (x : Placed) (pending : List Placed) (n : ℕ) → n ≡ length rest → place_at (rest ++ x ∷ pending) n ≡ x.place
+place_at-behind [] x pending n e = rw e refl
+place_at-behind (y ∷ rest) x pending n e = rw e (place_at-behind rest x pending (length rest) refl)
+
+held_length : (rest : List Placed) (b : OpenBody) (h : Holding) (next : List ℕ) → AtBody rest b h next → length h.body ≡ length rest
+held_length rest b h next at = ap length (sym at.body) ∙ length-map rest _
+
+-- what stands at the front of bytes of a body, and of what comes behind them
+body_at : (rest : List Placed) (b : OpenBody) (h : Holding) (next : List ℕ) (xs : List Placed) (more : List ℕ) → AtBody rest b h next → bytes_of xs ≡ next ++ more →
+    front h.machine (rest ++ xs)
+    ≡ body_front_by h.machine b.name b.show (rest ++ xs) (past (length h.body) (body_front (store_limit - h.machine.stored - length h.body) (next ++ more)))
+body_at rest b h next xs more at is =
+    front_body rest b h xs at.mode
+    ∙ ap (body_front_by h.machine b.name b.show (rest ++ xs))
+    (ap (body_front (store_limit - h.machine.stored))
+    (bytes_of-append rest xs ∙ ap (λ (bs : List ℕ). bs ++ bytes_of xs) at.body ∙ ap (λ (bs : List ℕ). h.body ++ bs) is)
+    ∙ at.goes_on more)
+
+-- what is known before the next byte of a body
+module _ {S : Type 0} (g : Ghosts S) (s : S) (o : Outcome) (t : S) (h : Holding) (b : OpenBody) (x : Placed) (pending : List Placed)
+    (k : ReadsOn g s o t h b x pending) where
+  abbrev room : ℕ
+  room = store_limit - h.machine.stored - length h.body
+
+  next_front : (f : BodyFront) → body_front room (x.byte ∷ bytes_of pending) ≡ f →
+      front h.machine (k.rest ++ x ∷ pending) ≡ body_front_by h.machine b.name b.show (k.rest ++ x ∷ pending) (past (length h.body) f)
+  next_front f e =
+      body_at k.rest b h (x.byte ∷ []) (x ∷ pending) (bytes_of pending) k.at refl
+      ∙ ap (λ (f : BodyFront). body_front_by h.machine b.name b.show (k.rest ++ x ∷ pending) (past (length h.body) f)) e
+
+  -- it has no room
+  pub byte_full : IsPlain x.byte → room ≡ 0 → IsRefused g s o t h (refusal faults.Store x.place)
+  byte_full plain none =
+      let e = next_front (bodies.refused faults.Store 0) (plain_front room x.byte (bytes_of pending) plain ∙ stores-none room _ none) in
+      let place = place_at-behind k.rest x pending (length h.body + 0) (omega (arith, held_length k.rest b h (x.byte ∷ []) k.at)) in
+      let is : o ≡ prepend k.done (onward outcome_from h.machine (k.rest ++ x ∷ pending) (course.refuse (refusal faults.Store x.place))) =
+      k.leads ∙ ap (prepend k.done) (outcome_from-front h.machine (k.rest ++ x ∷ pending)
+      ∙ ap (onward outcome_from h.machine (k.rest ++ x ∷ pending)) (e ∙ ap (λ (n : ℕ). course.refuse (refusal faults.Store n)) place)) in (
+        ap (λ (o : Outcome). o.refusal) is,
+        subst (λ (es : List Entry). g.took s es t) (sym (ap (λ (o : Outcome). o.entries) is ∙ append-nil k.done)) k.taken,
+        ap (λ (o : Outcome). o.machine.left) is,
+      )
+
+  -- what is held once the byte is read
+  abbrev pub reading_on : Option ℕ → List ℕ → Holding
+  reading_on escape body = record h {
+    machine = record h.machine { mode = in_body b.name b.show };
+    open_body = Some (record { name = b.name; show = b.show; escape = escape });
+    body = body;
+  }
+
+  shifts : (h' : Holding) → h'.machine ≡ record h.machine { mode = in_body b.name b.show } → IsHeld (k.rest ++ x ∷ []) h' → Continues g s o t h' pending
+  shifts h' same held = record {
+    done = k.done;
+    taken = k.taken;
+    clear = k.clear;
+    rest = k.rest ++ x ∷ [];
+    held = held;
+    leads =
+        k.leads
+        ∙ ap (λ (mode : Mode). prepend k.done (outcome_from (record h.machine { mode = mode }) (k.rest ++ x ∷ pending))) k.at.mode
+        ∙ ap (λ (m : Machine). prepend k.done (outcome_from m (k.rest ++ x ∷ pending))) (sym same)
+        ∙ ap (λ (xs : List Placed). prepend k.done (outcome_from h'.machine xs)) (sym (append_assoc k.rest (x ∷ []) pending));
+  }
+
+  bytes_more : bytes_of (k.rest ++ x ∷ []) ≡ h.body ++ x.byte ∷ []
+  bytes_more = bytes_of-append k.rest (x ∷ []) ∙ ap (λ (bs : List ℕ). bs ++ x.byte ∷ []) k.at.body
+
+  -- it is a byte of the body
+  pub byte_kept : IsPlain x.byte → room ≢ 0 → Continues g s o t (reading_on None (h.body ++ x.byte ∷ [])) pending
+  byte_kept plain some = shifts (reading_on None (h.body ++ x.byte ∷ [])) refl (record {
+    bytes = k.rest ++ x ∷ [];
+    is = sym (append-nil (k.rest ++ x ∷ []));
+    at = record {
+      mode = refl;
+      body = bytes_more;
+      goes_on = λ more.
+          of_body (store_limit - h.machine.stored) h.body x.byte [] more
+          (k.at.goes_on more ∙ ap (past (length h.body)) (plain_front room x.byte more plain)) some;
+      still = k.at.still;
+      half = k.at.half;
+    };
+  })
+
+  -- it is ESC
+  pub escape_held : x ≡ record { byte = 27; place = x.place } → Continues g s o t (reading_on (Some x.place) h.body) pending
+  escape_held is = shifts (reading_on (Some x.place) h.body) refl (record {
+    bytes = k.rest;
+    is = ap (λ (y : Placed). k.rest ++ y ∷ []) is;
+    at = record {
+      mode = refl;
+      body = k.at.body;
+      goes_on = subst (λ (y : Placed). AreOfBody (store_limit - h.machine.stored) h.body (y.byte ∷ [])) is k.at.goes_on;
+      still = k.at.still;
+      half = k.at.half;
+    };
+  })
+
+-- a byte behind an open body
+module _ {S : Type 0} (g : Ghosts S) (s : S) (o : Outcome) (t : S) (h : Holding) (b : OpenBody) (opened : h.open_body ≡ Some b) (x : Placed) (pending : List Placed)
+    (k : Continues g s o t h (x ∷ pending)) where
+  pub held_body : IsOpenBody k.rest b h
+  held_body = subst (IsHeldIn k.rest h) opened k.held
+
+  abbrev unread_room : ℕ
+  unread_room = store_limit - h.machine.stored - length h.body
+
+  -- what is held once the body has ended
+  pub body_over : (m : Machine) → m.mode ≡ between → IsHeld [] (record h { machine = m; open_run = None; open_body = None; body = [] })
+  body_over m mode =
+      holds_half (record h { machine = m; open_run = None; open_body = None; body = [] }) [] refl mode refl refl (sym held_body.at.half)
+      (ap (codes.front m.sets) held_body.at.half ∙ nothing_yet m.sets)
+
+  -- where no ESC is held
+  pub reads_on : b.escape ≡ None → ReadsOn g s o t h b x pending
+  reads_on none =
+      let at : AtBody held_body.bytes b h [] = subst (λ (e : Option ℕ). AtBody held_body.bytes b h (bytes_of (held_escape e))) none held_body.at in
+      let all : k.rest ≡ held_body.bytes = held_body.is ∙ ap (λ (e : Option ℕ). held_body.bytes ++ held_escape e) none ∙ append-nil held_body.bytes in
+      record {
+        done = k.done;
+        taken = k.taken;
+        clear = k.clear;
+        rest = held_body.bytes;
+        at = record { mode = at.mode; body = at.body; goes_on = λ more. at.goes_on (x.byte ∷ more); still = at.still; half = at.half };
+        leads = k.leads ∙ ap (λ (xs : List Placed). prepend k.done (outcome_from h.machine (xs ++ x ∷ pending))) all;
+      }
+
+  -- what stands at the front where an ESC is held at this place
+  module _ (place : ℕ) (held : b.escape ≡ Some place) where
+    abbrev escape : Placed
+    escape = record { byte = 27; place = place }
+
+    at_escape : AtBody held_body.bytes b h (27 ∷ [])
+    at_escape = subst (λ (e : Option ℕ). AtBody held_body.bytes b h (bytes_of (held_escape e))) held held_body.at
+
+    rest_is : k.rest ++ x ∷ pending ≡ held_body.bytes ++ escape ∷ x ∷ pending
+    rest_is =
+        ap (λ (xs : List Placed). xs ++ x ∷ pending) (held_body.is ∙ ap (λ (e : Option ℕ). held_body.bytes ++ held_escape e) held)
+        ∙ append_assoc held_body.bytes (escape ∷ []) (x ∷ pending)
+
+    escape_at_front : (f : BodyFront) → body_front unread_room (27 ∷ x.byte ∷ bytes_of pending) ≡ f →
+        front h.machine (k.rest ++ x ∷ pending)
+        ≡ body_front_by h.machine b.name b.show (held_body.bytes ++ escape ∷ x ∷ pending) (past (length h.body) f)
+    escape_at_front f e =
+        ap (front h.machine) rest_is
+        ∙ body_at held_body.bytes b h (27 ∷ []) (escape ∷ x ∷ pending) (x.byte ∷ bytes_of pending) at_escape refl
+        ∙ ap (λ (f : BodyFront). body_front_by h.machine b.name b.show (held_body.bytes ++ escape ∷ x ∷ pending) (past (length h.body) f)) e
+
+    body_length : length h.body ≡ length held_body.bytes
+    body_length = held_length held_body.bytes b h (27 ∷ []) at_escape
+
+    -- it belongs to the body, and has no room
+    pub escape_full : x.byte < 128 → ends_body x.byte ≡ false → unread_room ≡ 0 → IsRefused g s o t h (refusal faults.Store place)
+    escape_full few ends none =
+        let e = escape_at_front (bodies.refused faults.Store 0) (escape_front unread_room x.byte (bytes_of pending) few ends ∙ stores-none unread_room _ none) in
+        let there = place_at-behind held_body.bytes escape (x ∷ pending) (length h.body + 0) (omega (arith, body_length)) in
+        leads_to_refusal g s o t h (x ∷ pending) k _ (e ∙ ap (λ (n : ℕ). course.refuse (refusal faults.Store n)) there)
+
+    -- it belongs to the body
+    pub escape_kept : x.byte < 128 → ends_body x.byte ≡ false → unread_room ≢ 0 → ReadsOn g s o t (record h { body = h.body ++ 27 ∷ [] }) b x pending
+    escape_kept few ends some =
+        record {
+          done = k.done;
+          taken = k.taken;
+          clear = k.clear;
+          rest = held_body.bytes ++ escape ∷ [];
+          at = record {
+            mode = at_escape.mode;
+            body = bytes_of-append held_body.bytes (escape ∷ []) ∙ ap (λ (bs : List ℕ). bs ++ 27 ∷ []) at_escape.body;
+            goes_on = λ more.
+                of_body (store_limit - h.machine.stored) h.body 27 (x.byte ∷ []) more
+                (at_escape.goes_on (x.byte ∷ more) ∙ ap (past (length h.body)) (escape_front unread_room x.byte more few ends)) some;
+            still = at_escape.still;
+            half = at_escape.half;
+          };
+          leads = k.leads ∙ ap (λ (xs : List Placed). prepend k.done (outcome_from h.machine xs)) (rest_is ∙ sym (append_assoc held_body.bytes (escape ∷ []) (x ∷ pending)));
+        }
+
+    -- the body has ended
+    module _ (ends : ends_body x.byte ≡ true) where
+      abbrev xs : List Placed
+      xs = held_body.bytes ++ escape ∷ x ∷ pending
+
+      ends_at : front h.machine (k.rest ++ x ∷ pending) ≡ bound_front h.machine b.name b.show (length h.body) xs
+      ends_at =
+          escape_at_front (bodies.ended 0) (ended_front unread_room x.byte (bytes_of pending) ends)
+          ∙ ap (λ (n : ℕ). bound_front h.machine b.name b.show n xs) (let e : length h.body + 0 ≡ length h.body = omega arith in e)
+
+      bytes_are : bytes_of xs ≡ h.body ++ 27 ∷ x.byte ∷ bytes_of pending
+      bytes_are = bytes_of-append held_body.bytes (escape ∷ x ∷ pending) ∙ ap (λ (bs : List ℕ). bs ++ 27 ∷ x.byte ∷ bytes_of pending) at_escape.body
+
+      body_taken : take (length h.body) (bytes_of xs) ≡ h.body
+      body_taken =
+          ap (take (length h.body)) bytes_are
+          ∙ take-append-le (length h.body) h.body (27 ∷ x.byte ∷ bytes_of pending) (omega arith)
+          ∙ take_all (length h.body) h.body (omega arith)
+
+      pair_left : drop (length h.body) xs ≡ escape ∷ x ∷ pending
+      pair_left =
+          ap (λ (n : ℕ). drop n xs) body_length
+          ∙ drop-append-le (length held_body.bytes) held_body.bytes (escape ∷ x ∷ pending) (omega arith)
+          ∙ ap (λ (ys : List Placed). ys ++ escape ∷ x ∷ pending) (drop_of_length-le held_body.bytes {i = length held_body.bytes} (omega arith))
+
+      -- and its end is the next code
+      pub body_binds : b.show ≡ false →
+          front h.machine (k.rest ++ x ∷ pending) ≡ course.act [] (after_body h.machine b.name h.body) (escape ∷ x ∷ pending)
+      body_binds hidden =
+          ends_at
+          ∙ ap (λ (show : Bool). bound_front h.machine b.name show (length h.body) xs) hidden
+          ∙ ap (λ (body : List ℕ). course.act [] (after_body h.machine b.name body) (drop (length h.body) xs)) body_taken
+          ∙ ap (course.act [] (after_body h.machine b.name h.body)) pair_left
+
+      pub body_bound : b.show ≡ false →
+          Continues g s o t (record h { machine = after_body h.machine b.name h.body; half = 27 ∷ []; open_run = None; open_body = None; body = [] }) (x ∷ pending)
+      body_bound hidden =
+          let h' : Holding = record h { machine = after_body h.machine b.name h.body; half = []; open_run = None; open_body = None; body = [] } in
+          let there = leads_past g s o t h (x ∷ pending) k h' (escape ∷ x ∷ pending) (holds_half h' [] refl refl refl refl refl (nothing_yet h.machine.sets)) (body_binds hidden) in
+          code_goes_on g s o t h' refl refl escape (x ∷ pending) there (escape_unfinished h.machine.sets)
+
+      pub same_done : (hidden : b.show ≡ false) → (body_bound hidden).done ≡ k.done
+      unfolding body_bound leads_past leads_shift code_goes_on
+      same_done hidden = refl
+
+      behind : (n : ℕ) (ys zs : List Placed) → n ≡ length ys → drop n (ys ++ zs) ≡ zs
+      behind n ys zs e =
+          ap (λ (n : ℕ). drop n (ys ++ zs)) e
+          ∙ drop-append-le (length ys) ys zs (omega arith)
+          ∙ ap (λ (us : List Placed). us ++ zs) (drop_of_length-le ys {i = length ys} (omega arith))
+
+      -- or it is shown
+      pub body_shows : b.show ≡ true →
+          front h.machine (k.rest ++ x ∷ pending) ≡ shown_front (after_body h.machine b.name h.body) x.place (h.body ++ 27 ∷ x.byte ∷ []) pending
+      body_shows shown =
+          let n : ℕ = length h.body in
+          let all : List Placed = held_body.bytes ++ escape ∷ x ∷ [] in
+          let joined : xs ≡ all ++ pending = sym (append_assoc held_body.bytes (escape ∷ x ∷ []) pending) in
+          let before : List Placed = held_body.bytes ++ escape ∷ [] in
+          let last : xs ≡ before ++ x ∷ pending = sym (append_assoc held_body.bytes (escape ∷ []) (x ∷ pending)) in
+          let place : place_at xs (n + 1) ≡ x.place =
+          ap (λ (ys : List Placed). place_at ys (n + 1)) last
+          ∙ place_at-behind before x pending (n + 1) (omega (arith, body_length, length-append held_body.bytes (escape ∷ []))) in
+          let bytes : take (n + 2) (bytes_of xs) ≡ h.body ++ 27 ∷ x.byte ∷ [] =
+          ap (take (n + 2)) (bytes_are ∙ sym (append_assoc h.body (27 ∷ x.byte ∷ []) (bytes_of pending)))
+          ∙ take-append-le (n + 2) (h.body ++ 27 ∷ x.byte ∷ []) (bytes_of pending) (omega (arith, length-append h.body (27 ∷ x.byte ∷ [])))
+          ∙ take_all (n + 2) (h.body ++ 27 ∷ x.byte ∷ []) (omega (arith, length-append h.body (27 ∷ x.byte ∷ []))) in
+          let left : drop (n + 2) xs ≡ pending =
+          ap (drop (n + 2)) joined ∙ behind (n + 2) all pending (omega (arith, body_length, length-append held_body.bytes (escape ∷ x ∷ []))) in
+          ends_at
+          ∙ ap (λ (show : Bool). bound_front h.machine b.name show n xs) shown
+          ∙ ap (λ (body : List ℕ). shown_front (after_body h.machine b.name body) (place_at xs (n + 1)) (take (n + 2) (bytes_of xs)) (drop (n + 2) xs)) body_taken
+          ∙ ap (λ (p : ℕ). shown_front (after_body h.machine b.name h.body) p (take (n + 2) (bytes_of xs)) (drop (n + 2) xs)) place
+          ∙ ap (λ (bs : List ℕ). shown_front (after_body h.machine b.name h.body) x.place bs (drop (n + 2) xs)) bytes
+          ∙ ap (shown_front (after_body h.machine b.name h.body) x.place (h.body ++ 27 ∷ x.byte ∷ [])) left
+
+  -- the byte has the eighth bit
+  pub byte_eighth : 128 ≤ x.byte → IsRefused g s o t h (refusal faults.EighthBit x.place)
+  unfolding reads_on held_body
+  byte_eighth high = at b.escape refl
+    where
+      at : (e : Option ℕ) → b.escape ≡ e → IsRefused g s o t h (refusal faults.EighthBit x.place)
+      at None none =
+          let r = reads_on none in
+          let all : k.rest ≡ r.rest = held_body.is ∙ ap (λ (e : Option ℕ). held_body.bytes ++ held_escape e) none ∙ append-nil held_body.bytes in
+          let there = place_at-behind r.rest x pending (length h.body + 0) (omega (arith, held_length r.rest b h (x.byte ∷ []) r.at)) in
+          leads_to_refusal g s o t h (x ∷ pending) k _
+          (ap (λ (ys : List Placed). front h.machine (ys ++ x ∷ pending)) all
+          ∙ next_front g s o t h b x pending r _ (eighth_front unread_room x.byte (bytes_of pending) high)
+          ∙ ap (λ (n : ℕ). course.refuse (refusal faults.EighthBit n)) there)
+      at (Some place) held =
+          let escape : Placed = record { byte = 27; place = place } in
+          let before : List Placed = held_body.bytes ++ escape ∷ [] in
+          let there : place_at (held_body.bytes ++ escape ∷ x ∷ pending) (length h.body + 1) ≡ x.place =
+          ap (λ (ys : List Placed). place_at ys (length h.body + 1)) (sym (append_assoc held_body.bytes (escape ∷ []) (x ∷ pending)))
+          ∙ place_at-behind before x pending (length h.body + 1) (omega (arith, body_length place held, length-append held_body.bytes (escape ∷ []))) in
+          leads_to_refusal g s o t h (x ∷ pending) k _
+          (escape_at_front place held _ (eighth_escape unread_room x.byte (bytes_of pending) high)
+          ∙ ap (λ (n : ℕ). course.refuse (refusal faults.EighthBit n)) there)

@@ -1,0 +1,26 @@
+use Rattle.std.specs.Prelude.{◌<◌, ◌≤◌, ◌++◌, ℕ, List, [], ◌∷◌, All}
+use Rattle.nap_reader.specs.declared.frames.Frame.{Frame}
+use Rattle.nap_reader.specs.Stored.{part}
+use Rattle.nap_reader.specs.Stream.{Placed, all_at}
+
+-- What the bodies that are being read have still to give.
+
+-- a byte at a place
+abbrev pub placed_at : ℕ → ℕ → Placed
+placed_at byte place = record { byte = byte; place = place }
+
+-- the bytes of one body
+abbrev pub frame_bytes : List ℕ → Frame → List Placed
+frame_bytes bytes frame = all_at frame.place (part bytes frame.next frame.end)
+
+-- the bytes of all, from the last down
+abbrev pub unread : List ℕ → List Frame → List Placed
+unread bytes [] = []
+unread bytes (frame ∷ frames) = unread bytes frames ++ frame_bytes bytes frame
+
+-- each has a byte to give, in the store
+abbrev pub IsFrame : ℕ → Frame → Type 0
+IsFrame n frame = (frame.next < frame.end) × (frame.end ≤ n)
+
+abbrev pub FramesIn : ℕ → List Frame → Type 0
+FramesIn n frames = All (IsFrame n) frames

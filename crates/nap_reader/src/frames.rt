@@ -1,0 +1,70 @@
+//! The bodies that are being read.
+ghost use Rattle.std.specs.Prelude.{◌≡◌, ◌<◌, ◌≤◌, [], ◌∷◌, ◌++◌, length, MatchOption, OnOk, OnErr};
+ghost use Rattle.nap_reader.specs.Framed.{FramesIn, unread, placed_at};
+ghost use Rattle.nap_reader.specs.Stored.{part_at};
+ghost use Rattle.nap_reader.specs.Stream.{all_at};
+
+use crate::store::Span;
+use smallvec::SmallVec;
+use std::alloc::{AllocError, Global};
+
+/// A body that is being read: the bytes of the store from the next one to the end, all of them at one place.
+#[derive(Clone, Copy, Default, Drop)]
+pub(crate) struct Frame {
+    next: usize,
+    end: usize,
+    place: u64,
+}
+
+/// The bodies that are being read, the innermost last. Each has a byte that is unread.
+#[derive(Drop)]
+pub(crate) struct Frames {
+    stack: SmallVec<Frame, 8>,
+}
+
+impl Frames {
+    /// No body is being read.
+    pub(crate) fn new(alloc: Global) -> Frames
+        ensures { result.stack.items ≡ [] }
+    {
+        Frames {
+            stack: SmallVec::new(alloc),
+        }
+    }
+
+    /// This part of the store comes next, at this place.
+    pub(crate) fn push(&mut self, span: Span, place: u64) -> Result<(), AllocError>
+        requires { span.start < span.end }
+        ensures ok { OnOk result (self.new.stack.items ≡ self.old.stack.items ++ record { next = span.start; end = span.end; place = place } ∷ []) }
+        ensures err { OnErr result (self.new.stack.items ≡ self.old.stack.items) }
+    {
+        self.stack.push(Frame {
+            next: span.start,
+            end: span.end,
+            place,
+        })?;
+        Ok(())
+    }
+
+    /// Takes the next byte of the innermost body, with its place.
+    pub(crate) fn next(&mut self, bytes: &[u8]) -> Option<(u8, u64)>
+        requires { FramesIn (length bytes.now) self.old.stack.items }
+        ensures byte { MatchOption result ((self.old.stack.items ≡ []) × (self.new.stack.items ≡ []))
+            (λ x. unread bytes.now self.old.stack.items ≡ placed_at x.0 x.1 ∷ unread bytes.now self.new.stack.items) }
+        ensures within { FramesIn (length bytes.now) self.new.stack.items }
+    {
+        if self.stack.len() == 0 {
+            return None;
+        }
+        let frame = self.stack.pop()?;
+        let byte = bytes[frame.next];
+        if frame.next + 1 < frame.end {
+            self.stack.push_reserved(Frame {
+                next: frame.next + 1,
+                end: frame.end,
+                place: frame.place,
+            });
+        }
+        Some((byte, frame.place))
+    }
+}

@@ -1,0 +1,149 @@
+//! The bodies of the macros.
+ghost use Rattle.std.specs.Prelude.{◌≡◌, ◌+◌, ◌<◌, ◌≤◌, ◌-◌, [], ◌∷◌, ◌++◌, length, replicate, OnOk, OnErr, IfOk, MatchBool, if◌then◌else◌};
+ghost use Rattle.nap_reader.specs.Bodies.{no_names, body_of, store_limit};
+ghost use Rattle.nap_reader.specs.Stored.{IsBefore, closed, part_at, shown};
+ghost use Rattle.nap_codes.specs.Laws.{IsGraphic};
+
+use std::alloc::{AllocError, Global};
+use std::marker::Model;
+
+/// The most bytes of macro bodies in one stream, those that were bound again or cleared with them (our profile).
+pub const STORE_LIMIT: usize = 1_048_576;
+
+/// A part of the store.
+#[derive(Clone, Copy, Drop)]
+pub(crate) struct Span {
+    pub(crate) start: usize,
+    pub(crate) end: usize,
+}
+
+/// No bytes.
+const EMPTY: Span = Span { start: 0, end: 0 };
+
+/// The bodies of the macros, one behind another, and those that the names are bound to.
+#[derive(Drop)]
+pub(crate) struct Store {
+    bytes: Vec<u8>,
+    spans: [Span; 96],
+    from: usize,
+    stored: usize,
+}
+
+impl Model for Store {
+    ghost use Rattle.std.specs.Prelude.{map, drop};
+    ghost use Rattle.nap_reader.specs.Stored.{IsStore, StoreState, part_at};
+
+    ghost Value = { StoreState };
+
+    ghost view = { λ s. record { names = map (part_at s.bytes.items) s.spans; bytes = s.bytes.items; body = drop s.from s.bytes.items; stored = s.stored } };
+
+    ghost invariant = { λ s. IsStore s.bytes.items s.spans s.from s.stored };
+}
+
+impl Store {
+    /// No bodies, and no memory taken.
+    pub(crate) fn new(alloc: Global) -> Store
+        ensures { result ≡ record { names = no_names; bytes = []; body = []; stored = 0 } }
+    {
+        Store {
+            bytes: Vec::new(alloc),
+            spans: [EMPTY; 96],
+            from: 0,
+            stored: 0,
+        }
+    }
+
+    /// Whether the bodies have all the bytes that they may.
+    pub(crate) fn is_full(&self) -> bool
+        ensures { MatchBool result (self.now.stored + length self.now.body ≡ store_limit) (self.now.stored + length self.now.body < store_limit) }
+    {
+        self.stored + (self.bytes.len() - self.from) >= STORE_LIMIT
+    }
+
+    /// How many bytes the open body has.
+    pub(crate) fn open_len(&self) -> usize
+        ensures count { result ≡ length self.now.body }
+        ensures few { result ≤ store_limit }
+    {
+        self.bytes.len() - self.from
+    }
+
+    /// Adds a byte to the open body.
+    pub(crate) fn push(&mut self, byte: u8) -> Result<(), AllocError>
+        requires { self.old.stored + length self.old.body < store_limit }
+        ensures ok { OnOk result (self.new ≡ record self.old { bytes = self.old.bytes ++ byte ∷ []; body = self.old.body ++ byte ∷ [] }) }
+        ensures err { OnErr result (self.new ≡ self.old) }
+    {
+        self.bytes.push(byte)?;
+        Ok(())
+    }
+
+    /// Binds the name to the open body, which is over.
+    pub(crate) fn bind(&mut self, name: u8)
+        requires { IsGraphic name }
+        ensures { self.new ≡ closed self.old name }
+    {
+        let end = self.bytes.len();
+        self.spans[usize::from(name - 0x20)] = Span {
+            start: self.from,
+            end,
+        };
+        self.stored += end - self.from;
+        self.from = end;
+    }
+
+    /// Binds the name to the open body, which is over, and stores ESC and the byte that ended it behind the body: all of
+    /// these come next. The two don't count for the limit.
+    pub(crate) fn show(&mut self, name: u8, ender: u8) -> Result<Span, AllocError>
+        requires { IsGraphic name }
+        ensures ok { OnOk result (self.new ≡ shown self.old name ender) }
+        ensures next { IfOk result (λ span. part_at self.new.bytes span ≡ self.old.body ++ 0x1B ∷ ender ∷ []) }
+        ensures within { IfOk result (λ span. (span.start < span.end) × (span.end ≤ length self.new.bytes)) }
+        ensures err { OnErr result (self.new ≡ self.old) }
+    {
+        self.bytes.reserve(2)?;
+        let start = self.from;
+        let end = self.bytes.len();
+        self.bytes.push_reserved(0x1B);
+        self.bytes.push_reserved(ender);
+        self.spans[usize::from(name - 0x20)] = Span { start, end };
+        self.stored += end - start;
+        self.from = self.bytes.len();
+        Ok(Span {
+            start,
+            end: self.from,
+        })
+    }
+
+    /// Unbinds all names.
+    pub(crate) fn clear(&mut self)
+        ensures { self.new ≡ record self.old { names = no_names } }
+    {
+        self.spans = [EMPTY; 96];
+    }
+
+    /// Unbinds all names, where this says so.
+    pub(crate) fn clear_if(&mut self, clears: bool)
+        ensures { self.new ≡ record self.old { names = if clears then no_names else self.old.names } }
+    {
+        if clears {
+            self.clear();
+        }
+    }
+
+    /// Where the body of the name is.
+    pub(crate) fn span(&self, name: u8) -> Span
+        requires { IsGraphic name }
+        ensures body { part_at self.now.bytes result ≡ body_of self.now.names name }
+        ensures within { IsBefore (length self.now.bytes) result }
+    {
+        self.spans[usize::from(name - 0x20)]
+    }
+
+    /// All bytes that were stored.
+    pub(crate) fn bytes(&self) -> &[u8]
+        ensures { result.now ≡ self.now.bytes }
+    {
+        &self.bytes
+    }
+}
