@@ -1,0 +1,23 @@
+# Completion of naplps for bash.
+_naplps() {
+    local word=${COMP_WORDS[COMP_CWORD]} before=${COMP_WORDS[COMP_CWORD - 1]} command='' words='' index
+    for ((index = 1; index < COMP_CWORD; index++)); do
+        case ${COMP_WORDS[index]} in
+            list | check | canon | help)
+                command=${COMP_WORDS[index]}
+                break
+                ;;
+        esac
+    done
+    case $command in
+        '') words='list check canon help --help' ;;
+        help) words='list check canon' ;;
+        *)
+            # (the number behind --budget is for the user to say)
+            if [[ $before != --budget && $before != = ]]; then words='--hex --budget --help'; fi
+            ;;
+    esac
+    COMPREPLY=($(compgen -W "$words" -- "$word"))
+}
+
+complete -F _naplps naplps
