@@ -4,6 +4,7 @@ pub mod BringLemmas
 pub mod ModeLemmas
 pub mod TextLemmas
 pub mod WriterLemmas
+pub mod SinkingLemmas
 pub mod WalkLemmas
 pub mod FaultLemmas
 pub mod OperandLemmas

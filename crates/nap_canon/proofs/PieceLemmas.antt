@@ -18,7 +18,7 @@ use Rattle.nap_draw.specs.Rule.{Drawn, rule, drawn}
 use Rattle.nap_reader.specs.Stream.{Placed, Machine, is_operand_byte, run_limit, placed_from}
 use Rattle.nap_canon.specs.Spelling.{Piece, opcode, primary, control}
 use Rattle.nap_canon.specs.Text.{piece_bytes, written, gl_after}
-use Rattle.nap_canon.proofs.TextLemmas.{written-append, gl_after-append}
+use Rattle.nap_canon.specs.TextParts.{written-append, gl_after-append}
 use Rattle.nap_canon.proofs.PlacedLemmas.{words_of-placed, placed_from-append, spelled_run}
 use Rattle.nap_canon.proofs.CodeLemmas.{code_reads}
 use Rattle.nap_canon.proofs.ReadLemmas.{standing, Reads, BeginsAnew, reads_run}

@@ -19,7 +19,7 @@ use Rattle.nap_canon.specs.Text.{to_opcodes, piece_bytes, written, gl_after}
 use Rattle.nap_canon.proofs.PieceLemmas.{sets_with}
 use Rattle.nap_canon.proofs.OperandLemmas.{word_of}
 use Rattle.nap_canon.proofs.SpellingLemmas.{AllSpelled, no_code, one_code, spelled_alone, spelled_behind}
-use Rattle.nap_canon.proofs.TextLemmas.{written-append, gl_after-append}
+use Rattle.nap_canon.specs.TextParts.{written-append, gl_after-append}
 
 -- Pieces of canonical text spell plain codes.
 

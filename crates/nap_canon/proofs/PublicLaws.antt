@@ -1,8 +1,11 @@
+use Rattle.nap_list.specs.declared.device.Outlet as outlet
+use Rattle.nap_canon.specs.Sinking.{WritesText}
 use Rattle.nap_canon.specs.Laws.{BringLeads, TextOfPrefix, TextIsPlain, PlainOperandLengths, TextIsRead, TextLeads, CanonicalStreamsAgree}
 use Rattle.nap_canon.proofs.ActingLemmas as acting
 use Rattle.nap_canon.proofs.CanonicalLaws as canonical
 use Rattle.nap_canon.proofs.ModeLemmas as modes
 use Rattle.nap_canon.proofs.PlainTexts as plain_texts
+use Rattle.nap_canon.proofs.SinkingLemmas as sinks
 use Rattle.nap_canon.proofs.TextLemmas as texts
 
 -- The proofs of the laws.
@@ -27,3 +30,6 @@ text_leads = canonical.text_leads
 
 pub canonical_streams_agree : CanonicalStreamsAgree
 canonical_streams_agree = canonical.canonical_streams_agree
+
+pub sink_writes_text : {O : Type 0} (o : outlet.Ghosts O) → WritesText o
+sink_writes_text = sinks.sink_writes_text

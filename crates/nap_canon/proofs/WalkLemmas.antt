@@ -7,7 +7,8 @@ use Rattle.nap_list.specs.State.{start, after, walk, Fits, AllFit}
 use Rattle.nap_list.proofs.PublicLaws.{walks_join, fits_join}
 use Rattle.nap_canon.specs.Spelling.{Piece}
 use Rattle.nap_canon.specs.Text.{written, gl_after, entry_pieces, pieces, text}
-use Rattle.nap_canon.proofs.TextLemmas.{text_of_entries, pieces-append, gl_after-append}
+use Rattle.nap_canon.specs.TextParts.{pieces-append, gl_after-append}
+use Rattle.nap_canon.proofs.TextLemmas.{text_of_entries}
 
 -- The text along a list, one entry more.
 

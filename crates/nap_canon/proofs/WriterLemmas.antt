@@ -1,8 +1,8 @@
-use Rattle.std.proofs.Common.{ℕ, suc, ◌+◌, ◌≡◌, ◌<◌, List, [], ◌∷◌, ◌++◌, length, map, take, drop, get_or, ap, sym, ◌∙◌, append_assoc, append-nil, arith}
-use Rattle.std.proofs.lemmas.List.{take_more, map-append}
+use Rattle.std.proofs.Common.{if◌then◌else◌, Result, Ok, Err, OnOk, Bool, true, false, refl, subst, ℕ, suc, ◌+◌, ◌≡◌, ◌<◌, List, [], ◌∷◌, ◌++◌, length, map, take, drop, get_or, ap, sym, ◌∙◌, append_assoc, append-nil, arith}
+use Rattle.std.proofs.lemmas.List.{take_more, map-append, take-append-drop}
 use Rattle.std.proofs.Math.Seq.{drop-cons}
 use Rattle.nap_values.specs.Coordinates.{Coordinates, displacement_to}
-use Rattle.nap_values.specs.Spellings.{move_bytes}
+use Rattle.nap_values.specs.Spellings.{move_bytes, point_bytes}
 use Rattle.nap_codes.specs.declared.code_set.GSet.{GSet}
 use Rattle.nap_canon.specs.declared.command.Command.{Command}
 use Rattle.nap_list.specs.declared.entry.Entry.{Entry}
@@ -10,9 +10,9 @@ use Rattle.nap_list.specs.declared.state.State.{State}
 use Rattle.nap_list.specs.Entry.{held}
 use Rattle.nap_list.specs.State.{taking}
 use Rattle.nap_canon.specs.Bring.{bring}
-use Rattle.nap_canon.specs.Spelling.{Piece, command_piece, onward_bytes, spelled}
-use Rattle.nap_canon.specs.Text.{piece_bytes, gl_behind, written, gl_after, entry_pieces}
-use Rattle.nap_canon.proofs.TextLemmas.{written-append, gl_after-append}
+use Rattle.nap_canon.specs.Spelling.{Piece, command_piece, onward_bytes, shape, shape_bytes, spelled}
+use Rattle.nap_canon.specs.Text.{to_opcodes, piece_bytes, gl_behind, written, gl_after, entry_pieces}
+use Rattle.nap_canon.specs.TextParts.{written-append, gl_after-append}
 
 -- one displacement more of a shape
 pub onward_more : (now next piece whole : List ℕ) (from to : Coordinates) (others : List Coordinates) (i : ℕ) → i < length others → to ≡ get_or others i to →
@@ -31,6 +31,18 @@ onward_more now next piece whole from to others i within is step spelled so_far 
     ∙ ap (λ (qs : List Coordinates). now ++ onward_bytes from qs) (sym left)
     ∙ so_far
 
+-- a shape: its opcode with the first point, and the displacements to the others
+pub shape_joined : (gl : GSet) (outlined code : ℕ) (filled : Bool) (first : Coordinates) (others points : List Coordinates) (head point bytes : List ℕ) →
+    code ≡ (if filled then (outlined + 1) else outlined) → head ≡ to_opcodes gl ++ code ∷ [] → point ≡ point_bytes first → bytes ≡ head ++ point →
+    points ≡ first ∷ others → bytes ++ onward_bytes first others ≡ piece_bytes gl (shape outlined filled points)
+shape_joined gl outlined code filled first others points head point bytes opcode begun placed both all =
+    let rest : List ℕ = onward_bytes first others in
+    ap (λ (bs : List ℕ). bs ++ rest) (both ∙ ap (λ (bs : List ℕ). bs ++ point) begun ∙ ap (λ (bs : List ℕ). (to_opcodes gl ++ code ∷ []) ++ bs) placed)
+    ∙ append_assoc (to_opcodes gl ++ code ∷ []) (point_bytes first) rest
+    ∙ append_assoc (to_opcodes gl) (code ∷ []) (point_bytes first ++ rest)
+    ∙ ap (λ (byte : ℕ). to_opcodes gl ++ byte ∷ shape_bytes (first ∷ others)) opcode
+    ∙ ap (λ (ps : List Coordinates). piece_bytes gl (shape outlined filled ps)) (sym all)
+
 -- pieces behind others
 
 pub bytes_join : (gl : GSet) (ps qs : List Piece) (taken : List ℕ) →
@@ -44,6 +56,28 @@ unfolding written
 bytes_behind gl ps q taken =
     ap (λ (bs : List ℕ). (taken ++ written gl ps) ++ bs) (sym (append-nil (piece_bytes (gl_after gl ps) q)))
     ∙ bytes_join gl ps (q ∷ []) taken
+
+-- what holds at any answer
+pub on_ok_from : {T E P : Type 0} (r : Result T E) → P → OnOk r P
+on_ok_from (Ok _) p = p
+on_ok_from (Err _) p = tt
+
+-- what a writer sends, in parts
+
+module _ {T : Type 0} (sent : T → List ℕ → Bool → T → Type 0)
+    (more : (s t u : T) (a b : List ℕ) (broke : Bool) → sent s a false t → sent t b broke u → sent s (a ++ b) broke u)
+    (cut : (s t : T) (a b : List ℕ) → sent s a true t → sent s (a ++ b) true t) where
+  -- one part behind another
+  pub sent_both : (s t u : T) (a b whole : List ℕ) (broke : Bool) → a ++ b ≡ whole → sent s a false t → sent t b broke u → sent s whole broke u
+  sent_both s t u a b whole broke is first second = subst (λ (bytes : List ℕ). sent s bytes broke u) is (more s t u a b broke first second)
+
+  -- a failure in the first part
+  pub sent_first : (s t : T) (a b whole : List ℕ) → a ++ b ≡ whole → sent s a true t → sent s whole true t
+  sent_first s t a b whole is first = subst (λ (bytes : List ℕ). sent s bytes true t) is (cut s t a b first)
+
+  -- a failure in the second part, where there is a third
+  pub sent_second : (s t u : T) (a b c whole : List ℕ) → (a ++ b) ++ c ≡ whole → sent s a false t → sent t b true u → sent s whole true u
+  sent_second s t u a b c whole is first second = sent_first s u (a ++ b) c whole is (more s t u a b true first second)
 
 -- one command more
 
@@ -73,6 +107,20 @@ gl_more gl mid next commands i c within is step sets =
     ∙ ap (λ (s : GSet). gl_behind s (command_piece c)) sets
     ∙ sym (gl_after-append gl (map command_piece (take i commands)) (command_piece c ∷ []))
     ∙ ap (gl_after gl) (sym (commands_more commands i c within is))
+
+-- what is left of commands behind the next one
+pub commands_left : (gl mid : GSet) (commands : List Command) (i : ℕ) (c : Command) → i < length commands → c ≡ get_or commands i c →
+    mid ≡ gl_after gl (map command_piece (take i commands)) →
+    (written gl (map command_piece (take i commands)) ++ piece_bytes mid (command_piece c))
+    ++ written (gl_after gl (map command_piece (take (i + 1) commands))) (map command_piece (drop (i + 1) commands))
+    ≡ written gl (map command_piece commands)
+commands_left gl mid commands i c within is sets =
+    let front : List Piece = map command_piece (take (i + 1) commands) in
+    let back : List Piece = map command_piece (drop (i + 1) commands) in
+    ap (λ (bs : List ℕ). bs ++ written (gl_after gl front) back) (bytes_more gl mid commands i c [] _ _ within is refl refl sets)
+    ∙ sym (written-append gl front back)
+    ∙ ap (written gl) (sym (map-append command_piece (take (i + 1) commands) (drop (i + 1) commands)))
+    ∙ ap (λ (cs : List Command). written gl (map command_piece cs)) (take-append-drop (i + 1) commands)
 
 -- an entry: its bring, and its spelling where the values that it holds stand
 

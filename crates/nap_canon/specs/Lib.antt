@@ -9,3 +9,6 @@ pub mod Laws
 pub mod Plain
 pub mod Checking
 pub mod Acting
+pub mod Sinking
+pub mod TextParts
+pub mod SinkLaws

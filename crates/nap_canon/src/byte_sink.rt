@@ -1,5 +1,7 @@
 //! What takes the bytes of a text.
-ghost use Rattle.std.specs.Prelude.{◌≡◌, ◌++◌, ℕ, List, OnOk};
+ghost use Rattle.std.specs.Prelude.{◌≡◌, ◌++◌, ℕ, List, [], Bool, true, false, is_err};
+ghost use Rattle.std.proofs.Common.{sym, ap, ◌∙◌, append-nil, append_assoc, refl};
+ghost use Rattle.std.proofs.lemmas.Bool.{true≢false};
 
 use std::alloc::AllocError;
 
@@ -8,20 +10,37 @@ pub(crate) trait ByteSink {
     /// Why bytes were not taken.
     type Fault;
 
-    /// The bytes taken.
-    ghost taken: { Self → List ℕ };
+    /// The second comes from the first by taking the bytes, or by a failure amid them.
+    ghost sent: { Self → List ℕ → Bool → Self → Type 0 };
 
     /// Takes all the bytes, or fails.
     fn take(&mut self, bytes: &[u8]) -> Result<(), Self::Fault>
-        ensures { OnOk result (taken self.new ≡ taken self.old ++ bytes.now) };
+        ensures { sent self.old bytes.now (is_err result) self.new };
+
+    /// No bytes were taken.
+    ghost sent_none: { (s : Self) → sent s [] false s };
+
+    /// Bytes were taken, or not all of them, after others.
+    ghost sent_more: { (s t u : Self) (a b : List ℕ) (broke : Bool) → sent s a false t → sent t b broke u → sent s (a ++ b) broke u };
+
+    /// After a failure nothing more was taken.
+    ghost sent_cut: { (s t : Self) (a b : List ℕ) → sent s a true t → sent s (a ++ b) true t };
 }
 
 impl ByteSink for Vec<u8> {
     type Fault = AllocError;
 
-    ghost taken = { λ v. v.items };
+    // Nothing is said of a failure: what was taken is let go then.
+    ghost sent = { λ v bytes broke w. broke ≡ false → w.items ≡ v.items ++ bytes };
 
     fn take(&mut self, bytes: &[u8]) -> Result<(), AllocError> {
         self.extend_from_slice(bytes)
     }
+
+    ghost sent_none = { λ v _. sym (append-nil v.items) };
+
+    ghost sent_more = { λ v w x a b broke first second whole.
+        second whole ∙ (ap (λ (taken : List ℕ). taken ++ b) (first refl) ∙ append_assoc v.items a b) };
+
+    ghost sent_cut = { λ v w a b first whole. absurd (true≢false whole) };
 }

@@ -1,5 +1,8 @@
 //! Laws of canonical text and of canonical streams, as contracts of functions that do nothing.
+ghost use Rattle.nap_canon.specs.Sinking.{WritesText};
 ghost use Rattle.nap_canon.specs.Laws.{BringLeads, TextOfPrefix, TextIsPlain, PlainOperandLengths, TextIsRead, TextLeads, CanonicalStreamsAgree};
+
+use nap_list::Outlet;
 
 /// What comes before an entry leads to the values that it holds, and draws nothing.
 pub fn bring_leads()
@@ -36,4 +39,9 @@ pub fn text_leads()
 /// of the stream that it was made of, and is its own canonical stream.
 pub fn canonical_streams_agree()
     ensures { CanonicalStreamsAgree }
+{}
+
+/// What a sink of canonical text has written, that took these entries and hasn't failed, is their text.
+pub fn sink_writes_text<O: Outlet>()
+    ensures { WritesText O.Outlet }
 {}

@@ -2,9 +2,11 @@
 #![tactic(auto)]
 
 mod byte_sink;
+mod canon_sink;
 mod command;
 mod fault;
 pub mod laws;
+mod output;
 mod piece;
 mod plain;
 mod ranges;
@@ -12,6 +14,7 @@ mod stream;
 mod text;
 mod writer;
 
+pub use canon_sink::CanonSink;
 pub use fault::CanonFault;
 pub use plain::is_plain;
 pub use stream::normalise;

@@ -4,6 +4,7 @@ use nap_reader::{Budget, Fault, Refusal};
 use std::alloc::{AllocError, Global};
 use std::process::Abort;
 
+mod canon_sink;
 mod lists;
 mod macros;
 mod plain;

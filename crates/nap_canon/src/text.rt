@@ -25,7 +25,8 @@ fn write(alloc: Global, entries: &[Entry]) -> Result<Vec<u8>, AllocError>
     ensures range { OnOk result (AllInRange entries.now) }
 {
     let bytes = Vec::with_capacity(alloc, HEADER + ENTRY * entries.len())?;
-    let mut writer = Writer::begin(bytes)?;
+    let mut writer = Writer::new(bytes);
+    writer.begin()?;
     for entry in entries {
         in_range(entry);
         writer.put_ref(entry)?;

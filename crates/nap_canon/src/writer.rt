@@ -1,5 +1,5 @@
 //! Writes the canonical text of entries, one after another.
-ghost use Rattle.std.specs.Prelude.{◌≡◌, ◌+◌, ◌≤◌, ◌++◌, [], ◌∷◌, map, length, IfOk, OnOk, OnErr};
+ghost use Rattle.std.specs.Prelude.{◌≡◌, ◌+◌, ◌≤◌, ◌++◌, [], ◌∷◌, map, length, IfOk, is_err, OnOk, OnErr};
 ghost use Rattle.nap_codes.specs.declared.code_set.GSet.TheVariants.{G1};
 ghost use Rattle.nap_list.specs.State.{start, after, Fits};
 ghost use Rattle.nap_canon.specs.declared.piece.Piece.{Piece};
@@ -88,19 +88,31 @@ fn flag_byte(flag: Flag, on: bool) -> u8
 }
 
 impl<T: ByteSink + Drop> Writer<T> {
-    /// Begins a text: SO brings the opcodes into GL, and DOMAIN makes the operands eight words and four words long.
-    pub(crate) fn begin(to: T) -> Result<Writer<T>, T::Fault>
-        ensures taken { IfOk result (λ writer. T.taken writer.to ≡ T.taken to ++ header) }
-        ensures gl { IfOk result (λ writer. writer.gl ≡ G1) }
-        ensures state { IfOk result (λ writer. writer.state ≡ start) }
+    /// A writer of a text that isn't begun.
+    pub(crate) fn new(to: T) -> Writer<T>
+        ensures { result ≡ record { to = to; gl = G1; state = start } }
     {
-        let mut to = to;
-        to.take(&[0x0E, opcodes::DOMAIN, LENGTHS])?;
-        Ok(Writer {
+        Writer {
             to,
             gl: GSet::G1,
             state: State::start(),
-        })
+        }
+    }
+
+    /// Begins the text: SO brings the opcodes into GL, and DOMAIN makes the operands eight words and four words long.
+    pub(crate) fn begin(&mut self) -> Result<(), T::Fault>
+        ensures sent { T.sent self.old.to header (is_err result) self.new.to }
+        ensures gl { self.new.gl ≡ self.old.gl }
+        ensures state { self.new.state ≡ self.old.state }
+    {
+        self.control(&[0x0E, opcodes::DOMAIN, LENGTHS])
+    }
+
+    /// What takes the text.
+    pub(crate) fn to(&self) -> &T
+        ensures { result.now ≡ self.now.to }
+    {
+        &self.to
     }
 
     /// What took the text.
@@ -113,7 +125,7 @@ impl<T: ByteSink + Drop> Writer<T> {
 
     /// Takes the bytes of an opcode with its operands, behind which the opcodes are in GL.
     fn drawn(&mut self, piece: Piece) -> Result<(), T::Fault>
-        ensures taken { OnOk result (T.taken self.new.to ≡ T.taken self.old.to ++ piece) }
+        ensures sent { T.sent self.old.to piece (is_err result) self.new.to }
         ensures gl { self.new.gl ≡ G1 }
         ensures state { self.new.state ≡ self.old.state }
     {
@@ -123,7 +135,7 @@ impl<T: ByteSink + Drop> Writer<T> {
 
     /// Takes controls with the bytes that belong to them.
     fn control(&mut self, bytes: &[u8]) -> Result<(), T::Fault>
-        ensures taken { OnOk result (T.taken self.new.to ≡ T.taken self.old.to ++ bytes.now) }
+        ensures sent { T.sent self.old.to bytes.now (is_err result) self.new.to }
         ensures gl { self.new.gl ≡ self.old.gl }
         ensures state { self.new.state ≡ self.old.state }
     {
@@ -132,7 +144,7 @@ impl<T: ByteSink + Drop> Writer<T> {
 
     /// Takes a control of the C1 set.
     fn escape(&mut self, byte: u8) -> Result<(), T::Fault>
-        ensures taken { OnOk result (T.taken self.new.to ≡ T.taken self.old.to ++ piece_bytes self.old.gl (escape byte)) }
+        ensures sent { T.sent self.old.to (piece_bytes self.old.gl (escape byte)) (is_err result) self.new.to }
         ensures gl { self.new.gl ≡ self.old.gl }
         ensures state { self.new.state ≡ self.old.state }
     {
@@ -140,7 +152,7 @@ impl<T: ByteSink + Drop> Writer<T> {
     }
 
     fn command(&mut self, command: Command) -> Result<(), T::Fault>
-        ensures taken { OnOk result (T.taken self.new.to ≡ T.taken self.old.to ++ piece_bytes self.old.gl (command_piece command)) }
+        ensures sent { T.sent self.old.to (piece_bytes self.old.gl (command_piece command)) (is_err result) self.new.to }
         ensures gl { self.new.gl ≡ gl_behind self.old.gl (command_piece command) }
         ensures state { self.new.state ≡ self.old.state }
     {
@@ -187,7 +199,7 @@ impl<T: ByteSink + Drop> Writer<T> {
     }
 
     fn commands(&mut self, commands: &Commands) -> Result<(), T::Fault>
-        ensures taken { OnOk result (T.taken self.new.to ≡ T.taken self.old.to ++ written self.old.gl (map command_piece commands.now)) }
+        ensures sent { T.sent self.old.to (written self.old.gl (map command_piece commands.now)) (is_err result) self.new.to }
         ensures gl { OnOk result (self.new.gl ≡ gl_after self.old.gl (map command_piece commands.now)) }
         ensures state { self.new.state ≡ self.old.state }
     {
@@ -200,7 +212,7 @@ impl<T: ByteSink + Drop> Writer<T> {
     /// Writes an entry that may come next: its bring, and its spelling. The state stays where this fails.
     pub(crate) fn put_ref(&mut self, entry: &Entry) -> Result<(), T::Fault>
         requires { Fits self.old.state entry.now }
-        ensures taken { OnOk result (T.taken self.new.to ≡ T.taken self.old.to ++ written self.old.gl (entry_pieces self.old.state entry.now)) }
+        ensures sent { T.sent self.old.to (written self.old.gl (entry_pieces self.old.state entry.now)) (is_err result) self.new.to }
         ensures gl { OnOk result (self.new.gl ≡ gl_after self.old.gl (entry_pieces self.old.state entry.now)) }
         ensures state { OnOk result (self.new.state ≡ after self.old.state entry.now) }
         ensures still { OnErr result (self.new.state ≡ self.old.state) }

@@ -21,7 +21,7 @@ use Rattle.nap_reader.specs.Course as course
 use Rattle.nap_reader.specs.Course.{prepend, paused, onward}
 use Rattle.nap_reader.specs.Stream.{Placed, Machine, Outcome, Unfinished, nothing, open_body, refusal, all_at, charged, after_drawing, drawn_front, shown_front, front_in, front, outcome_from}
 use Rattle.nap_reader.specs.Breaking.{cause_of, BreaksFrom, TakesPart, TookFront, TookPart}
-use Rattle.nap_reader.specs.Holding.{Holding, IsHeld, Continues, ContinuesPast, BreaksPast, BreaksSome, ReachesBy}
+use Rattle.nap_reader.specs.Holding.{Holding, IsHeld, Continues, ContinuesPast, BreaksPast, BreaksNext, BreaksInBody, BreaksSome, ReachesBy}
 use Rattle.nap_reader.proofs.HeldLemmas.{half_read_pauses}
 use Rattle.nap_reader.proofs.LeadsLemmas.{TookMore, TookBroke, by_front, leads_on, leads_to_fault, wants_part, fails_part}
 use Rattle.nap_reader.proofs.ReadingLemmas.{nothing_yet, reaches, reaches_refusal}
@@ -161,6 +161,50 @@ call_breaks g s known o t h x k m place bytes ys shows same some few =
       },
     )
 
+-- what a sink has of what comes
+took_front : {S : Type 0} (g : Ghosts S) (s : S) (known more : List Entry) (t : S) (cause : Cause) → TookPart g s known more t cause → TookFront g s known more t cause
+took_front {S} g s known more t cause part = at cause part
+  where
+    none : g.took s known t → TakesPart g s known more t
+    none took = ([], more, refl, subst (λ (es : List Entry). g.took s es t) (sym (append-nil known)) took)
+
+    at : (cause : Cause) → TookPart g s known more t cause → TookFront g s known more t cause
+    at stream part = part
+    at memory (inl took) = none took
+    at memory (inr (first, next, rest, parts, took)) = (first, next ∷ rest, parts, took)
+    at device (inl (set, took)) = inl (set, none took)
+    at device (inr broke) = inr broke
+
+-- what breaks behind what was known has a part of what comes
+pub breaks_from : {S : Type 0} (g : Ghosts S) (s : S) (known : List Entry) (o : Outcome) (t : S) (h : Holding) (cause : Cause) → BreaksSome g s known o t h cause →
+    BreaksFrom g s known o t cause
+breaks_from g s known o t h cause (inr (less, from)) = from
+breaks_from g s known o t h cause (inl past) = record { more = past.more; adds = past.adds; part = took_front g s known past.more t cause past.part }
+
+-- so has what breaks in a body
+pub body_breaks_from : {S : Type 0} (g : Ghosts S) (s : S) (known : List Entry) (o : Outcome) (t : S) (h : Holding) (cause : Cause) → BreaksInBody g s known o t h cause →
+    BreaksFrom g s known o t cause
+body_breaks_from g s known o t h cause (inr (less, from)) = from
+body_breaks_from g s known o t h cause (inl next) = record { more = next.more; adds = next.adds; part = took_front g s known next.more t cause next.part }
+
+-- what breaks in a code breaks in the body that it ends
+pub some_in_body : {S : Type 0} (g : Ghosts S) (s : S) (known : List Entry) (o : Outcome) (t : S) (h : Holding) (cause : Cause) → BreaksSome g s known o t h cause →
+    BreaksInBody g s known o t h cause
+some_in_body g s known o t h cause (inr charged) = inr charged
+some_in_body g s known o t h cause (inl past) = inl (record { more = past.more; adds = past.adds; unrefused = past.unrefused; part = past.part })
+
+-- memory was wanting before any further entry, and nothing is refused
+pub wants_next : {S : Type 0} (g : Ghosts S) (s : S) (known : List Entry) (o : Outcome) (t : S) (h : Holding) (xs : List Placed) (k : ContinuesPast g s known o t h xs) →
+    o.refusal ≡ None → BreaksNext g s known o t memory
+wants_next g s known o t h xs k unrefused =
+    let more = (outcome_from h.machine (k.continues.rest ++ xs)).entries in
+    record {
+      more = more;
+      adds = ap (λ (o : Outcome). o.entries) k.continues.leads ∙ ap (λ (es : List Entry). es ++ more) k.done;
+      unrefused = unrefused;
+      part = inl (subst (λ (es : List Entry). g.took s es t) k.done k.continues.taken);
+    }
+
 -- memory was wanting before any further entry
 pub wants_from : {S : Type 0} (g : Ghosts S) (s : S) (known : List Entry) (o : Outcome) (t : S) (h : Holding) (xs : List Placed) (k : ContinuesPast g s known o t h xs) →
     BreaksFrom g s known o t memory
@@ -171,19 +215,3 @@ wants_from g s known o t h xs k =
       adds = ap (λ (o : Outcome). o.entries) k.continues.leads ∙ ap (λ (es : List Entry). es ++ more) k.done;
       part = ([], more, refl, subst (λ (es : List Entry). g.took s es t) (sym (append-nil known)) (subst (λ (es : List Entry). g.took s es t) k.done k.continues.taken));
     }
-
--- what breaks behind what was known has a part of what comes
-pub breaks_from : {S : Type 0} (g : Ghosts S) (s : S) (known : List Entry) (o : Outcome) (t : S) (h : Holding) (cause : Cause) → BreaksSome g s known o t h cause →
-    BreaksFrom g s known o t cause
-breaks_from {S} g s known o t h cause (inr (less, from)) = from
-breaks_from {S} g s known o t h cause (inl past) = record { more = past.more; adds = past.adds; part = at cause past.part }
-  where
-    none : g.took s known t → TakesPart g s known past.more t
-    none took = ([], past.more, refl, subst (λ (es : List Entry). g.took s es t) (sym (append-nil known)) took)
-
-    at : (cause : Cause) → TookPart g s known past.more t cause → TookFront g s known past.more t cause
-    at stream part = part
-    at memory (inl took) = none took
-    at memory (inr (first, next, rest, parts, took)) = (first, next ∷ rest, parts, took)
-    at device (inl (set, took)) = inl (set, none took)
-    at device (inr broke) = inr broke

@@ -14,8 +14,8 @@ use Rattle.nap_reader.specs.declared.reader.OpenRun.{OpenRun}
 use Rattle.nap_reader.specs.Faults.{code_fault}
 use Rattle.nap_reader.specs.Stream as model
 use Rattle.nap_reader.specs.Stream.{Machine, Outcome, Unfinished, is_operand_byte, run_limit, refusal, placed_from, begun, with_run}
-use Rattle.nap_reader.specs.Breaking.{cause_of, closed_by, TookPart, UsesBody, CanBreakAt, BreaksAt, BreaksFrom, BreaksWith, BreaksInRun}
-use Rattle.nap_reader.specs.Holding.{Holding, Continues, ContinuesPast, BreaksPast, BreaksSome, ClosesInto}
+use Rattle.nap_reader.specs.Breaking.{cause_of, closed_by, TookPart, IsCharged, CanBreakAt, BreaksAt, BreaksFrom, BreaksWith, BreaksInRun}
+use Rattle.nap_reader.specs.Holding.{Holding, Continues, ContinuesPast, BreaksPast, BreaksInBody, BreaksSome, ClosesInto}
 use Rattle.nap_reader.proofs.EndLemmas.{open_place_is, run_still, body_open}
 use Rattle.nap_reader.proofs.LeadsLemmas.{leads_entries, leads_taken, leads_unrefused, leads_machine, leads_more}
 use Rattle.nap_reader.proofs.ReadingLemmas.{word_joins}
@@ -100,11 +100,11 @@ brings_breaks g s budget p b t r known same place h =
       });
     })
 
--- a byte breaks that uses a body
+-- a byte breaks by which a body is charged
 pub uses_breaks : {S : Type 0} (g : Ghosts S) (s : S) (budget : ℕ) (p : List ℕ) (b : ℕ) (t : S) (r : Refusal) →
-    r.place ≡ length p → UsesBody budget p b → BreaksFrom g s (begun budget p).entries (begun budget (p ++ b ∷ [])) t (cause_of r.fault) →
+    r.place ≡ length p → IsCharged budget p b → BreaksFrom g s (begun budget p).entries (begun budget (p ++ b ∷ [])) t (cause_of r.fault) →
     BreaksAt g s budget p b t r
-uses_breaks g s budget p b t r place uses h = inr (record { place = place; brings = inr (inr uses); part = inr (uses, h) })
+uses_breaks g s budget p b t r place charged h = inr (record { place = place; brings = inr (inr (inr charged)); part = inr (charged, h) })
 
 -- the entries of an open run come behind those before it
 run_more : (o : Outcome) → (es : List Entry) × ((with_run o).entries ≡ o.entries ++ es)
@@ -130,23 +130,9 @@ some_breaks : {S : Type 0} (g : Ghosts S) (s : S) (budget : ℕ) (p : List ℕ) 
     BreaksSome g s known (begun budget (p ++ b ∷ [])) t h (cause_of r.fault) → BreaksAt g s budget p b t r
 some_breaks g s budget p b t h r known es same more place left (inl past) = brings_breaks g s budget p b t r known same place past
 some_breaks g s budget p b t h r known es same more place left (inr (less, from)) =
-    uses_breaks g s budget p b t r place (inr (omega arith))
+    uses_breaks g s budget p b t r place (omega arith)
     (breaks_longer g s (begun budget p).entries es (begun budget (p ++ b ∷ [])) t (cause_of r.fault)
     (subst (λ (es : List Entry). BreaksFrom g s es (begun budget (p ++ b ∷ [])) t (cause_of r.fault)) more from))
-
--- a byte breaks that is read in a body
-pub body_breaks : {S : Type 0} (g : Ghosts S) (s : S) (budget : ℕ) (p : List ℕ) (b : ℕ) (t : S) (h : Holding) (body : OpenBody) (r : Refusal) →
-    h.open_body ≡ Some body → Continues g s (begun budget p) t h [] → r ≡ refusal faults.Memory (length p) → BreaksAt g s budget p b t r
-body_breaks g s budget p b t h body r in_body k is =
-    let o = begun budget p in
-    let more = more_bytes_keep_entries budget p (b ∷ []) in
-    subst (BreaksAt g s budget p b t) (sym is)
-    (uses_breaks g s budget p b t (refusal faults.Memory (length p)) refl (inl (body_open g s o t h k body in_body))
-    (record {
-      more = more.0;
-      adds = more.1;
-      part = ([], more.0, refl, subst (λ (es : List Entry). g.took s es t) (sym (append-nil o.entries)) (leads_taken g s o t h k));
-    }))
 
 -- where no run is open
 pub still_breaks : {S : Type 0} (g : Ghosts S) (s : S) (budget : ℕ) (p : List ℕ) (b : ℕ) (t : S) (h : Holding) (u : S) (r : Refusal) → Continues g s (begun budget p) t h [] →
@@ -182,13 +168,26 @@ pub breaks_there : {S : Type 0} (g : Ghosts S) (s : S) (budget : ℕ) (p : List 
 breaks_there g s budget p b t r (inl (other, first, h)) = inl (other, h.place, h.part.unrefused)
 breaks_there g s budget p b t r (inr h) = inr (h.place, h.brings, at h.part)
   where
-    at : BreaksWith g s budget p b t (cause_of r.fault) → UsesBody budget p b ⊎ ((begun budget (p ++ b ∷ [])).refusal ≡ None)
+    at : BreaksWith g s budget p b t (cause_of r.fault) → IsCharged budget p b ⊎ ((begun budget (p ++ b ∷ [])).refusal ≡ None)
     at (inl between) = inr between.unrefused
-    at (inr (uses, from)) = inl uses
+    at (inr (charged, from)) = inl charged
 
 -- a byte breaks that is read in a body, or behind its end
 pub in_body_breaks : {S : Type 0} (g : Ghosts S) (s : S) (budget : ℕ) (p : List ℕ) (b : ℕ) (t : S) (h : Holding) (body : OpenBody) (u : S) (r : Refusal) →
-    h.open_body ≡ Some body → Continues g s (begun budget p) t h [] → r.place ≡ length p →
-    BreaksFrom g s (begun budget p).entries (begun budget (p ++ b ∷ [])) u (cause_of r.fault) → BreaksAt g s budget p b u r
-in_body_breaks g s budget p b t h body u r in_body k place from =
-    uses_breaks g s budget p b u r place (inl (body_open g s (begun budget p) t h k body in_body)) from
+    h.open_body ≡ Some body → h.open_run ≡ None → Continues g s (begun budget p) t h [] → r.place ≡ length p →
+    BreaksInBody g s (begun budget p).entries (begun budget (p ++ b ∷ [])) u h (cause_of r.fault) → BreaksAt g s budget p b u r
+in_body_breaks g s budget p b t h body u r in_body none k place (inl next) =
+    let same = ap (λ (o : Outcome). o.entries) (sym (closed_by_still g s (begun budget p) t h b k none)) in
+    inr (record {
+      place = place;
+      brings = inr (inr (inl (body_open g s (begun budget p) t h k body in_body)));
+      part = inl (record {
+        more = next.more;
+        adds = next.adds ∙ ap (λ (es : List Entry). es ++ next.more) same;
+        unrefused = next.unrefused;
+        part = subst (λ (es : List Entry). TookPart g s es next.more u (cause_of r.fault)) same next.part;
+      });
+    })
+in_body_breaks g s budget p b t h body u r in_body none k place (inr (less, from)) =
+    let same = ap (λ (m : Machine). m.left) (leads_machine g s (begun budget p) t h k) in
+    uses_breaks g s budget p b u r place (omega (arith, less, same)) from

@@ -69,6 +69,15 @@ length-unread-push bytes frames frame h =
     let count = length-all_at frame.place (part bytes frame.next frame.end) ∙ length-part bytes frame.next frame.end (omega (arith, h.0)) h.1 in
     omega (arith, pushed, count)
 
+-- each body that is read has a byte to give
+pub frames-unread : (bytes : List ℕ) (frames : List Frame) → FramesIn (length bytes) frames → length frames ≤ length (unread bytes frames)
+frames-unread bytes [] h = omega arith
+frames-unread bytes (frame ∷ frames) h =
+    let first = All-head (IsFrame (length bytes)) frame frames h in
+    let rest = frames-unread bytes frames (All-tail (IsFrame (length bytes)) frame frames h) in
+    let count = length-all_at frame.place (part bytes frame.next frame.end) ∙ length-part bytes frame.next frame.end (omega (arith, first.0)) first.1 in
+    omega (arith, rest, first.0, count, length-append (unread bytes frames) (frame_bytes bytes frame))
+
 pub frames-within : (n m : ℕ) (frames : List Frame) → n ≤ m → FramesIn n frames → FramesIn m frames
 frames-within n m frames h all k d within = let one = all k d within in (one.0, omega (arith, one.1))
 

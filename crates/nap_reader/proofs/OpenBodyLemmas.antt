@@ -1,4 +1,4 @@
-use Rattle.std.proofs.Common.{ℕ, ◌+◌, ◌-◌, ◌≡◌, ◌≢◌, ◌<◌, ◌≤◌, List, [], ◌∷◌, ◌++◌, length, take, drop, Bool, true, false, cond, eqb, leb, Option, Some, None, refl, ap, sym, ◌∙◌, subst, arith, append_assoc, append-nil, length-append}
+use Rattle.std.proofs.Common.{ℕ, ◌+◌, ◌-◌, ◌≡◌, ◌≢◌, ◌<◌, ◌≤◌, ◌⊎◌, inl, inr, List, [], ◌∷◌, ◌++◌, length, take, drop, Bool, true, false, cond, eqb, leb, Option, Some, None, refl, ap, sym, ◌∙◌, subst, arith, append_assoc, append-nil, length-append}
 use Rattle.std.proofs.lemmas.List.{length-map, take-append-le, take_all, drop-append-le}
 use Rattle.std.proofs.lemmas.Bool.Decides.{nat_tests}
 use Rattle.std.proofs.Math.ListN.{drop_of_length-le}
@@ -15,9 +15,9 @@ use Rattle.nap_reader.specs.Bodies as bodies
 use Rattle.nap_reader.specs.Bodies.{Mode, between, in_body, BodyFront, one_further, stores, ends_body, store_limit, body_front}
 use Rattle.nap_reader.specs.Course as course
 use Rattle.nap_reader.specs.Course.{prepend, onward}
-use Rattle.nap_reader.specs.Stream.{Placed, Machine, Outcome, bytes_of, refusal, place_at, after_body, bound_front, shown_front, body_front_by, front, outcome_from}
+use Rattle.nap_reader.specs.Stream.{Placed, Machine, Outcome, bytes_of, refusal, place_at, after_body, all_at, charged, bound_front, shown_front, body_front_by, front, outcome_from}
 use Rattle.nap_reader.specs.Holding.{Holding, held_escape, past, AreOfBody, AtBody, IsOpenBody, IsHeld, IsHeldIn, IsRefused, Continues, ReadsOn}
-use Rattle.nap_reader.proofs.LeadsLemmas.{front_body, leads_to_refusal, leads_past, leads_shift}
+use Rattle.nap_reader.proofs.LeadsLemmas.{front_body, leads_left, leads_shown, leads_to_refusal, leads_past, leads_shift, leads_unrefused}
 use Rattle.nap_reader.proofs.ReadingLemmas.{holds_half, nothing_yet, code_goes_on}
 use Rattle.nap_reader.proofs.StreamLemmas.{bytes_of-append, outcome_from-front}
 
@@ -387,6 +387,17 @@ module _ {S : Type 0} (g : Ghosts S) (s : S) (o : Outcome) (t : S) (h : Holding)
           ∙ ap (λ (bs : List ℕ). shown_front (after_body h.machine b.name h.body) x.place bs (drop (n + 2) xs)) bytes
           ∙ ap (shown_front (after_body h.machine b.name h.body) x.place (h.body ++ 27 ∷ x.byte ∷ [])) left
 
+      -- and is charged
+      pub body_charged : b.show ≡ true → length h.body + 2 ≤ h.machine.left → o.machine.left < h.machine.left
+      body_charged shown few =
+          let bytes = h.body ++ 27 ∷ x.byte ∷ [] in
+          let size = length-append h.body (27 ∷ x.byte ∷ []) in
+          let m : Machine = after_body h.machine b.name h.body in
+          let h' : Holding = record h { machine = charged m (length bytes); open_run = None; open_body = None; body = [] } in
+          let there =
+          leads_shown g s o t h (x ∷ pending) k m x.place bytes pending (body_shows shown) (omega (arith, size, few)) h' refl (body_over (charged m (length bytes)) refl) in
+          omega (arith, size, few, leads_left g s o t h' (all_at x.place bytes ++ pending) there)
+
   -- the byte has the eighth bit
   pub byte_eighth : 128 ≤ x.byte → IsRefused g s o t h (refusal faults.EighthBit x.place)
   unfolding reads_on held_body
@@ -410,3 +421,25 @@ module _ {S : Type 0} (g : Ghosts S) (s : S) (o : Outcome) (t : S) (h : Holding)
           leads_to_refusal g s o t h (x ∷ pending) k _
           (escape_at_front place held _ (eighth_escape unread_room x.byte (bytes_of pending) high)
           ∙ ap (λ (n : ℕ). course.refuse (refusal faults.EighthBit n)) there)
+
+-- a held ESC and a byte behind it belong to a body, which has room for all of them that are stored
+module _ {S : Type 0} (g : Ghosts S) (s : S) (o : Outcome) (t : S) (h : Holding) (b : OpenBody) (opened : h.open_body ≡ Some b) (x : Placed)
+    (k : Continues g s o t h (x ∷ [])) (place : ℕ) (held : b.escape ≡ Some place) (few : x.byte < 128) (ends : ends_body x.byte ≡ false)
+    (some : store_limit - h.machine.stored - length h.body ≢ 0) where
+  both_kept : ReadsOn g s o t (record h { body = h.body ++ 27 ∷ [] }) b x []
+  both_kept = escape_kept g s o t h b opened x [] k place held few ends some
+
+  escape_again : x.byte ≡ 27 → o.refusal ≡ None
+  escape_again is =
+      leads_unrefused g s o t _ (escape_held g s o t (record h { body = h.body ++ 27 ∷ [] }) b x [] both_kept (ap (λ (n : ℕ). record { byte = n; place = x.place }) is))
+
+  pub escape_unrefused : (x.byte ≡ 27) ⊎ (store_limit - h.machine.stored - length h.body ≢ 1) → o.refusal ≡ None
+  escape_unrefused (inl is) = escape_again is
+  escape_unrefused (inr two) = at (eqb x.byte 27) refl
+    where
+      at : (test : Bool) → eqb x.byte 27 ≡ test → o.refusal ≡ None
+      at true e = escape_again (grind (arith, nat_tests))
+      at false e =
+          leads_unrefused g s o t _
+          (byte_kept g s o t (record h { body = h.body ++ 27 ∷ [] }) b x [] both_kept (record { low = few; other = grind (arith, nat_tests) })
+          (omega (arith, some, two, length-append h.body (27 ∷ []))))

@@ -30,7 +30,7 @@ use Rattle.nap_reader.specs.Kinds.{kind_of}
 use Rattle.nap_reader.specs.Faults.{code_fault, draw_fault}
 use Rattle.nap_reader.specs.Stream.{Placed, Machine, Outcome, bytes_of, is_operand, run_limit, refusal, all_at, charged, after_drawing, drawn_front, shown_front, code_front, front, start_machine, outcome_from, placed_from, begun}
 use Rattle.nap_reader.specs.Breaking.{cause_of}
-use Rattle.nap_reader.specs.Holding.{Holding, IsHeld, IsHalf, IsHeldBy, IsOpenRun, IsOwn, IsRefused, Continues, Presents, ReachesBy, ReachesWith, Shows, ShowsBy, frames_left, holding_of, machine_of}
+use Rattle.nap_reader.specs.Holding.{Holding, IsHeld, IsHalf, IsHeldBy, IsOpenRun, IsOwn, IsRefused, Continues, ReachesBy, ReachesWith, Shows, ShowsBy, frames_left, holding_of, machine_of}
 use Rattle.nap_reader.proofs.StreamLemmas.{bytes_of-append}
 use Rattle.nap_reader.proofs.HeldLemmas.{front_code, front_fault, front_run, front_long, opens_run, joins_run}
 use Rattle.nap_reader.proofs.LeadsLemmas.{TookMore, is_between, holds_between, is_open_run, holds_open_run, leads_on, leads_past, leads_to_refusal, leads_to_fault, leads_shift}
@@ -136,22 +136,22 @@ module _ {S : Type 0} (g : Ghosts S) (s : S) (o : Outcome) (t : S) (h : Holding)
   run_refused u other fault drew own =
       leads_to_fault g s o t h (x ∷ pending) k u h.machine open_run.place (x ∷ pending) _ (over other _ refl) fault drew own
 
--- bytes that were charged come next
-pub presented : {S E : Type 0} {g : Ghosts S} (old new : Reader S g) (result : Result E Refusal) (bytes : List ℕ) (place : ℕ) →
-    MatchResult result (λ _. new.refusal ≡ None) (λ r. new.refusal ≡ Some r) → OnOk result (Presents old new bytes place) →
-    IfErr result (λ r. r ≡ refusal faults.Memory place) → new.sink ≡ old.sink → (s : S) (o : Outcome) (inputs : List Placed) →
-    Continues g s o old.sink (record (holding_of old) { machine = charged (machine_of old) (length bytes) }) (all_at place bytes ++ (frames_left old ++ inputs)) →
-    ReachesWith new s o inputs
-presented {S} {E} {g} old new (Ok x) bytes place answered presents wants sink s o inputs k =
-    let all : all_at place bytes ++ (frames_left old ++ inputs) ≡ frames_left new ++ inputs =
-    sym (append_assoc (all_at place bytes) (frames_left old) inputs) ∙ ap (λ (xs : List Placed). xs ++ inputs) (sym presents.frames) in
-    reaches g s o new.sink (holding_of new) (frames_left new ++ inputs) new.refusal answered
-    (subst (λ (t : S). Continues g s o t (holding_of new) (frames_left new ++ inputs)) (sym sink)
-    (subst (λ (h : Holding). Continues g s o old.sink h (frames_left new ++ inputs)) (sym presents.holding)
-    (subst (Continues g s o old.sink (record (holding_of old) { machine = charged (machine_of old) (length bytes) })) all k)))
-presented {S} {E} {g} old new (Err r) bytes place answered presents wants sink s o inputs k =
-    reaches_refusal g s o new.sink (holding_of new) (frames_left new ++ inputs) new.refusal r answered
-    (λ own. let bad = sym own ∙ ap (λ (r : Refusal). cause_of r.fault) wants in cc)
+-- what is shown comes next, or there was no memory for it
+pub presented : {A S : Type 0} (g : Ghosts S) (s : S) (o : Outcome) (t : S) (held : ℕ → Holding) (count counted : ℕ) (came pending : List Placed) (place : ℕ)
+    (latch latched : Option Refusal) (result : Result A Refusal) → latch ≡ None → OnOk result ((counted ≡ count) × (latched ≡ latch) × (pending ≡ came)) →
+    IfErr result (λ r. (r ≡ refusal faults.Memory place) × (latched ≡ Some r)) → Continues g s o t (held count) came → ReachesBy g s o t (held counted) pending latched
+presented g s o t held count counted came pending place latch latched (Ok x) live shown wants k =
+    reaches g s o t (held counted) pending latched (shown.1 ∙ live)
+    (subst (λ (n : ℕ). Continues g s o t (held n) pending) (sym shown.0) (subst (Continues g s o t (held count)) (sym shown.2) k))
+presented g s o t held count counted came pending place latch latched (Err r) live shown wants k =
+    reaches_refusal g s o t (held counted) pending latched r wants.1
+    (λ own. let bad = sym own ∙ ap (λ (r : Refusal). cause_of r.fault) wants.0 in cc)
+
+-- where nothing was refused, this was done
+pub unrefused : {A P : Type 0} (result : Result A Refusal) (place : ℕ) (latch : Option Refusal) → OnOk result P →
+    IfErr result (λ r. (r ≡ refusal faults.Memory place) × (latch ≡ Some r)) → latch ≡ None → P
+unrefused (Ok x) place latch h wants none = h
+unrefused (Err r) place latch h wants none = let bad : Some r ≡ None = sym wants.1 ∙ none in cc
 
 -- bytes come next, or they can't be charged
 pub shows_reach : {S : Type 0} {g : Ghosts S} (old new : Reader S g) (bytes : List ℕ) (place : ℕ) → Shows old new bytes place → new.sink ≡ old.sink →

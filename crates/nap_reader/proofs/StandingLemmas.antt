@@ -1,4 +1,4 @@
-use Rattle.std.proofs.Common.{ap, ℕ, ◌+◌, ◌-◌, ◌≡◌, ◌≢◌, ◌<◌, ◌≤◌, List, [], ◌∷◌, ◌++◌, length, take, drop, slice_index, get_or, Some, None, refl, inr, sym, ◌∙◌, subst, arith, append_assoc, length-append}
+use Rattle.std.proofs.Common.{ap, ℕ, ◌+◌, ◌-◌, ◌≡◌, ◌≢◌, ◌<◌, ◌≤◌, List, [], ◌∷◌, ◌++◌, length, take, drop, slice_index, get_or, Some, None, refl, sym, ◌∙◌, subst, arith, append_assoc, length-append}
 use Rattle.std.proofs.lemmas.List.{take_all, take_more, take-append-drop, take-append-le, get_or_append_left, get_or-append-add}
 use Rattle.nap_list.specs.declared.entry.Entry.{Entry}
 use Rattle.nap_list.specs.declared.sink.Sink.{Ghosts}
@@ -171,7 +171,7 @@ drain_breaks {S} {g} old turned new b place budget turn_counted fed_counted more
     let charged : old.charged + length (frames_left turned) ≡ turned.charged = omega (arith, old.turned, turned.turned, unread_before, turn_counted, fed_counted) in
     let left = leads_left g s o turned.sink (holding_of turned) (frames_left turned ++ []) (reach s o next) in
     let before = ap (λ (m : Machine). m.left) (leads_machine g s (begun old.budget p) old.sink (holding_of old) k) in
-    uses_breaks g s old.budget p b new.sink r there.1 (inr (omega (arith, left, before, charged, some, budget, turned.within)))
+    uses_breaks g s old.budget p b new.sink r there.1 (omega (arith, left, before, charged, some, budget, turned.within))
     (subst (λ (es : List Entry). BreaksFrom g s es o new.sink (cause_of r.fault)) (sym (leads_entries g s (begun old.budget p) old.sink (holding_of old) k))
     (breaks_behind g s old.sink new.sink k.done rest o (cause_of r.fault) more broken k.taken k.clear (ap (λ (o : Outcome). o.entries) next.leads) there.0))
 

@@ -49,11 +49,11 @@ Brings budget p b =
     Joins (begun budget p) b ⊎ ((begun budget (p ++ b ∷ [])).entries ≢ (closed_by (begun budget p) b).entries) ⊎ UsesBody budget p b
 
 -- A byte behind p can break here: at the opcode whose run it ends, or at itself; where the stream itself refuses nothing,
--- but that it may refuse what comes later of a body.
+-- but that it may refuse what comes of a body that is charged.
 abbrev pub CanBreakAt : ℕ → List ℕ → ℕ → ℕ → Type 0
 CanBreakAt budget p b place =
     ((is_operand_byte b ≡ false) × (open_place (begun budget p) ≡ Some place) × ((with_run (begun budget p)).refusal ≡ None))
-    ⊎ ((place ≡ length p) × Brings budget p b × (UsesBody budget p b ⊎ ((begun budget (p ++ b ∷ [])).refusal ≡ None)))
+    ⊎ ((place ≡ length p) × Brings budget p b × (IsCharged budget p b ⊎ ((begun budget (p ++ b ∷ [])).refusal ≡ None)))
 
 -- A whole stream can break here: where one of its bytes is read, or at the opcode that acts at its end.
 abbrev pub BreaksWithin : ℕ → List ℕ → ℕ → Type 0
@@ -80,7 +80,7 @@ pub record BreaksBetween {S : Type 0} (g : Ghosts S) (s : S) (before after : Out
 abbrev pub TakesPart : {S : Type 0} → Ghosts S → S → List Entry → List Entry → S → Type 0
 TakesPart g s known more t = (first : List Entry) × (rest : List Entry) × (more ≡ first ++ rest) × g.took s (known ++ first) t
 
--- What a sink has then where a body is used: what was known, and of the entries that come next a part; or one of them broke.
+-- What a sink has then where a body is charged: what was known, and of the entries that come next a part; or one of them broke.
 abbrev pub TookFront : {S : Type 0} → Ghosts S → S → List Entry → List Entry → S → Cause → Type 0
 TookFront g s known more t stream = ⊥
 TookFront g s known more t memory = TakesPart g s known more t
@@ -99,11 +99,11 @@ pub record BreaksInRun {S : Type 0} (g : Ghosts S) (s : S) (budget : ℕ) (p : L
   pub part : BreaksBetween g s (begun budget p) (with_run (begun budget p)) t (cause_of r.fault)
 
 -- What is known once the byte behind p shows whether a run is over is there, and of what is known with the byte a part, not
--- all of it; or what was known before, and as much as came by the use of a body.
+-- all of it; or what was known before, and as much as came of a body that is charged.
 abbrev pub BreaksWith : {S : Type 0} → Ghosts S → S → ℕ → List ℕ → ℕ → S → Cause → Type 0
 BreaksWith g s budget p b t cause =
     BreaksBetween g s (closed_by (begun budget p) b) (begun budget (p ++ b ∷ [])) t cause
-    ⊎ (UsesBody budget p b × BreaksFrom g s (begun budget p).entries (begun budget (p ++ b ∷ [])) t cause)
+    ⊎ (IsCharged budget p b × BreaksFrom g s (begun budget p).entries (begun budget (p ++ b ∷ [])) t cause)
 
 -- The byte behind p breaks at its own place: what it joins or brings isn't all there, but what the run gives that it ends.
 pub record BreaksAtByte {S : Type 0} (g : Ghosts S) (s : S) (budget : ℕ) (p : List ℕ) (b : ℕ) (t : S) (r : Refusal) : Type 0 where

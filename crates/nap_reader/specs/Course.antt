@@ -37,8 +37,8 @@ unfoldable pub go : {M E F U B : Type 0} → (M → List B → Front M E F U B) 
 go front zero m xs = paused m xs None
 go front (suc fuel) m xs = onward (go front fuel) m xs (front m xs)
 
--- Front after front, until nothing whole is left. Each code that acts lessens what is unread and what is left to
--- charge, taken together, so this many fronts are enough.
+-- Front after front, until nothing whole is left. Each code that acts lessens what is unread and what the machine has
+-- left, taken together, so this many fronts are enough.
 unfoldable pub outcome : {M E F U B : Type 0} → (M → List B → Front M E F U B) → (M → ℕ) → M → List B → Outcome M E F U B
 outcome front left m xs = go front (suc (length xs + left m)) m xs
 
@@ -50,7 +50,7 @@ continue_by next None o ys = prepend o.entries (next o.machine (o.rest ++ ys))
 abbrev pub continue : {M E F U B : Type 0} → (M → List B → Outcome M E F U B) → Outcome M E F U B → List B → Outcome M E F U B
 continue next o ys = continue_by next o.refusal o ys
 
--- Each code that acts lessens what is unread and what is left to charge, taken together.
+-- Each code that acts lessens what is unread and what the machine has left, taken together.
 abbrev pub Lessens : {M E F U B : Type 0} → (M → List B → Front M E F U B) → (M → ℕ) → Type 0
 Lessens {M} {E} {F} {U} {B} front left = (m : M) (xs : List B) (es : List E) (m' : M) (ys : List B) →
     front m xs ≡ act es m' ys → length ys + left m' < length xs + left m

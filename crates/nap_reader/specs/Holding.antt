@@ -163,7 +163,18 @@ pub record BreaksPast {S : Type 0} (g : Ghosts S) (s : S) (known : List Entry) (
   pub unrefused : o.refusal ≡ None
   pub part : TookPart g s known more t cause
 
+-- The same, where there may be none.
+pub record BreaksNext {S : Type 0} (g : Ghosts S) (s : S) (known : List Entry) (o : Outcome) (t : S) (cause : Cause) : Type 0 where
+  pub more : List Entry
+  pub adds : o.entries ≡ known ++ more
+  pub unrefused : o.refusal ≡ None
+  pub part : TookPart g s known more t cause
+
 -- The same; or a body is charged, and the sink has a part of what comes.
+abbrev pub BreaksInBody : {S : Type 0} → Ghosts S → S → List Entry → Outcome → S → Holding → Cause → Type 0
+BreaksInBody g s known o t h cause = BreaksNext g s known o t cause ⊎ ((o.machine.left < h.machine.left) × BreaksFrom g s known o t cause)
+
+-- Some entries come; or a body is charged, and the sink has a part of what comes.
 abbrev pub BreaksSome : {S : Type 0} → Ghosts S → S → List Entry → Outcome → S → Holding → Cause → Type 0
 BreaksSome g s known o t h cause = BreaksPast g s known o t cause ⊎ ((o.machine.left < h.machine.left) × BreaksFrom g s known o t cause)
 

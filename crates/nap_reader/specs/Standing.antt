@@ -3,6 +3,7 @@ use Rattle.nap_list.specs.declared.sink.Sink.{Ghosts}
 use Rattle.nap_draw.specs.Draws.{Cause, stream}
 use Rattle.nap_reader.specs.declared.fault.Refusal.{Refusal}
 use Rattle.nap_reader.specs.declared.reader.Reader.{Reader}
+use Rattle.nap_reader.specs.Bodies.{store_limit}
 use Rattle.nap_reader.specs.Stream.{Outcome, begun}
 use Rattle.nap_reader.specs.Breaking.{cause_of, BreaksAt}
 use Rattle.nap_reader.specs.Holding.{Continues, holding_of, frames_left}
@@ -30,6 +31,24 @@ charged_of reader = reader.charged
 -- what is left to be charged
 abbrev pub left_of : {S : Type 0} {g : Ghosts S} → Reader S g → ℕ
 left_of reader = budget_of reader - charged_of reader
+
+-- What a reader keeps of bodies: how many are being read, how many bytes of bodies it has, and how many of the bytes that
+-- ended those which were shown.
+
+abbrev pub frames_of : {S : Type 0} {g : Ghosts S} → Reader S g → ℕ
+frames_of reader = length reader.frames.stack.items
+
+abbrev pub bodies_of : {S : Type 0} {g : Ghosts S} → Reader S g → ℕ
+bodies_of reader = reader.store.stored + length reader.store.body
+
+abbrev pub pairs_of : {S : Type 0} {g : Ghosts S} → Reader S g → ℕ
+pairs_of reader = length reader.store.bytes - bodies_of reader
+
+-- these are no more than the bytes that were charged, or than all bodies may have
+pub record IsBounded {S : Type 0} {g : Ghosts S} (reader : Reader S g) : Type 0 where
+  pub frames : frames_of reader ≤ charged_of reader
+  pub bodies : bodies_of reader ≤ store_limit
+  pub pairs : refusal_of reader ≡ None → pairs_of reader ≤ charged_of reader
 
 -- A sink that was s has taken the entries of the outcome, this is left to charge, and this is its refusal.
 pub record IsKnown {S : Type 0} (g : Ghosts S) (s : S) (o : Outcome) (t : S) (n : ℕ) (answer : Option Refusal) : Type 0 where

@@ -9,7 +9,9 @@ ghost use Rattle.nap_reader.specs.Carried.{HasName, HasName-prop, HasRule, HasRu
 ghost use Rattle.nap_reader.specs.Framed.{FramesIn, unread};
 ghost use Rattle.nap_reader.specs.Faults.{draw_fault};
 ghost use Rattle.nap_codes.specs.Laws.{IsGraphic};
-ghost use Rattle.nap_reader.specs.Stream.{is_operand_byte, refusal, run_limit};
+ghost use Rattle.nap_reader.specs.Stored.{part_at};
+ghost use Rattle.nap_reader.specs.Bodies.{store_limit};
+ghost use Rattle.nap_reader.specs.Stream.{all_at, is_operand_byte, refusal, run_limit};
 ghost use Rattle.nap_reader.specs.declared.budget.TheConstants.Budget.{MOST};
 
 use crate::body::{OpenBody, ends_body};
@@ -58,6 +60,9 @@ pub struct Reader<S: Sink> {
     ghost named: { HasName open_body } by { HasName-prop open_body },
     ghost framed: { FramesIn (length store.bytes) frames.stack.items },
     ghost turned: { turns + length (unread store.bytes frames.stack.items) ≡ fed + charged },
+    ghost counted: { fed ≤ turns },
+    ghost few: { store.stored + length store.body ≤ store_limit },
+    ghost paired: { ForNone refusal (length store.bytes ≤ store.stored + length store.body + charged) } by { Prim.hlevel props },
     ghost agrees: { ForNone refusal (StatesAgree work.state (S.state sink)) } by { Prim.hlevel (props, StatesAgree-prop work.state (S.state sink)) },
 }
 
@@ -70,8 +75,8 @@ impl<S: Sink> Reader<S> {
     ghost use Rattle.nap_reader.specs.Bodies.{body_of};
     ghost use Rattle.nap_reader.specs.Framed.{placed_at};
     ghost use Rattle.nap_reader.specs.Stored.{part_at};
-    ghost use Rattle.nap_reader.specs.Holding.{AllAt, BreaksSome, CarriesWord, Charges, ClosesBy, Continues, ContinuesPast, Drains, Ends, IsOwn, IsStill, Places, Presents, Reaches, ReachesWith, ReadsOn, RunAt, SameBodies, SameBytes, SameCounts, Shows, frames_left, held_place, holding_of};
-    ghost use Rattle.nap_reader.specs.Standing.{Answers, IsTaken, Stands, StopsAt, budget_of, charged_of, fed_of, left_of, refusal_of, sink_of, turns_of};
+    ghost use Rattle.nap_reader.specs.Holding.{AllAt, BreaksInBody, BreaksSome, CarriesWord, Charges, ClosesBy, Continues, ContinuesPast, Drains, Ends, IsOwn, IsStill, Places, Presents, Reaches, ReachesWith, ReadsOn, RunAt, SameBodies, SameBytes, SameCounts, Shows, frames_left, held_place, holding_of};
+    ghost use Rattle.nap_reader.specs.Standing.{Answers, IsBounded, IsTaken, Stands, StopsAt, budget_of, charged_of, fed_of, left_of, refusal_of, sink_of, turns_of};
 
     /// A reader at the start of a stream, which puts the entries into this sink.
     pub fn new(alloc: Global, budget: Budget, sink: S) -> Reader<S>
@@ -112,6 +117,7 @@ impl<S: Sink> Reader<S> {
         // A refusal stays, and changes nothing.
         ensures latched { (r : Refusal) → refusal_of self.old ≡ Some r → (result ≡ Err r) × (self.new ≡ self.old) }
         ensures failed { IfErr result (λ r. refusal_of self.old ≡ None → r.fault ≡ Fault.Sink → S.failed (sink_of self.new) ≡ true) }
+        ensures kept { IfErr result (λ r. r.fault ≢ Fault.Sink → S.failed (sink_of self.old) ≡ false → S.failed (sink_of self.new) ≡ false) }
         ensures clear { OnOk result (S.failed (sink_of self.old) ≡ false → S.failed (sink_of self.new) ≡ false) }
         // All of the piece was taken, or the bytes up to and with the one that is refused.
         ensures fed { OnOk result (fed_of self.new ≡ fed_of self.old + length piece.now) }
@@ -146,6 +152,7 @@ impl<S: Sink> Reader<S> {
             BreaksFrom S.Sink s [] o self.new.sink (cause_of r.fault) × ((n : ℕ) → AllAt n self.old → RunAt n self.old.open_run → r.place ≡ n)) }
         ensures some { IfErr result (λ _. 0 < length (frames_left self.old)) }
         ensures failed { IfErr result (λ r. r.fault ≡ Fault.Sink → S.failed self.new.sink ≡ true) }
+        ensures kept { IfErr result (λ r. S.failed self.old.sink ≡ false → S.failed self.new.sink ≡ true → r.fault ≡ Fault.Sink) }
         ensures clear { OnOk result (S.failed self.old.sink ≡ false → S.failed self.new.sink ≡ false) }
         ensures counts { Drains self.old self.new }
         ensures left { IfErr result (λ _. (s : S) (o : Outcome) (inputs : List Placed) →
@@ -172,6 +179,7 @@ impl<S: Sink> Reader<S> {
             BreaksFrom S.Sink s [] o self.new.sink (cause_of r.fault) × ((r.place ≡ place) ⊎ (held_place self.old.open_run ≡ Some r.place))) }
         ensures placed { OnOk result (Places self.old self.new place) }
         ensures failed { IfErr result (λ r. r.fault ≡ Fault.Sink → S.failed self.new.sink ≡ true) }
+        ensures kept { IfErr result (λ r. S.failed self.old.sink ≡ false → S.failed self.new.sink ≡ true → r.fault ≡ Fault.Sink) }
         ensures clear { OnOk result (S.failed self.old.sink ≡ false → S.failed self.new.sink ≡ false) }
         ensures counts { Charges self.old self.new }
         ensures uncharged { IfErr result (λ _. self.new.charged ≡ self.old.charged) }
@@ -232,6 +240,7 @@ impl<S: Sink> Reader<S> {
         ensures place { IfErr result (λ r. r.place ≡ open_run.place) }
         ensures between { self.new.open_body ≡ None }
         ensures failed { IfErr result (λ r. r.fault ≡ Fault.Sink → S.failed self.new.sink ≡ true) }
+        ensures kept { IfErr result (λ r. S.failed self.old.sink ≡ false → S.failed self.new.sink ≡ true → r.fault ≡ Fault.Sink) }
         ensures clear { OnOk result (S.failed self.old.sink ≡ false → S.failed self.new.sink ≡ false) }
         ensures counts { SameCounts self.old self.new }
         ensures bytes { SameBytes self.old self.new }
@@ -265,6 +274,7 @@ impl<S: Sink> Reader<S> {
             ContinuesPast S.Sink s known o self.old.sink (holding_of self.old) (record { byte = byte; place = place } ∷ []) →
             (r.place ≡ place) × BreaksSome S.Sink s known o self.new.sink (holding_of self.old) (cause_of r.fault)) }
         ensures failed { IfErr result (λ r. r.fault ≡ Fault.Sink → S.failed self.new.sink ≡ true) }
+        ensures kept { IfErr result (λ r. S.failed self.old.sink ≡ false → S.failed self.new.sink ≡ true → r.fault ≡ Fault.Sink) }
         ensures clear { OnOk result (S.failed self.old.sink ≡ false → S.failed self.new.sink ≡ false) }
         ensures counts { Charges self.old self.new }
         ensures uncharged { IfErr result (λ _. self.new.charged ≡ self.old.charged) }
@@ -313,8 +323,9 @@ impl<S: Sink> Reader<S> {
             Continues S.Sink s o self.old.sink (holding_of self.old) (placed_at byte place ∷ frames_left self.old ++ inputs) → ReachesWith self.new s o inputs }
         ensures breaks { IfErr result (λ r. cause_of r.fault ≢ stream → (s : S) (known : List Entry) (o : Outcome) →
             ContinuesPast S.Sink s known o self.old.sink (holding_of self.old) (placed_at byte place ∷ []) →
-            (r.place ≡ place) × BreaksFrom S.Sink s known o self.new.sink (cause_of r.fault)) }
+            (r.place ≡ place) × BreaksInBody S.Sink s known o self.new.sink (holding_of self.old) (cause_of r.fault)) }
         ensures failed { IfErr result (λ r. r.fault ≡ Fault.Sink → S.failed self.new.sink ≡ true) }
+        ensures kept { IfErr result (λ r. S.failed self.old.sink ≡ false → S.failed self.new.sink ≡ true → r.fault ≡ Fault.Sink) }
         ensures clear { OnOk result (S.failed self.old.sink ≡ false → S.failed self.new.sink ≡ false) }
         ensures counts { Charges self.old self.new }
         ensures uncharged { IfErr result (λ _. self.new.charged ≡ self.old.charged) }
@@ -329,8 +340,12 @@ impl<S: Sink> Reader<S> {
         if ends_body(byte) {
             return self.end_body(body, escape, byte, place);
         }
-        if self.store.is_full() {
+        let room = self.store.room();
+        if room == 0 {
             return refuse(&mut self.refusal, Fault::Store, escape);
+        }
+        if room == 1 && byte != 0x1B {
+            return refuse(&mut self.refusal, Fault::Store, place);
         }
         let Ok(()) = self.store.push(0x1B) else {
             return refuse(&mut self.refusal, Fault::Memory, place);
@@ -346,7 +361,8 @@ impl<S: Sink> Reader<S> {
         ensures answered { MatchResult result (λ _. self.new.refusal ≡ None) (λ r. self.new.refusal ≡ Some r) }
         ensures reaches { (s : S) (o : Outcome) (inputs : List Placed) →
             ReadsOn S.Sink s o self.old.sink (holding_of self.old) body (placed_at byte place) (frames_left self.old ++ inputs) → ReachesWith self.new s o inputs }
-        ensures breaks { IfErr result (λ r. cause_of r.fault ≢ stream → r ≡ refusal Fault.Memory place) }
+        ensures breaks { IfErr result (λ r. cause_of r.fault ≢ stream → (r ≡ refusal Fault.Memory place)
+            × ((s : S) (o : Outcome) → ReadsOn S.Sink s o self.old.sink (holding_of self.old) body (placed_at byte place) [] → o.refusal ≡ None)) }
         ensures sink { self.new.sink ≡ self.old.sink }
         ensures counts { Charges self.old self.new }
         ensures uncharged { IfErr result (λ _. self.new.charged ≡ self.old.charged) }
@@ -360,7 +376,7 @@ impl<S: Sink> Reader<S> {
             });
             return Ok(());
         }
-        if self.store.is_full() {
+        if self.store.room() == 0 {
             return refuse(&mut self.refusal, Fault::Store, place);
         }
         let Ok(()) = self.store.push(byte) else {
@@ -391,8 +407,9 @@ impl<S: Sink> Reader<S> {
             Continues S.Sink s o self.old.sink (holding_of self.old) (placed_at ender place ∷ frames_left self.old ++ inputs) → ReachesWith self.new s o inputs }
         ensures breaks { IfErr result (λ r. cause_of r.fault ≢ stream → (s : S) (known : List Entry) (o : Outcome) →
             ContinuesPast S.Sink s known o self.old.sink (holding_of self.old) (placed_at ender place ∷ []) →
-            (r.place ≡ place) × BreaksFrom S.Sink s known o self.new.sink (cause_of r.fault)) }
+            (r.place ≡ place) × BreaksInBody S.Sink s known o self.new.sink (holding_of self.old) (cause_of r.fault)) }
         ensures failed { IfErr result (λ r. r.fault ≡ Fault.Sink → S.failed self.new.sink ≡ true) }
+        ensures kept { IfErr result (λ r. S.failed self.old.sink ≡ false → S.failed self.new.sink ≡ true → r.fault ≡ Fault.Sink) }
         ensures clear { OnOk result (S.failed self.old.sink ≡ false → S.failed self.new.sink ≡ false) }
         ensures counts { Charges self.old self.new }
         ensures uncharged { IfErr result (λ _. self.new.charged ≡ self.old.charged) }
@@ -426,7 +443,8 @@ impl<S: Sink> Reader<S> {
         ensures answered { MatchResult result (λ _. self.new.refusal ≡ None) (λ r. self.new.refusal ≡ Some r) }
         ensures reaches { (s : S) (o : Outcome) (inputs : List Placed) →
             Continues S.Sink s o self.old.sink (holding_of self.old) (placed_at byte place ∷ frames_left self.old ++ inputs) → ReachesWith self.new s o inputs }
-        ensures breaks { IfErr result (λ r. cause_of r.fault ≢ stream → r ≡ refusal Fault.Memory place) }
+        ensures breaks { IfErr result (λ r. cause_of r.fault ≢ stream → (r ≡ refusal Fault.Memory place)
+            × ((s : S) (o : Outcome) → Continues S.Sink s o self.old.sink (holding_of self.old) (placed_at byte place ∷ []) → o.machine.left < left_of self.old)) }
         ensures sink { self.new.sink ≡ self.old.sink }
         ensures counts { Charges self.old self.new }
         ensures uncharged { IfErr result (λ _. self.new.charged ≡ self.old.charged) }
@@ -442,7 +460,14 @@ impl<S: Sink> Reader<S> {
         self.open_body = None;
         // (no run is open in a body)
         self.open_run = None;
-        self.present(span, count, place)
+        present(
+            &mut self.frames,
+            &mut self.charged,
+            &mut self.refusal,
+            span,
+            count,
+            place,
+        )
     }
 
     /// Calls the macro of this name.
@@ -465,29 +490,14 @@ impl<S: Sink> Reader<S> {
         if count > self.left() {
             return refuse(&mut self.refusal, Fault::Budget, place);
         }
-        self.present(span, count, place)
-    }
-
-    /// This part of the store comes next, at this place, and is charged.
-    fn present(&mut self, span: Span, count: u64, place: u64) -> Result<(), Refusal>
-        requires live { self.old.refusal ≡ None }
-        requires some { span.start < span.end }
-        requires within { span.end ≤ length self.old.store.bytes }
-        requires counted { count + span.start ≡ span.end }
-        requires few { count + self.old.charged ≤ self.old.budget }
-        requires most { count + self.old.charged ≤ MOST }
-        ensures answered { MatchResult result (λ _. self.new.refusal ≡ None) (λ r. self.new.refusal ≡ Some r) }
-        ensures shown { OnOk result (Presents self.old self.new (part_at self.old.store.bytes span) place) }
-        ensures wants { IfErr result (λ r. r ≡ refusal Fault.Memory place) }
-        ensures sink { self.new.sink ≡ self.old.sink }
-        ensures counts { Charges self.old self.new }
-        ensures uncharged { IfErr result (λ _. self.new.charged ≡ self.old.charged) }
-    {
-        let Ok(()) = self.frames.push(span, place) else {
-            return refuse(&mut self.refusal, Fault::Memory, place);
-        };
-        self.charged += count;
-        Ok(())
+        present(
+            &mut self.frames,
+            &mut self.charged,
+            &mut self.refusal,
+            span,
+            count,
+            place,
+        )
     }
 
     /// What is left to charge.
@@ -508,6 +518,7 @@ impl<S: Sink> Reader<S> {
         ensures breaks { IfErr result (λ r. self.old.refusal ≡ None → cause_of r.fault ≢ stream → (s : S) (p : List ℕ) → Stands self.old s p →
             BreaksInRun S.Sink s (budget_of self.old) p self.new.sink r) }
         ensures failed { IfErr result (λ r. self.old.refusal ≡ None → r.fault ≡ Fault.Sink → S.failed self.new.sink ≡ true) }
+        ensures kept { IfErr result (λ r. S.failed self.old.sink ≡ false → S.failed self.new.sink ≡ true → r.fault ≡ Fault.Sink) }
         ensures clear { OnOk result (S.failed self.old.sink ≡ false → S.failed self.new.sink ≡ false) }
     {
         if let Some(latched) = self.refusal {
@@ -551,6 +562,7 @@ impl<S: Sink> Reader<S> {
             BreaksInRun S.Sink s (budget_of self) p e.sink e.refusal) }
         ensures latched { (r : Refusal) → refusal_of self ≡ Some r → result ≡ Err (record { sink = sink_of self; refusal = r }) }
         ensures failed { IfErr result (λ e. refusal_of self ≡ None → e.refusal.fault ≡ Fault.Sink → S.failed e.sink ≡ true) }
+        ensures kept { IfErr result (λ e. e.refusal.fault ≢ Fault.Sink → S.failed (sink_of self) ≡ false → S.failed e.sink ≡ false) }
         ensures clear { IfOk result (λ t. S.failed (sink_of self) ≡ false → S.failed t ≡ false) }
     {
         let mut reader = self;
@@ -622,9 +634,37 @@ impl<S: Sink> Reader<S> {
     pub fn charged(&self) -> u64
         ensures count { result ≡ charged_of self.now }
         ensures within { result ≤ budget_of self.now }
+        // No more bodies are being read than this, and no more bytes are stored beside those of bodies.
+        ensures bounded { IsBounded self.now }
     {
         self.charged
     }
+}
+
+/// This part of the store comes next, at this place, and is charged.
+fn present(
+    frames: &mut Frames,
+    charged: &mut u64,
+    latch: &mut Option<Refusal>,
+    span: Span,
+    count: u64,
+    place: u64,
+) -> Result<(), Refusal>
+    requires some { span.start < span.end }
+    requires counted { count + span.start ≡ span.end }
+    requires most { count + charged.old ≤ MOST }
+    ensures shown { OnOk result ((charged.new ≡ charged.old + count) × (latch.new ≡ latch.old) × ((bytes : List ℕ) → unread bytes frames.new.stack.items ≡ all_at place (part_at bytes span) ++ unread bytes frames.old.stack.items)) }
+    ensures wants { IfErr result (λ r. (r ≡ refusal Fault.Memory place) × (latch.new ≡ Some r)) }
+    ensures uncharged { IfErr result (λ _. charged.new ≡ charged.old) }
+    ensures within { (n : ℕ) → span.end ≤ n → FramesIn n frames.old.stack.items → FramesIn n frames.new.stack.items }
+    ensures turned { (bytes : List ℕ) → span.end ≤ length bytes → length (unread bytes frames.new.stack.items) + charged.old ≡ length (unread bytes frames.old.stack.items) + charged.new }
+    ensures more { (charged.old ≤ charged.new) × (charged.new ≤ charged.old + count) }
+{
+    let Ok(()) = frames.push(span, place) else {
+        return refuse(latch, Fault::Memory, place);
+    };
+    *charged += count;
+    Ok(())
 }
 
 /// Refuses the stream, for good.

@@ -1,5 +1,5 @@
 //! The bodies of the macros.
-ghost use Rattle.std.specs.Prelude.{◌≡◌, ◌+◌, ◌<◌, ◌≤◌, ◌-◌, [], ◌∷◌, ◌++◌, length, replicate, OnOk, OnErr, IfOk, MatchBool, if◌then◌else◌};
+ghost use Rattle.std.specs.Prelude.{◌≡◌, ◌+◌, ◌<◌, ◌≤◌, ◌-◌, [], ◌∷◌, ◌++◌, length, replicate, OnOk, OnErr, IfOk, if◌then◌else◌};
 ghost use Rattle.nap_reader.specs.Bodies.{no_names, body_of, store_limit};
 ghost use Rattle.nap_reader.specs.Stored.{IsBefore, closed, part_at, shown};
 ghost use Rattle.nap_codes.specs.Laws.{IsGraphic};
@@ -53,11 +53,11 @@ impl Store {
         }
     }
 
-    /// Whether the bodies have all the bytes that they may.
-    pub(crate) fn is_full(&self) -> bool
-        ensures { MatchBool result (self.now.stored + length self.now.body ≡ store_limit) (self.now.stored + length self.now.body < store_limit) }
+    /// How many bytes more the bodies may have.
+    pub(crate) fn room(&self) -> usize
+        ensures { result + (self.now.stored + length self.now.body) ≡ store_limit }
     {
-        self.stored + (self.bytes.len() - self.from) >= STORE_LIMIT
+        STORE_LIMIT - self.stored - (self.bytes.len() - self.from)
     }
 
     /// How many bytes the open body has.

@@ -1,5 +1,5 @@
 //! How each entry is spelled where the values that it holds stand.
-ghost use Rattle.std.specs.Prelude.{◌≡◌, ◌<◌, ◌+◌, ◌++◌, [], ◌∷◌, if◌then◌else◌, OnOk};
+ghost use Rattle.std.specs.Prelude.{◌≡◌, ◌<◌, ◌+◌, ◌++◌, [], ◌∷◌, if◌then◌else◌, is_err, OnOk};
 ghost use Rattle.nap_codes.specs.declared.code_set.GSet.TheVariants.{G0, G1};
 ghost use Rattle.nap_list.specs.Entry.{held};
 ghost use Rattle.nap_list.specs.State.{taking};
@@ -47,7 +47,7 @@ fn shape_opcode(outlined: u8, filled: bool) -> u8
 impl<T: ByteSink + Drop> Writer<T> {
     /// The displacements from a point to the others in turn.
     fn onward(&mut self, first: Point, others: &[Point]) -> Result<(), T::Fault>
-        ensures taken { OnOk result (T.taken self.new.to ≡ T.taken self.old.to ++ onward_bytes first others.now) }
+        ensures sent { T.sent self.old.to (onward_bytes first others.now) (is_err result) self.new.to }
         ensures gl { self.new.gl ≡ self.old.gl }
         ensures state { self.new.state ≡ self.old.state }
     {
@@ -62,7 +62,7 @@ impl<T: ByteSink + Drop> Writer<T> {
     /// A shape through its points, by the opcode of the outlined one.
     fn shape(&mut self, outlined: u8, filled: bool, points: &[Point]) -> Result<(), T::Fault>
         requires { outlined < 255 }
-        ensures taken { OnOk result (T.taken self.new.to ≡ T.taken self.old.to ++ piece_bytes self.old.gl (shape outlined filled points.now)) }
+        ensures sent { T.sent self.old.to (piece_bytes self.old.gl (shape outlined filled points.now)) (is_err result) self.new.to }
         ensures gl { self.new.gl ≡ G1 }
         ensures state { self.new.state ≡ self.old.state }
     {
@@ -78,7 +78,7 @@ impl<T: ByteSink + Drop> Writer<T> {
 
     /// A code of the primary characters, behind which they are in GL.
     fn primary(&mut self, code: u8) -> Result<(), T::Fault>
-        ensures taken { OnOk result (T.taken self.new.to ≡ T.taken self.old.to ++ piece_bytes self.old.gl (primary code)) }
+        ensures sent { T.sent self.old.to (piece_bytes self.old.gl (primary code)) (is_err result) self.new.to }
         ensures gl { self.new.gl ≡ G0 }
         ensures state { self.new.state ≡ self.old.state }
     {
@@ -89,7 +89,7 @@ impl<T: ByteSink + Drop> Writer<T> {
 
     /// A character: SS2 brings G2 and SS3 brings G3 for it alone, and a DRCS is G3 for that time.
     fn character(&mut self, set: CharSet, code: u8) -> Result<(), T::Fault>
-        ensures taken { OnOk result (T.taken self.new.to ≡ T.taken self.old.to ++ piece_bytes self.old.gl (char_piece set code)) }
+        ensures sent { T.sent self.old.to (piece_bytes self.old.gl (char_piece set code)) (is_err result) self.new.to }
         ensures gl { self.new.gl ≡ gl_behind self.old.gl (char_piece set code) }
         ensures state { self.new.state ≡ self.old.state }
     {
@@ -103,7 +103,7 @@ impl<T: ByteSink + Drop> Writer<T> {
 
     /// A format effector.
     fn text_move(&mut self, step: TextStep) -> Result<(), T::Fault>
-        ensures taken { OnOk result (T.taken self.new.to ≡ T.taken self.old.to ++ step_bytes step) }
+        ensures sent { T.sent self.old.to (step_bytes step) (is_err result) self.new.to }
         ensures gl { self.new.gl ≡ self.old.gl }
         ensures state { self.new.state ≡ self.old.state }
     {
@@ -120,7 +120,7 @@ impl<T: ByteSink + Drop> Writer<T> {
 
     /// SET COLOR at an address, which is brought where it isn't the colour.
     fn map(&mut self, addr: Addr, grb: Grb) -> Result<(), T::Fault>
-        ensures taken { OnOk result (T.taken self.new.to ≡ T.taken self.old.to ++ written self.old.gl (map_pieces self.old.state.drawing addr grb)) }
+        ensures sent { T.sent self.old.to (written self.old.gl (map_pieces self.old.state.drawing addr grb)) (is_err result) self.new.to }
         ensures gl { OnOk result (self.new.gl ≡ gl_after self.old.gl (map_pieces self.old.state.drawing addr grb)) }
         ensures state { self.new.state ≡ self.old.state }
     {
@@ -133,7 +133,7 @@ impl<T: ByteSink + Drop> Writer<T> {
     /// RESET, and DOMAIN once more where that puts the lengths of operands back.
     #[tactic(auto, unfolding(crate::specs::Text::written))]
     fn reset(&mut self, first: Word, second: Word) -> Result<(), T::Fault>
-        ensures taken { OnOk result (T.taken self.new.to ≡ T.taken self.old.to ++ written self.old.gl (opcode 0x20 (word_byte first ∷ word_byte second ∷ []) ∷ domain_again first)) }
+        ensures sent { T.sent self.old.to (written self.old.gl (opcode 0x20 (word_byte first ∷ word_byte second ∷ []) ∷ domain_again first)) (is_err result) self.new.to }
         ensures gl { self.new.gl ≡ G1 }
         ensures state { self.new.state ≡ self.old.state }
     {
@@ -148,7 +148,7 @@ impl<T: ByteSink + Drop> Writer<T> {
 
     /// FIELD with its area.
     fn field(&mut self, area: Area) -> Result<(), T::Fault>
-        ensures taken { OnOk result (T.taken self.new.to ≡ T.taken self.old.to ++ piece_bytes self.old.gl (opcode 0x38 (area_bytes area))) }
+        ensures sent { T.sent self.old.to (piece_bytes self.old.gl (opcode 0x38 (area_bytes area))) (is_err result) self.new.to }
         ensures gl { self.new.gl ≡ G1 }
         ensures state { self.new.state ≡ self.old.state }
     {
@@ -161,7 +161,7 @@ impl<T: ByteSink + Drop> Writer<T> {
     /// How an entry is spelled where the values that it holds stand.
     #[tactic(auto, unfolding(crate::specs::Text::written, crate::specs::Text::gl_after))]
     pub(super) fn spelling(&mut self, entry: &Entry) -> Result<(), T::Fault>
-        ensures taken { OnOk result (T.taken self.new.to ≡ T.taken self.old.to ++ written self.old.gl (spelled (taking self.old.state.drawing (held entry.now)) entry.now)) }
+        ensures sent { T.sent self.old.to (written self.old.gl (spelled (taking self.old.state.drawing (held entry.now)) entry.now)) (is_err result) self.new.to }
         ensures gl { OnOk result (self.new.gl ≡ gl_after self.old.gl (spelled (taking self.old.state.drawing (held entry.now)) entry.now)) }
         ensures state { self.new.state ≡ self.old.state }
     {

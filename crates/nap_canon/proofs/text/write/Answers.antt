@@ -1,4 +1,4 @@
-use Rattle.std.proofs.Common.{◌++◌, ℕ, List, take, ap, sym, subst, ◌∙◌}
+use Rattle.std.proofs.Common.{◌++◌, ℕ, List, refl, take, ap, sym, subst, ◌∙◌}
 use Rattle.std.proofs.lemmas.List.Elements.{All-nil, All-more}
 use Rattle.nap_codes.specs.declared.code_set.GSet.{GSet}
 use Rattle.nap_codes.specs.declared.code_set.GSet.TheVariants.{G1}
@@ -12,9 +12,9 @@ use Rattle.nap_canon.proofs.text.write.Goals as goal
 pub loop-entry-init : goal.loop-entry-init
 unfolding pieces written gl_after walk
 loop-entry-init c = record {
-  text = c.in_ok-writer.ensures.taken ∙ ap (λ (bs : List ℕ). bs ++ header) c.in_ok-bytes.ensures.items;
-  gl = c.in_ok-writer.ensures.gl;
-  state = c.in_ok-writer.ensures.state;
+  text = c.in_ok-begin.ensures.sent refl ∙ ap (λ (bs : List ℕ). bs ++ header) (ap (λ w. w.to.items) c.new-writer.ensures ∙ c.in_ok-bytes.ensures.items);
+  gl = c.in_ok-begin.ensures.gl ∙ ap (λ w. w.gl) c.new-writer.ensures;
+  state = c.in_ok-begin.ensures.state ∙ ap (λ w. w.state) c.new-writer.ensures;
   range = All-nil InRange;
 }
 
@@ -34,7 +34,7 @@ loop-entry-preserved c =
     let s = c.loop-entry.writer.state in
     record {
       text =
-          c.in_ok-put_ref.ensures.taken
+          c.in_ok-put_ref.ensures.sent refl
           ∙ ap (λ (bs : List ℕ). bs ++ written gl (entry_pieces s e)) c.loop-entry.invariant.text
           ∙ ap (λ (set : GSet). text (take i es) ++ written set (entry_pieces s e)) c.loop-entry.invariant.gl
           ∙ ap (λ (t : State). text (take i es) ++ written (gl_after G1 (pieces start (take i es))) (entry_pieces t e)) c.loop-entry.invariant.state

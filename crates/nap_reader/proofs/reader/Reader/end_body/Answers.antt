@@ -1,12 +1,13 @@
-use Rattle.std.proofs.Common.{◌++◌, ◌∷◌, [], None, refl, ap, sym, ◌∙◌, subst}
+use Rattle.std.proofs.Common.{inr, ◌++◌, ◌∷◌, [], None, refl, ap, sym, ◌∙◌, subst}
 use Rattle.nap_codes.specs.Lexer.{LexerState}
 use Rattle.nap_reader.specs.Bodies.{between}
 use Rattle.nap_reader.specs.Breaking.{cause_of}
+use Rattle.nap_reader.specs.declared.fault.Refusal.{Refusal}
 use Rattle.nap_reader.specs.Stored.{StoreState, closed}
 use Rattle.nap_reader.specs.Stream.{Placed}
 use Rattle.nap_reader.specs.Framed.{placed_at, unread}
 use Rattle.nap_reader.specs.Holding.{Continues, ContinuesPast, frames_left, holding_of, machine_of}
-use Rattle.nap_reader.proofs.ActingLemmas.{breaks_from}
+use Rattle.nap_reader.proofs.ActingLemmas.{some_in_body, wants_from}
 use Rattle.nap_reader.proofs.OpenBodyLemmas.{body_bound, same_done, held_body, escape_steps}
 use Rattle.nap_reader.proofs.ReadingLemmas.{if_err_map}
 use Rattle.std.proofs.lemmas.Result.{on_ok_weaker}
@@ -34,6 +35,15 @@ returns-clause-reaches g c s o inputs k =
     (subst (λ (lexer : LexerState). Continues g.S.Sink s o r.sink (H t lexer) (x ∷ (unread t.bytes r.frames.stack.items ++ inputs))) (sym lexer)
     (subst (λ (t : StoreState). Continues g.S.Sink s o r.sink (H t after) (x ∷ (unread t.bytes r.frames.stack.items ++ inputs))) (sym c.bind.ensures) there))
 
+pub returns-then-body-clause-breaks : goal.returns-then-body-clause-breaks
+returns-then-body-clause-breaks g c =
+    let r = c.args.self.now in
+    if_err_map c.show_body.result
+    (λ f wants broke s known o k.
+    let want = wants broke in
+    (ap (λ (f : Refusal). f.place) want.0, rw (want.0, c.show_body.ensures.sink) (inr (want.1 s o k.continues, wants_from g.S.Sink s known o r.sink (holding_of r) _ k))))
+    c.show_body.ensures.breaks
+
 pub returns-clause-breaks : goal.returns-clause-breaks
 returns-clause-breaks g c =
     let r = c.args.self.now in
@@ -60,7 +70,7 @@ returns-clause-breaks g c =
     breaks broke s known o
     (subst (λ (lexer : LexerState). ContinuesPast g.S.Sink s known o r.sink (H t lexer) (x ∷ [])) (sym lexer)
     (subst (λ (t : StoreState). ContinuesPast g.S.Sink s known o r.sink (H t after) (x ∷ [])) (sym c.bind.ensures) past)) in
-    (b.0, breaks_from g.S.Sink s known o c.lex.new.self.sink (H t c.step.new.self) (cause_of f.fault) b.1))
+    (b.0, some_in_body g.S.Sink s known o c.lex.new.self.sink (H t c.step.new.self) (cause_of f.fault) b.1))
     c.lex.ensures.breaks
 
 pub returns-clause-placed : goal.returns-clause-placed

@@ -253,3 +253,6 @@ pub returns-in-Calls-clause-placed : goal.returns-in-Calls-clause-placed
 returns-in-Calls-clause-placed g c =
     on_ok_weaker c.call.result (places_by c.args.self.now _ c.call.new.self c.args.place (record { left = refl; open_run = refl }))
     (shows_places _ c.call.new.self c.call.result _ c.args.place c.call.ensures.answered c.call.ensures.shows c.requires.closed)
+
+pub invariant_of-self-clause-paired : goal.invariant_of-self-clause-paired
+invariant_of-self-clause-paired g c none = c.args.self.now.paired c.requires.live

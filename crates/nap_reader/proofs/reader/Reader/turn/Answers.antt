@@ -9,9 +9,10 @@ use Rattle.nap_reader.specs.Holding.{ClosesBy, Continues, ReachesBy, frames_left
 use Rattle.nap_reader.specs.Stream.{Placed, Machine, refusal, begun, with_run}
 use Rattle.nap_reader.proofs.BreakingLemmas.{growth_breaks, run_breaks, past_still, still_breaks, past_breaks, in_body_breaks}
 use Rattle.nap_draw.specs.Draws.{memory}
-use Rattle.nap_reader.proofs.ActingLemmas.{breaks_from, wants_from}
+use Rattle.nap_reader.proofs.ActingLemmas.{body_breaks_from, breaks_from, wants_from}
 use Rattle.nap_reader.proofs.PartLemmas.{breaks_longer}
 use Rattle.nap_reader.proofs.LeadsLemmas.{leads_machine}
+use Rattle.nap_reader.proofs.OpenBodyLemmas.{held_body}
 use Rattle.nap_reader.proofs.ReadingLemmas.{if_err_map, on_ok_by, reaches_refusal}
 use Rattle.nap_reader.proofs.PlaceLemmas.{still_places, places_past}
 use Rattle.nap_reader.proofs.reader.Reader.turn.Goals as goal
@@ -80,7 +81,9 @@ returns-in-Some-clause-breaks g c =
     if_err_map c.read_body.result
     (λ f breaks broke s p k all.
     let h = breaks broke s (begun r.budget p).entries (begun r.budget (p ++ c.args.byte ∷ [])) (rw all (past_still g.S.Sink s r.budget p c.args.byte r.sink (holding_of r) k)) in
-    in_body_breaks g.S.Sink s r.budget p c.args.byte r.sink (holding_of r) c.in-Some.body c.read_body.new.self.sink f c.in-Some.is k (h.0 ∙ all) h.1)
+    let next = (past_still g.S.Sink s r.budget p c.args.byte r.sink (holding_of r) k).continues in
+    let still = (held_body g.S.Sink s (begun r.budget (p ++ c.args.byte ∷ [])) r.sink (holding_of r) c.in-Some.body c.in-Some.is _ [] next).at.still in
+    in_body_breaks g.S.Sink s r.budget p c.args.byte r.sink (holding_of r) c.in-Some.body c.read_body.new.self.sink f c.in-Some.is still k (h.0 ∙ all) h.1)
     c.read_body.ensures.breaks
 
 pub returns-in_default-open_run-clause-breaks : goal.returns-in_default-open_run-clause-breaks
@@ -109,7 +112,7 @@ returns-in-Some-clause-amid g c =
     if_err_map c.read_body.result
     (λ f breaks broke s o k.
     let h = breaks broke s k.done o (record { continues = k; done = refl }) in
-    (breaks_longer g.S.Sink s [] k.done o c.read_body.new.self.sink (cause_of f.fault) h.1, inl h.0))
+    (breaks_longer g.S.Sink s [] k.done o c.read_body.new.self.sink (cause_of f.fault) (body_breaks_from g.S.Sink s k.done o c.read_body.new.self.sink (holding_of c.args.self.now) (cause_of f.fault) h.1), inl h.0))
     c.read_body.ensures.breaks
 
 pub returns-in_default-open_run-clause-amid : goal.returns-in_default-open_run-clause-amid

@@ -1,0 +1,77 @@
+use Rattle.std.proofs.Common.{Result, Ok, Err, is_err, OnOk, OnErr, ℕ, ◌≡◌, ◌+◌, ◌-◌, ◌^◌, ◌≤◌, Bool, true, false, ◌||◌, List, [], ◌∷◌, ◌++◌, append-nil, take, drop, take-add, length, length-drop, min, ap, sym, subst, ◌∙◌, arith}
+use Rattle.std.proofs.lemmas.List.{length-take-le, take_all}
+use Rattle.std.proofs.lemmas.Bool.{true≢false, false≢true}
+use Rattle.std.proofs.Math.Bool.{or-false}
+use Rattle.std.specs.Io.KnownBytes.{Appends}
+use Rattle.nap_list.specs.declared.device.Outlet as outlet
+use Rattle.nap_codes.specs.declared.code_set.GSet.{GSet}
+use Rattle.nap_codes.specs.declared.code_set.GSet.TheVariants.{G1}
+use Rattle.nap_list.specs.declared.entry.Entry.{Entry}
+use Rattle.nap_list.specs.declared.state.State.{State}
+use Rattle.nap_list.specs.State.{start, walk, after}
+use Rattle.nap_canon.specs.Spelling.{Piece}
+use Rattle.nap_canon.specs.Text.{header, written, gl_after, pieces, entry_pieces}
+use Rattle.nap_canon.specs.Sinking.{Sending, sending, Grows, TakesAll, TakesPart, Sends, Canonical, shown, bytes_of, Took, Broke, WritesText}
+use Rattle.nap_canon.specs.SinkLaws.{grows_more, sends_more}
+
+counted_on : (n count k : ℕ) → n ≤ 2 ^ 64 - 1 → k ≡ min (n + count) (2 ^ 64 - 1) → k ≡ n + min count (2 ^ 64 - 1 - n)
+counted_on n count k small is = omega arith
+
+-- one write takes a part of the rest
+pub takes_more : {O : Type 0} (o : outlet.Ghosts O) (s : Sending) (t u : O) (n k i count : ℕ) (xs : List ℕ) → TakesAll s (take i xs) (sending o t n) →
+    count ≤ length (drop i xs) → Appends (o.taken t) (o.taken u) (take count (drop i xs)) → o.failed u ≡ (o.failed t || false) →
+    n ≤ 2 ^ 64 - 1 → k ≡ min (n + count) (2 ^ 64 - 1) → TakesAll s (take (i + count) xs) (sending o u k)
+takes_more o s t u n k i count xs so_far few appended failed small counted =
+    let piece : List ℕ = take count (drop i xs) in
+    let more : Grows (sending o t n) piece (sending o u k) = record {
+      taken = appended;
+      count = counted_on n count k small counted ∙ ap (λ (l : ℕ). n + min l (2 ^ 64 - 1 - n)) (sym (length-take-le count (drop i xs) few));
+    } in
+    record {
+      grows = subst (λ (bytes : List ℕ). Grows s bytes (sending o u k)) (sym (take-add i count xs)) (grows_more s (sending o t n) (sending o u k) (take i xs) piece so_far.grows more);
+      failed = failed ∙ or-false (o.failed t) ∙ so_far.failed;
+    }
+
+-- the piece from i on is the rest
+pub rest_of : (i : ℕ) (xs : List ℕ) → take (length xs - i) (drop i xs) ≡ drop i xs
+rest_of i xs = take_all (length xs - i) (drop i xs) (omega (arith, length-drop i xs))
+
+-- one entry more, or a failure amid its bytes
+
+pub took_one : {O : Type 0} (o : outlet.Ghosts O) (s t : Canonical O) (e : Entry) → TakesAll (shown o s) (written s.gl (entry_pieces s.state e)) (shown o t) →
+    t.gl ≡ gl_after s.gl (entry_pieces s.state e) → t.state ≡ after s.state e → Took o s (e ∷ []) t
+unfolding pieces walk
+took_one o s t e bytes gl state =
+    let alone : entry_pieces s.state e ≡ entry_pieces s.state e ++ [] = sym (append-nil (entry_pieces s.state e)) in
+    record {
+      bytes = subst (λ (ps : List Piece). TakesAll (shown o s) (written s.gl ps) (shown o t)) alone bytes;
+      gl = gl ∙ ap (gl_after s.gl) alone;
+      state = state;
+    }
+
+pub broke_one : {O : Type 0} (o : outlet.Ghosts O) (s t : Canonical O) (e : Entry) → TakesPart (shown o s) (written s.gl (entry_pieces s.state e)) (shown o t) →
+    t.state ≡ s.state → Broke o s [] e t
+unfolding written gl_after pieces walk
+broke_one o s t e bytes state = record { part = bytes.part; less = bytes.less; grows = bytes.grows; failed = bytes.failed; state = state }
+
+-- what a writer answers of an entry
+
+pub took_answered : {O T E : Type 0} (o : outlet.Ghosts O) (s t : Canonical O) (e : Entry) (r : Result T E) → is_err r ≡ false →
+    Sends (shown o s) (written s.gl (entry_pieces s.state e)) (is_err r) (shown o t) → OnOk r (t.gl ≡ gl_after s.gl (entry_pieces s.state e)) →
+    OnOk r (t.state ≡ after s.state e) → Took o s (e ∷ []) t
+took_answered o s t e (Ok _) none bytes gl state = took_one o s t e bytes gl state
+took_answered o s t e (Err _) none bytes gl state = absurd (true≢false none)
+
+pub broke_answered : {O T E : Type 0} (o : outlet.Ghosts O) (s t : Canonical O) (e : Entry) (r : Result T E) → is_err r ≡ true →
+    Sends (shown o s) (written s.gl (entry_pieces s.state e)) (is_err r) (shown o t) → OnErr r (t.state ≡ s.state) → Broke o s [] e t
+broke_answered o s t e (Ok _) failed bytes state = absurd (false≢true failed)
+broke_answered o s t e (Err _) failed bytes state = broke_one o s t e bytes state
+
+-- the header, and then the bytes of the entries
+pub sink_writes_text : {O : Type 0} (o : outlet.Ghosts O) → WritesText o
+sink_writes_text o w s t d begun whole took =
+    let all : TakesAll (sending o w 0) header (shown o s) = subst (λ (broke : Bool). Sends (sending o w 0) header broke (shown o s)) whole begun.begins in
+    let bytes : bytes_of s d ≡ written G1 (pieces start d) =
+    ap (λ (g : GSet). written g (pieces s.state d)) begun.gl ∙ ap (λ (u : State). written G1 (pieces u d)) begun.state in
+    sends_more (sending o w 0) (shown o s) (shown o t) header (written G1 (pieces start d)) false all
+    (subst (λ (bs : List ℕ). TakesAll (shown o s) bs (shown o t)) bytes took.bytes)

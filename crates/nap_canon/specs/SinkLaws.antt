@@ -1,0 +1,108 @@
+use Rattle.std.proofs.Common.{ℕ, ◌≡◌, ◌+◌, ◌-◌, ◌^◌, ◌<◌, Bool, true, false, List, [], ◌++◌, length, take, min, refl, ap, sym, subst, ◌∙◌, append_assoc, length-append, arith}
+use Rattle.std.proofs.lemmas.List.{take-append-le}
+use Rattle.std.proofs.Math.Seq.{take-append-add}
+use Rattle.std.proofs.KnownBytes.{Appends-nil, Appends-trans}
+use Rattle.nap_codes.specs.declared.code_set.GSet.{GSet}
+use Rattle.nap_list.specs.declared.device.Outlet as outlet
+use Rattle.nap_list.specs.declared.entry.Entry.{Entry}
+use Rattle.nap_list.specs.declared.state.State.{State}
+use Rattle.nap_list.specs.State.{walk}
+use Rattle.nap_list.proofs.PublicLaws.{walks_join}
+use Rattle.nap_canon.specs.Text.{written, gl_after, pieces, entry_pieces}
+use Rattle.nap_canon.specs.Sinking.{Sending, Grows, TakesAll, Sends, Canonical, shown, bytes_of, bytes_behind, Took, Broke}
+use Rattle.nap_canon.specs.TextParts.{written-append, gl_after-append, pieces-append}
+
+-- counting on, and on again
+counted_more : (m a b s t u : ℕ) → t ≡ s + min a (m - s) → u ≡ t + min b (m - t) → u ≡ s + min (a + b) (m - s)
+counted_more m a b s t u first second = omega arith
+
+counted_none : (m s : ℕ) → s ≡ s + min 0 (m - s)
+counted_none m s = omega arith
+
+pub grows_none : (s : Sending) → Grows s [] s
+grows_none s = record { taken = Appends-nil s.taken; count = counted_none (2 ^ 64 - 1) s.count }
+
+pub grows_more : (s t u : Sending) (a b : List ℕ) → Grows s a t → Grows t b u → Grows s (a ++ b) u
+grows_more s t u a b first second = record {
+  taken = Appends-trans s.taken t.taken u.taken a b first.taken second.taken;
+  count =
+      counted_more (2 ^ 64 - 1) (length a) (length b) s.count t.count u.count first.count second.count
+      ∙ ap (λ (n : ℕ). s.count + min n (2 ^ 64 - 1 - s.count)) (sym (length-append a b));
+}
+
+pub sends_none : (s : Sending) → Sends s [] false s
+sends_none s = record { grows = grows_none s; failed = refl }
+
+pub sends_more : (s t u : Sending) (a b : List ℕ) (broke : Bool) → Sends s a false t → Sends t b broke u → Sends s (a ++ b) broke u
+sends_more s t u a b false first second = record { grows = grows_more s t u a b first.grows second.grows; failed = second.failed ∙ first.failed }
+sends_more s t u a b true first second = record {
+  part = length a + second.part;
+  less = omega (arith, length-append a b, second.less);
+  grows = subst (λ (bytes : List ℕ). Grows s bytes u) (sym (take-append-add a b second.part))
+      (grows_more s t u a (take second.part b) first.grows second.grows);
+  failed = second.failed;
+}
+
+pub sends_cut : (s t : Sending) (a b : List ℕ) → Sends s a true t → Sends s (a ++ b) true t
+sends_cut s t a b first = record {
+  part = first.part;
+  less = omega (arith, length-append a b, first.less);
+  grows = subst (λ (bytes : List ℕ). Grows s bytes t) (sym (take-append-le first.part a b (omega (arith, first.less)))) first.grows;
+  failed = first.failed;
+}
+
+-- entries, one list behind another
+
+module _ {O : Type 0} (o : outlet.Ghosts O) where
+  pub took_none : (s : Canonical O) → Took o s [] s
+  unfolding written gl_after pieces walk
+  took_none s = record { bytes = sends_none (shown o s); gl = refl; state = refl }
+
+  module _ (s t : Canonical O) (d : List Entry) (gl : t.gl ≡ gl_after s.gl (pieces s.state d)) (state : t.state ≡ walk s.state d) where
+    -- the bytes of the second list stand behind those of the first
+    bytes_join : (e : List Entry) → bytes_of s d ++ bytes_of t e ≡ bytes_of s (d ++ e)
+    bytes_join e =
+        ap (λ (g : GSet). bytes_of s d ++ written g (pieces t.state e)) gl
+        ∙ ap (λ (u : State). bytes_of s d ++ written (gl_after s.gl (pieces s.state d)) (pieces u e)) state
+        ∙ sym (written-append s.gl (pieces s.state d) (pieces (walk s.state d) e))
+        ∙ ap (written s.gl) (sym (pieces-append s.state d e))
+
+    gl_join : (e : List Entry) → gl_after t.gl (pieces t.state e) ≡ gl_after s.gl (pieces s.state (d ++ e))
+    gl_join e =
+        ap (λ (g : GSet). gl_after g (pieces t.state e)) gl
+        ∙ ap (λ (u : State). gl_after (gl_after s.gl (pieces s.state d)) (pieces u e)) state
+        ∙ sym (gl_after-append s.gl (pieces s.state d) (pieces (walk s.state d) e))
+        ∙ ap (gl_after s.gl) (sym (pieces-append s.state d e))
+
+    state_join : (e : List Entry) → walk t.state e ≡ walk s.state (d ++ e)
+    state_join e = ap (λ (u : State). walk u e) state ∙ sym (walks_join s.state d e)
+
+    behind_join : (e : List Entry) (x : Entry) → bytes_behind t e x ≡ bytes_behind s (d ++ e) x
+    behind_join e x =
+        ap (λ (g : GSet). written g (entry_pieces (walk t.state e) x)) (gl_join e)
+        ∙ ap (λ (u : State). written (gl_after s.gl (pieces s.state (d ++ e))) (entry_pieces u x)) (state_join e)
+
+  pub took_more : (s t u : Canonical O) (d e : List Entry) → Took o s d t → Took o t e u → Took o s (d ++ e) u
+  took_more s t u d e first second = record {
+    bytes = subst (λ (bytes : List ℕ). TakesAll (shown o s) bytes (shown o u)) (bytes_join s t d first.gl first.state e)
+        (sends_more (shown o s) (shown o t) (shown o u) (bytes_of s d) (bytes_of t e) false first.bytes second.bytes);
+    gl = second.gl ∙ gl_join s t d first.gl first.state e;
+    state = second.state ∙ state_join s t d first.gl first.state e;
+  }
+
+  pub took_broke : (s t u : Canonical O) (d e : List Entry) (x : Entry) → Took o s d t → Broke o t e x u → Broke o s (d ++ e) x u
+  took_broke s t u d e x first second =
+      let behind = behind_join s t d first.gl first.state e x in
+      record {
+        part = second.part;
+        less = subst (λ (bytes : List ℕ). second.part < length bytes) behind second.less;
+        grows =
+            let all : bytes_of s d ++ (bytes_of t e ++ take second.part (bytes_behind t e x)) ≡ bytes_of s (d ++ e) ++ take second.part (bytes_behind s (d ++ e) x) =
+            sym (append_assoc (bytes_of s d) (bytes_of t e) (take second.part (bytes_behind t e x)))
+            ∙ ap (λ (bytes : List ℕ). bytes ++ take second.part (bytes_behind t e x)) (bytes_join s t d first.gl first.state e)
+            ∙ ap (λ (bytes : List ℕ). bytes_of s (d ++ e) ++ take second.part bytes) behind in
+            subst (λ (bytes : List ℕ). Grows (shown o s) bytes (shown o u)) all
+            (grows_more (shown o s) (shown o t) (shown o u) (bytes_of s d) (bytes_of t e ++ take second.part (bytes_behind t e x)) first.bytes.grows second.grows);
+        failed = second.failed;
+        state = second.state ∙ state_join s t d first.gl first.state e;
+      }

@@ -1,0 +1,85 @@
+use Rattle.std.specs.Prelude.{ℕ, ◌≡◌, ◌+◌, ◌-◌, ◌^◌, ◌<◌, Bool, true, false, Option, List, ◌++◌, length, take, min}
+use Rattle.std.specs.Io.KnownBytes.{Appends}
+use Rattle.nap_codes.specs.declared.code_set.GSet.{GSet}
+use Rattle.nap_codes.specs.declared.code_set.GSet.TheVariants.{G1}
+use Rattle.nap_list.specs.declared.device.Outlet as outlet
+use Rattle.nap_list.specs.declared.entry.Entry.{Entry}
+use Rattle.nap_list.specs.declared.state.State.{State}
+use Rattle.nap_list.specs.State.{start, walk}
+use Rattle.nap_canon.specs.Text.{header, written, gl_after, pieces, entry_pieces, text}
+
+-- An outlet that is written, as it shows: the bytes that it took, where it tells them; whether it failed; and how many
+-- bytes it was seen to take.
+pub record Sending : Type 0 where
+  pub taken : Option (List ℕ)
+  pub failed : Bool
+  pub count : ℕ
+
+abbrev pub sending : {O : Type 0} → outlet.Ghosts O → O → ℕ → Sending
+sending o to count = record { taken = o.taken to; failed = o.failed to; count = count }
+
+-- The outlet took these bytes behind the others. The count grows by as many, and stays at the greatest of 64 bits.
+pub record Grows (s : Sending) (bytes : List ℕ) (t : Sending) : Type 0 where
+  pub taken : Appends s.taken t.taken bytes
+  pub count : t.count ≡ s.count + min (length bytes) (2 ^ 64 - 1 - s.count)
+
+-- all of the bytes were taken, and no write failed
+pub record TakesAll (s : Sending) (bytes : List ℕ) (t : Sending) : Type 0 where
+  pub grows : Grows s bytes t
+  pub failed : t.failed ≡ s.failed
+
+-- a first part of the bytes was taken, less than all of them, and then a write failed
+pub record TakesPart (s : Sending) (bytes : List ℕ) (t : Sending) : Type 0 where
+  pub part : ℕ
+  pub less : part < length bytes
+  pub grows : Grows s (take part bytes) t
+  pub failed : t.failed ≡ true
+
+-- the bytes were written; a write failed amid them, or none did
+abbrev pub Sends : Sending → List ℕ → Bool → Sending → Type 0
+Sends s bytes true t = TakesPart s bytes t
+Sends s bytes false t = TakesAll s bytes t
+
+-- What a canonical sink shows: its outlet, how many bytes that took from it, the set in GL behind them, and the state that
+-- the next entry has to fit.
+pub record Canonical (O : Type 0) : Type 0 where
+  pub outlet : O
+  pub written : ℕ
+  pub gl : GSet
+  pub state : State
+
+abbrev pub shown : {O : Type 0} → outlet.Ghosts O → Canonical O → Sending
+shown o s = sending o s.outlet s.written
+
+-- the bytes of entries behind what was written
+abbrev pub bytes_of : {O : Type 0} → Canonical O → List Entry → List ℕ
+bytes_of s d = written s.gl (pieces s.state d)
+
+-- the bytes of an entry behind those of others
+abbrev pub bytes_behind : {O : Type 0} → Canonical O → List Entry → Entry → List ℕ
+bytes_behind s d e = written (gl_after s.gl (pieces s.state d)) (entry_pieces (walk s.state d) e)
+
+-- a sink over this outlet, that was not failed: the header was written, and it has taken no entry
+pub record Begun {O : Type 0} (o : outlet.Ghosts O) (w : O) (s : Canonical O) : Type 0 where
+  pub begins : Sends (sending o w 0) header (o.failed s.outlet) (shown o s)
+  pub gl : s.gl ≡ G1
+  pub state : s.state ≡ start
+
+-- the outlet took the bytes of all these entries
+pub record Took {O : Type 0} (o : outlet.Ghosts O) (s : Canonical O) (d : List Entry) (t : Canonical O) : Type 0 where
+  pub bytes : TakesAll (shown o s) (bytes_of s d) (shown o t)
+  pub gl : t.gl ≡ gl_after s.gl (pieces s.state d)
+  pub state : t.state ≡ walk s.state d
+
+-- the outlet took the bytes of all these entries, and failed amid those of one more
+pub record Broke {O : Type 0} (o : outlet.Ghosts O) (s : Canonical O) (d : List Entry) (e : Entry) (t : Canonical O) : Type 0 where
+  pub part : ℕ
+  pub less : part < length (bytes_behind s d e)
+  pub grows : Grows (shown o s) (bytes_of s d ++ take part (bytes_behind s d e)) (shown o t)
+  pub failed : o.failed t.outlet ≡ true
+  pub state : t.state ≡ walk s.state d
+
+-- What a sink has written that took these entries and didn't fail is their canonical text.
+abbrev pub WritesText : {O : Type 0} → outlet.Ghosts O → Type 0
+WritesText {O = O} o = (w : O) (s t : Canonical O) (d : List Entry) → Begun o w s → o.failed s.outlet ≡ false → Took o s d t →
+    TakesAll (sending o w 0) (text d) (shown o t)

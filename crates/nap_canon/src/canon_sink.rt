@@ -1,0 +1,107 @@
+//! A sink that writes the canonical text of its entries.
+ghost use Rattle.std.specs.Prelude.{◌≡◌, [], ◌∷◌, true, false, OnOk, IsErrOf};
+ghost use Rattle.nap_list.specs.State.{Fits, after};
+ghost use Rattle.nap_canon.specs.Sinking.{Begun, Took, Broke};
+ghost use Rattle.nap_canon.specs.SinkLaws.{took_none, took_more, took_broke};
+
+use crate::output::Output;
+use crate::writer::Writer;
+use nap_list::{Entry, Outlet, Sink, SinkFault};
+use std::marker::Model;
+
+/// Writes the canonical text of the entries that it takes to an outlet, as they come. It takes no memory.
+///
+/// Once a write has failed, it writes nothing more and answers each further entry with `Write`.
+#[derive(Drop)]
+pub struct CanonSink<O: Outlet + Drop> {
+    writer: Writer<Output<O>>,
+}
+
+impl<O: Outlet + Drop> Model for CanonSink<O> {
+    ghost use Rattle.nap_canon.specs.Sinking.{Canonical};
+
+    ghost Value = { Canonical O };
+
+    ghost view = { λ s. record { outlet = s.writer.to.outlet; written = s.writer.to.written; gl = s.writer.gl; state = s.writer.state } };
+}
+
+impl<O: Outlet + Drop> CanonSink<O> {
+    /// A sink that has taken no entry. It writes the header of a text; where that fails, the sink has failed.
+    pub fn new(outlet: O) -> CanonSink<O>
+        requires { O.failed outlet ≡ false }
+        ensures { Begun O.Outlet outlet result }
+    {
+        let mut writer = Writer::new(Output { outlet, written: 0 });
+        // The outlet knows of a failure.
+        let _ = writer.begin();
+        CanonSink { writer }
+    }
+
+    /// Takes one entry: writes what it needs to be read as it is, and its own spelling. An error is `Write`, and none but a
+    /// first part of those bytes was written then.
+    pub fn put_ref(&mut self, entry: &Entry) -> Result<(), SinkFault>
+        requires { Fits self.old.state entry.now }
+        ensures took { OnOk result (Took O.Outlet self.old (entry.now ∷ []) self.new) }
+        ensures after { OnOk result (self.new.state ≡ after self.old.state entry.now) }
+        ensures memory { IsErrOf result SinkFault.Memory → ⊥ }
+        ensures write { IsErrOf result SinkFault.Write → O.failed self.new.outlet ≡ true }
+        ensures only_write { O.failed self.new.outlet ≡ true → IsErrOf result SinkFault.Write }
+        ensures state { IsErrOf result SinkFault.Write → self.new.state ≡ self.old.state }
+        ensures broke { IsErrOf result SinkFault.Write → O.failed self.old.outlet ≡ false → Broke O.Outlet self.old [] entry.now self.new }
+        // A sink that has failed stays as it is.
+        ensures still { IsErrOf result SinkFault.Write → O.failed self.old.outlet ≡ true → self.new ≡ self.old }
+    {
+        if self.failed() {
+            return Err(SinkFault::Write);
+        }
+        if self.writer.put_ref(entry).is_err() {
+            return Err(SinkFault::Write);
+        }
+        Ok(())
+    }
+
+    /// How many bytes the outlet took from this sink; the count stays at the greatest `u64`.
+    pub fn written(&self) -> u64
+        ensures { result ≡ self.now.written }
+    {
+        self.writer.to().written
+    }
+
+    /// Whether a write of this sink has failed.
+    pub fn failed(&self) -> bool
+        ensures { result ≡ O.failed self.now.outlet }
+    {
+        self.writer.to().outlet.failed()
+    }
+
+    /// The outlet as it stands. It isn't flushed.
+    pub fn close(self) -> O
+        ensures { result ≡ self.outlet }
+    {
+        let CanonSink { writer } = self;
+        let Output { outlet, .. } = writer.into_inner();
+        outlet
+    }
+}
+
+impl<O: Outlet + Drop> Sink for CanonSink<O> {
+    ghost state = { λ s. s.state };
+
+    ghost grows = { λ s. false };
+
+    ghost failed = { λ s. O.failed s.outlet };
+
+    ghost took = { λ s d t. Took O.Outlet s d t };
+
+    ghost broke = { λ s d e t. Broke O.Outlet s d e t };
+
+    fn put(&mut self, entry: Entry) -> Result<(), SinkFault> {
+        self.put_ref(&entry)
+    }
+
+    ghost took_none = { λ s. took_none O.Outlet s };
+
+    ghost took_more = { λ s t u d e. took_more O.Outlet s t u d e };
+
+    ghost took_broke = { λ s t u d e x. took_broke O.Outlet s t u d e x };
+}
