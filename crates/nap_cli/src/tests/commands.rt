@@ -64,6 +64,22 @@ fn refused_pages(rt: HostRuntime) -> Result<(), Fail> {
 }
 
 #[test]
+fn calls_are_charged(rt: HostRuntime) -> Result<(), Fail> {
+    let alloc = rt.alloc();
+    let page = b"1B 40 21 0E 26 52 1B 45 1B 2F 7A 1D 21 40 40".as_slice();
+    for (budget, out, want) in [
+        ("2", "refused 17 Budget at 12\n", 1),
+        ("3", "accepted 1 entries\n", 0),
+    ] {
+        let (printed, told, status) = answer(alloc, &["check", "--hex", "--budget", budget], page)?;
+        assert_eq!(rt; printed.as_slice(), out.as_bytes(), "{budget}");
+        assert!(rt; told.is_empty(), "{budget}");
+        assert_eq!(rt; status, want, "{budget}");
+    }
+    Ok(())
+}
+
+#[test]
 fn bytes_are_read_as_they_are(rt: HostRuntime) -> Result<(), Fail> {
     let alloc = rt.alloc();
     let (printed, told, status) = answer(alloc, &["canon"], b"\x0E\x26\x52")?;

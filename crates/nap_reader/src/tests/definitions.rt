@@ -139,3 +139,24 @@ fn starts_and_ends_are_no_characters(rt: HostRuntime) -> Result<(), Fail> {
     row.agrees_in_every_cut(&rt, alloc)?;
     Ok(())
 }
+
+#[test]
+fn a_definition_ends_where_a_macro_is_defined(rt: HostRuntime) -> Result<(), Fail> {
+    let alloc = rt.alloc();
+    let list = [Entry::GlyphStart(0x41), Entry::DefEnd];
+    accepted(b"\x1BCA\x1B@!A\x1BE", &list).agrees_in_every_cut(&rt, alloc)?;
+    let rows = [
+        (b"\x1BCA\x1B@!\x80".as_slice(), Fault::EighthBit, 6),
+        (b"\x1BCA\x1BA!A", Fault::Unended, 7),
+    ];
+    for (bytes, fault, place) in rows {
+        let row = Row {
+            bytes,
+            list: &list,
+            refusal: refusal(fault, place),
+            fed: 7,
+        };
+        row.agrees_in_every_cut(&rt, alloc)?;
+    }
+    Ok(())
+}

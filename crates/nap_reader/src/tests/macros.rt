@@ -141,8 +141,8 @@ fn bodies_come_next_where_they_are_called(rt: HostRuntime) -> Result<(), Fail> {
     Ok(())
 }
 
-/// DEF MACRO with a body of so many bytes.
-fn long_body(alloc: Global, count: usize) -> Result<Vec<u8>, AllocError> {
+/// DEF MACRO with a body of so many bytes, and what stands behind them.
+fn long_body(alloc: Global, count: usize, end: &[u8]) -> Result<Vec<u8>, AllocError> {
     let mut bytes = Vec::new(alloc);
     for byte in b"\x1B@!" {
         bytes.push(*byte)?;
@@ -150,7 +150,7 @@ fn long_body(alloc: Global, count: usize) -> Result<Vec<u8>, AllocError> {
     for _ in 0..count {
         bytes.push(0x41)?;
     }
-    for byte in b"\x1BE" {
+    for byte in end {
         bytes.push(*byte)?;
     }
     Ok(bytes)
@@ -159,7 +159,7 @@ fn long_body(alloc: Global, count: usize) -> Result<Vec<u8>, AllocError> {
 #[test]
 fn the_store_has_a_limit(rt: HostRuntime) -> Result<(), Fail> {
     let alloc = rt.alloc();
-    let full = long_body(alloc, STORE_LIMIT)?;
+    let full = long_body(alloc, STORE_LIMIT, b"\x1BE")?;
     let row = MacroRow {
         bytes: &full,
         budget: USUAL,
@@ -168,7 +168,7 @@ fn the_store_has_a_limit(rt: HostRuntime) -> Result<(), Fail> {
         counts: (1_048_581, 0, 1_048_581),
     };
     row.agrees_in(&rt, alloc, &[&full]);
-    let over = long_body(alloc, STORE_LIMIT + 1)?;
+    let over = long_body(alloc, STORE_LIMIT + 1, b"\x1BE")?;
     let row = MacroRow {
         bytes: &over,
         budget: USUAL,
@@ -177,6 +177,16 @@ fn the_store_has_a_limit(rt: HostRuntime) -> Result<(), Fail> {
         counts: (1_048_580, 0, 1_048_580),
     };
     row.agrees_in(&rt, alloc, &[&over]);
+    // ESC belongs to the body, and fills the store.
+    let escape = long_body(alloc, STORE_LIMIT - 1, b"\x1BF")?;
+    let row = MacroRow {
+        bytes: &escape,
+        budget: USUAL,
+        entries: 0,
+        refusal: refusal(Fault::Store, 1_048_579),
+        counts: (1_048_580, 0, 1_048_580),
+    };
+    row.agrees_in(&rt, alloc, &[&escape]);
     Ok(())
 }
 
