@@ -15,6 +15,7 @@ _naplps() {
         *)
             # (the number behind --budget is for the user to say)
             if [[ $before != --budget && $before != = ]]; then words='--hex --budget --help'; fi
+            if [[ $words && $command = canon ]]; then words="$words --stream"; fi
             ;;
     esac
     COMPREPLY=($(compgen -W "$words" -- "$word"))

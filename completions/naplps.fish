@@ -7,5 +7,6 @@ complete -c naplps -n __fish_use_subcommand -a help -d 'Print help'
 complete -c naplps -n '__fish_seen_subcommand_from list check canon' -l hex -d 'The page is hexadecimal digits'
 complete -c naplps -n '__fish_seen_subcommand_from list check canon' -l budget -x \
     -d 'How many bytes of macro bodies the page may be charged with'
+complete -c naplps -n '__fish_seen_subcommand_from canon' -l stream -d 'Print while the page is read'
 complete -c naplps -n 'not __fish_seen_subcommand_from help' -s h -l help -d 'Print help'
 complete -c naplps -n '__fish_seen_subcommand_from help' -a 'list check canon'

@@ -5,6 +5,7 @@ pub mod ModeLemmas
 pub mod TextLemmas
 pub mod WriterLemmas
 pub mod SinkingLemmas
+pub mod ConvertLemmas
 pub mod WalkLemmas
 pub mod FaultLemmas
 pub mod OperandLemmas

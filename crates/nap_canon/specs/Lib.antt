@@ -12,3 +12,5 @@ pub mod Acting
 pub mod Sinking
 pub mod TextParts
 pub mod SinkLaws
+pub mod Converting
+pub mod Concluding

@@ -4,6 +4,7 @@
 mod byte_sink;
 mod canon_sink;
 mod command;
+mod conversion;
 mod fault;
 pub mod laws;
 mod output;
@@ -15,6 +16,7 @@ mod text;
 mod writer;
 
 pub use canon_sink::CanonSink;
+pub use conversion::{ConvertFault, convert};
 pub use fault::CanonFault;
 pub use plain::is_plain;
 pub use stream::normalise;

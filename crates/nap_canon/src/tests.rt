@@ -5,6 +5,7 @@ use std::alloc::{AllocError, Global};
 use std::process::Abort;
 
 mod canon_sink;
+mod conversion;
 mod lists;
 mod macros;
 mod plain;

@@ -45,6 +45,7 @@ tells_written old new (Err (failure.Write n)) was now ended said status h flag s
     status_is = is;
   },
 )
+tells_written old new (Err failure.Excluded) was now ended said status h flag said_as is = absurd h
 tells_written old new (Err failure.Read) was now ended said status h flag said_as is = absurd h
 tells_written old new (Err failure.Hex) was now ended said status h flag said_as is = absurd h
 tells_written old new (Err (failure.Refused r)) was now ended said status h flag said_as is = absurd h
@@ -87,6 +88,7 @@ explains_help _ before after status n h = absurd (n (λ e. let bad : ⊥ = cc in
 pub shows_failing : (before after : Outputs) (text : List ℕ) (f : Failure) → Takes before.taken after.taken text (Err f) → after.failed ≡ (before.failed || true) →
     ShowsText before after text (Err f)
 shows_failing before after text (failure.Write n) h e = (h, e ∙ or-true before.failed)
+shows_failing before after text failure.Excluded h e = absurd h
 shows_failing before after text failure.Read h e = absurd h
 shows_failing before after text failure.Hex h e = absurd h
 shows_failing before after text (failure.Refused r) h e = absurd h

@@ -27,9 +27,17 @@ budget_rule usual = record (new_rule (codes "budget")) {
   defaults = usual ∷ [];
 }
 
--- a command with both options
+-- `--stream`
+abbrev pub stream_rule : Rule
+stream_rule = record (new_rule (codes "stream")) { long = Some (codes "stream"); action = Some SetTrue }
+
+-- a command with the options that all have
 abbrev pub command_app : Text → Text → App
 command_app usual name = with_rule (with_rule (new_app name) hex_rule) (budget_rule usual)
+
+-- `canon`, which may print as it reads
+abbrev pub canon_app : Text → App
+canon_app usual = with_rule (command_app usual (codes "canon")) stream_rule
 
 -- the program, of which a command is required, and whose words begin with it
 abbrev pub program_app : App
@@ -40,7 +48,7 @@ program_app = record (new_app (codes "naplps")) {
 abbrev pub command_line_by : Text → App
 command_line_by usual =
     with_subcommand (with_subcommand (with_subcommand program_app (command_app usual (codes "list")).top) (command_app usual (codes "check")).top)
-    (command_app usual (codes "canon")).top
+    (canon_app usual).top
 
 -- the command line, with the usual budget where none is given
 abbrev pub command_line : App
@@ -61,12 +69,18 @@ abbrev pub IsBudget : Text → ℕ → Type 0
 IsBudget text n =
     IsNumeral 10 (without_leading_plus text) × (digits_value 10 (without_leading_plus text) ≡ n) × (n ≤ MOST)
 
+-- only `canon` has `--stream`
+abbrev pub ChoosesStream : Action → List Row → Bool → Type 0
+ChoosesStream action.Canon rows stream = one_of (codes "stream") rows ≡ Some (flag_text stream)
+ChoosesStream _ rows stream = stream ≡ false
+
 -- what clap found of the options is that of this command
 pub record Chooses (rows : List Row) (c : Command) : Type 0 where
   pub hex : one_of (codes "hex") rows ≡ Some (flag_text c.hex)
   pub number : Text
   pub found : one_of (codes "budget") rows ≡ Some number
   pub budget : IsBudget number c.budget
+  pub stream : ChoosesStream c.action rows c.stream
 
 -- words that clap takes, and reads as this command
 pub record Says (words : List Text) (c : Command) : Type 0 where

@@ -8,18 +8,22 @@ use Rattle.nap_reader.specs.declared.fault.Fault.TheVariants as fault
 use Rattle.nap_reader.specs.declared.fault.Refusal.{Refusal}
 use Rattle.nap_reader.specs.Stream.{means}
 use Rattle.nap_reader.specs.Breaking.{BreaksWithin}
+use Rattle.nap_canon.specs.declared.conversion.ConvertFault.{ConvertFault}
+use Rattle.nap_canon.specs.declared.conversion.ConvertFault.TheVariants as convert_fault
+use Rattle.nap_canon.specs.Converting.{Converts}
 use Rattle.nap_canon.specs.Streams.{IsAccepted, list_of, IsCanonicalOf, LacksMemoryAt}
 use Rattle.nap_cli.specs.declared.answer.Verdict.{Verdict}
 use Rattle.nap_cli.specs.declared.answer.Verdict.TheVariants as verdict
 use Rattle.nap_cli.specs.declared.command.Action.{Action}
 use Rattle.nap_cli.specs.declared.command.Action.TheVariants as action
 use Rattle.nap_cli.specs.declared.command.Command.{Command}
-use Rattle.nap_cli.specs.declared.device.TheConstants.{READS}
+use Rattle.nap_list.specs.declared.device.TheConstants.{READS}
+use Rattle.nap_list.specs.Reading.{Reading, NoneFailed, IsCutOff, IsReadWhole}
 use Rattle.nap_cli.specs.declared.failure.Failure.{Failure}
 use Rattle.nap_cli.specs.declared.failure.Failure.TheVariants as failure
 use Rattle.nap_lines.specs.Lines.{line}
 use Rattle.nap_cli.specs.Failures.{exit_status, refusal_text, told_text}
-use Rattle.nap_cli.specs.Devices.{Devices, IsCutOff, IsReadWhole, NoneFailed, Outputs, Reading, Takes, Unprinted, reading_of}
+use Rattle.nap_cli.specs.Devices.{Devices, Outputs, Takes, Unprinted, reading_of}
 
 -- The stream that a command reads.
 
@@ -107,13 +111,46 @@ abbrev pub IsPartly : Command → List ℕ → Reading → List ℕ → Type 0
 IsPartly c p input q =
     ((whole : List ℕ) × (v : Verdict) × Finds c p input whole v × (take (length q) whole ≡ q)) ⊎ ((f : Failure) × Fails c p input f × (q ≡ []))
 
--- A command read the bytes p and printed q, and ended so. The output failed exactly where that is how it ended.
+-- A command that prints at its end read the bytes p and printed q, and ended so. The output failed exactly where that is
+-- how it ended.
+abbrev pub EndsWhole : Command → List ℕ → Reading → List ℕ → Bool → Result Verdict Failure → Type 0
+EndsWhole c p input q false (Ok v) = Finds c p input q v
+EndsWhole c p input q true (Ok v) = ⊥
+EndsWhole c p input q false (Err f) = (q ≡ []) × Fails c p input f
+EndsWhole c p input q true (Err (failure.Write taken)) = (taken ≡ length q) × IsPartly c p input q
+EndsWhole c p input q true (Err _) = ⊥
+
+-- how a command ends that converts a page
+abbrev pub ended_by : Result ℕ ConvertFault → Result Verdict Failure
+ended_by (Ok n) = Ok verdict.Accepted
+ended_by (Err (convert_fault.Refused r n)) = Err (failure.Refused r)
+ended_by (Err (convert_fault.Read n)) = Err failure.Read
+ended_by (Err (convert_fault.Write n)) = Err (failure.Write n)
+
+-- A command that prints as it reads converted the bytes p to q, and ended so.
+pub record EndsStreamed (c : Command) (p : List ℕ) (input : Reading) (q : List ℕ) (failed : Bool) (ended : Result Verdict Failure) : Type 0 where
+  pub converted : Result ℕ ConvertFault
+  pub converts : Converts c.budget p input q failed converted
+  pub ended_is : ended ≡ ended_by converted
+
+-- Hexadecimal text isn't converted: nothing was read, and nothing printed.
+pub record EndsExcluded (p : List ℕ) (input : Reading) (q : List ℕ) (failed : Bool) (ended : Result Verdict Failure) : Type 0 where
+  pub nothing : p ≡ []
+  pub unread : input.reads ≡ 0
+  pub none_failed : NoneFailed input
+  pub unprinted : q ≡ []
+  pub works : failed ≡ false
+  pub ended_is : ended ≡ Err failure.Excluded
+
+-- a command with or without `--stream`, and with or without `--hex`
+abbrev pub EndsBy : Bool → Bool → Command → List ℕ → Reading → List ℕ → Bool → Result Verdict Failure → Type 0
+EndsBy false hex c p input q failed ended = EndsWhole c p input q failed ended
+EndsBy true false c p input q failed ended = EndsStreamed c p input q failed ended
+EndsBy true true c p input q failed ended = EndsExcluded p input q failed ended
+
+-- a command read the bytes p and printed q, and ended so
 abbrev pub Ends : Command → List ℕ → Reading → List ℕ → Bool → Result Verdict Failure → Type 0
-Ends c p input q false (Ok v) = Finds c p input q v
-Ends c p input q true (Ok v) = ⊥
-Ends c p input q false (Err f) = (q ≡ []) × Fails c p input f
-Ends c p input q true (Err (failure.Write taken)) = (taken ≡ length q) × IsPartly c p input q
-Ends c p input q true (Err _) = ⊥
+Ends c p input q failed ended = EndsBy c.stream c.hex c p input q failed ended
 
 -- what is told of how a command ended: that, or that there was no memory for the line of a failure
 abbrev pub IsToldAs : Result Verdict Failure → Result Verdict Failure → Type 0

@@ -1,8 +1,8 @@
-use Rattle.std.specs.Prelude.{ℕ, ◌≡◌, ◌⊎◌, ◌+◌, ◌-◌, ◌<◌, ◌≤◌, Bool, true, List, Option, Result, Ok, Err, length, take}
-use Rattle.std.specs.Io.KnownBytes.{Appends, IsAtEnd}
+use Rattle.std.specs.Prelude.{ℕ, ◌≡◌, ◌-◌, ◌≤◌, Bool, List, Option, Result, Ok, Err, length, take}
+use Rattle.std.specs.Io.KnownBytes.{Appends}
 use Rattle.nap_list.specs.declared.device.Inlet as inlet
 use Rattle.nap_list.specs.declared.device.Outlet as outlet
-use Rattle.nap_cli.specs.declared.device.TheConstants.{READS}
+use Rattle.nap_list.specs.Reading.{Reading, NoneFailed, IsCutOff}
 use Rattle.nap_cli.specs.declared.failure.Failure.{Failure}
 use Rattle.nap_cli.specs.declared.failure.Failure.TheVariants as failure
 
@@ -57,22 +57,6 @@ pub record Unprinted (before after : Outputs) : Type 0 where
   pub taken : after.taken ≡ before.taken
   pub failed : after.failed ≡ before.failed
 
--- What an input shows of having been read for a while: the bytes left, whether it failed before and by now, and how
--- often it was read since.
-pub record Reading : Type 0 where
-  pub left : Option (List ℕ)
-  pub failed_before : Bool
-  pub failed : Bool
-  pub reads : ℕ
-
-abbrev pub reading : {I : Type 0} → inlet.Ghosts I → I → I → Reading
-reading i before after = record {
-  left = i.left after;
-  failed_before = i.failed before;
-  failed = i.failed after;
-  reads = i.calls after - i.calls before;
-}
-
 abbrev pub reading_of : Devices → Devices → Reading
 reading_of before after = record {
   left = after.left;
@@ -80,32 +64,6 @@ reading_of before after = record {
   failed = after.input_failed;
   reads = after.reads - before.reads;
 }
-
--- no read failed: the flag of the input is what it was
-abbrev pub NoneFailed : Reading → Type 0
-NoneFailed r = r.failed ≡ r.failed_before
-
--- a read failed, and there were no more reads than bytes of p and one
-pub record ReadFailed (r : Reading) (p : List ℕ) : Type 0 where
-  pub failed : r.failed ≡ true
-  pub some : 0 < r.reads
-  pub gave : r.reads ≤ length p + 1
-
--- the input was read as often as it may be, no read failed, and p has as many bytes or more
-pub record ReadTooOften (r : Reading) (p : List ℕ) : Type 0 where
-  pub none_failed : NoneFailed r
-  pub often : r.reads ≡ READS
-  pub gave : READS ≤ length p
-
--- reading came to an end before the input did
-abbrev pub IsCutOff : Reading → List ℕ → Type 0
-IsCutOff r p = ReadFailed r p ⊎ ReadTooOften r p
-
--- The bytes p were read, which was all; no read failed, and there were no more reads than bytes and one.
-pub record IsReadWhole (r : Reading) (p : List ℕ) : Type 0 where
-  pub none_failed : NoneFailed r
-  pub end : IsAtEnd r.left
-  pub gave : r.reads ≤ length p + 1
 
 -- why a reading of the bytes p came to no answer: it was cut off, or there was no memory
 abbrev pub StopsReading : Reading → List ℕ → Failure → Type 0

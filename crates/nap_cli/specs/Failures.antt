@@ -36,6 +36,7 @@ refusal_text r = codes "refused " ++ decimal (number_of r.fault) ++ codes " " ++
 
 -- what standard error tells of a failure, without the end of the line
 abbrev pub failure_text : Failure → List ℕ
+failure_text failure.Excluded = codes "--hex and --stream exclude each other"
 failure_text failure.Read = codes "read fault"
 failure_text failure.Hex = codes "hex fault"
 failure_text (failure.Refused r) = refusal_text r
@@ -45,6 +46,7 @@ failure_text failure.Memory = codes "no memory"
 -- the exit status
 abbrev pub status_of : Failure → ℕ
 status_of (failure.Refused r) = 1
+status_of failure.Excluded = 2
 status_of _ = 3
 
 -- the exit status of an answer that was printed whole

@@ -1,8 +1,8 @@
 //! The commands, and how the words of a command line say them.
-ghost use Rattle.std.specs.Prelude.{◌≡◌, ◌≢◌, ◌⊎◌, false, IfErr, IfOk, MatchOption, decimal, map, string_bytes};
+ghost use Rattle.std.specs.Prelude.{◌≡◌, ◌≢◌, ◌⊎◌, Bool, false, IfErr, IfOk, MatchOption, decimal, map, string_bytes};
 ghost use Rattle.clap.specs.Words.{app_of, found_of, kind_of, rows_of};
 ghost use Rattle.clap.specs.declared.builder.command.Command.TheViews.{out-Command as fields_of};
-ghost use Rattle.nap_cli.specs.CommandLine.{Chooses, IsFault, Says, action_name, command_app, command_line_by};
+ghost use Rattle.nap_cli.specs.CommandLine.{Chooses, ChoosesStream, IsFault, Says, action_name, canon_app, command_app, command_line_by};
 
 use clap::error::ErrorKind;
 use clap::{Arg, ArgAction, ArgMatches, Error, value_parser};
@@ -32,6 +32,20 @@ impl Action {
             _ => None,
         }
     }
+
+    /// Whether it prints as it reads, by these options of its command.
+    fn streams(self, options: &ArgMatches<'_>) -> Option<bool>
+        ensures { MatchOption result ((stream : Bool) → ChoosesStream self (rows_of (found_of options.now)) stream → ⊥)
+            (λ stream. ChoosesStream self (rows_of (found_of options.now)) stream) }
+    {
+        match self {
+            Action::Canon => {
+                let stream = options.get_one(STREAM)?;
+                Some(stream)
+            }
+            _ => Some(false),
+        }
+    }
 }
 
 /// A command with its options.
@@ -43,6 +57,8 @@ pub struct Command {
     pub hex: bool,
     /// How many bytes of macro bodies the stream may be charged with.
     pub budget: Budget,
+    /// The canonical stream is printed as the page is read. `canon` alone has this option.
+    pub stream: bool,
 }
 
 const PROGRAM: &str = "naplps";
@@ -50,6 +66,8 @@ const PROGRAM: &str = "naplps";
 const HEX: &str = "hex";
 
 const BUDGET: &str = "budget";
+
+const STREAM: &str = "stream";
 
 const LIST: &str = "list";
 
@@ -98,6 +116,7 @@ const CANON_HELP: &str =
 
 const CANON_EXAMPLE: &str =
     "With --hex the canonical stream is printed as lower-case digits. A refused page prints nothing; standard error says why.
+With --stream, which goes without --hex, a refused page prints the canonical stream of what comes before the refusal.
 Statuses are those of 'naplps --help'.
 
 Example:
@@ -154,6 +173,18 @@ fn subcommand<'a>(
         .arg(budget)
 }
 
+/// `canon`, which has one option more.
+fn canon_command<'a>(alloc: Global, texts: &'a BudgetTexts) -> Result<clap::Command<'a>, AllocError>
+    ensures app { IfOk result (λ c. app_of c ≡ canon_app (string_bytes texts.entry.now.usual)) }
+    ensures local { IfOk result (λ c. (fields_of c).has_globals ≡ false) }
+{
+    let stream = Arg::new(alloc, STREAM)
+        .long(STREAM)
+        .action(ArgAction::SetTrue)
+        .help("Prints while it reads, and keeps no entry, so that a page of any length will do");
+    subcommand(alloc, texts, CANON, CANON_HELP, CANON_EXAMPLE)?.arg(stream)
+}
+
 /// The whole command line.
 fn program<'a>(alloc: Global, texts: &'a BudgetTexts) -> Result<clap::Command<'a>, AllocError>
     ensures { IfOk result (λ c. app_of c ≡ command_line_by (string_bytes texts.entry.now.usual)) }
@@ -166,7 +197,7 @@ fn program<'a>(alloc: Global, texts: &'a BudgetTexts) -> Result<clap::Command<'a
         .subcommand_required(true)
         .subcommand(subcommand(alloc, texts, LIST, LIST_HELP, LIST_EXAMPLE)?)?
         .subcommand(subcommand(alloc, texts, CHECK, CHECK_HELP, CHECK_EXAMPLE)?)?
-        .subcommand(subcommand(alloc, texts, CANON, CANON_HELP, CANON_EXAMPLE)?)
+        .subcommand(canon_command(alloc, texts)?)
 }
 
 /// What clap says where words say no command.
@@ -204,10 +235,12 @@ impl Command {
             ((c : Command) → action_name c.action ≡ name.now → Chooses (rows_of (found_of options.now)) c → ⊥)
             (λ c. (action_name c.action ≡ name.now) × Chooses (rows_of (found_of options.now)) c) }
     {
+        let action = Action::named(name)?;
         Some(Command {
-            action: Action::named(name)?,
+            action,
             hex: options.get_one(HEX)?,
             budget: Budget::new(options.get_one(BUDGET)?)?,
+            stream: action.streams(options)?,
         })
     }
 }

@@ -1,18 +1,16 @@
 //! Whole inputs and whole outputs.
 ghost use Rattle.std.specs.Prelude.{◌≡◌, ◌+◌, ◌-◌, ◌^◌, ◌<◌, ◌≤◌, ◌||◌, ℕ, List, IfOk, IsErrOf, OnOk, is_err, length, MatchResult};
 ghost use Rattle.std.specs.Io.KnownBytes.{Consumes};
-ghost use Rattle.nap_cli.specs.declared.device.TheConstants.{READS};
-ghost use Rattle.nap_cli.specs.Devices.{IsReadWhole, StopsReading, Takes, reading};
+ghost use Rattle.nap_list.specs.declared.device.TheConstants.{READS};
+ghost use Rattle.nap_list.specs.Reading.{IsReadWhole, reading};
+ghost use Rattle.nap_cli.specs.Devices.{StopsReading, Takes};
 
 use crate::failure::Failure;
-use nap_list::{Inlet, Outlet};
+use nap_list::{Inlet, Outlet, READS};
 use std::alloc::Global;
 
 /// The most bytes of one read.
 const ROOM: usize = 65_536;
-
-/// The most reads of one command (our profile).
-pub const READS: u64 = 1_048_576;
 
 /// Reads an input to its end.
 pub fn read_whole<I: Inlet>(alloc: Global, input: &mut I) -> Result<Vec<u8>, Failure>

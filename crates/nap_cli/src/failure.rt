@@ -8,9 +8,11 @@ use nap_reader::{Fault, Refusal};
 use std::alloc::{AllocError, Global};
 use std::fmt::{Display, Formatter, Result as FmtResult, Write};
 
-///! Why a command fails.
+/// Why a command fails.
 #[derive(Clone, Copy, PartialEq, Eq, Drop)]
 pub enum Failure {
+    /// `--hex` and `--stream` were given both.
+    Excluded,
     /// The input failed, or was read too often.
     Read,
     /// The input isn't hexadecimal text.
@@ -46,6 +48,7 @@ impl Failure {
     {
         match self {
             Failure::Refused(_) => 1,
+            Failure::Excluded => 2,
             _ => 3,
         }
     }
@@ -99,6 +102,7 @@ impl Display for Failure {
 
     fn fmt<W: Write>(&self, f: &mut Formatter<W>) -> FmtResult {
         match self {
+            Failure::Excluded => write!(f, "--hex and --stream exclude each other"),
             Failure::Read => write!(f, "read fault"),
             Failure::Hex => write!(f, "hex fault"),
             Failure::Refused(refusal) => write!(

@@ -12,8 +12,12 @@ mod tests;
 pub use nap_lines::line_of;
 use nap_list::{Source, Target};
 pub use program::{execute, run};
+use std::io::BufWriter;
 use std::process::ExitCode;
 use std::{env, io};
+
+/// How many bytes the output gathers, as many as a pipe takes at once.
+const GATHERED: usize = 65_536;
 
 fn main(rt: HostRuntime) -> io::Result<ExitCode> {
     let alloc = rt.alloc();
@@ -25,7 +29,8 @@ fn main(rt: HostRuntime) -> io::Result<ExitCode> {
         }
         Err(_) => None,
     };
-    let Some(words) = words else {
+    let output = BufWriter::with_capacity(alloc, GATHERED, rt.stdout());
+    let (Some(words), Ok(output)) = (words, output) else {
         let _ = eprintln!(rt; "no memory");
         return Ok(ExitCode::from(3));
     };
@@ -35,7 +40,7 @@ fn main(rt: HostRuntime) -> io::Result<ExitCode> {
         alloc,
         words.as_slice(),
         &mut input,
-        Target::new(rt.stdout()),
+        Target::new(output),
         &mut errors,
     );
     Ok(ExitCode::from(status))

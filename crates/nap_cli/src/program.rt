@@ -1,10 +1,11 @@
 //! The program on its words.
-ghost use Rattle.std.specs.Prelude.{◌≡◌, ◌+◌, ◌<◌, ◌≤◌, ◌^◌, ℕ, List, false, Err, MatchResult, map, string_bytes};
+ghost use Rattle.std.specs.Prelude.{◌≡◌, ◌+◌, ◌<◌, ◌≤◌, ◌^◌, ℕ, List, true, false, Err, MatchResult, map, string_bytes};
 ghost use Rattle.std.specs.Io.KnownBytes.{Appends, Consumes};
 ghost use Rattle.clap.specs.Values.{kind_of};
-ghost use Rattle.nap_cli.specs.declared.device.TheConstants.{READS};
-ghost use Rattle.nap_cli.specs.Devices.{devices, outputs, reading};
-ghost use Rattle.nap_cli.specs.Commands.{Ends, Explains, Fails, Finds, Ran, Tells};
+ghost use Rattle.nap_list.specs.declared.device.TheConstants.{READS};
+ghost use Rattle.nap_list.specs.Reading.{reading};
+ghost use Rattle.nap_cli.specs.Devices.{devices, outputs};
+ghost use Rattle.nap_cli.specs.Commands.{Ends, EndsWhole, Explains, Fails, Finds, Ran, Tells};
 ghost use Rattle.nap_cli.specs.CommandLine.{Answers};
 
 use crate::answer::{Printout, Verdict, answer};
@@ -13,6 +14,7 @@ use crate::device::{read_whole, write_whole};
 use crate::failure::Failure;
 use clap::Error;
 use clap::error::ErrorKind;
+use nap_canon::{ConvertFault, convert};
 use nap_list::{Inlet, Outlet};
 use std::alloc::{AllocError, Global};
 
@@ -58,7 +60,7 @@ fn perform<I: Inlet, O: Outlet>(
     ensures few { I.calls input.new ≤ I.calls input.old + READS }
     ensures ends { let seen = reading I.Inlet input.old input.new in
         (p : List ℕ) × (q : List ℕ) × Consumes (I.left input.old) (I.left input.new) p × Appends (O.taken output.old) (O.taken output.new) q
-        × Ends command.now p seen q (O.failed output.new) result }
+        × EndsWhole command.now p seen q (O.failed output.new) result }
 {
     match find(alloc, command, input) {
         Ok(answer) => match write_whole(output, answer.text.as_slice()) {
@@ -72,8 +74,58 @@ fn perform<I: Inlet, O: Outlet>(
     }
 }
 
+/// Prints the canonical stream of a page as it is read: the output again, and how that ended.
+fn stream<I: Inlet, O: Outlet + Drop>(
+    alloc: Global,
+    command: &Command,
+    input: &mut I,
+    output: O,
+) -> (O, Result<Verdict, Failure>)
+    requires streams { command.now.stream ≡ true }
+    requires calls { I.calls input.old < 2 ^ 63 }
+    requires works { O.failed output ≡ false }
+    ensures few { I.calls input.new ≤ I.calls input.old + READS }
+    ensures ends { let seen = reading I.Inlet input.old input.new in
+        (p : List ℕ) × (q : List ℕ) × Consumes (I.left input.old) (I.left input.new) p × Appends (O.taken output) (O.taken result.0) q
+        × Ends command.now p seen q (O.failed result.0) result.1 }
+{
+    if command.hex {
+        return (output, Err(Failure::Excluded));
+    }
+    let (output, converted) = convert(alloc, input, output, command.budget);
+    let ended = match converted {
+        Ok(_) => Ok(Verdict::Accepted),
+        Err(ConvertFault::Refused { refusal, .. }) => Err(Failure::Refused(refusal)),
+        Err(ConvertFault::Read { .. }) => Err(Failure::Read),
+        Err(ConvertFault::Write { written }) => Err(Failure::Write(written)),
+    };
+    (output, ended)
+}
+
+/// Does what a command says: the output again, and how that ended.
+fn act<I: Inlet, O: Outlet + Drop>(
+    alloc: Global,
+    command: &Command,
+    input: &mut I,
+    output: O,
+) -> (O, Result<Verdict, Failure>)
+    requires calls { I.calls input.old < 2 ^ 63 }
+    requires works { O.failed output ≡ false }
+    ensures few { I.calls input.new ≤ I.calls input.old + READS }
+    ensures ends { let seen = reading I.Inlet input.old input.new in
+        (p : List ℕ) × (q : List ℕ) × Consumes (I.left input.old) (I.left input.new) p × Appends (O.taken output) (O.taken result.0) q
+        × Ends command.now p seen q (O.failed result.0) result.1 }
+{
+    if command.stream {
+        return stream(alloc, command, input, output);
+    }
+    let mut output = output;
+    let ended = perform(alloc, command, input, &mut output);
+    (output, ended)
+}
+
 /// A command on its input: the output again, and the exit status.
-pub fn execute<I: Inlet, O: Outlet, E: Outlet>(
+pub fn execute<I: Inlet, O: Outlet + Drop, E: Outlet>(
     alloc: Global,
     command: &Command,
     input: &mut I,
@@ -85,8 +137,8 @@ pub fn execute<I: Inlet, O: Outlet, E: Outlet>(
     ensures { let seen = devices I.Inlet O.Outlet E.Outlet in
         Ran command.now (seen input.old output errors.old) (seen input.new result.0 errors.new) result.1 }
 {
-    let mut output = output;
-    match perform(alloc, command, input, &mut output) {
+    let (output, ended) = act(alloc, command, input, output);
+    match ended {
         Ok(verdict) => (output, verdict.status()),
         Err(failure) => {
             let status = tell(alloc, failure, errors);
@@ -121,7 +173,7 @@ fn explain<O: Outlet, E: Outlet>(alloc: Global, error: Error, output: O, errors:
 }
 
 /// The program on its words, those after its own name: the output again, and the exit status.
-pub fn run<I: Inlet, O: Outlet, E: Outlet>(
+pub fn run<I: Inlet, O: Outlet + Drop, E: Outlet>(
     alloc: Global,
     words: &[String],
     input: &mut I,

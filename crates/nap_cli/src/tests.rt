@@ -7,6 +7,7 @@ mod commands;
 mod devices;
 mod flushes;
 mod help;
+mod streams;
 mod words;
 
 const POINT: &[u8] = b"0E 26 52 40 40";

@@ -4,4 +4,5 @@ pub mod Entry
 pub mod Laws
 pub mod Propositions
 pub mod Range
+pub mod Reading
 pub mod State

@@ -11,6 +11,9 @@ mod target;
 pub use source::Source;
 pub use target::Target;
 
+/// The most reads of one input (our profile).
+pub const READS: u64 = 1_048_576;
+
 /// A device failed. Why is the device's own matter.
 #[derive(Clone, Copy, PartialEq, Eq, Debug, Drop, Error)]
 #[error("the device failed")]

@@ -13,7 +13,7 @@ mod state;
 pub use attribute::{
     Area, Base, CharSize, Colour, Hand, Held, Ink, Origin, Pen, Preset, TextLook, Texture,
 };
-pub use device::{DeviceFault, Inlet, Outlet, Source, Target};
+pub use device::{DeviceFault, Inlet, Outlet, READS, Source, Target};
 pub use entry::Entry;
 pub use legality::legal;
 pub use points::{Points, SHAPE_POINTS};

@@ -15,6 +15,8 @@ pub mod PartLemmas
 pub mod BreakingLemmas
 pub mod PlaceLemmas
 pub mod StandingLemmas
+pub mod BrokenLemmas
+pub mod FeedLemmas
 pub mod LegalLemmas
 pub mod RangeLemmas
 pub mod PublicLaws

@@ -6,12 +6,14 @@ use Rattle.nap_values.specs.Laws.{IsOperandByte}
 use Rattle.nap_codes.specs.declared.code.Code.{Code}
 use Rattle.nap_codes.specs.declared.code.Code.TheVariants as code
 use Rattle.nap_codes.specs.declared.opcode.Opcode.{Opcode}
+use Rattle.nap_list.specs.declared.sink.Sink.{Ghosts}
 use Rattle.nap_list.specs.State.{walk}
 use Rattle.nap_draw.specs.Codes.{code_rule}
 use Rattle.nap_reader.specs.Holding.{IsOpenRun}
 use Rattle.nap_reader.specs.Kinds.{kind_of}
-use Rattle.nap_reader.specs.Laws.{FrontAfterFront, IsRun, RunActs, RunWaits, IsAlone, CodeActs, MoreBytesKeepEntries, MoreBytesKeepRefusal, PiecesAgree, AcceptedIsLegal, ReadValuesAreInRange}
+use Rattle.nap_reader.specs.Laws.{FrontAfterFront, IsRun, RunActs, RunWaits, IsAlone, CodeActs, MoreBytesKeepEntries, MoreBytesKeepRefusal, PiecesAgree, AcceptedIsLegal, ReadValuesAreInRange, BegunComesFirst, FedBreaksAmong, EndBreaksAmong}
 use Rattle.nap_reader.specs.Stream.{Placed, Machine, bytes_of, words_of, is_operand_byte, run_length, drawn_front, code_front}
+use Rattle.nap_reader.proofs.BrokenLemmas as broken
 use Rattle.nap_reader.proofs.HeldLemmas.{front_code, front_run, open_run_pauses}
 use Rattle.nap_reader.proofs.LawLemmas as laws
 use Rattle.nap_reader.proofs.LegalLemmas as legal
@@ -82,3 +84,12 @@ accepted_is_legal = legal.accepted_is_legal
 
 pub read_values_are_in_range : ReadValuesAreInRange
 read_values_are_in_range = ranges.read_values_are_in_range
+
+pub begun_comes_first : BegunComesFirst
+begun_comes_first = broken.begun_comes_first
+
+pub fed_breaks_among : {S : Type 0} (g : Ghosts S) → FedBreaksAmong g
+fed_breaks_among = broken.fed_breaks_among
+
+pub end_breaks_among : {S : Type 0} (g : Ghosts S) → EndBreaksAmong g
+end_breaks_among = broken.end_breaks_among

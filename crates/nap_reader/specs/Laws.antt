@@ -1,4 +1,4 @@
-use Rattle.std.specs.Prelude.{◌≡◌, ◌≤◌, ◌+◌, ℕ, false, List, [], ◌∷◌, ◌++◌, Some, None, All, ⊤, length}
+use Rattle.std.specs.Prelude.{◌≡◌, ◌≢◌, ◌<◌, ◌≤◌, ◌+◌, ℕ, false, List, [], ◌∷◌, ◌++◌, Some, None, All, ⊤, length, take, slice_index}
 use Rattle.nap_values.specs.Laws.{IsOperandByte}
 use Rattle.nap_codes.specs.declared.code.Code.{Code}
 use Rattle.nap_codes.specs.declared.code.Code.TheVariants as code
@@ -6,13 +6,17 @@ use Rattle.nap_codes.specs.declared.code_set.CodeSets.{CodeSets}
 use Rattle.nap_codes.specs.declared.opcode.Opcode.{Opcode}
 use Rattle.nap_codes.specs.Front as codes
 use Rattle.nap_draw.specs.Codes.{code_rule}
+use Rattle.nap_draw.specs.Draws.{stream}
 use Rattle.nap_draw.specs.Rule.{rule}
 use Rattle.nap_list.specs.declared.entry.Entry.{Entry}
+use Rattle.nap_list.specs.declared.sink.Sink.{Ghosts}
 use Rattle.nap_list.specs.State.{Legal}
 use Rattle.nap_list.specs.Range.{AllInRange}
 use Rattle.nap_reader.specs.declared.fault.Refusal.{Refusal}
 use Rattle.nap_reader.specs.Bodies.{between}
+use Rattle.nap_reader.specs.Breaking.{cause_of, BreaksFrom, BreaksInRun, BreaksWithin}
 use Rattle.nap_reader.specs.Course.{pause, continue, onward}
+use Rattle.nap_reader.specs.Standing.{StopsBy}
 use Rattle.nap_reader.specs.Stream.{Placed, Machine, Outcome, bytes_of, words_of, is_operand, run_limit, open_run, drawn_front, front, placed_from, outcome_from, begun, means}
 
 -- What comes of a list is what its front gives, and then what comes of the list that stands there then.
@@ -86,3 +90,24 @@ AcceptedIsLegal = (budget : ℕ) (p : List ℕ) → (means budget p).refusal ≡
 -- What is read is in range, so far and in the whole.
 abbrev pub ReadValuesAreInRange : Type 0
 ReadValuesAreInRange = (budget : ℕ) (p : List ℕ) → AllInRange (begun budget p).entries × AllInRange (means budget p).entries
+
+-- What has begun comes first in the entries of the whole stream.
+abbrev pub BegunComesFirst : Type 0
+BegunComesFirst = (budget : ℕ) (p : List ℕ) → (more : List Entry) × ((means budget p).entries ≡ (begun budget p).entries ++ more)
+
+-- Reading the bytes p broke where they can break. The sink has all entries that were known, and a part of those that the
+-- outcome has more.
+pub record BreaksAmong {S : Type 0} (g : Ghosts S) (s : S) (budget : ℕ) (p : List ℕ) (known : List Entry) (o : Outcome) (t : S) (r : Refusal) : Type 0 where
+  pub place : BreaksWithin budget p r.place
+  pub from : BreaksFrom g s known o t (cause_of r.fault)
+
+-- A reader that broke in the last bytes that it was fed keeps the entries of those before.
+abbrev pub FedBreaksAmong : {S : Type 0} → Ghosts S → Type 0
+FedBreaksAmong {S = S} g = (s : S) (budget : ℕ) (before last : List ℕ) (i : ℕ) (t : S) (left : ℕ) (r : Refusal) → i < length last → cause_of r.fault ≢ stream →
+    StopsBy g s budget (before ++ take i last) (slice_index last i) t left r (cause_of r.fault) →
+    BreaksAmong g s budget (before ++ last) (begun budget before).entries (begun budget (before ++ last)) t r
+
+-- One that broke at the opcode that acts at the end keeps the entries before that.
+abbrev pub EndBreaksAmong : {S : Type 0} → Ghosts S → Type 0
+EndBreaksAmong {S = S} g = (s : S) (budget : ℕ) (p : List ℕ) (t : S) (r : Refusal) → (begun budget p).refusal ≡ None →
+    BreaksInRun g s budget p t r → BreaksAmong g s budget p (begun budget p).entries (means budget p) t r

@@ -7,6 +7,7 @@ pub mod Stream
 -- what a reader answers of it
 pub mod Breaking
 pub mod Standing
+pub mod Feeding
 pub mod Laws
 -- what a reader keeps, which no one sees
 pub mod Carried

@@ -1,5 +1,7 @@
 //! Laws of what a stream means, which no call can break.
-ghost use Rattle.nap_reader.specs.Laws.{AcceptedIsLegal, CodeActs, FrontAfterFront, MoreBytesKeepEntries, MoreBytesKeepRefusal, PiecesAgree, ReadValuesAreInRange, RunActs, RunWaits};
+ghost use Rattle.nap_reader.specs.Laws.{AcceptedIsLegal, BegunComesFirst, CodeActs, EndBreaksAmong, FedBreaksAmong, FrontAfterFront, MoreBytesKeepEntries, MoreBytesKeepRefusal, PiecesAgree, ReadValuesAreInRange, RunActs, RunWaits};
+
+use nap_list::Sink;
 
 /// What a stream means is told front after front, with no bound on how many there are.
 pub fn front_after_front()
@@ -40,4 +42,19 @@ pub fn accepted_is_legal()
 /// The points, colours and numbers of what is read are in the ranges of their types.
 pub fn read_values_are_in_range()
     ensures { ReadValuesAreInRange }
+{}
+
+/// The entries of what has begun come first in those of the whole stream.
+pub fn begun_comes_first()
+    ensures { BegunComesFirst }
+{}
+
+/// A reader that broke, for want of memory or at its sink, leaves a part of the entries of the bytes that it was fed.
+pub fn fed_breaks_among<S: Sink>()
+    ensures { FedBreaksAmong S.Sink }
+{}
+
+/// A reader that broke at the opcode that acts at the end of a stream leaves a part of the entries of the stream.
+pub fn end_breaks_among<S: Sink>()
+    ensures { EndBreaksAmong S.Sink }
 {}

@@ -4,6 +4,7 @@
 mod body;
 mod budget;
 mod fault;
+mod feeding;
 mod frames;
 mod kind;
 pub mod laws;
@@ -13,6 +14,7 @@ mod whole;
 
 pub use budget::Budget;
 pub use fault::{Fault, Refusal};
+pub use feeding::{FeedFault, feed_from};
 pub use nap_draw::RUN_LIMIT;
 pub use reader::{Reader, Stopped};
 pub use store::STORE_LIMIT;

@@ -82,6 +82,7 @@ impl<S: Sink> Reader<S> {
     pub fn new(alloc: Global, budget: Budget, sink: S) -> Reader<S>
         requires { S.state sink ≡ start }
         ensures stands { Stands result sink [] }
+        ensures sink { sink_of result ≡ sink }
         ensures budget { budget_of result ≡ budget }
         ensures unrefused { refusal_of result ≡ None }
         ensures fed { fed_of result ≡ 0 }

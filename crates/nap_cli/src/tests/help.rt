@@ -49,7 +49,7 @@ fn help_is_printed_whole(rt: HostRuntime) -> Result<(), Fail> {
             "\n  0e215f265240404040404040\n",
             [
                 "naplps canon",
-                "--hex",
+                "--stream",
                 "--budget <N>",
                 "0 to 16777216 [default: 1048576]",
             ],

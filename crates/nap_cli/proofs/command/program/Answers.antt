@@ -20,4 +20,4 @@ returns c =
     c.in_ok-subcommand-2.ensures.shape c.in_ok-subcommand.ensures.local ∙ ap₂ with_subcommand start_is (ap (λ (a : App). a.top) c.in_ok-subcommand.ensures.app) in
     let two : app_of c.in_ok-subcommand-4.field-0 ≡ with_subcommand (with_subcommand program_app (command_app usual (codes "list")).top) (command_app usual (codes "check")).top =
     c.in_ok-subcommand-4.ensures.shape c.in_ok-subcommand-3.ensures.local ∙ ap₂ with_subcommand one (ap (λ (a : App). a.top) c.in_ok-subcommand-3.ensures.app) in
-    IfOk-weaker c.subcommand-6.result _ _ (λ r h. h.shape c.in_ok-subcommand-5.ensures.local ∙ ap₂ with_subcommand two (ap (λ (a : App). a.top) c.in_ok-subcommand-5.ensures.app)) c.subcommand-6.ensures
+    IfOk-weaker c.subcommand-5.result _ _ (λ r h. h.shape c.in_ok-canon_command.ensures.local ∙ ap₂ with_subcommand two (ap (λ (a : App). a.top) c.in_ok-canon_command.ensures.app)) c.subcommand-5.ensures

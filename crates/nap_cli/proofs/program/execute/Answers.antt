@@ -1,10 +1,11 @@
-use Rattle.std.proofs.Common.{[], Ok, Err, inl, refl}
+use Rattle.std.proofs.Common.{[], Ok, Err, inl, refl, subst}
 use Rattle.std.proofs.KnownBytes.{Appends-nil}
+use Rattle.nap_cli.specs.Commands.{Ends}
 use Rattle.nap_cli.proofs.program.execute.Goals as goal
 
 pub returns-in-Ok : goal.returns-in-Ok
 returns-in-Ok g c =
-    let h = c.in-Ok.ensures.ends in
+    let h = c.act-output.ensures.ends in
     record {
       p = h.0;
       q = h.1;
@@ -13,14 +14,14 @@ returns-in-Ok g c =
       read = h.2;
       printed = h.3;
       told = Appends-nil (g.E.Outlet.taken c.args.errors.now);
-      few = c.perform.ensures.few;
-      ends = h.4;
+      few = c.act-output.ensures.few;
+      ends = subst (Ends c.args.command.now h.0 _ h.1 _) c.in-Ok.is h.4;
       tells = record { said = Ok c.in-Ok.verdict; told_as = inl refl; front = refl; all = λ _. refl; status_is = c.status.ensures };
     }
 
 pub returns-in-Err : goal.returns-in-Err
 returns-in-Err g c =
-    let h = c.in-Err.ensures.ends in
+    let h = c.act-output.ensures.ends in
     let t = c.tell-status.ensures in
     record {
       p = h.0;
@@ -30,7 +31,7 @@ returns-in-Err g c =
       read = h.2;
       printed = h.3;
       told = t.1;
-      few = c.perform.ensures.few;
-      ends = h.4;
+      few = c.act-output.ensures.few;
+      ends = subst (Ends c.args.command.now h.0 _ h.1 _) c.in-Err.is h.4;
       tells = t.2;
     }

@@ -28,11 +28,12 @@ returns c =
     let hex = one_text-rows (found_of c.args.options.now) (codes "hex") in
     let budget = one_text-rows (found_of c.args.options.now) (codes "budget") in
     let number = number_read _ _ c.in_ok-get_one-2.ensures.none (λ t e. (c.in_ok-get_one-2.ensures.value t e).0) (c.in_ok-new.ensures.found.0 refl) in (
-      c.in_ok-named.ensures,
+      c.in_ok-action.ensures,
       record {
         hex = sym hex ∙ flag_read _ c.in_ok-get_one.field-0 c.in_ok-get_one.ensures.none c.in_ok-get_one.ensures.value;
         number = number.0;
         found = sym budget ∙ number.1;
         budget = subst (IsBudget number.0) (sym c.in_ok-new.ensures.value) number.2;
+        stream = c.in_ok-streams.ensures;
       },
     )

@@ -1,0 +1,322 @@
+use Rattle.std.proofs.Common.{ℕ, ◌≡◌, ◌≢◌, ◌⊎◌, Bool, true, false, List, [], ◌∷◌, ◌++◌, Some, None, Result, Ok, Err, length, take, drop, refl, ap, sym, subst, ◌∙◌, inl, inr, append-nil, append_assoc, arith}
+use Rattle.std.proofs.lemmas.List.{take-append-drop}
+use Rattle.std.specs.Io.KnownBytes.{Appends, Keeps}
+use Rattle.std.proofs.KnownBytes.{Appends-kept}
+use Rattle.nap_codes.specs.declared.code_set.GSet.{GSet}
+use Rattle.nap_codes.specs.declared.code_set.GSet.TheVariants.{G1}
+use Rattle.nap_draw.specs.Draws.{Cause, stream, memory, device}
+use Rattle.nap_list.specs.declared.device.Outlet as outlet
+use Rattle.nap_list.specs.declared.entry.Entry.{Entry}
+use Rattle.nap_list.specs.declared.state.State.{State}
+use Rattle.nap_list.specs.declared.sink.Sink.{Ghosts}
+use Rattle.nap_list.specs.Reading.{Reading, NoneFailed, IsCutOff, IsReadWhole}
+use Rattle.nap_list.specs.State.{start, walk, after}
+use Rattle.nap_reader.specs.declared.fault.Refusal.{Refusal}
+use Rattle.nap_reader.specs.declared.feeding.FeedFault.{FeedFault}
+use Rattle.nap_reader.specs.declared.feeding.FeedFault.TheVariants as feed_fault
+use Rattle.nap_reader.specs.Breaking.{cause_of, BreaksInRun, TookFront}
+use Rattle.nap_reader.specs.declared.reader.Reader.{Reader}
+use Rattle.nap_reader.specs.Feeding.{Feeds, LastRead}
+use Rattle.nap_reader.specs.Laws.{BreaksAmong}
+use Rattle.nap_reader.specs.Standing.{Answers, AnswersBy, IsKnown, IsTaken, Stands, budget_of, left_of, refusal_of, sink_of}
+use Rattle.nap_reader.specs.Stream.{Outcome, begun, means, ended_by}
+use Rattle.nap_reader.proofs.PublicLaws.{begun_comes_first, end_breaks_among, fed_breaks_among, more_bytes_keep_entries}
+use Rattle.nap_canon.specs.declared.conversion.ConvertFault.{ConvertFault}
+use Rattle.nap_canon.specs.declared.conversion.ConvertFault.TheVariants as fault
+use Rattle.nap_canon.specs.Concluding.{Concludes, answer_of}
+use Rattle.nap_canon.specs.Converting.{count_of, IsFrontOf, RefusesBy, Converts}
+use Rattle.nap_canon.specs.Sinking.{Canonical, sending, shown, bytes_of, bytes_behind, Sends, Grows, Begun, Took, Broke}
+use Rattle.nap_canon.specs.SinkLaws.{grows_more}
+use Rattle.nap_canon.specs.Streams.{list_of}
+use Rattle.nap_canon.specs.Text.{header, written, gl_after, pieces, entry_pieces, text}
+use Rattle.nap_canon.specs.TextParts.{written-append, pieces-append}
+use Rattle.nap_canon.proofs.SinkingLemmas.{sink_writes_text}
+
+-- fronts
+
+front_refl : {A : Type 0} (xs : List A) → IsFrontOf xs xs
+front_refl xs = ([], sym (append-nil xs))
+
+front_trans : {A : Type 0} (xs ys zs : List A) → IsFrontOf xs ys → IsFrontOf ys zs → IsFrontOf xs zs
+front_trans {A} xs ys zs h k = (h.0 ++ k.0, k.1 ∙ ap (λ (front : List A). front ++ k.0) h.1 ∙ append_assoc xs h.0 k.0)
+
+-- the text of the first entries stands first in that of all
+text_more : (d e : List Entry) → text (d ++ e) ≡ text d ++ written (gl_after G1 (pieces start d)) (pieces (walk start d) e)
+text_more d e =
+    ap (λ (bytes : List ℕ). header ++ bytes) (ap (written G1) (pieces-append start d e) ∙ written-append G1 (pieces start d) (pieces (walk start d) e))
+    ∙ sym (append_assoc header (written G1 (pieces start d)) (written (gl_after G1 (pieces start d)) (pieces (walk start d) e)))
+
+text_front : (d e : List Entry) → IsFrontOf d e → IsFrontOf (text d) (text e)
+text_front d e h = (written (gl_after G1 (pieces start d)) (pieces (walk start d) h.0), ap text h.1 ∙ text_more d h.0)
+
+module _ {O : Type 0} (o : outlet.Ghosts O) (w : O) (s : Canonical O) (begins : Begun o w s) (works : o.failed s.outlet ≡ false) where
+  -- the text of what a sink took went out
+  took_text : (t : Canonical O) (d : List Entry) → Took o s d t → Grows (sending o w 0) (text d) (shown o t)
+  took_text t d h = (sink_writes_text o w s t d begins works h).grows
+
+  -- What a sink wrote that failed amid an entry: the text of those before, and a part of its bytes.
+  abbrev broke_bytes : (t : Canonical O) (d : List Entry) (e : Entry) → Broke o s d e t → List ℕ
+  broke_bytes t d e h = text d ++ take h.part (bytes_behind s d e)
+
+  broke_text : (t : Canonical O) (d : List Entry) (e : Entry) (h : Broke o s d e t) → Grows (sending o w 0) (broke_bytes t d e h) (shown o t)
+  broke_text t d e h =
+      let none : Sends (sending o w 0) header false (shown o s) = subst (λ (broke : Bool). Sends (sending o w 0) header broke (shown o s)) works begins.begins in
+      let part = take h.part (bytes_behind s d e) in
+      let bytes : bytes_of s d ≡ written G1 (pieces start d) =
+      ap (λ (gl : GSet). written gl (pieces s.state d)) begins.gl ∙ ap (λ (u : State). written G1 (pieces u d)) begins.state in
+      let all : header ++ (bytes_of s d ++ part) ≡ text d ++ part =
+      ap (λ (bs : List ℕ). header ++ (bs ++ part)) bytes ∙ sym (append_assoc header (written G1 (pieces start d)) part) in
+      subst (λ (bs : List ℕ). Grows (sending o w 0) bs (shown o t)) all
+      (grows_more (sending o w 0) (shown o s) (shown o t) header (bytes_of s d ++ part) none.grows h.grows)
+
+  -- that is a front of the text of any list that goes on so
+  broke_front : (t : Canonical O) (d : List Entry) (e : Entry) (rest : List Entry) (h : Broke o s d e t) → IsFrontOf (broke_bytes t d e h) (text (d ++ e ∷ rest))
+  unfolding pieces
+  broke_front t d e rest h =
+      let u = walk start d in
+      let gl = gl_after G1 (pieces start d) in
+      let one = entry_pieces u e in
+      let behind : bytes_behind s d e ≡ written gl one =
+      ap (λ (g : GSet). written (gl_after g (pieces s.state d)) (entry_pieces (walk s.state d) e)) begins.gl
+      ∙ ap (λ (v : State). written (gl_after G1 (pieces v d)) (entry_pieces (walk v d) e)) begins.state in
+      let later = written (gl_after gl one) (pieces (after u e) rest) in
+      let more : written gl (pieces u (e ∷ rest)) ≡ bytes_behind s d e ++ later =
+      written-append gl one (pieces (after u e) rest) ∙ ap (λ (bs : List ℕ). bs ++ later) (sym behind) in
+      let parts : bytes_behind s d e ≡ take h.part (bytes_behind s d e) ++ drop h.part (bytes_behind s d e) = sym (take-append-drop h.part (bytes_behind s d e)) in (
+        drop h.part (bytes_behind s d e) ++ later,
+        text_more d (e ∷ rest)
+            ∙ ap (λ (bs : List ℕ). text d ++ bs) (more ∙ ap (λ (bs : List ℕ). bs ++ later) parts ∙ append_assoc (take h.part (bytes_behind s d e)) (drop h.part (bytes_behind s d e)) later)
+            ∙ sym (append_assoc (text d) (take h.part (bytes_behind s d e)) (drop h.part (bytes_behind s d e) ++ later)),
+      )
+
+  -- A conversion that read the bytes p so.
+  module _ (budget : ℕ) (p : List ℕ) (seen : Reading) (last : LastRead budget p seen) where
+    known_first : IsFrontOf (begun budget last.before).entries (begun budget p).entries
+    known_first = subst (λ (bytes : List ℕ). IsFrontOf (begun budget last.before).entries (begun budget bytes).entries) (sym last.parts)
+        (more_bytes_keep_entries budget last.before last.last)
+
+    -- What went out is a front of the text, behind that of what was known before the last read.
+    pub record WentOut (t : Canonical O) (q : List ℕ) : Type 0 where
+      pub grows : Grows (sending o w 0) q (shown o t)
+      pub front : IsFrontOf q (text (list_of budget p))
+      pub left : IsReadWhole seen p ⊎ IsFrontOf q (text (begun budget p).entries)
+      pub written : IsFrontOf (text (begun budget last.before).entries) q
+
+    -- how a conversion ends that left the sink so
+    abbrev pub Leaves : Canonical O → Result (Unit {0}) FeedFault → Type 0
+    Leaves t fed = (q : List ℕ) × WentOut t q × (o.failed t.outlet ≡ false → Converts budget p seen q false (answer_of t.written fed))
+
+    counts : (t : Canonical O) (q : List ℕ) → Grows (sending o w 0) q (shown o t) → t.written ≡ count_of q
+    counts t q h = omega (arith, h.count)
+
+    -- the output as it is given back
+    pub concluded : (t : Canonical O) (fed : Result (Unit {0}) FeedFault) (u : O) (answer : Result ℕ ConvertFault) → Leaves t fed → Keeps (o.taken t.outlet) (o.taken u) →
+        (o.failed t.outlet ≡ true → o.failed u ≡ true) → Concludes t.written fed (o.failed u) answer →
+        (q : List ℕ) × Appends (o.taken w) (o.taken u) q × Converts budget p seen q (o.failed u) answer
+    concluded t fed u answer (q, out, right) keeps fails ends = (q, Appends-kept _ _ _ q out.grows.taken keeps, at (o.failed u) refl ends)
+      where
+        works_on : (b : Bool) → o.failed t.outlet ≡ b → o.failed u ≡ false → b ≡ false
+        works_on false is whole = refl
+        works_on true is whole = let bad = sym (fails is) ∙ whole in cc
+
+        at : (failed : Bool) → o.failed u ≡ failed → Concludes t.written fed failed answer → Converts budget p seen q failed answer
+        at false is h = rw h (right (works_on (o.failed t.outlet) refl is))
+        at true is h = rw h (counts t q out.grows, record { front = out.front; left = out.left; last = last; written = λ _. out.written })
+
+    -- the sink took a list, which is all that was read
+    took_all : (t : Canonical O) (fed : Result (Unit {0}) FeedFault) (d : List Entry) → Took o s d t → IsFrontOf d (list_of budget p) →
+        IsReadWhole seen p ⊎ IsFrontOf (text d) (text (begun budget p).entries) → IsFrontOf (begun budget last.before).entries d →
+        (t.written ≡ count_of (text d) → Converts budget p seen (text d) false (answer_of t.written fed)) → Leaves t fed
+    took_all t fed d took all left known right =
+        let grows = took_text t d took in (
+          text d,
+          record { grows = grows; front = text_front d (list_of budget p) all; left = left; written = text_front (begun budget last.before).entries d known },
+          λ _. right (counts t (text d) grows),
+        )
+
+    known_in_whole : IsFrontOf (begun budget last.before).entries (list_of budget p)
+    known_in_whole = front_trans (begun budget last.before).entries (begun budget p).entries (list_of budget p) known_first (begun_comes_first budget p)
+
+    -- all was read and accepted
+    pub leaves_whole : (t : Canonical O) → IsReadWhole seen p → (means budget p).refusal ≡ None → Took o s (list_of budget p) t → Leaves t (Ok tt)
+    leaves_whole t whole accepted took =
+        took_all t (Ok tt) (list_of budget p) took (front_refl (list_of budget p)) (inl whole) known_in_whole
+        (λ count. (count, record { read = whole; canonical = record { accepted = accepted; text_is = refl } }))
+
+    -- the stream is refused
+    pub leaves_refused : (t : Canonical O) (r : Refusal) → NoneFailed seen → IsReadWhole seen p ⊎ ((begun budget p).refusal ≡ Some r) →
+        IsReadWhole seen p ⊎ IsFrontOf (text (list_of budget p)) (text (begun budget p).entries) → cause_of r.fault ≡ stream →
+        (means budget p).refusal ≡ Some r → Took o s (list_of budget p) t → Leaves t (Err (feed_fault.Refused r))
+    leaves_refused t r none_failed left out own refused took =
+        took_all t (Err (feed_fault.Refused r)) (list_of budget p) took (front_refl (list_of budget p)) out known_in_whole (λ count. (
+          count,
+          subst (RefusesBy budget p seen (text (list_of budget p)) r) (sym own)
+              (record { none_failed = none_failed; refused = refused; text = refl; left = left; last = last }),
+        ))
+
+    -- the input failed
+    pub leaves_cut : (t : Canonical O) → IsCutOff seen p → (begun budget p).refusal ≡ None → Took o s (begun budget p).entries t → Leaves t (Err feed_fault.Read)
+    leaves_cut t cut going took =
+        let d = (begun budget p).entries in
+        took_all t (Err feed_fault.Read) d took (begun_comes_first budget p) (inr (front_refl (text d))) known_first
+        (λ count. (count, record { cut_off = cut; going = going; text = refl }))
+
+    -- Reading broke: memory was wanting, or a write failed.
+    module _ (g : Ghosts (Canonical O)) (took_is : (t : Canonical O) (d : List Entry) → g.took s d t → Took o s d t)
+        (broke_is : (t : Canonical O) (d : List Entry) (e : Entry) → g.broke s d e t → Broke o s d e t) (failed_is : g.failed s ≡ o.failed s.outlet)
+        (t : Canonical O) (r : Refusal) (known : List Entry) (end : Outcome) (among : BreaksAmong g s budget p known end t r) (none_failed : NoneFailed seen)
+        (first : IsFrontOf (begun budget last.before).entries known) (in_whole : IsFrontOf end.entries (list_of budget p))
+        (left : (q : List ℕ) → IsFrontOf q (text end.entries) → IsReadWhole seen p ⊎ IsFrontOf q (text (begun budget p).entries)) where
+      lacks : cause_of r.fault ≡ memory → TookFront g s known among.from.more t memory → Leaves t (Err (feed_fault.Refused r))
+      lacks is (taken, rest, parts, took) =
+          let d = known ++ taken in
+          let d_first : IsFrontOf d end.entries = (rest, among.from.adds ∙ ap (λ (es : List Entry). known ++ es) parts ∙ sym (append_assoc known taken rest)) in
+          let d_whole = front_trans d end.entries (list_of budget p) d_first in_whole in
+          took_all t (Err (feed_fault.Refused r)) d (took_is t d took) d_whole (left (text d) (text_front d end.entries d_first))
+          (front_trans (begun budget last.before).entries known d first (taken, refl)) (λ count. (
+            count,
+            subst (RefusesBy budget p seen (text d) r) (sym is)
+                (record { none_failed = none_failed; place = among.place; taken = d; front = d_whole; text = refl; last = last }),
+          ))
+
+      breaks : TookFront g s known among.from.more t device → Leaves t (Err (feed_fault.Refused r))
+      breaks (inl (failed, part)) = let bad = sym works ∙ (sym failed_is ∙ failed) in cc
+      breaks (inr (taken, next, rest, parts, broke)) =
+          let d = known ++ taken in
+          let h = broke_is t d next broke in
+          let q = broke_bytes t d next h in
+          let all : end.entries ≡ d ++ next ∷ rest = among.from.adds ∙ ap (λ (es : List Entry). known ++ es) parts ∙ sym (append_assoc known taken (next ∷ rest)) in
+          let q_first : IsFrontOf q (text end.entries) = subst (λ (es : List Entry). IsFrontOf q (text es)) (sym all) (broke_front t d next rest h) in (
+            q,
+            record {
+              grows = broke_text t d next h;
+              front = front_trans q (text end.entries) (text (list_of budget p)) q_first (text_front end.entries (list_of budget p) in_whole);
+              left = left q q_first;
+              written = front_trans (text (begun budget last.before).entries) (text d) q
+                  (text_front (begun budget last.before).entries d (front_trans (begun budget last.before).entries known d first (taken, refl)))
+                  (take h.part (bytes_behind s d next), refl);
+            },
+            λ whole. let bad = sym h.failed ∙ whole in cc,
+          )
+
+      at : (cause : Cause) → cause_of r.fault ≡ cause → cause ≢ stream → TookFront g s known among.from.more t cause → Leaves t (Err (feed_fault.Refused r))
+      at stream is broke part = absurd part
+      at memory is broke part = lacks is part
+      at device is broke part = breaks part
+
+      pub leaves_broken : cause_of r.fault ≢ stream → Leaves t (Err (feed_fault.Refused r))
+      leaves_broken broke = at (cause_of r.fault) refl broke among.from.part
+
+-- What a reader shows.
+
+module _ {S : Type 0} {g : Ghosts S} (reader : Reader S g) (s : S) (p : List ℕ) (h : Stands reader s p) where
+  unrefused : (budget : ℕ) → budget_of reader ≡ budget → refusal_of reader ≡ None → IsKnown g s (begun budget p) (sink_of reader) (left_of reader) None
+  unrefused budget same none =
+      subst (λ (b : ℕ). IsKnown g s (begun b p) (sink_of reader) (left_of reader) None) same
+      (subst (Answers g s (budget_of reader) p (sink_of reader) (left_of reader)) none h.answers)
+
+  refused_by : (budget : ℕ) (r : Refusal) → budget_of reader ≡ budget → refusal_of reader ≡ Some r →
+      AnswersBy g s budget p (sink_of reader) (left_of reader) r (cause_of r.fault)
+  refused_by budget r same some =
+      subst (λ (b : ℕ). AnswersBy g s b p (sink_of reader) (left_of reader) r (cause_of r.fault)) same
+      (subst (Answers g s (budget_of reader) p (sink_of reader) (left_of reader)) some h.answers)
+
+-- a stream that is refused so far is refused so as a whole
+means_refused : (budget : ℕ) (p : List ℕ) (r : Refusal) → (begun budget p).refusal ≡ Some r → means budget p ≡ begun budget p
+means_refused budget p r is = ap (ended_by (begun budget p) (length p)) is
+
+module _ {O : Type 0} (o : outlet.Ghosts O) (w : O) (s : Canonical O) (begins : Begun o w s) (g : Ghosts (Canonical O))
+    (took_is : (t : Canonical O) (d : List Entry) → g.took s d t → Took o s d t)
+    (broke_is : (t : Canonical O) (d : List Entry) (e : Entry) → g.broke s d e t → Broke o s d e t) (failed_is : g.failed s ≡ o.failed s.outlet) where
+  -- the header was not written
+  pub header_fails : (reader : Reader (Canonical O) g) (seen : Reading) → Stands reader s [] → refusal_of reader ≡ None → seen.reads ≡ 0 → o.failed s.outlet ≡ true →
+      (u : O) (answer : Result ℕ ConvertFault) → Keeps (o.taken s.outlet) (o.taken u) → o.failed u ≡ true → Concludes s.written (Ok tt) (o.failed u) answer →
+      (q : List ℕ) × Appends (o.taken w) (o.taken u) q × Converts (budget_of reader) [] seen q (o.failed u) answer
+  header_fails reader seen h none unread fails u answer keeps failed ends =
+      let sent : Sends (sending o w 0) header true (shown o s) = subst (λ (broke : Bool). Sends (sending o w 0) header broke (shown o s)) fails begins.begins in
+      let q = take sent.part header in
+      let last : LastRead (budget_of reader) [] seen = record {
+        before = [];
+        last = [];
+        parts = refl;
+        unrefused = (unrefused reader s [] h (budget_of reader) refl none).refusal;
+        reads = omega (arith, unread);
+      } in
+      let front : (d : List Entry) → IsFrontOf q (text d) = λ d. (
+        drop sent.part header ++ written G1 (pieces start d),
+        ap (λ (bytes : List ℕ). bytes ++ written G1 (pieces start d)) (sym (take-append-drop sent.part header)) ∙ append_assoc q (drop sent.part header) (written G1 (pieces start d)),
+      ) in
+      let is : answer ≡ Err (fault.Write s.written) = subst (λ (b : Bool). Concludes s.written (Ok tt) b answer) failed ends in (
+        q,
+        Appends-kept (o.taken w) (o.taken s.outlet) (o.taken u) q sent.grows.taken keeps,
+        rw (failed, is) (
+          omega (arith, sent.grows.count),
+          record {
+            front = front (list_of (budget_of reader) []);
+            left = inr (front (begun (budget_of reader) []).entries);
+            last = last;
+            written = λ some. absurd (omega (arith, some, unread));
+          },
+        ),
+      )
+
+  module _ (works : o.failed s.outlet ≡ false) (old new : Reader (Canonical O) g) (p : List ℕ) (seen : Reading) (same : budget_of new ≡ budget_of old) where
+    abbrev pub Ends : LastRead (budget_of old) p seen → Canonical O → Result (Unit {0}) FeedFault → Type 0
+    Ends last t fed = Leaves o w s begins works (budget_of old) p seen last t fed
+
+    -- the feeding stopped before the end
+    pub fed_leaves : (fault : FeedFault) (h : Feeds old new s p seen (Err fault)) → Ends h.last (sink_of new) (Err fault)
+    fed_leaves feed_fault.Read h =
+        let known = unrefused new s p h.stands (budget_of old) same h.ends.1 in
+        leaves_cut o w s begins works (budget_of old) p seen h.last (sink_of new) h.ends.0 known.refusal (took_is (sink_of new) (begun (budget_of old) p).entries known.taken)
+    fed_leaves (feed_fault.Refused r) h = at (cause_of r.fault) refl (refused_by new s p h.stands (budget_of old) r same h.ends.1)
+      where
+        broken : cause_of r.fault ≢ stream → Ends h.last (sink_of new) (Err (feed_fault.Refused r))
+        broken broke =
+            let budget = budget_of old in
+            let (i, within, stops) = h.stops in
+            let among = fed_breaks_among g s budget h.last.before h.last.last i (sink_of new) (left_of new) r within broke stops in
+            let here = subst (λ (bytes : List ℕ). BreaksAmong g s budget bytes (begun budget h.last.before).entries (begun budget bytes) (sink_of new) r) (sym h.last.parts) among in
+            leaves_broken o w s begins works budget p seen h.last g took_is broke_is failed_is (sink_of new) r (begun budget h.last.before).entries (begun budget p) here h.ends.0
+            (front_refl (begun budget h.last.before).entries) (begun_comes_first budget p) (λ q front. inr front) broke
+
+        at : (cause : Cause) → cause_of r.fault ≡ cause → AnswersBy g s (budget_of old) p (sink_of new) (left_of new) r cause → Ends h.last (sink_of new) (Err (feed_fault.Refused r))
+        at stream own known =
+            let budget = budget_of old in
+            let whole = means_refused budget p r known.refusal in
+            let list = ap (λ (out : Outcome). out.entries) whole in
+            leaves_refused o w s begins works budget p seen h.last (sink_of new) r h.ends.0 (inr known.refusal)
+            (inr (subst (λ (d : List Entry). IsFrontOf (text (list_of budget p)) (text d)) list (front_refl (text (list_of budget p))))) own
+            (ap (λ (out : Outcome). out.refusal) whole ∙ known.refusal)
+            (subst (λ (d : List Entry). Took o s d (sink_of new)) (sym list) (took_is (sink_of new) (begun budget p).entries known.taken))
+        at memory is known = broken (λ own. let bad = sym is ∙ own in cc)
+        at device is known = broken (λ own. let bad = sym is ∙ own in cc)
+
+    -- the stream was read to its end
+    module _ (h : Feeds old new s p seen (Ok tt)) where
+      pub whole_leaves : (t : Canonical O) → (IsTaken g s (means (budget_of new) p) t None) → Ends h.last t (Ok tt)
+      whole_leaves t taken =
+          let here = subst (λ (budget : ℕ). IsTaken g s (means budget p) t None) same taken in
+          leaves_whole o w s begins works (budget_of old) p seen h.last t h.ends.0 here.0 (took_is t (list_of (budget_of old) p) here.1)
+
+      pub end_leaves : (t : Canonical O) (r : Refusal) → (cause_of r.fault ≡ stream → IsTaken g s (means (budget_of new) p) t (Some r)) →
+          (cause_of r.fault ≢ stream → BreaksInRun g s (budget_of new) p t r) → Ends h.last t (Err (feed_fault.Refused r))
+      end_leaves t r own broke = at (cause_of r.fault) refl
+        where
+          known : IsKnown g s (begun (budget_of old) p) (sink_of new) (left_of new) None
+          known = unrefused new s p h.stands (budget_of old) same h.ends.1
+
+          broken : cause_of r.fault ≢ stream → Ends h.last t (Err (feed_fault.Refused r))
+          broken other =
+              let budget = budget_of old in
+              let among = end_breaks_among g s budget p t r known.refusal (subst (λ (b : ℕ). BreaksInRun g s b p t r) same (broke other)) in
+              leaves_broken o w s begins works budget p seen h.last g took_is broke_is failed_is t r (begun budget p).entries (means budget p) among h.ends.0.none_failed
+              (known_first o w s begins works budget p seen h.last) (front_refl (list_of budget p)) (λ q front. inl h.ends.0) other
+
+          at : (cause : Cause) → cause_of r.fault ≡ cause → Ends h.last t (Err (feed_fault.Refused r))
+          at stream is =
+              let here = subst (λ (budget : ℕ). IsTaken g s (means budget p) t (Some r)) same (own is) in
+              leaves_refused o w s begins works (budget_of old) p seen h.last t r h.ends.0.none_failed (inl h.ends.0) (inl h.ends.0) is here.0
+              (took_is t (list_of (budget_of old) p) here.1)
+          at memory is = broken (λ own. let bad = sym is ∙ own in cc)
+          at device is = broken (λ own. let bad = sym is ∙ own in cc)

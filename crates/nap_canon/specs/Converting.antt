@@ -1,0 +1,73 @@
+use Rattle.std.specs.Prelude.{◌≡◌, ◌⊎◌, ◌-◌, ◌^◌, ◌<◌, ◌++◌, ℕ, List, Bool, true, false, None, Some, Result, Ok, Err, length, min}
+use Rattle.nap_draw.specs.Draws.{Cause, stream, memory, device}
+use Rattle.nap_list.specs.declared.entry.Entry.{Entry}
+use Rattle.nap_list.specs.Reading.{Reading, NoneFailed, IsCutOff, IsReadWhole}
+use Rattle.nap_reader.specs.declared.fault.Refusal.{Refusal}
+use Rattle.nap_reader.specs.Breaking.{cause_of, BreaksWithin}
+use Rattle.nap_reader.specs.Feeding.{LastRead}
+use Rattle.nap_reader.specs.Stream.{begun, means}
+use Rattle.nap_canon.specs.declared.conversion.ConvertFault.{ConvertFault}
+use Rattle.nap_canon.specs.declared.conversion.ConvertFault.TheVariants as fault
+use Rattle.nap_canon.specs.Streams.{list_of, IsCanonicalOf}
+use Rattle.nap_canon.specs.Text.{text}
+
+-- A stream is converted: the bytes p were read, and the output took q.
+
+-- how many bytes there are, up to the greatest count of 64 bits
+abbrev pub count_of : List ℕ → ℕ
+count_of q = min (length q) (2 ^ 64 - 1)
+
+-- the one list stands at the front of the other
+abbrev pub IsFrontOf : {A : Type 0} → List A → List A → Type 0
+IsFrontOf {A = A} front whole = (rest : List A) × (whole ≡ front ++ rest)
+
+-- All of the stream was read, and q is its canonical stream.
+pub record ConvertsWhole (budget : ℕ) (p : List ℕ) (seen : Reading) (q : List ℕ) : Type 0 where
+  pub read : IsReadWhole seen p
+  pub canonical : IsCanonicalOf budget q p
+
+-- The stream is refused, and q is the text of the entries before that. Bytes are left unread only where those that were
+-- read show the refusal.
+pub record RefusesStream (budget : ℕ) (p : List ℕ) (seen : Reading) (q : List ℕ) (r : Refusal) : Type 0 where
+  pub none_failed : NoneFailed seen
+  pub refused : (means budget p).refusal ≡ Some r
+  pub text : q ≡ text (list_of budget p)
+  pub left : IsReadWhole seen p ⊎ ((begun budget p).refusal ≡ Some r)
+  pub last : LastRead budget p seen
+
+-- There was no memory, where there can be none, and q is the text of a front of the entries.
+pub record LacksMemory (budget : ℕ) (p : List ℕ) (seen : Reading) (q : List ℕ) (r : Refusal) : Type 0 where
+  pub none_failed : NoneFailed seen
+  pub place : BreaksWithin budget p r.place
+  pub taken : List Entry
+  pub front : IsFrontOf taken (list_of budget p)
+  pub text : q ≡ text taken
+  pub last : LastRead budget p seen
+
+-- the stream is refused, for this cause; a failed write is no refusal
+abbrev pub RefusesBy : ℕ → List ℕ → Reading → List ℕ → Refusal → Cause → Type 0
+RefusesBy budget p seen q r stream = RefusesStream budget p seen q r
+RefusesBy budget p seen q r memory = LacksMemory budget p seen q r
+RefusesBy budget p seen q r device = ⊥
+
+-- The input failed or was read too often, and q is the text of the entries so far.
+pub record StopsReading (budget : ℕ) (p : List ℕ) (seen : Reading) (q : List ℕ) : Type 0 where
+  pub cut_off : IsCutOff seen p
+  pub going : (begun budget p).refusal ≡ None
+  pub text : q ≡ text (begun budget p).entries
+
+-- A write failed, or the flush: q is a front of the text, and has the text of what was known before the last bytes. So an
+-- input that gives a byte at a time isn't read behind a failed write.
+pub record StopsWriting (budget : ℕ) (p : List ℕ) (seen : Reading) (q : List ℕ) : Type 0 where
+  pub front : IsFrontOf q (text (list_of budget p))
+  pub left : IsReadWhole seen p ⊎ IsFrontOf q (text (begun budget p).entries)
+  pub last : LastRead budget p seen
+  pub written : 0 < seen.reads → IsFrontOf (text (begun budget last.before).entries) q
+
+-- What is answered, where the output has failed or hasn't.
+abbrev pub Converts : ℕ → List ℕ → Reading → List ℕ → Bool → Result ℕ ConvertFault → Type 0
+Converts budget p seen q false (Ok n) = (n ≡ count_of q) × ConvertsWhole budget p seen q
+Converts budget p seen q false (Err (fault.Refused r n)) = (n ≡ count_of q) × RefusesBy budget p seen q r (cause_of r.fault)
+Converts budget p seen q false (Err (fault.Read n)) = (n ≡ count_of q) × StopsReading budget p seen q
+Converts budget p seen q true (Err (fault.Write n)) = (n ≡ count_of q) × StopsWriting budget p seen q
+Converts budget p seen q failed answer = ⊥

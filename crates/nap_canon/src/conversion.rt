@@ -1,0 +1,92 @@
+//! Converts a stream into its canonical one as it is read.
+ghost use Rattle.std.specs.Prelude.{◌≡◌, ◌+◌, ◌^◌, ◌<◌, ◌≤◌, ℕ, List, true, false};
+ghost use Rattle.std.specs.Io.KnownBytes.{Appends, Consumes, Keeps};
+ghost use Rattle.nap_list.specs.declared.device.TheConstants.{READS};
+ghost use Rattle.nap_list.specs.Reading.{reading};
+ghost use Rattle.nap_canon.specs.Converting.{Converts};
+ghost use Rattle.nap_canon.specs.Concluding.{Concludes};
+
+use crate::canon_sink::CanonSink;
+use nap_list::{Inlet, Outlet};
+use nap_reader::{Budget, FeedFault, Reader, Refusal, feed_from};
+use std::alloc::Global;
+use thiserror::Error;
+
+/// The bytes of one read.
+const ROOM: usize = 4_096;
+
+/// Why a stream wasn't converted whole, and how many bytes the output took before; the count stays at the greatest `u64`.
+#[derive(Clone, Copy, PartialEq, Eq, Debug, Drop, Error)]
+pub enum ConvertFault {
+    /// The stream is refused. The text of the entries before that is written.
+    #[error("{refusal}, once {written} bytes were written")]
+    Refused {
+        /// Why, and where.
+        refusal: Refusal,
+        /// The bytes that the output took.
+        written: u64,
+    },
+    /// A read failed, or there were as many as one input may have. The text of the entries so far is written.
+    #[error("the input failed, once {written} bytes were written")]
+    Read {
+        /// The bytes that the output took.
+        written: u64,
+    },
+    /// A write failed, or the flush.
+    #[error("the output failed, once it had taken {written} bytes")]
+    Write {
+        /// The bytes that the output took.
+        written: u64,
+    },
+}
+
+/// The output once no more is written: it is flushed, unless a write has failed.
+fn conclude<O: Outlet + Drop>(
+    sink: CanonSink<O>,
+    fed: Result<(), FeedFault>,
+) -> (O, Result<u64, ConvertFault>)
+    ensures taken { Keeps (O.taken sink.outlet) (O.taken result.0) }
+    ensures failed { O.failed sink.outlet ≡ true → O.failed result.0 ≡ true }
+    ensures answer { Concludes sink.written fed (O.failed result.0) result.1 }
+{
+    let written = sink.written();
+    let failed = sink.failed();
+    let mut output = sink.close();
+    if failed || output.flush().is_err() {
+        return (output, Err(ConvertFault::Write { written }));
+    }
+    let answer = match fed {
+        Ok(()) => Ok(written),
+        Err(FeedFault::Refused(refusal)) => Err(ConvertFault::Refused { refusal, written }),
+        Err(FeedFault::Read) => Err(ConvertFault::Read { written }),
+    };
+    (output, answer)
+}
+
+/// Writes the canonical stream of what the input gives, as it is read, and flushes the output: the output again, and how
+/// many bytes it took. It keeps no entry, so its memory doesn't grow with the stream.
+pub fn convert<I: Inlet, O: Outlet + Drop>(
+    alloc: Global,
+    input: &mut I,
+    output: O,
+    budget: Budget,
+) -> (O, Result<u64, ConvertFault>)
+    requires calls { I.calls input.old < 2 ^ 63 }
+    requires works { O.failed output ≡ false }
+    ensures few { I.calls input.new ≤ I.calls input.old + READS }
+    ensures converts { let seen = reading I.Inlet input.old input.new in
+        (p : List ℕ) × (q : List ℕ) × Consumes (I.left input.old) (I.left input.new) p × Appends (O.taken output) (O.taken result.0) q
+        × Converts budget p seen q (O.failed result.0) result.1 }
+{
+    let mut reader = Reader::new(alloc, budget, CanonSink::new(output));
+    if reader.sink().failed() {
+        return conclude(reader.into_sink(), Ok(()));
+    }
+    match feed_from(&mut reader, input, &mut [0; ROOM]) {
+        Ok(()) => match reader.finish() {
+            Ok(sink) => conclude(sink, Ok(())),
+            Err(stopped) => conclude(stopped.sink, Err(FeedFault::Refused(stopped.refusal))),
+        },
+        Err(fault) => conclude(reader.into_sink(), Err(fault)),
+    }
+}

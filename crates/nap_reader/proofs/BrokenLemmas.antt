@@ -1,0 +1,137 @@
+use Rattle.std.proofs.Common.{ℕ, ◌+◌, ◌<◌, ◌≡◌, ◌≢◌, List, [], ◌∷◌, ◌++◌, length, Option, Some, None, Result, Ok, Err, take, drop, get_or, refl, ap, sym, ◌∙◌, subst, inl, inr, append-nil, length-append, arith, Bool, true, false, if◌then◌else◌}
+use Rattle.std.proofs.Math.Seq.{take-append-add}
+use Rattle.std.proofs.lemmas.List.{get_or-append-add}
+use Rattle.nap_list.specs.declared.entry.Entry.{Entry}
+use Rattle.nap_list.specs.declared.state.Opened.{Opened}
+use Rattle.nap_list.specs.declared.sink.Sink.{Ghosts}
+use Rattle.nap_draw.specs.declared.fault.DrawFault.{DrawFault}
+use Rattle.nap_draw.specs.Draws.{Cause, stream, memory, device}
+use Rattle.nap_draw.specs.Rule.{Drawn, rule}
+use Rattle.nap_reader.specs.declared.fault.Refusal.{Refusal}
+use Rattle.nap_reader.specs.Breaking.{cause_of, closed_by, BreaksAt, BreaksWith, BreaksBetween, BreaksFrom, TookPart, TookFront}
+use Rattle.nap_reader.specs.Laws.{BegunComesFirst, BreaksAmong, FedBreaksAmong, EndBreaksAmong}
+use Rattle.nap_reader.specs.Standing.{IsBroken, StopsBy}
+use Rattle.nap_reader.specs.Stream.{Outcome, Unfinished, nothing, half_code, open_run, open_body, is_operand_byte, begun, means, with_code, with_definition, with_drawn, with_end, with_run, with_run_by, ended_by}
+use Rattle.nap_reader.proofs.BreakingLemmas.{breaks_there}
+use Rattle.nap_reader.proofs.LawLemmas.{more_bytes_keep_entries}
+use Rattle.nap_reader.proofs.PartLemmas.{breaks_longer, breaks_more}
+use Rattle.nap_reader.proofs.StandingLemmas.{taken_all}
+
+-- The end of a stream keeps what it has.
+
+abbrev First : Outcome → Outcome → Type 0
+First o whole = (more : List Entry) × (whole.entries ≡ o.entries ++ more)
+
+same_first : (o : Outcome) → First o o
+same_first o = ([], sym (append-nil o.entries))
+
+run_first : (o : Outcome) (u : Option Unfinished) → First o (with_run_by o u)
+run_first o None = same_first o
+run_first o (Some nothing) = same_first o
+run_first o (Some (half_code bytes)) = same_first o
+run_first o (Some open_body) = same_first o
+run_first o (Some (open_run op place run)) = drawn (rule o.machine.work op run)
+  where
+    drawn : (by : Result Drawn DrawFault) → First o (with_drawn o place by)
+    drawn (Ok d) = (d.entries, refl)
+    drawn (Err fault) = same_first o
+
+definition_keeps : (o : Outcome) (n : ℕ) (opened : Option Opened) → (with_definition o n opened).entries ≡ o.entries
+definition_keeps o n None = refl
+definition_keeps o n (Some opened) = refl
+
+code_keeps : (o : Outcome) (n : ℕ) (u : Option Unfinished) → (with_code o n u).entries ≡ o.entries
+code_keeps o n None = definition_keeps o n o.machine.work.state.definition
+code_keeps o n (Some nothing) = definition_keeps o n o.machine.work.state.definition
+code_keeps o n (Some (half_code bytes)) = refl
+code_keeps o n (Some (open_run op place run)) = definition_keeps o n o.machine.work.state.definition
+code_keeps o n (Some open_body) = refl
+
+end_keeps : (o : Outcome) (n : ℕ) (r : Option Refusal) → (with_end o n r).entries ≡ o.entries
+end_keeps o n None = code_keeps o n o.unfinished
+end_keeps o n (Some r) = refl
+
+ended_first : (o : Outcome) (n : ℕ) (r : Option Refusal) → First o (ended_by o n r)
+ended_first o n (Some r) = same_first o
+ended_first o n None =
+    let k = run_first o o.unfinished in
+    (k.0, end_keeps (with_run o) n (with_run o).refusal ∙ k.1)
+
+pub begun_comes_first : BegunComesFirst
+begun_comes_first budget p = ended_first (begun budget p) (length p) (begun budget p).refusal
+
+-- A part of what comes between is a part of all.
+
+part_front : {S : Type 0} (g : Ghosts S) (s : S) (known more : List Entry) (t : S) (cause : Cause) → TookPart g s known more t cause → TookFront g s known more t cause
+part_front g s known more t stream h = h
+part_front g s known more t memory (inl took) = ([], more, refl, subst (λ (es : List Entry). g.took s es t) (sym (append-nil known)) took)
+part_front g s known more t memory (inr (front, next, rest, parts, took)) = (front, next ∷ rest, parts, took)
+part_front g s known more t device (inl (set, took)) = inl (set, ([], more, refl, subst (λ (es : List Entry). g.took s es t) (sym (append-nil known)) took))
+part_front g s known more t device (inr broke) = inr broke
+
+between_from : {S : Type 0} (g : Ghosts S) (s : S) (before after : Outcome) (t : S) (cause : Cause) → BreaksBetween g s before after t cause →
+    BreaksFrom g s before.entries after t cause
+between_from g s before after t cause h = record { more = h.more; adds = h.adds; part = part_front g s before.entries h.more t cause h.part }
+
+closed_first : (o : Outcome) (b : ℕ) → First o (closed_by o b)
+closed_first o b = at (is_operand_byte b)
+  where
+    at : (word : Bool) → First o (if word then o else with_run o)
+    at true = same_first o
+    at false = run_first o o.unfinished
+
+module _ {S : Type 0} (g : Ghosts S) (s : S) (budget : ℕ) (p : List ℕ) (b : ℕ) (t : S) (r : Refusal) where
+  with_byte : BreaksWith g s budget p b t (cause_of r.fault) → BreaksFrom g s (begun budget p).entries (begun budget (p ++ b ∷ [])) t (cause_of r.fault)
+  with_byte (inl between) =
+      let known = closed_first (begun budget p) b in
+      let after = begun budget (p ++ b ∷ []) in
+      let from = between_from g s (closed_by (begun budget p) b) after t (cause_of r.fault) between in
+      breaks_longer g s (begun budget p).entries known.0 after t (cause_of r.fault)
+      (subst (λ (es : List Entry). BreaksFrom g s es after t (cause_of r.fault)) known.1 from)
+  with_byte (inr (charged, from)) = from
+
+  at_byte : BreaksAt g s budget p b t r → BreaksFrom g s (begun budget p).entries (begun budget (p ++ b ∷ [])) t (cause_of r.fault)
+  at_byte (inl (other, first, in_run)) =
+      breaks_more g s (begun budget p).entries first.0 (with_run (begun budget p)) (begun budget (p ++ b ∷ [])) t (cause_of r.fault) first.1
+      (between_from g s (begun budget p) (with_run (begun budget p)) t (cause_of r.fault) in_run.part)
+  at_byte (inr h) = with_byte h.part
+
+module _ {S : Type 0} (g : Ghosts S) (s : S) (budget : ℕ) (before last : List ℕ) (i : ℕ) (t : S) (left : ℕ) (r : Refusal) (within : i < length last) where
+  broken_among : IsBroken g s budget (before ++ take i last) (get_or last i 0) t left r →
+      BreaksAmong g s budget (before ++ last) (begun budget before).entries (begun budget (before ++ last)) t r
+  broken_among h =
+      let p = before ++ take i last in
+      let b = get_or last i 0 in
+      let n = length before + i in
+      let known = more_bytes_keep_entries budget before (take i last) in
+      let more = more_bytes_keep_entries budget (p ++ b ∷ []) (drop (i + 1) last) in
+      let all : (p ++ b ∷ []) ++ drop (i + 1) last ≡ before ++ last = taken_all before last i within in
+      let front : take n (before ++ last) ≡ p = take-append-add before last i in
+      let there : get_or (before ++ last) n 0 ≡ b = get_or-append-add before last i 0 in
+      let from = subst (λ (es : List Entry). BreaksFrom g s es (begun budget (p ++ b ∷ [])) t (cause_of r.fault)) known.1 (at_byte g s budget p b t r h.breaks) in
+      record {
+        place = inl (n, omega (arith, within, length-append before last), rw (front, there) (breaks_there g s budget p b t r h.breaks));
+        from = breaks_more g s (begun budget before).entries more.0 (begun budget (p ++ b ∷ [])) (begun budget (before ++ last)) t (cause_of r.fault)
+            (ap (λ (q : List ℕ). (begun budget q).entries) (sym all) ∙ more.1)
+            (breaks_longer g s (begun budget before).entries known.0 (begun budget (p ++ b ∷ [])) t (cause_of r.fault) from);
+      }
+
+  stopped_among : (cause : Cause) → cause ≢ stream → StopsBy g s budget (before ++ take i last) (get_or last i 0) t left r cause →
+      BreaksAmong g s budget (before ++ last) (begun budget before).entries (begun budget (before ++ last)) t r
+  stopped_among stream own h = absurd (own refl)
+  stopped_among memory own h = broken_among h
+  stopped_among device own h = broken_among h
+
+pub fed_breaks_among : {S : Type 0} (g : Ghosts S) → FedBreaksAmong g
+fed_breaks_among g s budget before last i t left r within = stopped_among g s budget before last i t left r within (cause_of r.fault)
+
+pub end_breaks_among : {S : Type 0} (g : Ghosts S) → EndBreaksAmong g
+end_breaks_among g s budget p t r live h =
+    let last = with_run (begun budget p) in
+    let same : (means budget p).entries ≡ last.entries =
+    ap (λ (q : Option Refusal). (ended_by (begun budget p) (length p) q).entries) live ∙ end_keeps last (length p) last.refusal in
+    record {
+      place = inr (h.place, h.part.unrefused);
+      from = breaks_more g s (begun budget p).entries [] last (means budget p) t (cause_of r.fault) (same ∙ sym (append-nil last.entries))
+          (between_from g s (begun budget p) last t (cause_of r.fault) h.part);
+    }

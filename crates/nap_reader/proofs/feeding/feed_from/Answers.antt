@@ -1,0 +1,104 @@
+use Rattle.std.proofs.Common.{◌≡◌, ◌++◌, ◌∙◌, ℕ, List, [], ap, subst, append-nil, Ok, Err, inl, inr, take, length, length-append, refl, arith}
+use Rattle.std.specs.Io.KnownBytes.{Consumes}
+use Rattle.std.proofs.KnownBytes.{Consumes-trans, Consumes-kept}
+use Rattle.std.proofs.Math.Bool.{or-true}
+use Rattle.std.proofs.lemmas.Result.{err_from_is_err_and}
+use Rattle.nap_reader.specs.declared.feeding.FeedFault.TheVariants as feed_fault
+use Rattle.nap_reader.proofs.FeedLemmas.{feeds_on, feeds_refused, flag_stays}
+use Rattle.nap_reader.proofs.feeding.feed_from.Goals as goal
+
+-- a read failed
+pub returns-in_default-clause-feeds : goal.returns-in_default-clause-feeds
+returns-in_default-clause-feeds g c =
+    let (p, read, gave, stands) = c.loop.invariant.read in (
+      p,
+      Consumes-kept _ _ _ p read c.in_default.ensures.bytes,
+      λ s h.
+          feeds_on c.args.reader.now s p _ c.loop.reader (Err feed_fault.Read) (stands s h) c.loop.invariant.budget c.loop.invariant.unrefused
+          (omega (arith, c.in_default.ensures.calls, c.loop.invariant.calls, c.requires.calls, gave)) (
+            inl (record {
+              failed = c.in_default.ensures.failed ∙ or-true _;
+              some = omega (arith, c.in_default.ensures.calls, c.loop.invariant.calls, c.requires.calls, gave);
+              gave = omega (arith, c.in_default.ensures.calls, c.loop.invariant.calls, c.requires.calls, gave);
+            }),
+            refl,
+          ) tt,
+    )
+
+-- the input ended
+pub returns-then-count-eq0-clause-feeds : goal.returns-then-count-eq0-clause-feeds
+returns-then-count-eq0-clause-feeds g c =
+    let (p, read, gave, stands) = c.loop.invariant.read in
+    let none_failed = flag_stays _ _ _ c.loop.invariant.flag c.in-Ok.ensures.failed in
+    let piece = take c.in-Ok.count c.read.new.room in
+    let none : piece ≡ [] = ap (λ (n : ℕ). take n c.read.new.room) c.if-count-eq0.true in
+    let same : p ++ piece ≡ p = ap (λ (bytes : List ℕ). p ++ bytes) none ∙ append-nil p in (
+      p,
+      subst (Consumes (g.I.Inlet.left c.args.input.now) (g.I.Inlet.left c.read.new.self)) same (Consumes-trans _ _ _ p piece read c.in-Ok.ensures.bytes.0),
+      λ s h.
+          feeds_on c.args.reader.now s p _ c.loop.reader (Ok tt) (stands s h) c.loop.invariant.budget c.loop.invariant.unrefused
+          (omega (arith, c.in-Ok.ensures.calls, c.loop.invariant.calls, c.requires.calls, gave)) (
+            record {
+              none_failed = none_failed;
+              end = c.in-Ok.ensures.bytes.1 c.if-count-eq0.true (omega (arith, c.read.auto.room, c.loop.invariant.room, c.requires.room));
+              gave = omega (arith, c.in-Ok.ensures.calls, c.loop.invariant.calls, c.requires.calls, gave);
+            },
+            refl,
+          ) tt,
+    )
+
+-- the piece was refused
+pub returns-in_err-feed-clause-feeds : goal.returns-in_err-feed-clause-feeds
+returns-in_err-feed-clause-feeds g c =
+    let (p, read, gave, stands) = c.loop.invariant.read in
+    let piece = take c.in-Ok.count c.read.new.room in
+    let fault = err_from_is_err_and c.from_residual.result c.from_residual.ensures.1 in
+    let none_failed = flag_stays _ _ _ c.loop.invariant.flag c.in-Ok.ensures.failed in (
+      p ++ piece,
+      Consumes-trans _ _ _ p piece read c.in-Ok.ensures.bytes.0,
+      λ s h.
+          let stops = c.in_err-feed.ensures.stops c.loop.invariant.unrefused in
+          rw (fault.1, fault.2) (feeds_refused c.args.reader.now s p _ c.loop.reader c.feed.new.self piece c.in_err-feed.field-0.0 stops.0 (stands s h) c.loop.invariant.budget c.loop.invariant.unrefused
+          (c.feed.ensures.stands s p (stands s h)) c.in_err-feed.ensures.answered stops.1 none_failed
+          (omega (arith, c.in-Ok.ensures.calls, c.loop.invariant.calls, c.requires.calls, gave))),
+    )
+
+pub loop-preserved : goal.loop-preserved
+loop-preserved g c =
+    let (p, read, gave, stands) = c.loop.invariant.read in
+    let piece = take c.in-Ok.count c.read.new.room in
+    let few : c.in-Ok.count ≡ length piece = c.in-Ok.ensures.bound.1 in
+    record {
+      room = omega (arith, c.read.auto.room, c.loop.invariant.room);
+      calls = omega (arith, c.in-Ok.ensures.calls, c.loop.invariant.calls, c.requires.calls, gave, c.loop-test.true);
+      flag = flag_stays _ _ _ c.loop.invariant.flag c.in-Ok.ensures.failed;
+      budget = c.feed.ensures.budget ∙ c.loop.invariant.budget;
+      unrefused = c.in_ok-feed.ensures.answered;
+      fed = omega (arith, c.in_ok-feed.ensures.fed, c.loop.invariant.fed, few, c.in-Ok.ensures.bound.0, c.read.auto.room, c.loop.invariant.room);
+      clear = λ before. c.in_ok-feed.ensures.clear (c.loop.invariant.clear before);
+      read = (
+        p ++ piece,
+        Consumes-trans _ _ _ p piece read c.in-Ok.ensures.bytes.0,
+        omega (arith, length-append p piece, few, gave, c.if-count-eq0.false),
+        λ s h.
+            c.feed.ensures.stands s p (stands s h),
+      );
+    }
+
+-- there were too many reads
+pub returns-clause-feeds : goal.returns-clause-feeds
+returns-clause-feeds g c =
+    let (p, read, gave, stands) = c.loop.invariant.read in (
+      p,
+      read,
+      λ s h.
+          feeds_on c.args.reader.now s p _ c.loop.reader (Err feed_fault.Read) (stands s h) c.loop.invariant.budget c.loop.invariant.unrefused
+          (omega (arith, c.loop.invariant.calls, gave)) (
+            inr (record {
+              none_failed = c.loop.invariant.flag;
+              often = omega (arith, c.loop.invariant.calls, c.loop-test.false);
+              gave = omega (arith, gave, c.loop-test.false);
+            }),
+            refl,
+          ) tt,
+    )

@@ -1,0 +1,17 @@
+use Rattle.std.proofs.Common.{◌≡◌, ◌+◌, ◌*◌, ◌≤◌, ℕ, List, [], false, None, length}
+use Rattle.std.specs.Io.KnownBytes.{Consumes}
+use Rattle.nap_reader.specs.Standing.{Stands, budget_of, fed_of, refusal_of, sink_of}
+use Rattle.nap_reader.proofs.feeding.feed_from.Given as goal
+
+abbrev pub invariant-loop : goal.invariant-loop
+invariant-loop g l = record {
+  room : length l.room ≡ length l.fn.room;
+  calls : g.I.Inlet.calls l.input ≡ g.I.Inlet.calls l.fn.input + l.counter;
+  flag : g.I.Inlet.failed l.input ≡ g.I.Inlet.failed l.fn.input;
+  budget : budget_of l.reader ≡ budget_of l.fn.reader;
+  unrefused : refusal_of l.reader ≡ None;
+  fed : fed_of l.reader ≤ l.counter * length l.fn.room;
+  clear : g.S.Sink.failed (sink_of l.fn.reader) ≡ false → g.S.Sink.failed (sink_of l.reader) ≡ false;
+  read : (p : List ℕ) × Consumes (g.I.Inlet.left l.fn.input) (g.I.Inlet.left l.input) p × (l.counter ≤ length p)
+      × ((s : g.row.S.Denot) → Stands l.fn.reader s [] → Stands l.reader s p);
+}

@@ -1,0 +1,46 @@
+use Rattle.std.specs.Prelude.{◌≡◌, ◌≢◌, ◌+◌, ◌<◌, ◌≤◌, ◌++◌, ℕ, List, Bool, true, false, Option, Some, None, Result, Ok, Err, length, take, slice_index, ⊤}
+use Rattle.nap_list.specs.declared.sink.Sink.{Ghosts}
+use Rattle.nap_list.specs.Reading.{Reading, NoneFailed, IsCutOff, IsReadWhole}
+use Rattle.nap_reader.specs.declared.fault.Fault.TheVariants as faults
+use Rattle.nap_reader.specs.declared.fault.Refusal.{Refusal}
+use Rattle.nap_reader.specs.declared.feeding.FeedFault.{FeedFault}
+use Rattle.nap_reader.specs.declared.feeding.FeedFault.TheVariants as feed_fault
+use Rattle.nap_reader.specs.declared.reader.Reader.{Reader}
+use Rattle.nap_reader.specs.Standing.{Stands, StopsBy, budget_of, left_of, refusal_of, sink_of}
+use Rattle.nap_reader.specs.Breaking.{cause_of}
+use Rattle.nap_reader.specs.Stream.{begun}
+
+-- A reader that is fed what an input gives.
+
+-- Of the bytes that were read, those before show no refusal, and there were no more reads than these bytes and one. So an
+-- input that gives a byte at a time isn't read behind a refusal.
+pub record LastRead (budget : ℕ) (p : List ℕ) (seen : Reading) : Type 0 where
+  pub before : List ℕ
+  pub last : List ℕ
+  pub parts : p ≡ before ++ last
+  pub unrefused : (begun budget before).refusal ≡ None
+  pub reads : seen.reads ≤ length before + 1
+
+-- the input was read to its end; or it failed, or was read too often, before that; or the stream was refused
+abbrev pub EndsBy : List ℕ → Reading → Option Refusal → Result (Unit {0}) FeedFault → Type 0
+EndsBy p seen refusal (Ok done) = IsReadWhole seen p × (refusal ≡ None)
+EndsBy p seen refusal (Err feed_fault.Read) = IsCutOff seen p × (refusal ≡ None)
+EndsBy p seen refusal (Err (feed_fault.Refused r)) = NoneFailed seen × (refusal ≡ Some r)
+
+-- a refusal came at a byte of the last read
+abbrev pub StopsInLast : {S : Type 0} → Ghosts S → S → ℕ → List ℕ → List ℕ → S → ℕ → Result (Unit {0}) FeedFault → Type 0
+StopsInLast g s budget before last t left (Err (feed_fault.Refused r)) =
+    (i : ℕ) × (i < length last) × StopsBy g s budget (before ++ take i last) (slice_index last i) t left r (cause_of r.fault)
+StopsInLast g s budget before last t left _ = ⊤
+
+-- A reader that stood for no bytes was fed the bytes p.
+pub record Feeds {S : Type 0} {g : Ghosts S} (old new : Reader S g) (s : S) (p : List ℕ) (seen : Reading) (answer : Result (Unit {0}) FeedFault) : Type 0 where
+  pub stands : Stands new s p
+  pub last : LastRead (budget_of old) p seen
+  pub ends : EndsBy p seen (refusal_of new) answer
+  pub stops : StopsInLast g s (budget_of old) last.before last.last (sink_of new) (left_of new) answer
+
+-- whether the sink has failed: only where that is the refusal
+abbrev pub FailsBy : Bool → Result (Unit {0}) FeedFault → Type 0
+FailsBy failed (Err (feed_fault.Refused r)) = (r.fault ≡ faults.Sink → failed ≡ true) × (r.fault ≢ faults.Sink → failed ≡ false)
+FailsBy failed _ = failed ≡ false
