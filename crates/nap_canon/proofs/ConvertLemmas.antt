@@ -1,15 +1,16 @@
 use Rattle.std.proofs.Common.{ℕ, ◌≡◌, ◌≢◌, ◌⊎◌, Bool, true, false, List, [], ◌∷◌, ◌++◌, Some, None, Result, Ok, Err, length, take, drop, refl, ap, sym, subst, ◌∙◌, inl, inr, append-nil, append_assoc, arith}
 use Rattle.std.proofs.lemmas.List.{take-append-drop}
 use Rattle.std.specs.Io.KnownBytes.{Appends, Keeps}
-use Rattle.std.proofs.KnownBytes.{Appends-kept}
+use Rattle.std.proofs.KnownBytes.{Appends-kept, Consumes-nil}
 use Rattle.nap_codes.specs.declared.code_set.GSet.{GSet}
 use Rattle.nap_codes.specs.declared.code_set.GSet.TheVariants.{G1}
 use Rattle.nap_draw.specs.Draws.{Cause, stream, memory, device}
+use Rattle.nap_list.specs.declared.device.Inlet as inlet
 use Rattle.nap_list.specs.declared.device.Outlet as outlet
 use Rattle.nap_list.specs.declared.entry.Entry.{Entry}
 use Rattle.nap_list.specs.declared.state.State.{State}
 use Rattle.nap_list.specs.declared.sink.Sink.{Ghosts}
-use Rattle.nap_list.specs.Reading.{Reading, NoneFailed, IsCutOff, IsReadWhole}
+use Rattle.nap_list.specs.Reading.{Reading, NoneFailed, IsCutOff, IsReadWhole, reading}
 use Rattle.nap_list.specs.State.{start, walk, after}
 use Rattle.nap_reader.specs.declared.fault.Refusal.{Refusal}
 use Rattle.nap_reader.specs.declared.feeding.FeedFault.{FeedFault}
@@ -24,7 +25,7 @@ use Rattle.nap_reader.proofs.PublicLaws.{begun_comes_first, end_breaks_among, fe
 use Rattle.nap_canon.specs.declared.conversion.ConvertFault.{ConvertFault}
 use Rattle.nap_canon.specs.declared.conversion.ConvertFault.TheVariants as fault
 use Rattle.nap_canon.specs.Concluding.{Concludes, answer_of}
-use Rattle.nap_canon.specs.Converting.{count_of, IsFrontOf, RefusesBy, Converts}
+use Rattle.nap_canon.specs.Converting.{StopsAtOnce, count_of, IsFrontOf, RefusesBy, Converts}
 use Rattle.nap_canon.specs.Sinking.{Canonical, sending, shown, bytes_of, bytes_behind, Sends, Grows, Begun, Took, Broke}
 use Rattle.nap_canon.specs.SinkLaws.{grows_more}
 use Rattle.nap_canon.specs.Streams.{list_of}
@@ -90,17 +91,13 @@ module _ {O : Type 0} (o : outlet.Ghosts O) (w : O) (s : Canonical O) (begins : 
       )
 
   -- A conversion that read the bytes p so.
-  module _ (budget : ℕ) (p : List ℕ) (seen : Reading) (last : LastRead budget p seen) where
-    known_first : IsFrontOf (begun budget last.before).entries (begun budget p).entries
-    known_first = subst (λ (bytes : List ℕ). IsFrontOf (begun budget last.before).entries (begun budget bytes).entries) (sym last.parts)
-        (more_bytes_keep_entries budget last.before last.last)
-
+  module _ (budget : ℕ) (p : List ℕ) (seen : Reading) (before : List ℕ) (known_first : IsFrontOf (begun budget before).entries (begun budget p).entries) where
     -- What went out is a front of the text, behind that of what was known before the last read.
     pub record WentOut (t : Canonical O) (q : List ℕ) : Type 0 where
       pub grows : Grows (sending o w 0) q (shown o t)
       pub front : IsFrontOf q (text (list_of budget p))
       pub left : IsReadWhole seen p ⊎ IsFrontOf q (text (begun budget p).entries)
-      pub written : IsFrontOf (text (begun budget last.before).entries) q
+      pub written : IsFrontOf (text (begun budget before).entries) q
 
     -- how a conversion ends that left the sink so
     abbrev pub Leaves : Canonical O → Result (Unit {0}) FeedFault → Type 0
@@ -112,8 +109,8 @@ module _ {O : Type 0} (o : outlet.Ghosts O) (w : O) (s : Canonical O) (begins : 
     -- the output as it is given back
     pub concluded : (t : Canonical O) (fed : Result (Unit {0}) FeedFault) (u : O) (answer : Result ℕ ConvertFault) → Leaves t fed → Keeps (o.taken t.outlet) (o.taken u) →
         (o.failed t.outlet ≡ true → o.failed u ≡ true) → Concludes t.written fed (o.failed u) answer →
-        (q : List ℕ) × Appends (o.taken w) (o.taken u) q × Converts budget p seen q (o.failed u) answer
-    concluded t fed u answer (q, out, right) keeps fails ends = (q, Appends-kept _ _ _ q out.grows.taken keeps, at (o.failed u) refl ends)
+        (q : List ℕ) × Appends (o.taken w) (o.taken u) q × Converts budget p seen q (o.failed u) answer × IsFrontOf (text (begun budget before).entries) q
+    concluded t fed u answer (q, out, right) keeps fails ends = (q, Appends-kept _ _ _ q out.grows.taken keeps, at (o.failed u) refl ends, out.written)
       where
         works_on : (b : Bool) → o.failed t.outlet ≡ b → o.failed u ≡ false → b ≡ false
         works_on false is whole = refl
@@ -121,21 +118,21 @@ module _ {O : Type 0} (o : outlet.Ghosts O) (w : O) (s : Canonical O) (begins : 
 
         at : (failed : Bool) → o.failed u ≡ failed → Concludes t.written fed failed answer → Converts budget p seen q failed answer
         at false is h = rw h (right (works_on (o.failed t.outlet) refl is))
-        at true is h = rw h (counts t q out.grows, record { front = out.front; left = out.left; last = last; written = λ _. out.written })
+        at true is h = rw h (counts t q out.grows, record { front = out.front; left = out.left })
 
     -- the sink took a list, which is all that was read
     took_all : (t : Canonical O) (fed : Result (Unit {0}) FeedFault) (d : List Entry) → Took o s d t → IsFrontOf d (list_of budget p) →
-        IsReadWhole seen p ⊎ IsFrontOf (text d) (text (begun budget p).entries) → IsFrontOf (begun budget last.before).entries d →
+        IsReadWhole seen p ⊎ IsFrontOf (text d) (text (begun budget p).entries) → IsFrontOf (begun budget before).entries d →
         (t.written ≡ count_of (text d) → Converts budget p seen (text d) false (answer_of t.written fed)) → Leaves t fed
     took_all t fed d took all left known right =
         let grows = took_text t d took in (
           text d,
-          record { grows = grows; front = text_front d (list_of budget p) all; left = left; written = text_front (begun budget last.before).entries d known },
+          record { grows = grows; front = text_front d (list_of budget p) all; left = left; written = text_front (begun budget before).entries d known },
           λ _. right (counts t (text d) grows),
         )
 
-    known_in_whole : IsFrontOf (begun budget last.before).entries (list_of budget p)
-    known_in_whole = front_trans (begun budget last.before).entries (begun budget p).entries (list_of budget p) known_first (begun_comes_first budget p)
+    known_in_whole : IsFrontOf (begun budget before).entries (list_of budget p)
+    known_in_whole = front_trans (begun budget before).entries (begun budget p).entries (list_of budget p) known_first (begun_comes_first budget p)
 
     -- all was read and accepted
     pub leaves_whole : (t : Canonical O) → IsReadWhole seen p → (means budget p).refusal ≡ None → Took o s (list_of budget p) t → Leaves t (Ok tt)
@@ -151,7 +148,7 @@ module _ {O : Type 0} (o : outlet.Ghosts O) (w : O) (s : Canonical O) (begins : 
         took_all t (Err (feed_fault.Refused r)) (list_of budget p) took (front_refl (list_of budget p)) out known_in_whole (λ count. (
           count,
           subst (RefusesBy budget p seen (text (list_of budget p)) r) (sym own)
-              (record { none_failed = none_failed; refused = refused; text = refl; left = left; last = last }),
+              (record { none_failed = none_failed; refused = refused; text = refl; left = left }),
         ))
 
     -- the input failed
@@ -165,7 +162,7 @@ module _ {O : Type 0} (o : outlet.Ghosts O) (w : O) (s : Canonical O) (begins : 
     module _ (g : Ghosts (Canonical O)) (took_is : (t : Canonical O) (d : List Entry) → g.took s d t → Took o s d t)
         (broke_is : (t : Canonical O) (d : List Entry) (e : Entry) → g.broke s d e t → Broke o s d e t) (failed_is : g.failed s ≡ o.failed s.outlet)
         (t : Canonical O) (r : Refusal) (known : List Entry) (end : Outcome) (among : BreaksAmong g s budget p known end t r) (none_failed : NoneFailed seen)
-        (first : IsFrontOf (begun budget last.before).entries known) (in_whole : IsFrontOf end.entries (list_of budget p))
+        (first : IsFrontOf (begun budget before).entries known) (in_whole : IsFrontOf end.entries (list_of budget p))
         (left : (q : List ℕ) → IsFrontOf q (text end.entries) → IsReadWhole seen p ⊎ IsFrontOf q (text (begun budget p).entries)) where
       lacks : cause_of r.fault ≡ memory → TookFront g s known among.from.more t memory → Leaves t (Err (feed_fault.Refused r))
       lacks is (taken, rest, parts, took) =
@@ -173,10 +170,10 @@ module _ {O : Type 0} (o : outlet.Ghosts O) (w : O) (s : Canonical O) (begins : 
           let d_first : IsFrontOf d end.entries = (rest, among.from.adds ∙ ap (λ (es : List Entry). known ++ es) parts ∙ sym (append_assoc known taken rest)) in
           let d_whole = front_trans d end.entries (list_of budget p) d_first in_whole in
           took_all t (Err (feed_fault.Refused r)) d (took_is t d took) d_whole (left (text d) (text_front d end.entries d_first))
-          (front_trans (begun budget last.before).entries known d first (taken, refl)) (λ count. (
+          (front_trans (begun budget before).entries known d first (taken, refl)) (λ count. (
             count,
             subst (RefusesBy budget p seen (text d) r) (sym is)
-                (record { none_failed = none_failed; place = among.place; taken = d; front = d_whole; text = refl; last = last }),
+                (record { none_failed = none_failed; place = among.place; taken = d; front = d_whole; text = refl }),
           ))
 
       breaks : TookFront g s known among.from.more t device → Leaves t (Err (feed_fault.Refused r))
@@ -192,8 +189,8 @@ module _ {O : Type 0} (o : outlet.Ghosts O) (w : O) (s : Canonical O) (begins : 
               grows = broke_text t d next h;
               front = front_trans q (text end.entries) (text (list_of budget p)) q_first (text_front end.entries (list_of budget p) in_whole);
               left = left q q_first;
-              written = front_trans (text (begun budget last.before).entries) (text d) q
-                  (text_front (begun budget last.before).entries d (front_trans (begun budget last.before).entries known d first (taken, refl)))
+              written = front_trans (text (begun budget before).entries) (text d) q
+                  (text_front (begun budget before).entries d (front_trans (begun budget before).entries known d first (taken, refl)))
                   (take h.part (bytes_behind s d next), refl);
             },
             λ whole. let bad = sym h.failed ∙ whole in cc,
@@ -229,19 +226,13 @@ module _ {O : Type 0} (o : outlet.Ghosts O) (w : O) (s : Canonical O) (begins : 
     (took_is : (t : Canonical O) (d : List Entry) → g.took s d t → Took o s d t)
     (broke_is : (t : Canonical O) (d : List Entry) (e : Entry) → g.broke s d e t → Broke o s d e t) (failed_is : g.failed s ≡ o.failed s.outlet) where
   -- the header was not written
-  pub header_fails : (reader : Reader (Canonical O) g) (seen : Reading) → Stands reader s [] → refusal_of reader ≡ None → seen.reads ≡ 0 → o.failed s.outlet ≡ true →
+  pub header_fails : {I : Type 0} (i : inlet.Ghosts I) (input : I) (reader : Reader (Canonical O) g) → Stands reader s [] → refusal_of reader ≡ None → o.failed s.outlet ≡ true →
       (u : O) (answer : Result ℕ ConvertFault) → Keeps (o.taken s.outlet) (o.taken u) → o.failed u ≡ true → Concludes s.written (Ok tt) (o.failed u) answer →
-      (q : List ℕ) × Appends (o.taken w) (o.taken u) q × Converts (budget_of reader) [] seen q (o.failed u) answer
-  header_fails reader seen h none unread fails u answer keeps failed ends =
+      (q : List ℕ) × Appends (o.taken w) (o.taken u) q × Converts (budget_of reader) [] (reading i input input) q (o.failed u) answer
+      × StopsAtOnce i (budget_of reader) [] input input q
+  header_fails i input reader h none fails u answer keeps failed ends =
       let sent : Sends (sending o w 0) header true (shown o s) = subst (λ (broke : Bool). Sends (sending o w 0) header broke (shown o s)) fails begins.begins in
       let q = take sent.part header in
-      let last : LastRead (budget_of reader) [] seen = record {
-        before = [];
-        last = [];
-        parts = refl;
-        unrefused = (unrefused reader s [] h (budget_of reader) refl none).refusal;
-        reads = omega (arith, unread);
-      } in
       let front : (d : List Entry) → IsFrontOf q (text d) = λ d. (
         drop sent.part header ++ written G1 (pieces start d),
         ap (λ (bytes : List ℕ). bytes ++ written G1 (pieces start d)) (sym (take-append-drop sent.part header)) ∙ append_assoc q (drop sent.part header) (written G1 (pieces start d)),
@@ -254,38 +245,58 @@ module _ {O : Type 0} (o : outlet.Ghosts O) (w : O) (s : Canonical O) (begins : 
           record {
             front = front (list_of (budget_of reader) []);
             left = inr (front (begun (budget_of reader) []).entries);
-            last = last;
-            written = λ some. absurd (omega (arith, some, unread));
           },
         ),
+        record {
+          last = record {
+            mid = input;
+            before = [];
+            last = [];
+            parts = refl;
+            gave = Consumes-nil (i.left input);
+            gives = Consumes-nil (i.left input);
+            reads = omega arith;
+            once = omega arith;
+            unrefused = (unrefused reader s [] h (budget_of reader) refl none).refusal;
+          };
+          written = λ some. absurd (omega (arith, some));
+        },
       )
 
-  module _ (works : o.failed s.outlet ≡ false) (old new : Reader (Canonical O) g) (p : List ℕ) (seen : Reading) (same : budget_of new ≡ budget_of old) where
-    abbrev pub Ends : LastRead (budget_of old) p seen → Canonical O → Result (Unit {0}) FeedFault → Type 0
-    Ends last t fed = Leaves o w s begins works (budget_of old) p seen last t fed
+  module _ (works : o.failed s.outlet ≡ false) {I : Type 0} (i : inlet.Ghosts I) (initial final : I) (old new : Reader (Canonical O) g) (p : List ℕ) (same : budget_of new ≡ budget_of old) where
+    -- what was known before the last read comes first
+    pub first_of : (last : LastRead i (budget_of old) p initial final) → IsFrontOf (begun (budget_of old) last.before).entries (begun (budget_of old) p).entries
+    first_of last =
+        subst (λ (bytes : List ℕ). IsFrontOf (begun (budget_of old) last.before).entries (begun (budget_of old) bytes).entries) (sym last.parts)
+        (more_bytes_keep_entries (budget_of old) last.before last.last)
+
+    abbrev pub Ends : LastRead i (budget_of old) p initial final → Canonical O → Result (Unit {0}) FeedFault → Type 0
+    Ends last t fed = Leaves o w s begins works (budget_of old) p (reading i initial final) last.before (first_of last) t fed
 
     -- the feeding stopped before the end
-    pub fed_leaves : (fault : FeedFault) (h : Feeds old new s p seen (Err fault)) → Ends h.last (sink_of new) (Err fault)
+    pub fed_leaves : (fault : FeedFault) (h : Feeds i old new s p initial final (Err fault)) → Ends h.last (sink_of new) (Err fault)
     fed_leaves feed_fault.Read h =
         let known = unrefused new s p h.stands (budget_of old) same h.ends.1 in
-        leaves_cut o w s begins works (budget_of old) p seen h.last (sink_of new) h.ends.0 known.refusal (took_is (sink_of new) (begun (budget_of old) p).entries known.taken)
+        leaves_cut o w s begins works (budget_of old) p (reading i initial final) h.last.before (first_of h.last) (sink_of new) h.ends.0 known.refusal
+        (took_is (sink_of new) (begun (budget_of old) p).entries known.taken)
     fed_leaves (feed_fault.Refused r) h = at (cause_of r.fault) refl (refused_by new s p h.stands (budget_of old) r same h.ends.1)
       where
         broken : cause_of r.fault ≢ stream → Ends h.last (sink_of new) (Err (feed_fault.Refused r))
         broken broke =
             let budget = budget_of old in
-            let (i, within, stops) = h.stops in
-            let among = fed_breaks_among g s budget h.last.before h.last.last i (sink_of new) (left_of new) r within broke stops in
+            let (n, within, stops) = h.stops in
+            let among = fed_breaks_among g s budget h.last.before h.last.last n (sink_of new) (left_of new) r within broke stops in
             let here = subst (λ (bytes : List ℕ). BreaksAmong g s budget bytes (begun budget h.last.before).entries (begun budget bytes) (sink_of new) r) (sym h.last.parts) among in
-            leaves_broken o w s begins works budget p seen h.last g took_is broke_is failed_is (sink_of new) r (begun budget h.last.before).entries (begun budget p) here h.ends.0
-            (front_refl (begun budget h.last.before).entries) (begun_comes_first budget p) (λ q front. inr front) broke
+            leaves_broken o w s begins works budget p (reading i initial final) h.last.before (first_of h.last) g took_is broke_is failed_is (sink_of new) r
+            (begun budget h.last.before).entries (begun budget p) here h.ends.0 (front_refl (begun budget h.last.before).entries) (begun_comes_first budget p)
+            (λ q front. inr front) broke
 
         at : (cause : Cause) → cause_of r.fault ≡ cause → AnswersBy g s (budget_of old) p (sink_of new) (left_of new) r cause → Ends h.last (sink_of new) (Err (feed_fault.Refused r))
         at stream own known =
             let budget = budget_of old in
             let whole = means_refused budget p r known.refusal in
             let list = ap (λ (out : Outcome). out.entries) whole in
-            leaves_refused o w s begins works budget p seen h.last (sink_of new) r h.ends.0 (inr known.refusal)
+            leaves_refused o w s begins works budget p (reading i initial final) h.last.before (first_of h.last) (sink_of new) r h.ends.0 (inr known.refusal)
             (inr (subst (λ (d : List Entry). IsFrontOf (text (list_of budget p)) (text d)) list (front_refl (text (list_of budget p))))) own
             (ap (λ (out : Outcome). out.refusal) whole ∙ known.refusal)
             (subst (λ (d : List Entry). Took o s d (sink_of new)) (sym list) (took_is (sink_of new) (begun budget p).entries known.taken))
@@ -293,11 +304,11 @@ module _ {O : Type 0} (o : outlet.Ghosts O) (w : O) (s : Canonical O) (begins : 
         at device is known = broken (λ own. let bad = sym is ∙ own in cc)
 
     -- the stream was read to its end
-    module _ (h : Feeds old new s p seen (Ok tt)) where
+    module _ (h : Feeds i old new s p initial final (Ok tt)) where
       pub whole_leaves : (t : Canonical O) → (IsTaken g s (means (budget_of new) p) t None) → Ends h.last t (Ok tt)
       whole_leaves t taken =
           let here = subst (λ (budget : ℕ). IsTaken g s (means budget p) t None) same taken in
-          leaves_whole o w s begins works (budget_of old) p seen h.last t h.ends.0 here.0 (took_is t (list_of (budget_of old) p) here.1)
+          leaves_whole o w s begins works (budget_of old) p (reading i initial final) h.last.before (first_of h.last) t h.ends.0 here.0 (took_is t (list_of (budget_of old) p) here.1)
 
       pub end_leaves : (t : Canonical O) (r : Refusal) → (cause_of r.fault ≡ stream → IsTaken g s (means (budget_of new) p) t (Some r)) →
           (cause_of r.fault ≢ stream → BreaksInRun g s (budget_of new) p t r) → Ends h.last t (Err (feed_fault.Refused r))
@@ -310,13 +321,25 @@ module _ {O : Type 0} (o : outlet.Ghosts O) (w : O) (s : Canonical O) (begins : 
           broken other =
               let budget = budget_of old in
               let among = end_breaks_among g s budget p t r known.refusal (subst (λ (b : ℕ). BreaksInRun g s b p t r) same (broke other)) in
-              leaves_broken o w s begins works budget p seen h.last g took_is broke_is failed_is t r (begun budget p).entries (means budget p) among h.ends.0.none_failed
-              (known_first o w s begins works budget p seen h.last) (front_refl (list_of budget p)) (λ q front. inl h.ends.0) other
+              leaves_broken o w s begins works budget p (reading i initial final) h.last.before (first_of h.last) g took_is broke_is failed_is t r (begun budget p).entries
+              (means budget p) among h.ends.0.none_failed (first_of h.last) (front_refl (list_of budget p)) (λ q front. inl h.ends.0) other
 
           at : (cause : Cause) → cause_of r.fault ≡ cause → Ends h.last t (Err (feed_fault.Refused r))
           at stream is =
               let here = subst (λ (budget : ℕ). IsTaken g s (means budget p) t (Some r)) same (own is) in
-              leaves_refused o w s begins works (budget_of old) p seen h.last t r h.ends.0.none_failed (inl h.ends.0) (inl h.ends.0) is here.0
-              (took_is t (list_of (budget_of old) p) here.1)
+              leaves_refused o w s begins works (budget_of old) p (reading i initial final) h.last.before (first_of h.last) t r h.ends.0.none_failed (inl h.ends.0)
+              (inl h.ends.0) is here.0 (took_is t (list_of (budget_of old) p) here.1)
           at memory is = broken (λ own. let bad = sym is ∙ own in cc)
           at device is = broken (λ own. let bad = sym is ∙ own in cc)
+
+    -- the end of a conversion, with its last read
+    pub finished : (last : LastRead i (budget_of old) p initial final) (t : Canonical O) (fed : Result (Unit {0}) FeedFault) (u : O) (answer : Result ℕ ConvertFault) (budget : ℕ) →
+        budget_of old ≡ budget → Ends last t fed → Keeps (o.taken t.outlet) (o.taken u) → (o.failed t.outlet ≡ true → o.failed u ≡ true) → Concludes t.written fed (o.failed u) answer →
+        (q : List ℕ) × Appends (o.taken w) (o.taken u) q × Converts budget p (reading i initial final) q (o.failed u) answer × StopsAtOnce i budget p initial final q
+    finished last t fed u answer budget is leaves keeps fails ends =
+        let k = concluded o w s begins works (budget_of old) p (reading i initial final) last.before (first_of last) t fed u answer leaves keeps fails ends in (
+          k.0,
+          k.1,
+          subst (λ (b : ℕ). Converts b p (reading i initial final) k.0 (o.failed u) answer) is k.2,
+          subst (λ (b : ℕ). StopsAtOnce i b p initial final k.0) is (record { last = last; written = λ _. k.3 }),
+        )

@@ -1,5 +1,6 @@
 use Rattle.std.specs.Prelude.{◌≡◌, ◌⊎◌, ◌-◌, ◌^◌, ◌<◌, ◌++◌, ℕ, List, Bool, true, false, None, Some, Result, Ok, Err, length, min}
 use Rattle.nap_draw.specs.Draws.{Cause, stream, memory, device}
+use Rattle.nap_list.specs.declared.device.Inlet as inlet
 use Rattle.nap_list.specs.declared.entry.Entry.{Entry}
 use Rattle.nap_list.specs.Reading.{Reading, NoneFailed, IsCutOff, IsReadWhole}
 use Rattle.nap_reader.specs.declared.fault.Refusal.{Refusal}
@@ -33,7 +34,6 @@ pub record RefusesStream (budget : ℕ) (p : List ℕ) (seen : Reading) (q : Lis
   pub refused : (means budget p).refusal ≡ Some r
   pub text : q ≡ text (list_of budget p)
   pub left : IsReadWhole seen p ⊎ ((begun budget p).refusal ≡ Some r)
-  pub last : LastRead budget p seen
 
 -- There was no memory, where there can be none, and q is the text of a front of the entries.
 pub record LacksMemory (budget : ℕ) (p : List ℕ) (seen : Reading) (q : List ℕ) (r : Refusal) : Type 0 where
@@ -42,7 +42,6 @@ pub record LacksMemory (budget : ℕ) (p : List ℕ) (seen : Reading) (q : List 
   pub taken : List Entry
   pub front : IsFrontOf taken (list_of budget p)
   pub text : q ≡ text taken
-  pub last : LastRead budget p seen
 
 -- the stream is refused, for this cause; a failed write is no refusal
 abbrev pub RefusesBy : ℕ → List ℕ → Reading → List ℕ → Refusal → Cause → Type 0
@@ -56,13 +55,10 @@ pub record StopsReading (budget : ℕ) (p : List ℕ) (seen : Reading) (q : List
   pub going : (begun budget p).refusal ≡ None
   pub text : q ≡ text (begun budget p).entries
 
--- A write failed, or the flush: q is a front of the text, and has the text of what was known before the last bytes. So an
--- input that gives a byte at a time isn't read behind a failed write.
+-- A write failed, or the flush, and q is a front of the text.
 pub record StopsWriting (budget : ℕ) (p : List ℕ) (seen : Reading) (q : List ℕ) : Type 0 where
   pub front : IsFrontOf q (text (list_of budget p))
   pub left : IsReadWhole seen p ⊎ IsFrontOf q (text (begun budget p).entries)
-  pub last : LastRead budget p seen
-  pub written : 0 < seen.reads → IsFrontOf (text (begun budget last.before).entries) q
 
 -- What is answered, where the output has failed or hasn't.
 abbrev pub Converts : ℕ → List ℕ → Reading → List ℕ → Bool → Result ℕ ConvertFault → Type 0
@@ -71,3 +67,9 @@ Converts budget p seen q false (Err (fault.Refused r n)) = (n ≡ count_of q) ×
 Converts budget p seen q false (Err (fault.Read n)) = (n ≡ count_of q) × StopsReading budget p seen q
 Converts budget p seen q true (Err (fault.Write n)) = (n ≡ count_of q) × StopsWriting budget p seen q
 Converts budget p seen q failed answer = ⊥
+
+-- The last read, where there was one. The text of what the input had given before it was written, so that nothing is read
+-- behind a failed write, as nothing is behind a refusal.
+pub record StopsAtOnce {I : Type 0} (i : inlet.Ghosts I) (budget : ℕ) (p : List ℕ) (start end : I) (q : List ℕ) : Type 0 where
+  pub last : LastRead i budget p start end
+  pub written : i.calls start < i.calls end → IsFrontOf (text (begun budget last.before).entries) q

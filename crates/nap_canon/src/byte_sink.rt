@@ -1,9 +1,5 @@
 //! What takes the bytes of a text.
-ghost use Rattle.std.specs.Prelude.{◌≡◌, ◌++◌, ℕ, List, [], Bool, true, false, is_err};
-ghost use Rattle.std.proofs.Common.{sym, ap, ◌∙◌, append-nil, append_assoc, refl};
-ghost use Rattle.std.proofs.lemmas.Bool.{true≢false};
-
-use std::alloc::AllocError;
+ghost use Rattle.std.specs.Prelude.{◌++◌, ℕ, List, [], Bool, true, false, is_err};
 
 /// Takes bytes, one piece behind another.
 pub(crate) trait ByteSink {
@@ -25,22 +21,4 @@ pub(crate) trait ByteSink {
 
     /// After a failure nothing more was taken.
     ghost sent_cut: { (s t : Self) (a b : List ℕ) → sent s a true t → sent s (a ++ b) true t };
-}
-
-impl ByteSink for Vec<u8> {
-    type Fault = AllocError;
-
-    // Nothing is said of a failure: what was taken is let go then.
-    ghost sent = { λ v bytes broke w. broke ≡ false → w.items ≡ v.items ++ bytes };
-
-    fn take(&mut self, bytes: &[u8]) -> Result<(), AllocError> {
-        self.extend_from_slice(bytes)
-    }
-
-    ghost sent_none = { λ v _. sym (append-nil v.items) };
-
-    ghost sent_more = { λ v w x a b broke first second whole.
-        second whole ∙ (ap (λ (taken : List ℕ). taken ++ b) (first refl) ∙ append_assoc v.items a b) };
-
-    ghost sent_cut = { λ v w a b first whole. absurd (true≢false whole) };
 }

@@ -3,7 +3,7 @@ ghost use Rattle.std.specs.Prelude.{◌≡◌, ◌+◌, ◌^◌, ◌<◌, ◌≤
 ghost use Rattle.std.specs.Io.KnownBytes.{Appends, Consumes, Keeps};
 ghost use Rattle.nap_list.specs.declared.device.TheConstants.{READS};
 ghost use Rattle.nap_list.specs.Reading.{reading};
-ghost use Rattle.nap_canon.specs.Converting.{Converts};
+ghost use Rattle.nap_canon.specs.Converting.{Converts, StopsAtOnce};
 ghost use Rattle.nap_canon.specs.Concluding.{Concludes};
 
 use crate::canon_sink::CanonSink;
@@ -47,6 +47,7 @@ fn conclude<O: Outlet + Drop>(
 ) -> (O, Result<u64, ConvertFault>)
     ensures taken { Keeps (O.taken sink.outlet) (O.taken result.0) }
     ensures failed { O.failed sink.outlet ≡ true → O.failed result.0 ≡ true }
+    ensures sent { O.failed result.0 ≡ false → O.sent result.0 ≡ true }
     ensures answer { Concludes sink.written fed (O.failed result.0) result.1 }
 {
     let written = sink.written();
@@ -74,9 +75,11 @@ pub fn convert<I: Inlet, O: Outlet + Drop>(
     requires calls { I.calls input.old < 2 ^ 63 }
     requires works { O.failed output ≡ false }
     ensures few { I.calls input.new ≤ I.calls input.old + READS }
+    ensures sent { O.failed result.0 ≡ false → O.sent result.0 ≡ true }
     ensures converts { let seen = reading I.Inlet input.old input.new in
         (p : List ℕ) × (q : List ℕ) × Consumes (I.left input.old) (I.left input.new) p × Appends (O.taken output) (O.taken result.0) q
-        × Converts budget p seen q (O.failed result.0) result.1 }
+        × Converts budget p seen q (O.failed result.0) result.1
+        × StopsAtOnce I.Inlet budget p input.old input.new q }
 {
     let mut reader = Reader::new(alloc, budget, CanonSink::new(output));
     if reader.sink().failed() {

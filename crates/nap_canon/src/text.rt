@@ -6,10 +6,10 @@ ghost use Rattle.nap_canon.specs.Laws.{IsReadAs};
 ghost use Rattle.nap_canon.specs.Plain.{IsPlain};
 ghost use Rattle.nap_canon.specs.Text.{text};
 
+use crate::canon_sink::CanonSink;
 use crate::fault::CanonFault;
 use crate::ranges::in_range;
-use crate::writer::Writer;
-use nap_list::{Entry, legal};
+use nap_list::{Entry, Target, legal};
 use std::alloc::{AllocError, Global};
 
 /// The bytes of the header.
@@ -18,20 +18,24 @@ const HEADER: usize = 3;
 /// The bytes of most entries: an opcode, and a point or a displacement. Some have more, and many have fewer.
 const ENTRY: usize = 9;
 
-/// The text of entries that may come one after another.
+/// The text of entries that may come one after another. It lacks memory where its outlet fails.
 fn write(alloc: Global, entries: &[Entry]) -> Result<Vec<u8>, AllocError>
     requires { AllFit start entries.now }
     ensures text { IfOk result (λ bytes. bytes.items ≡ text entries.now) }
     ensures range { OnOk result (AllInRange entries.now) }
 {
     let bytes = Vec::with_capacity(alloc, HEADER + ENTRY * entries.len())?;
-    let mut writer = Writer::new(bytes);
-    writer.begin()?;
+    let mut sink = CanonSink::new(Target::new(bytes));
+    if sink.failed() {
+        return Err(AllocError);
+    }
     for entry in entries {
         in_range(entry);
-        writer.put_ref(entry)?;
+        let Ok(()) = sink.put_ref(entry) else {
+            return Err(AllocError);
+        };
     }
-    Ok(writer.into_inner())
+    Ok(sink.close().into_inner())
 }
 
 /// The canonical text of a legal display list. A fault but `Memory` is found before any memory is taken.

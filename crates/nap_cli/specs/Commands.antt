@@ -1,9 +1,10 @@
-use Rattle.std.specs.Prelude.{ℕ, ◌≡◌, ◌≢◌, ◌⊎◌, ◌==◌, ◌||◌, ◌+◌, ◌≤◌, not, Bool, true, false, List, [], ◌∷◌, ◌++◌, length, take, filter, flat_map, codes, decimal, Some, Result, Ok, Err, IsErr}
+use Rattle.std.specs.Prelude.{ℕ, ◌≡◌, ◌≢◌, ◌⊎◌, ◌==◌, ◌||◌, ◌+◌, ◌≤◌, not, Bool, true, false, List, [], ◌∷◌, ◌++◌, length, take, filter, codes, decimal, Some, Result, Ok, Err, IsErr}
 use Rattle.std.specs.Io.KnownBytes.{Appends, Consumes}
 use Rattle.hex.specs.Hex.{decode_of, encode_lower}
 use Rattle.clap.specs.declared.error.kind.ErrorKind.{ErrorKind}
 use Rattle.clap.specs.declared.error.kind.ErrorKind.TheVariants as kind
-use Rattle.nap_list.specs.declared.entry.Entry.{Entry}
+use Rattle.nap_list.specs.declared.count_sink.CountSink.{CountSink}
+use Rattle.nap_reader.specs.declared.fault.Fault.{Fault}
 use Rattle.nap_reader.specs.declared.fault.Fault.TheVariants as fault
 use Rattle.nap_reader.specs.declared.fault.Refusal.{Refusal}
 use Rattle.nap_reader.specs.Stream.{means}
@@ -11,7 +12,7 @@ use Rattle.nap_reader.specs.Breaking.{BreaksWithin}
 use Rattle.nap_canon.specs.declared.conversion.ConvertFault.{ConvertFault}
 use Rattle.nap_canon.specs.declared.conversion.ConvertFault.TheVariants as convert_fault
 use Rattle.nap_canon.specs.Converting.{Converts}
-use Rattle.nap_canon.specs.Streams.{IsAccepted, list_of, IsCanonicalOf, LacksMemoryAt}
+use Rattle.nap_canon.specs.Streams.{IsAccepted, list_of, IsCanonicalOf}
 use Rattle.nap_cli.specs.declared.answer.Verdict.{Verdict}
 use Rattle.nap_cli.specs.declared.answer.Verdict.TheVariants as verdict
 use Rattle.nap_cli.specs.declared.command.Action.{Action}
@@ -21,7 +22,7 @@ use Rattle.nap_list.specs.declared.device.TheConstants.{READS}
 use Rattle.nap_list.specs.Reading.{Reading, NoneFailed, IsCutOff, IsReadWhole}
 use Rattle.nap_cli.specs.declared.failure.Failure.{Failure}
 use Rattle.nap_cli.specs.declared.failure.Failure.TheVariants as failure
-use Rattle.nap_lines.specs.Lines.{line}
+use Rattle.nap_lines.specs.Listing.{lines}
 use Rattle.nap_cli.specs.Failures.{exit_status, refusal_text, told_text}
 use Rattle.nap_cli.specs.Devices.{Devices, Outputs, Takes, Unprinted, reading_of}
 
@@ -42,9 +43,6 @@ IsStream true p stream = decode_of (digits_of p) ≡ Ok stream
 
 -- What a command prints.
 
-abbrev pub lines : List Entry → List ℕ
-lines entries = flat_map (λ entry. line entry ++ 10 ∷ []) entries
-
 abbrev pub count_line : ℕ → List ℕ
 count_line n = codes "accepted " ++ decimal n ++ codes " entries" ++ 10 ∷ []
 
@@ -53,15 +51,24 @@ abbrev pub canon_text : Bool → List ℕ → List ℕ
 canon_text false text = text
 canon_text true text = encode_lower text ++ 10 ∷ []
 
--- the places of a stream where an action can lack memory
-abbrev pub LacksMemory : Action → ℕ → List ℕ → ℕ → Type 0
-LacksMemory action.Canon budget stream place = LacksMemoryAt budget stream place
-LacksMemory _ budget stream place = BreaksWithin budget stream place
+-- what is printed of a page that was counted
+abbrev pub PrintsCount : Result CountSink Refusal → List ℕ → Verdict → Type 0
+PrintsCount (Ok s) q verdict.Accepted = q ≡ count_line s.count
+PrintsCount (Err r) q verdict.Refused = q ≡ refusal_text r ++ 10 ∷ []
+PrintsCount found q v = ⊥
+
+abbrev pub fault_of_text : Fault → Fault
+fault_of_text fault.Sink = fault.Memory
+fault_of_text f = f
+
+-- why a page is refused whose text was taken: where its sink failed, memory was wanting
+abbrev pub refusal_of_text : Refusal → Refusal
+refusal_of_text r = record r { fault = fault_of_text r.fault }
 
 -- The refusal is that of the stream. One for want of memory has a place where an act of the stream can lack it.
 pub record IsRefusal (c : Command) (stream : List ℕ) (r : Refusal) : Type 0 where
   pub refused : r.fault ≢ fault.Memory → (means c.budget stream).refusal ≡ Some r
-  pub memory : r.fault ≡ fault.Memory → LacksMemory c.action c.budget stream r.place
+  pub memory : r.fault ≡ fault.Memory → BreaksWithin c.budget stream r.place
 
 -- what an action prints of a stream, with its verdict: only `check` prints a refusal
 abbrev pub PrintsBy : Action → Command → List ℕ → List ℕ → Verdict → Type 0
@@ -164,6 +171,10 @@ pub record Tells (e : List ℕ) (failed : Bool) (ended : Result Verdict Failure)
   pub all : failed ≡ false → e ≡ told_text said
   pub status_is : status ≡ exit_status said
 
+-- all that was printed was sent on, unless the output failed, or the command isn't done
+abbrev pub SendsOn : Result Verdict Failure → Bool → Bool → Type 0
+SendsOn ended failed sent = failed ≡ false → (sent ≡ true) ⊎ (ended ≡ Err failure.Excluded)
+
 -- A command ran from the devices before to those after, with this exit status: it read the bytes p, printed q and told e.
 pub record Ran (c : Command) (before after : Devices) (status : ℕ) : Type 0 where
   pub p : List ℕ
@@ -175,12 +186,13 @@ pub record Ran (c : Command) (before after : Devices) (status : ℕ) : Type 0 wh
   pub told : Appends before.told after.told e
   pub few : after.reads ≤ before.reads + READS
   pub ends : Ends c p (reading_of before after) q after.output_failed ended
+  pub sends : SendsOn ended after.output_failed after.sent
   pub tells : Tells e after.errors_failed ended status
 
 -- The output took help, which has this text, and the command ended so: all was taken and sent on; or the output failed,
 -- and had taken the first bytes; or there was no memory for the text.
 abbrev pub ShowsText : Outputs → Outputs → List ℕ → Result Verdict Failure → Type 0
-ShowsText before after text (Ok verdict.Accepted) = Takes before.taken after.taken text (Ok tt) × (after.failed ≡ before.failed)
+ShowsText before after text (Ok verdict.Accepted) = Takes before.taken after.taken text (Ok tt) × (after.failed ≡ before.failed) × (after.sent ≡ true)
 ShowsText before after text (Err (failure.Write taken)) = Takes before.taken after.taken text (Err (failure.Write taken)) × (after.failed ≡ true)
 ShowsText before after text (Err failure.Memory) = Unprinted before after
 ShowsText before after text _ = ⊥

@@ -7,12 +7,14 @@ use Rattle.nap_cli.specs.declared.failure.Failure.{Failure}
 use Rattle.nap_cli.specs.declared.failure.Failure.TheVariants as failure
 
 -- What the three devices of a command show: the bytes left in the input, those that the output took and those that
--- standard error took, where they tell them; how often the input was read; and which of them failed.
+-- standard error took, where they tell them; how often the input was read; whether the output was flushed behind its last
+-- write; and which of them failed.
 pub record Devices : Type 0 where
   pub left : Option (List ℕ)
   pub reads : ℕ
   pub input_failed : Bool
   pub taken : Option (List ℕ)
+  pub sent : Bool
   pub output_failed : Bool
   pub told : Option (List ℕ)
   pub errors_failed : Bool
@@ -23,14 +25,17 @@ devices i o e input output errors = record {
   reads = i.calls input;
   input_failed = i.failed input;
   taken = o.taken output;
+  sent = o.sent output;
   output_failed = o.failed output;
   told = e.taken errors;
   errors_failed = e.failed errors;
 }
 
--- What the two outputs of a command show: the bytes that they took, where they tell them, and which of them failed.
+-- What the two outputs of a command show: the bytes that they took, where they tell them; whether the one was flushed
+-- behind its last write; and which of them failed.
 pub record Outputs : Type 0 where
   pub taken : Option (List ℕ)
+  pub sent : Bool
   pub failed : Bool
   pub told : Option (List ℕ)
   pub errors_failed : Bool
@@ -38,13 +43,14 @@ pub record Outputs : Type 0 where
 abbrev pub outputs : {O E : Type 0} → outlet.Ghosts O → outlet.Ghosts E → O → E → Outputs
 outputs o e output errors = record {
   taken = o.taken output;
+  sent = o.sent output;
   failed = o.failed output;
   told = e.taken errors;
   errors_failed = e.failed errors;
 }
 
 abbrev pub outputs_of : Devices → Outputs
-outputs_of d = record { taken = d.taken; failed = d.output_failed; told = d.told; errors_failed = d.errors_failed }
+outputs_of d = record { taken = d.taken; sent = d.sent; failed = d.output_failed; told = d.told; errors_failed = d.errors_failed }
 
 -- the input is as it was
 pub record Unread (before after : Devices) : Type 0 where
@@ -55,6 +61,7 @@ pub record Unread (before after : Devices) : Type 0 where
 -- the output is as it was
 pub record Unprinted (before after : Outputs) : Type 0 where
   pub taken : after.taken ≡ before.taken
+  pub sent : after.sent ≡ before.sent
   pub failed : after.failed ≡ before.failed
 
 abbrev pub reading_of : Devices → Devices → Reading

@@ -1,17 +1,21 @@
 //! What a command prints.
-ghost use Rattle.std.specs.Prelude.{◌≡◌, ◌<◌, ◌^◌, ◌++◌, ◌∷◌, [], true, IfOk, length, MatchResult};
+ghost use Rattle.std.specs.Prelude.{◌≡◌, ◌+◌, ◌<◌, ◌≤◌, ◌^◌, ◌++◌, ◌∷◌, [], ℕ, List, true, false, Err, IfOk, length, MatchResult};
+ghost use Rattle.std.specs.Io.KnownBytes.{Consumes};
+ghost use Rattle.nap_list.specs.declared.device.TheConstants.{READS};
+ghost use Rattle.nap_list.specs.Reading.{reading};
+ghost use Rattle.nap_canon.specs.Sinking.{Begun};
 ghost use Rattle.nap_cli.specs.Failures.{refusal_text, verdict_status};
-ghost use Rattle.nap_cli.specs.Commands.{FailsOn, FailsToSpell, Denies, IsStream, Prints, PrintsBy, canon_text, count_line, is_blank, lines};
+ghost use Rattle.nap_cli.specs.Commands.{Fails, FailsOn, FailsToSpell, Finds, Denies, IsStream, Prints, PrintsBy, PrintsCount, canon_text, count_line, is_blank, refusal_of_text};
 
+use crate::collect::{read_input, read_stream};
 use crate::command::{Action, Command};
 use crate::failure::Failure;
 use hex::FromHexError;
-use nap_canon::normalise;
-use nap_lines::Shown;
-use nap_list::Entry;
-use nap_reader::{Refusal, read_all};
+use nap_canon::CanonSink;
+use nap_lines::LineSink;
+use nap_list::{CountSink, Inlet, Outlet, Target};
+use nap_reader::{Fault, Refusal};
 use std::alloc::{AllocError, Global};
-use std::fmt::Write;
 
 /// What a printed answer says of the stream.
 #[derive(Clone, Copy, PartialEq, Eq, Drop)]
@@ -66,19 +70,8 @@ fn bytes_of(alloc: Global, text: &[u8]) -> Result<Vec<u8>, Failure>
     }
 }
 
-/// A line for each entry.
-fn lines_of(alloc: Global, entries: &[Entry]) -> Result<Vec<u8>, AllocError>
-    ensures { IfOk result (λ text. text.items ≡ lines entries.now) }
-{
-    let mut text = String::new(alloc);
-    for entry in entries {
-        writeln!(text, "{}", Shown(entry))?;
-    }
-    Ok(text.into_bytes())
-}
-
 /// The line that says how many entries there are.
-fn count_line(alloc: Global, count: usize) -> Result<Vec<u8>, AllocError>
+fn count_line(alloc: Global, count: u64) -> Result<Vec<u8>, AllocError>
     ensures { IfOk result (λ text. text.items ≡ count_line count) }
 {
     let line = format!(in alloc; "accepted {count} entries\n")?;
@@ -102,26 +95,13 @@ fn refusal_line(alloc: Global, refusal: Refusal) -> Result<Vec<u8>, AllocError>
     Ok(line.into_bytes())
 }
 
-fn list(alloc: Global, command: &Command, stream: &[u8]) -> Result<Printout, Failure>
-    requires small { length stream.now < 2 ^ 63 }
-    requires is_list { command.now.action ≡ Action.List }
-    ensures { MatchResult result (λ a. PrintsBy command.now.action command.now stream.now a.text.items a.verdict) (Denies command.now stream.now) }
+/// What `check` prints of a page that was counted.
+fn print_count(alloc: Global, found: Result<CountSink, Refusal>) -> Result<Printout, Failure>
+    ensures { MatchResult result (λ a. PrintsCount found a.text.items a.verdict) (λ f. f ≡ Failure.Memory) }
 {
-    let entries = read_all(alloc, command.budget, stream)?;
-    Ok(Printout {
-        text: lines_of(alloc, entries.as_slice())?,
-        verdict: Verdict::Accepted,
-    })
-}
-
-fn check(alloc: Global, command: &Command, stream: &[u8]) -> Result<Printout, Failure>
-    requires small { length stream.now < 2 ^ 63 }
-    requires is_check { command.now.action ≡ Action.Check }
-    ensures { MatchResult result (λ a. PrintsBy command.now.action command.now stream.now a.text.items a.verdict) (Denies command.now stream.now) }
-{
-    match read_all(alloc, command.budget, stream) {
-        Ok(entries) => Ok(Printout {
-            text: count_line(alloc, entries.len())?,
+    match found {
+        Ok(sink) => Ok(Printout {
+            text: count_line(alloc, sink.count())?,
             verdict: Verdict::Accepted,
         }),
         Err(refusal) => Ok(Printout {
@@ -131,20 +111,54 @@ fn check(alloc: Global, command: &Command, stream: &[u8]) -> Result<Printout, Fa
     }
 }
 
-fn canon(alloc: Global, command: &Command, stream: &[u8]) -> Result<Printout, Failure>
-    requires small { length stream.now < 2 ^ 63 }
-    requires is_canon { command.now.action ≡ Action.Canon }
-    ensures { MatchResult result (λ a. PrintsBy command.now.action command.now stream.now a.text.items a.verdict) (Denies command.now stream.now) }
+/// Takes the canonical text of a page.
+type TextSink = CanonSink<Target<Vec<u8>>>;
+
+/// A sink that has taken no entry, and the header of its text. An outlet in memory lacks that where it fails.
+fn begun<O: Outlet + Drop>(outlet: O) -> Result<CanonSink<O>, Failure>
+    requires { O.failed outlet ≡ false }
+    ensures { MatchResult result (λ s. Begun O.Outlet outlet s × (O.failed s.outlet ≡ false)) (λ f. f ≡ Failure.Memory) }
 {
-    let text = normalise(alloc, command.budget, stream)?;
-    Ok(Printout {
-        text: if command.hex {
-            hex_line(alloc, text.as_slice())?
-        } else {
-            text
-        },
-        verdict: Verdict::Accepted,
-    })
+    let sink = CanonSink::new(outlet);
+    if sink.failed() {
+        return Err(Failure::Memory);
+    }
+    Ok(sink)
+}
+
+/// What `canon` prints of a page whose text was taken. The text lacks memory where its growth failed.
+fn print_text(
+    alloc: Global,
+    hex: bool,
+    found: Result<TextSink, Refusal>,
+) -> Result<Printout, Failure>
+    ensures { MatchResult found
+        (λ s. MatchResult result (λ a. (a.text.items ≡ canon_text hex s.outlet.writer.items) × (a.verdict ≡ Verdict.Accepted)) (λ f. f ≡ Failure.Memory))
+        (λ r. result ≡ Err (Failure.Refused (refusal_of_text r))) }
+{
+    match found {
+        Ok(sink) => {
+            let text = sink.close().into_inner();
+            Ok(Printout {
+                text: if hex {
+                    hex_line(alloc, text.as_slice())?
+                } else {
+                    text
+                },
+                verdict: Verdict::Accepted,
+            })
+        }
+        Err(
+            Refusal {
+                fault: Fault::Sink,
+                place,
+            },
+        ) => Err(Failure::Refused(Refusal {
+            fault: Fault::Memory,
+            place,
+        })),
+        Err(refusal) => Err(Failure::Refused(refusal)),
+    }
 }
 
 /// What a command prints of a stream.
@@ -152,22 +166,62 @@ fn answer_stream(alloc: Global, command: &Command, stream: &[u8]) -> Result<Prin
     requires { length stream.now < 2 ^ 63 }
     ensures { MatchResult result (λ a. PrintsBy command.now.action command.now stream.now a.text.items a.verdict) (Denies command.now stream.now) }
 {
+    let budget = command.budget;
     match command.action {
-        Action::List => list(alloc, command, stream),
-        Action::Check => check(alloc, command, stream),
-        Action::Canon => canon(alloc, command, stream),
+        Action::List => {
+            let sink = read_stream(alloc, budget, stream, LineSink::new(alloc))?;
+            Ok(Printout {
+                text: sink.into_text(),
+                verdict: Verdict::Accepted,
+            })
+        }
+        Action::Check => print_count(alloc, read_stream(alloc, budget, stream, CountSink::new())),
+        Action::Canon => {
+            let found = read_stream(alloc, budget, stream, begun(Target::new(Vec::new(alloc)))?);
+            print_text(alloc, command.hex, found)
+        }
     }
 }
 
-/// What a command prints of the bytes of its input.
-pub fn answer(alloc: Global, command: &Command, bytes: Vec<u8>) -> Result<Printout, Failure>
-    requires { length bytes.items < 2 ^ 63 }
-    ensures { MatchResult result (λ a. Prints command.now bytes.items a.text.items a.verdict) (FailsOn command.now bytes.items) }
+/// What a command prints of hexadecimal text.
+pub fn answer_text(alloc: Global, command: &Command, text: &[u8]) -> Result<Printout, Failure>
+    requires small { length text.now < 2 ^ 63 }
+    requires hex { command.now.hex ≡ true }
+    ensures { MatchResult result (λ a. Prints command.now text.now a.text.items a.verdict) (FailsOn command.now text.now) }
 {
-    if command.hex {
-        let stream = bytes_of(alloc, bytes.as_slice())?;
-        answer_stream(alloc, command, stream.as_slice())
-    } else {
-        answer_stream(alloc, command, bytes.as_slice())
+    let stream = bytes_of(alloc, text)?;
+    answer_stream(alloc, command, stream.as_slice())
+}
+
+/// What a command prints of the bytes that an input gives, of which none is kept.
+pub fn answer_input<I: Inlet>(
+    alloc: Global,
+    command: &Command,
+    input: &mut I,
+) -> Result<Printout, Failure>
+    requires calls { I.calls input.old < 2 ^ 63 }
+    requires bytes { command.now.hex ≡ false }
+    ensures few { I.calls input.new ≤ I.calls input.old + READS }
+    ensures found { let seen = reading I.Inlet input.old input.new in
+        (p : List ℕ) × Consumes (I.left input.old) (I.left input.new) p
+        × MatchResult result (λ a. Finds command.now p seen a.text.items a.verdict) (Fails command.now p seen) }
+{
+    let budget = command.budget;
+    match command.action {
+        Action::List => {
+            let sink = read_input(alloc, budget, input, LineSink::new(alloc))??;
+            Ok(Printout {
+                text: sink.into_text(),
+                verdict: Verdict::Accepted,
+            })
+        }
+        Action::Check => {
+            let found = read_input(alloc, budget, input, CountSink::new())?;
+            print_count(alloc, found)
+        }
+        Action::Canon => {
+            let found = read_input(alloc, budget, input, begun(Target::new(Vec::new(alloc)))?)?;
+            print_text(alloc, false, found)
+        }
     }
 }

@@ -1,5 +1,5 @@
 //! Whole inputs and whole outputs.
-ghost use Rattle.std.specs.Prelude.{◌≡◌, ◌+◌, ◌-◌, ◌^◌, ◌<◌, ◌≤◌, ◌||◌, ℕ, List, IfOk, IsErrOf, OnOk, is_err, length, MatchResult};
+ghost use Rattle.std.specs.Prelude.{◌≡◌, ◌+◌, ◌-◌, ◌^◌, ◌<◌, ◌≤◌, ◌||◌, ℕ, List, true, IfOk, IsErrOf, OnOk, is_err, length, MatchResult};
 ghost use Rattle.std.specs.Io.KnownBytes.{Consumes};
 ghost use Rattle.nap_list.specs.declared.device.TheConstants.{READS};
 ghost use Rattle.nap_list.specs.Reading.{IsReadWhole, reading};
@@ -39,6 +39,7 @@ pub fn read_whole<I: Inlet>(alloc: Global, input: &mut I) -> Result<Vec<u8>, Fai
 pub fn write_whole<O: Outlet>(output: &mut O, text: &[u8]) -> Result<(), Failure>
     ensures takes { Takes (O.taken output.old) (O.taken output.new) text.now result }
     ensures failed { O.failed output.new ≡ (O.failed output.old || is_err result) }
+    ensures sent { IfOk result (λ done. O.sent output.new ≡ true) }
 {
     let mut taken = 0;
     while taken < text.len() {

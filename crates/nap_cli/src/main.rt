@@ -2,6 +2,7 @@
 #![tactic(auto)]
 
 mod answer;
+mod collect;
 mod command;
 mod device;
 mod failure;

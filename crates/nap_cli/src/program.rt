@@ -5,10 +5,10 @@ ghost use Rattle.clap.specs.Values.{kind_of};
 ghost use Rattle.nap_list.specs.declared.device.TheConstants.{READS};
 ghost use Rattle.nap_list.specs.Reading.{reading};
 ghost use Rattle.nap_cli.specs.Devices.{devices, outputs};
-ghost use Rattle.nap_cli.specs.Commands.{Ends, EndsWhole, Explains, Fails, Finds, Ran, Tells};
+ghost use Rattle.nap_cli.specs.Commands.{Ends, EndsWhole, Explains, Fails, Finds, Ran, SendsOn, Tells};
 ghost use Rattle.nap_cli.specs.CommandLine.{Answers};
 
-use crate::answer::{Printout, Verdict, answer};
+use crate::answer::{Printout, Verdict, answer_input, answer_text};
 use crate::command::Command;
 use crate::device::{read_whole, write_whole};
 use crate::failure::Failure;
@@ -43,8 +43,11 @@ fn find<I: Inlet>(alloc: Global, command: &Command, input: &mut I) -> Result<Pri
         (p : List ℕ) × Consumes (I.left input.old) (I.left input.new) p
         × MatchResult result (λ a. Finds command.now p seen a.text.items a.verdict) (Fails command.now p seen) }
 {
-    let bytes = read_whole(alloc, input)?;
-    answer(alloc, command, bytes)
+    if !command.hex {
+        return answer_input(alloc, command, input);
+    }
+    let text = read_whole(alloc, input)?;
+    answer_text(alloc, command, text.as_slice())
 }
 
 /// Prints what a command finds, and flushes the output also where that is nothing. A failing output takes the place of
@@ -61,6 +64,7 @@ fn perform<I: Inlet, O: Outlet>(
     ensures ends { let seen = reading I.Inlet input.old input.new in
         (p : List ℕ) × (q : List ℕ) × Consumes (I.left input.old) (I.left input.new) p × Appends (O.taken output.old) (O.taken output.new) q
         × EndsWhole command.now p seen q (O.failed output.new) result }
+    ensures sends { O.failed output.new ≡ false → O.sent output.new ≡ true }
 {
     match find(alloc, command, input) {
         Ok(answer) => match write_whole(output, answer.text.as_slice()) {
@@ -88,6 +92,7 @@ fn stream<I: Inlet, O: Outlet + Drop>(
     ensures ends { let seen = reading I.Inlet input.old input.new in
         (p : List ℕ) × (q : List ℕ) × Consumes (I.left input.old) (I.left input.new) p × Appends (O.taken output) (O.taken result.0) q
         × Ends command.now p seen q (O.failed result.0) result.1 }
+    ensures sends { SendsOn result.1 (O.failed result.0) (O.sent result.0) }
 {
     if command.hex {
         return (output, Err(Failure::Excluded));
@@ -115,6 +120,7 @@ fn act<I: Inlet, O: Outlet + Drop>(
     ensures ends { let seen = reading I.Inlet input.old input.new in
         (p : List ℕ) × (q : List ℕ) × Consumes (I.left input.old) (I.left input.new) p × Appends (O.taken output) (O.taken result.0) q
         × Ends command.now p seen q (O.failed result.0) result.1 }
+    ensures sends { SendsOn result.1 (O.failed result.0) (O.sent result.0) }
 {
     if command.stream {
         return stream(alloc, command, input, output);

@@ -3,9 +3,11 @@
 
 mod field;
 mod line;
+mod line_sink;
 
 pub use field::Shown;
 pub use line::line_of;
+pub use line_sink::LineSink;
 
 #[cfg(test)]
 mod tests;

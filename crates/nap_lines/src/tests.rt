@@ -1,2 +1,3 @@
 //! Lines of entries.
+mod line_sink;
 mod lines;

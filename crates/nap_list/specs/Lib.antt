@@ -6,3 +6,4 @@ pub mod Propositions
 pub mod Range
 pub mod Reading
 pub mod State
+pub mod Counting

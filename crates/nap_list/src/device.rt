@@ -1,5 +1,5 @@
 //! Where bytes come from, and where they go.
-ghost use Rattle.std.specs.Prelude.{◌≡◌, ◌+◌, ◌-◌, ◌^◌, ◌<◌, ◌≤◌, ◌||◌, ℕ, List, Bool, Option, min, length, IfOk, is_err};
+ghost use Rattle.std.specs.Prelude.{◌≡◌, ◌+◌, ◌-◌, ◌^◌, ◌<◌, ◌≤◌, ◌||◌, ℕ, List, Bool, false, not, Option, min, length, IfOk, is_err};
 ghost use Rattle.std.specs.Io.KnownBytes.{Keeps, ReadConsumes, WriteAppends};
 ghost use Rattle.std.specs.Io.{ReadsAtMost, WritesAtMost};
 
@@ -55,17 +55,22 @@ pub trait Outlet {
     /// Whether a write or a flush has failed.
     ghost failed: { Self → Bool };
 
+    /// Whether nothing is held back: it was flushed behind its last write.
+    ghost sent: { Self → Bool };
+
     /// Takes bytes from the front of the piece, and answers how many: at least one, unless the piece is empty. An error
     /// takes no byte, and the outlet may be written again.
     fn write(&mut self, piece: &[u8]) -> Result<usize, DeviceFault>
         ensures bound { WritesAtMost result piece.now }
         ensures some { 0 < length piece.now → IfOk result (λ n. 0 < n) }
         ensures bytes { WriteAppends (taken self.old) (taken self.new) result piece.now }
+        ensures sent { sent self.new ≡ false }
         ensures failed { failed self.new ≡ (failed self.old || is_err result) };
 
     /// Sends on what it holds back. It takes no byte.
     fn flush(&mut self) -> Result<(), DeviceFault>
         ensures bytes { Keeps (taken self.old) (taken self.new) }
+        ensures sent { sent self.new ≡ not (is_err result) }
         ensures failed { failed self.new ≡ (failed self.old || is_err result) };
 
     /// Whether a write or a flush has failed.

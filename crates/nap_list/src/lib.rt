@@ -2,6 +2,7 @@
 #![tactic(auto)]
 
 mod attribute;
+mod count_sink;
 mod device;
 mod entry;
 pub mod laws;
@@ -13,6 +14,7 @@ mod state;
 pub use attribute::{
     Area, Base, CharSize, Colour, Hand, Held, Ink, Origin, Pen, Preset, TextLook, Texture,
 };
+pub use count_sink::CountSink;
 pub use device::{DeviceFault, Inlet, Outlet, READS, Source, Target};
 pub use entry::Entry;
 pub use legality::legal;

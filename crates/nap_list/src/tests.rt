@@ -1,4 +1,5 @@
 //! Lists by hand, with the answers that the rules of the profile give, and devices that fail.
+mod count_sink;
 mod devices;
 mod legality;
 mod list_sink;

@@ -1,8 +1,10 @@
 use Rattle.std.proofs.Common.{ℕ, ◌+◌, ◌≤◌, ◌≡◌, ◌||◌, List, [], ◌++◌, length, Bool, false, Option, Some, None, Result, Err, refl, take, sym, ◌∙◌, subst, append-nil}
 use Rattle.std.proofs.Math.Bool.{or-false}
 use Rattle.std.specs.Prelude.{slice_index}
+use Rattle.std.specs.Io.KnownBytes.{Consumes}
+use Rattle.nap_list.specs.declared.device.Inlet as inlet
 use Rattle.nap_list.specs.declared.sink.Sink.{Ghosts}
-use Rattle.nap_list.specs.Reading.{Reading, NoneFailed}
+use Rattle.nap_list.specs.Reading.{NoneFailed, reading}
 use Rattle.nap_reader.specs.declared.fault.Refusal.{Refusal}
 use Rattle.nap_reader.specs.declared.feeding.FeedFault.{FeedFault}
 use Rattle.nap_reader.specs.declared.feeding.FeedFault.TheVariants as feed_fault
@@ -16,7 +18,8 @@ use Rattle.nap_reader.specs.Stream.{begun}
 pub flag_stays : (first before after : Bool) → before ≡ first → after ≡ (before || false) → after ≡ first
 flag_stays first before after h k = k ∙ (or-false before ∙ h)
 
-module _ {S : Type 0} {g : Ghosts S} (old : Reader S g) (s : S) (p : List ℕ) (seen : Reading) where
+module _ {I S : Type 0} (i : inlet.Ghosts I) {g : Ghosts S} (old : Reader S g) (s : S) (p : List ℕ) (start mid end : I)
+    (gave : Consumes (i.left start) (i.left mid) p) (reads : i.calls mid ≤ i.calls start + length p) (once : i.calls end ≤ i.calls mid + 1) where
   -- nothing is refused that a reader stands for without a refusal
   going : (reader : Reader S g) → Stands reader s p → budget_of reader ≡ budget_of old → refusal_of reader ≡ None → (begun (budget_of old) p).refusal ≡ None
   going reader h same none =
@@ -24,22 +27,43 @@ module _ {S : Type 0} {g : Ghosts S} (old : Reader S g) (s : S) (p : List ℕ) (
       (subst (Answers g s (budget_of reader) p (sink_of reader) (left_of reader)) none h.answers).refusal
 
   -- what was read was taken, and the input ended or failed
-  pub feeds_on : (new : Reader S g) (answer : Result (Unit {0}) FeedFault) → Stands new s p → budget_of new ≡ budget_of old → refusal_of new ≡ None → seen.reads ≤ length p + 1 →
-      EndsBy p seen None answer → StopsInLast g s (budget_of old) p [] (sink_of new) (left_of new) answer → Feeds old new s p seen answer
-  feeds_on new answer h same none reads ends stops = record {
+  pub feeds_on : (new : Reader S g) (answer : Result (Unit {0}) FeedFault) → Stands new s p → budget_of new ≡ budget_of old → refusal_of new ≡ None →
+      Consumes (i.left mid) (i.left end) [] → EndsBy p (reading i start end) None answer → StopsInLast g s (budget_of old) p [] (sink_of new) (left_of new) answer →
+      Feeds i old new s p start end answer
+  feeds_on new answer h same none gives ends stops = record {
     stands = h;
-    last = record { before = p; last = []; parts = sym (append-nil p); unrefused = going new h same none; reads = reads };
-    ends = subst (λ (r : Option Refusal). EndsBy p seen r answer) (sym none) ends;
+    last = record {
+      mid = mid;
+      before = p;
+      last = [];
+      parts = sym (append-nil p);
+      gave = gave;
+      gives = gives;
+      reads = reads;
+      once = once;
+      unrefused = going new h same none;
+    };
+    ends = subst (λ (r : Option Refusal). EndsBy p (reading i start end) r answer) (sym none) ends;
     stops = stops;
   }
 
   -- the last piece was refused
-  pub feeds_refused : (mid new : Reader S g) (piece : List ℕ) (r : Refusal) (i : ℕ) → Stands mid s p → budget_of mid ≡ budget_of old → refusal_of mid ≡ None →
-      Stands new s (p ++ piece) → refusal_of new ≡ Some r → StopsAt mid new piece r i → NoneFailed seen → seen.reads ≤ length p + 1 →
-      Feeds old new s (p ++ piece) seen (Err (feed_fault.Refused r))
-  feeds_refused mid new piece r i h same none after refused stops none_failed reads = record {
+  pub feeds_refused : (reader new : Reader S g) (piece : List ℕ) (r : Refusal) (n : ℕ) → Stands reader s p → budget_of reader ≡ budget_of old → refusal_of reader ≡ None →
+      Stands new s (p ++ piece) → refusal_of new ≡ Some r → StopsAt reader new piece r n → NoneFailed (reading i start end) →
+      Consumes (i.left mid) (i.left end) piece → Feeds i old new s (p ++ piece) start end (Err (feed_fault.Refused r))
+  feeds_refused reader new piece r n h same none after refused stops none_failed gives = record {
     stands = after;
-    last = record { before = p; last = piece; parts = refl; unrefused = going mid h same none; reads = reads };
+    last = record {
+      mid = mid;
+      before = p;
+      last = piece;
+      parts = refl;
+      gave = gave;
+      gives = gives;
+      reads = reads;
+      once = once;
+      unrefused = going reader h same none;
+    };
     ends = (none_failed, refused);
-    stops = (i, stops.within, subst (λ (budget : ℕ). StopsBy g s budget (p ++ take i piece) (slice_index piece i) (sink_of new) (left_of new) r (cause_of r.fault)) same (stops.there s p h));
+    stops = (n, stops.within, subst (λ (budget : ℕ). StopsBy g s budget (p ++ take n piece) (slice_index piece n) (sink_of new) (left_of new) r (cause_of r.fault)) same (stops.there s p h));
   }

@@ -1,6 +1,8 @@
 use Rattle.std.specs.Prelude.{◌≡◌, ◌≢◌, ◌+◌, ◌<◌, ◌≤◌, ◌++◌, ℕ, List, Bool, true, false, Option, Some, None, Result, Ok, Err, length, take, slice_index, ⊤}
+use Rattle.std.specs.Io.KnownBytes.{Consumes}
+use Rattle.nap_list.specs.declared.device.Inlet as inlet
 use Rattle.nap_list.specs.declared.sink.Sink.{Ghosts}
-use Rattle.nap_list.specs.Reading.{Reading, NoneFailed, IsCutOff, IsReadWhole}
+use Rattle.nap_list.specs.Reading.{Reading, NoneFailed, IsCutOff, IsReadWhole, reading}
 use Rattle.nap_reader.specs.declared.fault.Fault.TheVariants as faults
 use Rattle.nap_reader.specs.declared.fault.Refusal.{Refusal}
 use Rattle.nap_reader.specs.declared.feeding.FeedFault.{FeedFault}
@@ -12,14 +14,18 @@ use Rattle.nap_reader.specs.Stream.{begun}
 
 -- A reader that is fed what an input gives.
 
--- Of the bytes that were read, those before show no refusal, and there were no more reads than these bytes and one. So an
--- input that gives a byte at a time isn't read behind a refusal.
-pub record LastRead (budget : ℕ) (p : List ℕ) (seen : Reading) : Type 0 where
+-- The last read of an input that gave the bytes p: how the input stood before it, and what it had given by then, which shows
+-- no refusal. Each read up to there gave a byte or more.
+pub record LastRead {I : Type 0} (i : inlet.Ghosts I) (budget : ℕ) (p : List ℕ) (start end : I) : Type 0 where
+  pub mid : I
   pub before : List ℕ
   pub last : List ℕ
   pub parts : p ≡ before ++ last
+  pub gave : Consumes (i.left start) (i.left mid) before
+  pub gives : Consumes (i.left mid) (i.left end) last
+  pub reads : i.calls mid ≤ i.calls start + length before
+  pub once : i.calls end ≤ i.calls mid + 1
   pub unrefused : (begun budget before).refusal ≡ None
-  pub reads : seen.reads ≤ length before + 1
 
 -- the input was read to its end; or it failed, or was read too often, before that; or the stream was refused
 abbrev pub EndsBy : List ℕ → Reading → Option Refusal → Result (Unit {0}) FeedFault → Type 0
@@ -34,10 +40,10 @@ StopsInLast g s budget before last t left (Err (feed_fault.Refused r)) =
 StopsInLast g s budget before last t left _ = ⊤
 
 -- A reader that stood for no bytes was fed the bytes p.
-pub record Feeds {S : Type 0} {g : Ghosts S} (old new : Reader S g) (s : S) (p : List ℕ) (seen : Reading) (answer : Result (Unit {0}) FeedFault) : Type 0 where
+pub record Feeds {I S : Type 0} (i : inlet.Ghosts I) {g : Ghosts S} (old new : Reader S g) (s : S) (p : List ℕ) (start end : I) (answer : Result (Unit {0}) FeedFault) : Type 0 where
   pub stands : Stands new s p
-  pub last : LastRead (budget_of old) p seen
-  pub ends : EndsBy p seen (refusal_of new) answer
+  pub last : LastRead i (budget_of old) p start end
+  pub ends : EndsBy p (reading i start end) (refusal_of new) answer
   pub stops : StopsInLast g s (budget_of old) last.before last.last (sink_of new) (left_of new) answer
 
 -- whether the sink has failed: only where that is the refusal

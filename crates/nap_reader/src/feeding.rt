@@ -2,7 +2,6 @@
 ghost use Rattle.std.specs.Prelude.{◌≡◌, ◌+◌, ◌*◌, ◌^◌, ◌<◌, ◌≤◌, ℕ, List, [], None, false, length};
 ghost use Rattle.std.specs.Io.KnownBytes.{Consumes};
 ghost use Rattle.nap_list.specs.declared.device.TheConstants.{READS};
-ghost use Rattle.nap_list.specs.Reading.{reading};
 ghost use Rattle.nap_reader.specs.declared.feeding.FeedFault.TheVariants.{Refused};
 ghost use Rattle.nap_reader.specs.Feeding.{FailsBy, Feeds};
 ghost use Rattle.nap_reader.specs.Standing.{Stands, budget_of, fed_of, refusal_of, sink_of};
@@ -45,9 +44,9 @@ pub fn feed_from<I: Inlet, S: Sink>(
     requires small { READS * length room.old < 2 ^ 63 }
     ensures few { I.calls input.new ≤ I.calls input.old + READS }
     ensures budget { budget_of reader.new ≡ budget_of reader.old }
-    ensures feeds { let seen = reading I.Inlet input.old input.new in
-        (p : List ℕ) × Consumes (I.left input.old) (I.left input.new) p
-        × ((s : S) → Stands reader.old s [] → Feeds reader.old reader.new s p seen result) }
+    ensures more { I.calls input.old ≤ I.calls input.new }
+    ensures feeds { (p : List ℕ) × Consumes (I.left input.old) (I.left input.new) p
+        × ((s : S) → Stands reader.old s [] → Feeds I.Inlet reader.old reader.new s p input.old input.new result) }
     ensures fails { S.failed (sink_of reader.old) ≡ false → FailsBy (S.failed (sink_of reader.new)) result }
 {
     for _ in 0..READS {

@@ -255,6 +255,49 @@ fn a_failed_read_is_not_tried_again(rt: HostRuntime) -> Result<(), Fail> {
     Ok(())
 }
 
+// Behind a refusal the rest is read all the same, and a read that fails there comes first.
+#[test]
+fn a_refused_input_is_read_to_its_end(rt: HostRuntime) -> Result<(), Fail> {
+    let alloc = rt.alloc();
+    for command in ["list", "check", "canon"] {
+        for (stumble, reads, refused) in [(2, 3, false), (3, 4, false), (100, 4, true)] {
+            let words = words_of(alloc, &[command])?;
+            let mut errors = Target::new(Vec::new(alloc));
+            let mut input = Source::new(Stumbling {
+                bytes: b"\x80\x0E\x26",
+                reads: 0,
+                stumble,
+            });
+            let (output, status) = run(
+                alloc,
+                words.as_slice(),
+                &mut input,
+                Target::new(Vec::new(alloc)),
+                &mut errors,
+            );
+            let line = b"refused 1 EighthBit at 0\n".as_slice();
+            let (out, told) = match (refused, command) {
+                (true, "check") => (line, b"".as_slice()),
+                (true, _) => (b"".as_slice(), line),
+                (false, _) => (b"".as_slice(), b"read fault\n".as_slice()),
+            };
+            assert_eq!(rt;
+                output.into_inner().as_slice(),
+                out,
+                "{command} at {stumble}"
+            );
+            assert_eq!(rt;
+                errors.into_inner().as_slice(),
+                told,
+                "{command} at {stumble}"
+            );
+            assert_eq!(rt; status, if refused { 1 } else { 3 });
+            assert_eq!(rt; input.into_inner().reads, reads);
+        }
+    }
+    Ok(())
+}
+
 // The last of the reads that a command may make has to find the end.
 #[test]
 fn an_endless_input_is_a_read_fault(rt: HostRuntime) -> Result<(), Fail> {

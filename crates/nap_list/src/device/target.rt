@@ -1,5 +1,5 @@
 //! A writer of `std` as an outlet.
-ghost use Rattle.std.specs.Prelude.{◌≡◌, ◌<◌, ◌≤◌, ◌||◌, false, length, IfOk, is_err};
+ghost use Rattle.std.specs.Prelude.{◌≡◌, ◌<◌, ◌≤◌, ◌||◌, false, not, length, IfOk, is_err};
 
 use crate::device::{DeviceFault, Outlet};
 use std::io::Write;
@@ -10,6 +10,7 @@ use std::marker::Model;
 pub struct Target<W> {
     writer: W,
     failed: bool,
+    sent: bool,
 }
 
 impl<W> Model for Target<W> {
@@ -17,17 +18,18 @@ impl<W> Model for Target<W> {
 
     ghost Value = { Writing W };
 
-    ghost view = { λ t. record { writer = t.writer; failed = t.failed } };
+    ghost view = { λ t. record { writer = t.writer; failed = t.failed; sent = t.sent } };
 }
 
 impl<W: Write> Target<W> {
     /// The writer, which hasn't been written.
     pub fn new(writer: W) -> Target<W>
-        ensures { result ≡ record { writer = writer; failed = false } }
+        ensures { result ≡ record { writer = writer; failed = false; sent = false } }
     {
         Target {
             writer,
             failed: false,
+            sent: false,
         }
     }
 
@@ -45,7 +47,10 @@ impl<W: Write> Outlet for Target<W> {
 
     ghost failed = { λ t. t.failed };
 
+    ghost sent = { λ t. t.sent };
+
     fn write(&mut self, piece: &[u8]) -> Result<usize, DeviceFault> {
+        self.sent = false;
         match self.writer.write(piece) {
             Ok(0) if !piece.is_empty() => {
                 self.failed = true;
@@ -61,8 +66,12 @@ impl<W: Write> Outlet for Target<W> {
 
     fn flush(&mut self) -> Result<(), DeviceFault> {
         match self.writer.flush() {
-            Ok(()) => Ok(()),
+            Ok(()) => {
+                self.sent = true;
+                Ok(())
+            }
             Err(_) => {
+                self.sent = false;
                 self.failed = true;
                 Err(DeviceFault)
             }

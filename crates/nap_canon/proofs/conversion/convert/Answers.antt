@@ -1,85 +1,104 @@
-use Rattle.std.proofs.Common.{◌≡◌, ◌∙◌, ℕ, [], true, false, Ok, Err, refl, sym, ap, subst, arith}
+use Rattle.std.proofs.Common.{◌≡◌, ◌∙◌, ℕ, [], true, false, Ok, Err, refl, sym, ap, subst}
 use Rattle.std.specs.Io.KnownBytes.{Keeps}
 use Rattle.std.proofs.KnownBytes.{Consumes-nil}
 use Rattle.nap_list.specs.Reading.{reading}
 use Rattle.nap_reader.specs.declared.feeding.FeedFault.TheVariants as feed_fault
-use Rattle.nap_reader.specs.Standing.{budget_of}
 use Rattle.nap_canon.specs.Concluding.{Concludes}
-use Rattle.nap_canon.specs.Converting.{Converts}
+use Rattle.nap_canon.specs.Converting.{Converts, StopsAtOnce}
 use Rattle.nap_canon.specs.Sinking.{Canonical}
-use Rattle.nap_canon.proofs.ConvertLemmas.{Leaves, concluded, end_leaves, fed_leaves, header_fails, whole_leaves}
+use Rattle.nap_canon.proofs.ConvertLemmas.{Ends, end_leaves, fed_leaves, finished, header_fails, whole_leaves}
 use Rattle.nap_canon.proofs.conversion.convert.Goals as goal
 
 -- the header was not written
 pub returns-then-failed-clause-converts : goal.returns-then-failed-clause-converts
 returns-then-failed-clause-converts g c =
+    let I = g.I.Inlet in
     let O = g.O.Outlet in
     let s = c.new.result in
+    let input = c.args.input.now in
     let reader = c.new-reader.result in
     let u = c.conclude.result.0 in
-    let seen = reading g.I.Inlet c.args.input.now c.args.input.now in
+    let answer = c.conclude.result.1 in
     let there : c.into_sink.result ≡ s = c.into_sink.ensures.now ∙ c.new-reader.ensures.sink in
     let fails : O.failed c.into_sink.result.outlet ≡ true =
     subst (λ (t : Canonical _). O.failed t.outlet ≡ true) (c.sink.ensures.now ∙ sym c.into_sink.ensures.now) (sym c.failed.ensures ∙ c.if-failed.true) in
-    let h = header_fails O c.args.output s c.new.ensures _ (λ t d k. k) (λ t d e k. k) refl reader seen c.new-reader.ensures.stands c.new-reader.ensures.unrefused
-    (omega arith) (ap (λ (t : Canonical _). O.failed t.outlet) (sym there) ∙ fails) u c.conclude.result.1
+    let h = header_fails O c.args.output s c.new.ensures _ (λ t d k. k) (λ t d e k. k) refl I input reader c.new-reader.ensures.stands c.new-reader.ensures.unrefused
+    (ap (λ (t : Canonical _). O.failed t.outlet) (sym there) ∙ fails) u answer
     (subst (λ (t : Canonical _). Keeps (O.taken t.outlet) (O.taken u)) there c.conclude.ensures.taken) (c.conclude.ensures.failed fails)
-    (subst (λ (t : Canonical _). Concludes t.written (Ok tt) (O.failed u) c.conclude.result.1) there c.conclude.ensures.answer) in
-    ([], h.0, Consumes-nil _, h.1, subst (λ (budget : ℕ). Converts budget [] seen h.0 (O.failed u) c.conclude.result.1) c.new-reader.ensures.budget h.2)
+    (subst (λ (t : Canonical _). Concludes t.written (Ok tt) (O.failed u) answer) there c.conclude.ensures.answer) in (
+      [],
+      h.0,
+      Consumes-nil _,
+      h.1,
+      subst (λ (budget : ℕ). Converts budget [] (reading I input input) h.0 (O.failed u) answer) c.new-reader.ensures.budget h.2,
+      subst (λ (budget : ℕ). StopsAtOnce I budget [] input input h.0) c.new-reader.ensures.budget h.3,
+    )
 
 -- all was read, and nothing refused
 pub returns-in-Ok-finish-clause-converts : goal.returns-in-Ok-finish-clause-converts
 returns-in-Ok-finish-clause-converts g c =
+    let I = g.I.Inlet in
     let O = g.O.Outlet in
     let s = c.new.result in
     let old = c.new-reader.result in
     let new = c.feed_from.new.reader in
-    let seen = reading g.I.Inlet c.args.input.now c.feed_from.new.input in
+    let input = c.args.input.now in
+    let rest = c.feed_from.new.input in
     let works : O.failed s.outlet ≡ false =
     subst (λ (t : Canonical _). O.failed t.outlet ≡ false) (c.sink.ensures.now ∙ c.new-reader.ensures.sink) (sym c.failed.ensures ∙ c.if-failed.false) in
     let (p, read, feeds) = c.in-Ok.ensures.feeds in
     let h = feeds s c.new-reader.ensures.stands in
     let t = c.in-Ok-finish.sink in
     let end = c.conclude-in-Ok-finish in
-    let leaves = whole_leaves O c.args.output s c.new.ensures _ (λ t d k. k) (λ t d e k. k) refl works old new p seen c.feed_from.ensures.budget h t (c.in-Ok-finish.ensures.ok s p h.stands) in
-    let k = concluded O c.args.output s c.new.ensures works _ p seen h.last t (Ok tt) end.result.0 end.result.1 leaves end.ensures.taken end.ensures.failed end.ensures.answer in
-    (p, k.0, read, k.1, subst (λ (budget : ℕ). Converts budget p seen k.0 (O.failed end.result.0) end.result.1) c.new-reader.ensures.budget k.2)
+    let same = c.feed_from.ensures.budget in
+    let leaves = whole_leaves O c.args.output s c.new.ensures _ (λ t d k. k) (λ t d e k. k) refl works I input rest old new p same h t (c.in-Ok-finish.ensures.ok s p h.stands) in
+    let k = finished O c.args.output s c.new.ensures _ (λ t d k. k) (λ t d e k. k) refl works I input rest old new p same h.last t (Ok tt) end.result.0 end.result.1 c.args.budget
+    c.new-reader.ensures.budget leaves end.ensures.taken end.ensures.failed end.ensures.answer in
+    (p, k.0, read, k.1, k.2, k.3)
 
 -- the stream is refused at its end
 pub returns-in-Err-finish-clause-converts : goal.returns-in-Err-finish-clause-converts
 returns-in-Err-finish-clause-converts g c =
+    let I = g.I.Inlet in
     let O = g.O.Outlet in
     let s = c.new.result in
     let old = c.new-reader.result in
     let new = c.feed_from.new.reader in
-    let seen = reading g.I.Inlet c.args.input.now c.feed_from.new.input in
+    let input = c.args.input.now in
+    let rest = c.feed_from.new.input in
     let works : O.failed s.outlet ≡ false =
     subst (λ (t : Canonical _). O.failed t.outlet ≡ false) (c.sink.ensures.now ∙ c.new-reader.ensures.sink) (sym c.failed.ensures ∙ c.if-failed.false) in
     let (p, read, feeds) = c.in-Ok.ensures.feeds in
     let h = feeds s c.new-reader.ensures.stands in
     let stopped = c.in-Err-finish.stopped in
+    let fed = Err (feed_fault.Refused stopped.refusal) in
     let end = c.conclude-in-Err-finish in
-    let leaves = end_leaves O c.args.output s c.new.ensures _ (λ t d k. k) (λ t d e k. k) refl works old new p seen c.feed_from.ensures.budget h stopped.sink stopped.refusal
+    let same = c.feed_from.ensures.budget in
+    let leaves = end_leaves O c.args.output s c.new.ensures _ (λ t d k. k) (λ t d e k. k) refl works I input rest old new p same h stopped.sink stopped.refusal
     (λ own. c.in-Err-finish.ensures.err own s p h.stands) (λ other. c.in-Err-finish.ensures.breaks h.ends.1 other s p h.stands) in
-    let k = concluded O c.args.output s c.new.ensures works _ p seen h.last stopped.sink (Err (feed_fault.Refused stopped.refusal)) end.result.0 end.result.1 leaves
-    end.ensures.taken end.ensures.failed end.ensures.answer in
-    (p, k.0, read, k.1, subst (λ (budget : ℕ). Converts budget p seen k.0 (O.failed end.result.0) end.result.1) c.new-reader.ensures.budget k.2)
+    let k = finished O c.args.output s c.new.ensures _ (λ t d k. k) (λ t d e k. k) refl works I input rest old new p same h.last stopped.sink fed end.result.0 end.result.1
+    c.args.budget c.new-reader.ensures.budget leaves end.ensures.taken end.ensures.failed end.ensures.answer in
+    (p, k.0, read, k.1, k.2, k.3)
 
 -- the stream is refused before its end, or the input failed
 pub returns-in-Err-clause-converts : goal.returns-in-Err-clause-converts
 returns-in-Err-clause-converts g c =
+    let I = g.I.Inlet in
     let O = g.O.Outlet in
     let s = c.new.result in
     let old = c.new-reader.result in
     let new = c.feed_from.new.reader in
-    let seen = reading g.I.Inlet c.args.input.now c.feed_from.new.input in
+    let input = c.args.input.now in
+    let rest = c.feed_from.new.input in
     let works : O.failed s.outlet ≡ false =
     subst (λ (t : Canonical _). O.failed t.outlet ≡ false) (c.sink.ensures.now ∙ c.new-reader.ensures.sink) (sym c.failed.ensures ∙ c.if-failed.false) in
     let (p, read, feeds) = c.in-Err.ensures.feeds in
     let h = feeds s c.new-reader.ensures.stands in
+    let fed = Err c.in-Err.fault in
     let end = c.conclude-in-Err in
-    let leaves = subst (λ (t : Canonical g.row.O.Denot). Leaves O c.args.output s c.new.ensures works (budget_of old) p seen h.last t (Err c.in-Err.fault)) (sym c.into_sink-in-Err.ensures.now)
-    (fed_leaves O c.args.output s c.new.ensures _ (λ t d k. k) (λ t d e k. k) refl works old new p seen c.feed_from.ensures.budget c.in-Err.fault h) in
-    let k = concluded O c.args.output s c.new.ensures works _ p seen h.last c.into_sink-in-Err.result (Err c.in-Err.fault) end.result.0 end.result.1 leaves
-    end.ensures.taken end.ensures.failed end.ensures.answer in
-    (p, k.0, read, k.1, subst (λ (budget : ℕ). Converts budget p seen k.0 (O.failed end.result.0) end.result.1) c.new-reader.ensures.budget k.2)
+    let same = c.feed_from.ensures.budget in
+    let leaves = subst (λ (t : Canonical g.row.O.Denot). Ends O c.args.output s c.new.ensures _ (λ t d k. k) (λ t d e k. k) refl works I input rest old new p same h.last t fed)
+    (sym c.into_sink-in-Err.ensures.now) (fed_leaves O c.args.output s c.new.ensures _ (λ t d k. k) (λ t d e k. k) refl works I input rest old new p same c.in-Err.fault h) in
+    let k = finished O c.args.output s c.new.ensures _ (λ t d k. k) (λ t d e k. k) refl works I input rest old new p same h.last c.into_sink-in-Err.result fed end.result.0
+    end.result.1 c.args.budget c.new-reader.ensures.budget leaves end.ensures.taken end.ensures.failed end.ensures.answer in
+    (p, k.0, read, k.1, k.2, k.3)

@@ -8,8 +8,8 @@ use Rattle.nap_canon.proofs.text.write.Given as goal
 -- the text of the entries so far
 abbrev pub invariant-loop-entry : goal.invariant-loop-entry
 invariant-loop-entry l = record {
-  text : l.writer.to.items ≡ text (take l.entry-index l.entries);
-  gl : l.writer.gl ≡ gl_after G1 (pieces start (take l.entry-index l.entries));
-  state : l.writer.state ≡ walk start (take l.entry-index l.entries);
+  text : l.sink.outlet.writer.items ≡ text (take l.entry-index l.entries);
+  gl : l.sink.gl ≡ gl_after G1 (pieces start (take l.entry-index l.entries));
+  state : l.sink.state ≡ walk start (take l.entry-index l.entries);
   range : AllInRange (take l.entry-index l.entries);
 }

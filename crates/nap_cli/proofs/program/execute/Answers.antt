@@ -1,6 +1,8 @@
-use Rattle.std.proofs.Common.{[], Ok, Err, inl, refl, subst}
+use Rattle.std.proofs.Common.{[], Result, Ok, Err, inl, refl, subst}
 use Rattle.std.proofs.KnownBytes.{Appends-nil}
-use Rattle.nap_cli.specs.Commands.{Ends}
+use Rattle.nap_cli.specs.declared.answer.Verdict.{Verdict}
+use Rattle.nap_cli.specs.declared.failure.Failure.{Failure}
+use Rattle.nap_cli.specs.Commands.{Ends, SendsOn}
 use Rattle.nap_cli.proofs.program.execute.Goals as goal
 
 pub returns-in-Ok : goal.returns-in-Ok
@@ -16,6 +18,7 @@ returns-in-Ok g c =
       told = Appends-nil (g.E.Outlet.taken c.args.errors.now);
       few = c.act-output.ensures.few;
       ends = subst (Ends c.args.command.now h.0 _ h.1 _) c.in-Ok.is h.4;
+      sends = subst (λ (ended : Result Verdict Failure). SendsOn ended (g.O.Outlet.failed c.act-output.result.0) (g.O.Outlet.sent c.act-output.result.0)) c.in-Ok.is c.act-output.ensures.sends;
       tells = record { said = Ok c.in-Ok.verdict; told_as = inl refl; front = refl; all = λ _. refl; status_is = c.status.ensures };
     }
 
@@ -33,5 +36,6 @@ returns-in-Err g c =
       told = t.1;
       few = c.act-output.ensures.few;
       ends = subst (Ends c.args.command.now h.0 _ h.1 _) c.in-Err.is h.4;
+      sends = subst (λ (ended : Result Verdict Failure). SendsOn ended (g.O.Outlet.failed c.act-output.result.0) (g.O.Outlet.sent c.act-output.result.0)) c.in-Err.is c.act-output.ensures.sends;
       tells = t.2;
     }

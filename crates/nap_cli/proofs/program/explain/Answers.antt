@@ -10,7 +10,7 @@ use Rattle.nap_cli.proofs.program.explain.Goals as goal
 pub returns-in_default : goal.returns-in_default
 returns-in_default g c =
     let t = c.tell.ensures in
-    explains_memory (kind_of c.args.error) _ _ _ (record { unprinted = record { taken = refl; failed = refl }; e = t.0; told = t.1; tells = t.2 })
+    explains_memory (kind_of c.args.error) _ _ _ (record { unprinted = record { taken = refl; sent = refl; failed = refl }; e = t.0; told = t.1; tells = t.2 })
 
 pub returns-in-Ok-write_whole : goal.returns-in-Ok-write_whole
 returns-in-Ok-write_whole g c =
@@ -19,7 +19,7 @@ returns-in-Ok-write_whole g c =
       text = c.as_bytes-2.result.now;
       e = [];
       ended = Ok verdict.Accepted;
-      shown = (write.takes, write.failed ∙ or-false _);
+      shown = (write.takes, write.failed ∙ or-false _, write.sent);
       told = Appends-nil (g.E.Outlet.taken c.args.errors.now);
       tells = record { said = Ok verdict.Accepted; told_as = inl refl; front = refl; all = λ _. refl; status_is = refl };
     })

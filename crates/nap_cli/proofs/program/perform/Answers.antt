@@ -1,4 +1,4 @@
-use Rattle.std.proofs.Common.{◌∙◌, ◌||◌, ℕ, List, Bool, true, Err, ap, subst}
+use Rattle.std.proofs.Common.{◌≡◌, ◌∙◌, ◌||◌, ℕ, List, Bool, false, true, Err, ap, subst, sym}
 use Rattle.nap_cli.specs.Devices.{Takes}
 use Rattle.nap_cli.proofs.CommandLemmas.{ends_after, ends_amid}
 use Rattle.nap_cli.proofs.program.perform.Goals as goal
@@ -12,7 +12,11 @@ returns-in-Ok g c =
     let fault = c.in-Err-write_whole.fault in
     let takes = subst (λ (text : List ℕ). Takes old new text (Err fault)) c.as_slice.ensures.value write.takes in
     let k = ends_amid c.args.command.now h.0 _ _ _ old new _ fault h.2 takes (write.failed ∙ ap (λ (x : Bool). x || true) c.requires.works) in
-    record { few = c.find.ensures.few; ends = (h.0, k.0, h.1, k.1, k.2) }
+    record {
+      few = c.find.ensures.few;
+      ends = (h.0, k.0, h.1, k.1, k.2);
+      sends = λ works. let bad : false ≡ true = sym works ∙ (write.failed ∙ ap (λ (x : Bool). x || true) c.requires.works) in cc;
+    }
 
 pub returns-clause-ends : goal.returns-clause-ends
 returns-clause-ends g c =

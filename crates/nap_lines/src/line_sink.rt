@@ -1,0 +1,75 @@
+//! A sink that makes the lines of its entries.
+ghost use Rattle.std.specs.Prelude.{◌≡◌, [], true, false};
+ghost use Rattle.nap_list.specs.State.{start};
+ghost use Rattle.nap_lines.specs.Listing.{Lists, lists_more, lists_none};
+
+use crate::field::Shown;
+use nap_list::{Entry, Sink, SinkFault, State};
+use std::alloc::Global;
+use std::fmt::Write;
+use std::marker::Model;
+
+/// Makes a line of each entry that it takes, with its end, and keeps the lines alone.
+#[derive(Drop)]
+pub struct LineSink {
+    line: String,
+    text: Vec<u8>,
+    state: State,
+}
+
+impl Model for LineSink {
+    ghost use Rattle.nap_lines.specs.Listing.{Listed};
+
+    ghost Value = { Listed };
+
+    ghost view = { λ s. record { text = s.text.items; state = s.state } };
+}
+
+impl LineSink {
+    /// A sink that has taken nothing, no memory either.
+    pub fn new(alloc: Global) -> LineSink
+        ensures { result ≡ record { text = []; state = start } }
+    {
+        LineSink {
+            line: String::new(alloc),
+            text: Vec::new(alloc),
+            state: State::start(),
+        }
+    }
+
+    /// The lines of the entries that were taken.
+    pub fn into_text(self) -> Vec<u8>
+        ensures { result.items ≡ self.text }
+    {
+        let LineSink { text, .. } = self;
+        text
+    }
+}
+
+impl Sink for LineSink {
+    ghost state = { λ s. s.state };
+
+    ghost grows = { λ s. true };
+
+    ghost failed = { λ s. false };
+
+    ghost took = { λ s d t. Lists s d t };
+
+    ghost broke = { λ s d e t. ⊥ };
+
+    fn put(&mut self, entry: Entry) -> Result<(), SinkFault> {
+        self.line.clear();
+        let Ok(()) = writeln!(self.line, "{}", Shown(&entry)) else {
+            return Err(SinkFault::Memory);
+        };
+        self.text.extend_from_slice(self.line.as_bytes())?;
+        self.state.step(&entry);
+        Ok(())
+    }
+
+    ghost took_none = { λ s. lists_none s };
+
+    ghost took_more = { λ s t u d e a b. lists_more s t u d e a b };
+
+    ghost took_broke = { λ s t u d e x a b. absurd b };
+}

@@ -1,0 +1,33 @@
+use Rattle.std.proofs.Common.{ℕ, ◌≡◌, ◌+◌, List, [], ◌∷◌, ◌++◌, length, refl, ap, ◌∙◌, length-append, arith}
+use Rattle.nap_list.specs.declared.count_sink.CountSink.{CountSink}
+use Rattle.nap_list.specs.declared.entry.Entry.{Entry}
+use Rattle.nap_list.specs.declared.state.State.{State}
+use Rattle.nap_list.specs.State.{after, walk}
+
+-- a sink that counts took these entries
+pub record Counts (s : CountSink) (d : List Entry) (t : CountSink) : Type 0 where
+  pub count : t.count ≡ s.count + length d
+  pub state : t.state ≡ walk s.state d
+
+-- What the trait asks of it.
+
+pub counts_none : (s : CountSink) → Counts s [] s
+unfolding walk
+counts_none s = record { count = none s.count; state = refl }
+  where
+    none : (n : ℕ) → n ≡ n + 0
+    none n = omega arith
+
+walks_on : (s : State) (d e : List Entry) → walk (walk s d) e ≡ walk s (d ++ e)
+unfolding walk
+walks_on s [] e = refl
+walks_on s (x ∷ d) e = walks_on (after s x) d e
+
+pub counts_more : (s t u : CountSink) (d e : List Entry) → Counts s d t → Counts t e u → Counts s (d ++ e) u
+counts_more s t u d e first second = record {
+  count = more (length d) (length e) (length (d ++ e)) s.count t.count u.count (length-append d e) first.count second.count;
+  state = second.state ∙ ap (λ (state : State). walk state e) first.state ∙ walks_on s.state d e;
+}
+  where
+    more : (a b c i j k : ℕ) → c ≡ a + b → j ≡ i + a → k ≡ j + b → k ≡ i + c
+    more a b c i j k all one two = omega arith
