@@ -10,9 +10,11 @@ use std::alloc::{AllocError, Global};
 use std::process::Abort;
 use std::test::Fail;
 
+mod cuts;
 mod definitions;
 mod faults;
 mod macros;
+mod pairs;
 mod sinks;
 mod text;
 
@@ -56,13 +58,32 @@ fn refusal(fault: Fault, place: u64) -> Option<Refusal> {
 }
 
 /// All that a reader says of a stream.
-#[derive(Debug, Drop)]
+#[derive(PartialEq, Debug, Drop)]
 struct Answer {
     list: Vec<Entry>,
     refusal: Option<Refusal>,
     fed: u64,
     turns: u64,
     charged: u64,
+}
+
+impl Answer {
+    /// The same for the stream in these pieces.
+    fn agrees_in(&self, rt: &impl Abort, alloc: Global, pieces: &[&[u8]]) {
+        let other = answer_in(rt, alloc, pieces);
+        assert_eq!(rt; *self, other, "of {pieces:?}");
+    }
+
+    /// The same for the stream that is read in one call.
+    fn agrees_whole(&self, rt: &impl Abort, alloc: Global, bytes: &[u8]) {
+        match read(rt, alloc, bytes) {
+            Ok(list) => {
+                assert_eq!(rt; self.refusal, None, "of {bytes:?}");
+                assert_eq!(rt; list, self.list, "of {bytes:?}");
+            }
+            Err(refusal) => assert_eq!(rt; Some(refusal), self.refusal, "of {bytes:?}"),
+        }
+    }
 }
 
 /// Feeds a piece, where few bytes came before it.
@@ -128,6 +149,17 @@ impl Row<'_> {
         for cut in 0..=self.bytes.len() {
             let (first, second) = self.bytes.split_at(cut);
             self.agrees(rt, &answer_in(rt, alloc, &[first, &[], second, &[]]));
+        }
+        Ok(())
+    }
+
+    /// The same for the stream whole, in single bytes and cut into two pieces near its end.
+    fn agrees_near_its_end(&self, rt: &impl Abort, alloc: Global) -> Result<(), AllocError> {
+        self.agrees_whole(rt, alloc);
+        self.agrees_in_single_bytes(rt, alloc)?;
+        for cut in self.bytes.len().saturating_sub(4)..=self.bytes.len() {
+            let (first, second) = self.bytes.split_at(cut);
+            self.agrees(rt, &answer_in(rt, alloc, &[first, second]));
         }
         Ok(())
     }
@@ -280,11 +312,15 @@ fn the_longest_polygon(rt: HostRuntime) -> Result<(), Fail> {
         refusal: None,
         fed: 1_028,
     };
-    row.agrees_whole(&rt, alloc);
-    row.agrees_in_single_bytes(&rt, alloc)?;
+    row.agrees_near_its_end(&rt, alloc)?;
     bytes.push(0x40)?;
-    let answer = read(&rt, alloc, &bytes);
-    assert_eq!(rt; answer.err(), refusal(Fault::ManyPoints, 3));
+    let row = Row {
+        bytes: &bytes,
+        list: &[],
+        refusal: refusal(Fault::ManyPoints, 3),
+        fed: 1_029,
+    };
+    row.agrees_near_its_end(&rt, alloc)?;
     Ok(())
 }
 
@@ -306,8 +342,7 @@ fn the_longest_run(rt: HostRuntime) -> Result<(), Fail> {
         refusal: None,
         fed: 16_386,
     };
-    row.agrees_whole(&rt, alloc);
-    row.agrees_in_single_bytes(&rt, alloc)?;
+    row.agrees_near_its_end(&rt, alloc)?;
 
     bytes.push(0x40)?;
     let row = Row {
@@ -316,8 +351,7 @@ fn the_longest_run(rt: HostRuntime) -> Result<(), Fail> {
         refusal: refusal(Fault::LongRun, 1),
         fed: 16_387,
     };
-    row.agrees_whole(&rt, alloc);
-    row.agrees_in_single_bytes(&rt, alloc)?;
+    row.agrees_near_its_end(&rt, alloc)?;
     Ok(())
 }
 

@@ -1,5 +1,5 @@
 //! Macros: their bodies, calls, charges and places.
-use super::{end, feed, refusal, single_bytes};
+use super::{Row, end, feed, refusal, single_bytes};
 use crate::{Budget, Fault, Reader, Refusal, STORE_LIMIT};
 use nap_list::ListSink;
 use std::alloc::{AllocError, Global};
@@ -160,23 +160,21 @@ fn long_body(alloc: Global, count: usize, end: &[u8]) -> Result<Vec<u8>, AllocEr
 fn the_store_has_a_limit(rt: HostRuntime) -> Result<(), Fail> {
     let alloc = rt.alloc();
     let full = long_body(alloc, STORE_LIMIT, b"\x1BE")?;
-    let row = MacroRow {
+    let row = Row {
         bytes: &full,
-        budget: USUAL,
-        entries: 0,
+        list: &[],
         refusal: None,
-        counts: (1_048_581, 0, 1_048_581),
+        fed: 1_048_581,
     };
-    row.agrees_in(&rt, alloc, &[&full]);
+    row.agrees_near_its_end(&rt, alloc)?;
     let over = long_body(alloc, STORE_LIMIT + 1, b"\x1BE")?;
-    let row = MacroRow {
+    let row = Row {
         bytes: &over,
-        budget: USUAL,
-        entries: 0,
+        list: &[],
         refusal: refusal(Fault::Store, 1_048_579),
-        counts: (1_048_580, 0, 1_048_580),
+        fed: 1_048_580,
     };
-    row.agrees_in(&rt, alloc, &[&over]);
+    row.agrees_near_its_end(&rt, alloc)?;
     // ESC belongs to the body, and fills the store.
     let escape = long_body(alloc, STORE_LIMIT - 1, b"\x1BF")?;
     let row = MacroRow {
@@ -215,6 +213,14 @@ fn calls_that_double_are_charged(rt: HostRuntime) -> Result<(), Fail> {
         entries: 0,
         refusal: None,
         counts: (146, 163_836, 163_982),
+    };
+    row.agrees(&rt, alloc)?;
+    let row = MacroRow {
+        bytes: &bytes,
+        budget: 163_835,
+        entries: 0,
+        refusal: refusal(Fault::Budget, 145),
+        counts: (146, 163_835, 163_981),
     };
     row.agrees(&rt, alloc)?;
     Ok(())
