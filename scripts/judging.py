@@ -1,0 +1,79 @@
+"""What the scripts that run the program under faults share: they start it, and compare its status and both outputs."""
+import subprocess
+import sys
+
+LIMIT = 20
+
+
+class Answer:
+    """What a run answered, or should."""
+
+    def __init__(self, status, out=b"", err=b""):
+        self.status = status
+        self.out = out
+        self.err = err
+
+    def __eq__(self, other):
+        return (self.status, self.out, self.err) == (other.status, other.out, other.err)
+
+    def __str__(self):
+        return f"status {self.status}, output {shown(self.out)}, error {shown(self.err)}"
+
+
+def shown(text):
+    if len(text) > 100:
+        return f"{text[:100]!r} and so on, {len(text)} bytes"
+    return repr(text)
+
+
+def fault(line, out=b""):
+    """The answer of a run that failed."""
+    return Answer(3, out, line + b"\n")
+
+
+def run(words, text=None, **options):
+    """Runs a command, on a text where there is one; a command that takes too long has no status."""
+    options.setdefault("stdout", subprocess.PIPE)
+    options.setdefault("stderr", subprocess.PIPE)
+    with subprocess.Popen(words, **options) as process:
+        try:
+            out, err = process.communicate(text, timeout=LIMIT)
+        except subprocess.TimeoutExpired:
+            process.kill()
+            out, err = process.communicate()
+            return Answer("none in time", out or b"", err or b"")
+        return Answer(process.returncode, out or b"", err or b"")
+
+
+class Judge:
+    """Counts what passed and what failed, and prints a line for each group of runs."""
+
+    def __init__(self):
+        self.passed = 0
+        self.failed = 0
+        self.wrong = 0
+
+    def take(self, right, what):
+        if right:
+            self.passed += 1
+        else:
+            self.failed += 1
+            self.wrong += 1
+            if self.wrong <= 5:
+                print(f"FAILED: {what}")
+
+    def same(self, wanted, got, what):
+        self.take(wanted == got, f"{what}: wanted {wanted}; got {got}")
+
+    def close(self, line):
+        """Ends a group."""
+        if self.wrong == 0:
+            print(f"ok: {line}")
+        else:
+            print(f"FAILED: {line}: {self.wrong} of its runs")
+        self.wrong = 0
+        sys.stdout.flush()
+
+    def end(self):
+        print(f"{self.passed} passed, {self.failed} failed")
+        return 1 if self.failed else 0
