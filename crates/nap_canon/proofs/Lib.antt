@@ -1,6 +1,7 @@
 pub mod Rows
 pub mod EqualityLemmas
 pub mod BringLemmas
+pub mod StandingLemmas
 pub mod ModeLemmas
 pub mod TextLemmas
 pub mod WriterLemmas

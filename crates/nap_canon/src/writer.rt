@@ -1,8 +1,10 @@
 //! Writes the canonical text of entries, one after another.
 ghost use Rattle.std.specs.Prelude.{◌≡◌, ◌+◌, ◌≤◌, ◌++◌, [], ◌∷◌, map, length, IfOk, is_err, OnOk, OnErr};
 ghost use Rattle.nap_codes.specs.declared.code_set.GSet.TheVariants.{G1};
+ghost use Rattle.nap_list.specs.Entry.{held};
 ghost use Rattle.nap_list.specs.State.{start, after, Fits};
 ghost use Rattle.nap_canon.specs.declared.piece.Piece.{Piece};
+ghost use Rattle.nap_canon.specs.Bring.{bring};
 ghost use Rattle.nap_canon.specs.Spelling.{size_byte, flag_byte, escape, command_piece};
 ghost use Rattle.nap_canon.specs.Text.{header, piece_bytes, written, gl_behind, gl_after, entry_pieces};
 
@@ -209,6 +211,19 @@ impl<T: ByteSink + Drop> Writer<T> {
         Ok(())
     }
 
+    /// Writes the bring of an entry, which has nothing where all values that it holds stand.
+    fn lead(&mut self, entry: &Entry) -> Result<(), T::Fault>
+        ensures sent { T.sent self.old.to (written self.old.gl (map command_piece (bring self.old.state.drawing (held entry.now)))) (is_err result) self.new.to }
+        ensures gl { OnOk result (self.new.gl ≡ gl_after self.old.gl (map command_piece (bring self.old.state.drawing (held entry.now)))) }
+        ensures state { self.new.state ≡ self.old.state }
+    {
+        if self.state.drawing.stands(entry) {
+            return Ok(());
+        }
+        let bring = Commands::bring(&self.state.drawing, &entry.held());
+        self.commands(&bring)
+    }
+
     /// Writes an entry that may come next: its bring, and its spelling. The state stays where this fails.
     pub(crate) fn put_ref(&mut self, entry: &Entry) -> Result<(), T::Fault>
         requires { Fits self.old.state entry.now }
@@ -217,8 +232,7 @@ impl<T: ByteSink + Drop> Writer<T> {
         ensures state { OnOk result (self.new.state ≡ after self.old.state entry.now) }
         ensures still { OnErr result (self.new.state ≡ self.old.state) }
     {
-        let bring = Commands::bring(&self.state.drawing, &entry.held());
-        self.commands(&bring)?;
+        self.lead(entry)?;
         self.spelling(entry)?;
         self.state.step(entry);
         Ok(())

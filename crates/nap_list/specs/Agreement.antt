@@ -9,7 +9,7 @@ use Rattle.nap_list.specs.declared.state.Opened.{Opened}
 use Rattle.nap_list.specs.declared.state.State.{State}
 use Rattle.nap_list.specs.declared.entry.Entry.{Entry}
 use Rattle.nap_list.specs.Entry.{held, IsCode, WellMade}
-use Rattle.nap_list.specs.State.{PenFits, TextureFits, Comes, Fits, after}
+use Rattle.nap_list.specs.State.{PenFits, TextureFits, Comes, Fits, base_shown, after}
 
 -- An interpreter of a stream keeps values of its own, of which the entries so far may not have shown all. Its values
 -- agree with those shown where an entry made of them would fit.
@@ -59,6 +59,11 @@ pub record Holds (h : Held) (d : Drawing) : Type 0 where
   pub colour : IfSome h.colour (λ colour. colour ≡ d.colour)
   pub texture : IfSome h.texture (λ texture. texture ≡ d.texture)
   pub text : IfSome h.text (λ text. text ≡ d.text)
+
+-- all held values are the standing ones, and a direct colour is the base too: taking them changes nothing
+pub record Stands (h : Held) (d : Drawing) : Type 0 where
+  pub holds : Holds h d
+  pub base : base_shown d.base h.colour ≡ d.base
 
 -- an entry that holds the standing values fits the state shown, and the states agree again after it
 abbrev pub AgreeingFits : Type 0

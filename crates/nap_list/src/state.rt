@@ -1,8 +1,12 @@
 //! The state that a list of entries leaves.
 ghost use Rattle.std.specs.Prelude.{◌≡◌, ◌↔◌, IsTrue};
+ghost use Rattle.nap_list.specs.Entry.{held, ink_values, hand_values, colour_alone};
+ghost use Rattle.nap_list.specs.Agreement.{Stands};
 ghost use Rattle.nap_list.specs.State.{start_texture, start_text, start_drawing, start, corner, PenFits, ColourFits, TextureFits, HeldFits, Comes, Fits, taking, with_pen, saved_values, reset, drawn, definition_after, last_after, after};
 
-use crate::attribute::{Base, CharSize, Colour, Held, Origin, Pen, Preset, TextLook, Texture};
+use crate::attribute::{
+    Base, CharSize, Colour, Hand, Held, Ink, Origin, Pen, Preset, TextLook, Texture,
+};
 use crate::entry::Entry;
 use nap_codes::{CharSet, Mask, Size};
 use nap_values::{Move, Point, Word};
@@ -87,6 +91,24 @@ impl TextLook {
             scroll: false,
         }
     }
+
+    fn modes_stand(&self, wanted: &TextLook) -> bool
+        ensures { IsTrue result ↔ (self.now.reverse ≡ wanted.now.reverse) × (self.now.underline ≡ wanted.now.underline) × (self.now.wrap ≡ wanted.now.wrap) × (self.now.scroll ≡ wanted.now.scroll) }
+    {
+        self.reverse == wanted.reverse
+            && self.underline == wanted.underline
+            && self.wrap == wanted.wrap
+            && self.scroll == wanted.scroll
+    }
+
+    fn stands(&self, wanted: &TextLook) -> bool
+        ensures { IsTrue result ↔ wanted.now ≡ self.now }
+    {
+        self.first == wanted.first
+            && self.second == wanted.second
+            && self.size == wanted.size
+            && self.modes_stand(wanted)
+    }
 }
 
 impl Drawing {
@@ -154,6 +176,66 @@ impl Drawing {
             texture: held.texture.unwrap_or(self.texture),
             text: held.text.unwrap_or(self.text),
         };
+    }
+
+    /// Whether a colour stands, which is the colour of mode 0 where it is direct.
+    fn colour_stands(&self, colour: Colour) -> bool
+        ensures { IsTrue result ↔ Stands (colour_alone colour) self.now }
+    {
+        let in_mode = match colour {
+            Colour::Direct(grb) => self.base == Base::Direct(grb),
+            _ => true,
+        };
+        in_mode && self.colour == colour
+    }
+
+    fn ink_stands(&self, ink: &Ink) -> bool
+        ensures { IsTrue result ↔ Stands (ink_values ink.now) self.now }
+    {
+        self.pel == ink.pel && self.texture == ink.texture && self.colour_stands(ink.colour)
+    }
+
+    fn hand_stands(&self, hand: &Hand) -> bool
+        ensures { IsTrue result ↔ Stands (hand_values hand.now) self.now }
+    {
+        self.pen == hand.pen && self.text.stands(&hand.text) && self.colour_stands(hand.colour)
+    }
+
+    /// Whether each value that the entry holds stands already, so that it needs no bring. No `Held` is built for it.
+    pub fn stands(&self, entry: &Entry) -> bool
+        ensures { IsTrue result ↔ Stands (held entry.now) self.now }
+    {
+        match entry {
+            Entry::Point { pel, colour, .. } => self.pel == *pel && self.colour_stands(*colour),
+            Entry::Line { ink, .. }
+            | Entry::Arc { ink, .. }
+            | Entry::Rect { ink, .. }
+            | Entry::Poly { ink, .. } => self.ink_stands(ink),
+            Entry::Char { hand, .. } | Entry::TextMove { hand, .. } | Entry::ToEol { hand } =>
+                self.hand_stands(hand),
+            Entry::Blink { colour, .. }
+            | Entry::BlinkEnd { colour }
+            | Entry::BlinkMark { colour, .. } => self.colour_stands(*colour),
+            Entry::Field { pen, .. } | Entry::Reset { pen, .. } | Entry::Clear { pen } => {
+                self.pen == *pen
+            }
+            Entry::Map { .. }
+            | Entry::Wait(_)
+            | Entry::Bell
+            | Entry::Cursor(_)
+            | Entry::GlyphStart(_)
+            | Entry::MaskStart(_)
+            | Entry::DefEnd => true,
+        }
+    }
+
+    /// Takes the values that an entry holds, where they don't all stand.
+    fn show(&mut self, entry: &Entry)
+        ensures { self.new ≡ taking self.old (held entry.now) }
+    {
+        if !self.stands(entry) {
+            self.take(&entry.held());
+        }
     }
 
     /// What RESET does to the values, by its two words (our profile).
@@ -307,7 +389,7 @@ impl State {
         requires { Fits self.old entry.now }
         ensures { self.new ≡ after self.old entry.now }
     {
-        self.drawing.take(&entry.held());
+        self.drawing.show(entry);
         self.act(entry);
         self.last = last_char(entry);
     }

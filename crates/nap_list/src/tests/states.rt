@@ -199,3 +199,25 @@ fn a_reset_chooses_colours_by_its_code(rt: HostRuntime) {
     let left = [after_reset(2, 0), after_reset(4, 0), after_reset(6, 0)];
     assert!(rt; left == [Some(own), Some(two), Some(three)]);
 }
+
+#[test]
+fn values_stand_where_each_is_the_same(rt: HostRuntime) {
+    let start = Drawing::start();
+    let small = Entry::Point {
+        at: middle(),
+        pel: size(65_536, 65_536),
+        colour: AT_START,
+    };
+    let stands = [
+        start.stands(&dot(AT_START)),
+        start.stands(&dot(BY_TWO)),
+        start.stands(&small),
+        start.stands(&line(AT_START)),
+        start.stands(&letter(Pen::Start)),
+        start.stands(&letter(Pen::After)),
+        start.stands(&clear(Pen::Start)),
+        start.stands(&Entry::Bell),
+    ];
+    let want = [true, false, false, true, true, false, true, true];
+    assert_eq!(rt; stands, want);
+}
