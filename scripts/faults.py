@@ -104,7 +104,9 @@ PAGES = [
         refusal="refused 18 Store at 1048579",
     ),
 ]
-LONG = Page("thirty thousand points", b"\x0e" + b"&R@@" * 30000, [CENTRE] * 30000, [CENTRE_LINE] * 30000)
+# a run has 2,048 points, of which the first comes behind the opcode
+POINTS = [CENTRE if number % 2048 == 0 else CENTRE[1:] for number in range(30000)]
+LONG = Page("thirty thousand points", b"\x0e" + b"&R@@" * 30000, POINTS, [CENTRE_LINE] * 30000)
 
 program, folder, *tests = sys.argv[1:]
 judge = Judge()

@@ -14,6 +14,8 @@ from judging import Answer, Judge, fault, run
 HEADER = bytes.fromhex("0e215f")
 COMMANDS = [["list"], ["check"], ["canon"], ["canon", "--stream"]]
 CENTRE = bytes.fromhex("2652") + b"@" * 7
+RUN_POINTS = 2048
+RUN = CENTRE[:1] + CENTRE[1:] * RUN_POINTS
 CENTRE_LINE = b"POINT 4194304,4194304 pel=0,0 colour=own-start\n"
 POINT = bytes.fromhex("0e26524040")
 REFUSED = bytes.fromhex("0e26524040287f")
@@ -28,6 +30,12 @@ judge = Judge()
 
 def path_of(name):
     return os.path.join(folder, name)
+
+
+def centres(count):
+    """The canonical text of so many points in the middle: runs as long as they may be."""
+    runs, rest = divmod(count, RUN_POINTS)
+    return RUN * runs + (RUN[: 1 + 8 * rest] if rest else b"")
 
 
 def put(name, pieces):
@@ -177,7 +185,7 @@ class Comparer(threading.Thread):
         super().__init__()
         self.source = source
         self.header = header
-        self.block = piece * 65536
+        self.block = piece * (1 + 589824 // len(piece))
         self.count = 0
         self.same = True
 
@@ -247,7 +255,7 @@ def run_long(words, name, header, piece, limit=None):
 LONG_ANSWERS = [
     (["check"], "points.nap", f"accepted {POINTS} entries\n".encode(), b"\n", 0),
     (["check"], "fill.nap", b"accepted 0 entries\n", b"\n", 0),
-    (["canon", "--stream"], "points.nap", HEADER, CENTRE, POINTS),
+    (["canon", "--stream"], "points.nap", HEADER, RUN, len(centres(POINTS))),
     (["canon", "--stream"], "fill.nap", HEADER, b"\n", 0),
     (["list"], "fill.nap", b"", b"\n", 0),
     (["canon"], "fill.nap", HEADER, b"\n", 0),
@@ -255,11 +263,11 @@ LONG_ANSWERS = [
 
 
 def test_long(limit):
-    for words, name, header, piece, count in LONG_ANSWERS:
+    for words, name, header, piece, more in LONG_ANSWERS:
         status, told, comparer, peak, seconds = run_long(words, name, header, piece, limit)
         room = f", in {limit // MEBIBYTE} MiB" if limit else ""
         what = f"long: {' '.join(words)}, {name}{room}"
-        size = len(header) + count * len(piece)
+        size = len(header) + more
         judge.take(
             (status, told, comparer.same, comparer.count) == (0, b"", True, size),
             f"{what}: status {status}, error {told!r}, {comparer.count} bytes of {size}, same {comparer.same}",
@@ -270,7 +278,8 @@ def test_long(limit):
 
 def test_limit():
     """Lists and texts that don't fit: want of memory, with nothing printed."""
-    for words, piece in ((["list"], CENTRE_LINE), (["canon"], CENTRE)):
+    texts = ((["list"], CENTRE_LINE, POINTS * len(CENTRE_LINE)), (["canon"], RUN, len(centres(POINTS))))
+    for words, piece, size in texts:
         header = HEADER if words == ["canon"] else b""
         status, told, comparer, peak, seconds = run_long(words, "points.nap", header, piece, LONG)
         what = f"long: {' '.join(words)}, points.nap, in 64 MiB"
@@ -278,7 +287,7 @@ def test_limit():
         refused = status == 1 and place.isdigit() and int(place) <= LONG and comparer.count == 0
         wanting = status == 3 and told == b"no memory\n" and comparer.count == 0
         ample = status == 0 and told == b"" and comparer.same
-        ample = ample and comparer.count == len(header) + POINTS * len(piece)
+        ample = ample and comparer.count == len(header) + size
         judge.take(refused or wanting or ample, f"{what}: status {status}, error {told!r}, {comparer.count} bytes")
         judge.close(f"{what}: {told.decode().strip() or 'accepted'}, {peak} KiB at most, {seconds:.1f} s")
 
@@ -296,7 +305,7 @@ def test_little():
     ample = {
         "list": Answer(0, CENTRE_LINE * count),
         "check": Answer(0, b"accepted %d entries\n" % count),
-        "canon": Answer(0, HEADER + CENTRE * count),
+        "canon": Answer(0, HEADER + centres(count)),
     }
     counts = {"right": 0, "no memory": 0, "refused for memory": 0, "not loaded": 0}
     for words in COMMANDS:
@@ -335,7 +344,7 @@ def start(number):
     bad = number % 5 == 0
     page = b"\x0e" + b"&R@@" * count + (b"\x18" if bad else b"")
     refusal = b"refused 6 LeftOut CAN at %d\n" % (1 + 4 * count)
-    text = CENTRE_LINE * count if words == ["list"] else HEADER + CENTRE * count
+    text = CENTRE_LINE * count if words == ["list"] else HEADER + centres(count)
     if words == ["check"]:
         wanted = Answer(1, refusal) if bad else Answer(0, b"accepted %d entries\n" % count)
     elif bad:

@@ -21,7 +21,8 @@ use Rattle.nap_draw.specs.Rule.{Drawn, drawn}
 use Rattle.nap_reader.specs.Laws.{IsAlone}
 use Rattle.nap_reader.specs.Stream.{Placed, Machine, placed_from}
 use Rattle.nap_canon.specs.Spelling.{primary, control, escape, char_piece}
-use Rattle.nap_canon.specs.Text.{piece_bytes, written, gl_after}
+use Rattle.nap_canon.specs.declared.tail.Tail.TheVariants.{Apart}
+use Rattle.nap_canon.specs.Text.{piece_bytes, written, tail_after}
 use Rattle.nap_canon.proofs.CodeLemmas.{code_reads}
 use Rattle.nap_canon.proofs.PieceLemmas.{Acts, at, sets_with}
 use Rattle.nap_canon.proofs.ReadLemmas.{Reads}
@@ -32,7 +33,7 @@ use Rattle.nap_canon.proofs.ReadLemmas.{Reads}
 pub alone_acts : (budget : ℕ) (gl : GSet) (work : Work) (before : List ℕ) (last : ℕ) (c : Code) (d : Drawn) → IsAlone c →
     Spells (sets_with gl) (before ++ last ∷ []) c (sets_with gl) → code_rule work c ≡ Ok d →
     Acts budget gl work (control (before ++ last ∷ []) ∷ []) d.entries d.work
-unfolding written gl_after
+unfolding written tail_after
 alone_acts budget gl work before last c d alone spells by n xs more end anew behind =
     subst (λ (bs : List ℕ). Reads (at budget gl work) (placed_from n bs ++ xs) (d.entries ++ more) end) (sym (append-nil (before ++ last ∷ [])))
     (code_reads budget (sets_with gl) work n before last c (sets_with gl) d xs more end alone spells by behind)
@@ -65,7 +66,7 @@ primary_in_gl budget work byte d graphic by n xs more end behind =
 
 primary_shifted : (budget : ℕ) (gl : GSet) (work : Work) (byte : ℕ) (n : ℕ) (xs : List Placed) (es : List Entry) (end : Machine) →
     ((k : ℕ) → Reads (at budget G0 work) (placed_from k (byte ∷ []) ++ xs) es end) →
-    Reads (at budget gl work) (placed_from n (piece_bytes gl (primary byte)) ++ xs) es end
+    Reads (at budget gl work) (placed_from n (piece_bytes (Apart gl) (primary byte)) ++ xs) es end
 unfolding placed_from
 primary_shifted budget G0 work byte n xs es end read = read n
 primary_shifted budget G1 work byte n xs es end read = shifts_in budget G1 work n (placed_from (suc n) (byte ∷ []) ++ xs) es end (read (suc n))
@@ -74,9 +75,9 @@ primary_shifted budget G3 work byte n xs es end read = shifts_in budget G3 work 
 
 pub primary_acts : (budget : ℕ) (gl : GSet) (work : Work) (byte : ℕ) (d : Drawn) → IsGraphic byte → code_rule work (code.Char chars.Primary byte) ≡ Ok d →
     Acts budget gl work (primary byte ∷ []) d.entries d.work
-unfolding written gl_after
+unfolding written tail_after
 primary_acts budget gl work byte d graphic by n xs more end anew behind =
-    subst (λ (bs : List ℕ). Reads (at budget gl work) (placed_from n bs ++ xs) (d.entries ++ more) end) (sym (append-nil (piece_bytes gl (primary byte))))
+    subst (λ (bs : List ℕ). Reads (at budget gl work) (placed_from n bs ++ xs) (d.entries ++ more) end) (sym (append-nil (piece_bytes (Apart gl) (primary byte))))
     (primary_shifted budget gl work byte n xs (d.entries ++ more) end (λ k. primary_in_gl budget work byte d graphic by k xs more end behind))
 
 -- a character of the DRCS, which is in G3 for that time alone
@@ -99,7 +100,7 @@ drcs_spelled gl byte graphic = single_shift3 graphic refl
 
 pub drcs_acts : (budget : ℕ) (gl : GSet) (work : Work) (byte : ℕ) (d : Drawn) → IsGraphic byte → code_rule work (code.Char chars.Drcs byte) ≡ Ok d →
     Acts budget gl work (char_piece chars.Drcs byte ∷ []) d.entries d.work
-unfolding written gl_after placed_from walk
+unfolding written tail_after placed_from walk
 drcs_acts budget gl work byte d graphic by n xs more end anew behind =
     let fourth : ℕ = suc (suc (suc n)) in
     let sixth : ℕ = suc (suc fourth) in

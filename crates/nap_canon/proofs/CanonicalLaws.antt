@@ -7,6 +7,8 @@ use Rattle.nap_list.specs.State.{start, walk}
 use Rattle.nap_draw.specs.Rule.{start_domain}
 use Rattle.nap_reader.specs.Stream.{Outcome}
 use Rattle.nap_reader.proofs.PublicLaws.{accepted_is_legal, read_values_are_in_range}
+use Rattle.nap_canon.specs.declared.form.Form.{Form}
+use Rattle.nap_canon.specs.declared.form.Form.TheVariants.{Two}
 use Rattle.nap_canon.specs.Laws.{IsReadAs, text_lengths, TextIsRead, TextLeads, CanonicalStreamsAgree}
 use Rattle.nap_canon.specs.Plain.{IsPlain}
 use Rattle.nap_canon.specs.Streams.{IsAccepted, list_of, IsCanonicalOf}
@@ -15,9 +17,9 @@ use Rattle.nap_canon.proofs.ListLemmas.{text_reads, means_text}
 use Rattle.nap_canon.proofs.SavedLemmas.{SavesLengths, saved_along, saves_along}
 use Rattle.nap_canon.proofs.PlainTexts.{text_is_plain}
 
-pub text_is_read : TextIsRead
-text_is_read budget es legal inside =
-    let is = means_text budget es inside legal in
+pub text_is_read : (form : Form) → TextIsRead form
+text_is_read form budget es legal inside =
+    let is = means_text form budget es inside legal in
     record {
       accepted = ap (λ (o : Outcome). o.refusal) is;
       list = ap (λ (o : Outcome). o.entries) is;
@@ -28,9 +30,9 @@ saved_lengths : (saved : OperandLengths) (o : Option Opened) → SavesLengths sa
 saved_lengths saved (Some opened) h some = h
 saved_lengths saved None h never = let bad : ⊥ = cc in absurd bad
 
-pub text_leads : TextLeads
-text_leads budget es fits inside =
-    let reads = text_reads budget es inside fits in
+pub text_leads : (form : Form) → TextLeads form
+text_leads form budget es fits inside =
+    let reads = text_reads form budget es inside fits in
     record {
       going = reads.going;
       unrefused = ap (λ (o : Outcome). o.refusal) reads.acts;
@@ -46,12 +48,12 @@ text_leads budget es fits inside =
 pub read_as : (budget other : ℕ) (c p : List ℕ) → IsCanonicalOf budget c p → IsReadAs other c (list_of budget p)
 read_as budget other c p canonical =
     subst (λ (bytes : List ℕ). IsReadAs other bytes (list_of budget p)) (sym canonical.text_is)
-    (text_is_read other (list_of budget p) (accepted_is_legal budget p canonical.accepted) (read_values_are_in_range budget p).1)
+    (text_is_read Two other (list_of budget p) (accepted_is_legal budget p canonical.accepted) (read_values_are_in_range budget p).1)
 
 pub plain_text : (budget : ℕ) (c p : List ℕ) → IsCanonicalOf budget c p → IsPlain c
 plain_text budget c p canonical =
     subst IsPlain (sym canonical.text_is)
-    (text_is_plain (list_of budget p) (accepted_is_legal budget p canonical.accepted).fit (read_values_are_in_range budget p).1)
+    (text_is_plain Two (list_of budget p) (accepted_is_legal budget p canonical.accepted).fit (read_values_are_in_range budget p).1)
 
 pub equal_texts : (budget other : ℕ) (c p d q : List ℕ) → IsCanonicalOf budget c p → IsCanonicalOf other d q →
     (c ≡ d) ↔ (list_of budget p ≡ list_of other q)

@@ -19,7 +19,9 @@ use Rattle.nap_canon.specs.declared.command.Flag.{Flag}
 use Rattle.nap_canon.specs.declared.command.Flag.TheVariants as flags
 use Rattle.nap_canon.specs.Commands.{effect, effects}
 use Rattle.nap_canon.specs.Spelling.{opcode, word_byte, command_piece, size_byte, flag_byte}
-use Rattle.nap_canon.specs.Text.{gl_after}
+use Rattle.nap_canon.specs.declared.tail.Tail.{Tail}
+use Rattle.nap_canon.specs.declared.tail.Tail.TheVariants.{Apart}
+use Rattle.nap_canon.specs.Text.{tail_after}
 use Rattle.nap_canon.proofs.OperandLemmas.{AreOperands, no_bytes, word_bytes, both_bytes, move_operand, point_operand, colour_operand, address_operand}
 use Rattle.nap_canon.proofs.CommandRanges.{CommandInRange}
 use Rattle.nap_canon.proofs.AloneLemmas.{escape_acts}
@@ -27,7 +29,7 @@ use Rattle.nap_canon.proofs.CommandRules as rules
 use Rattle.nap_canon.proofs.CommandRules.{work_at, performed, IsModeZero}
 use Rattle.nap_canon.proofs.ControlRows.{size_row, flag_code, flag_row}
 use Rattle.nap_canon.proofs.NameLemmas as names
-use Rattle.nap_canon.proofs.PieceLemmas.{Acts, Begins, Names, acts_nothing, acts_behind, opcode_acts}
+use Rattle.nap_canon.proofs.PieceLemmas.{Acts, Begins, Names, gl_after, acts_nothing, acts_behind, opcode_acts}
 
 -- What a reader does with the bytes of a command: what the command does.
 
@@ -94,26 +96,26 @@ abbrev pub AllTake : List Command → Drawing → Type 0
 AllTake [] d = ⊤
 AllTake (c ∷ cs) d = Takes c d × AllTake cs (effect c d)
 
-pub commands_begin : (cs : List Command) → Begins (map command_piece cs)
-commands_begin [] = tt
-commands_begin (commands.PointSet p ∷ cs) = omega arith
-commands_begin (commands.Pel m ∷ cs) = omega arith
-commands_begin (commands.SelectBase ∷ cs) = omega arith
-commands_begin (commands.SelectFront a ∷ cs) = omega arith
-commands_begin (commands.SelectPair a b ∷ cs) = omega arith
-commands_begin (commands.SetColor grb ∷ cs) = omega arith
-commands_begin (commands.Texture word ∷ cs) = omega arith
-commands_begin (commands.TextureMask word m ∷ cs) = omega arith
-commands_begin (commands.Text first second ∷ cs) = omega arith
-commands_begin (commands.TextSize first second m ∷ cs) = omega arith
-commands_begin (commands.Named size ∷ cs) = omega arith
-commands_begin (commands.Flag flag on ∷ cs) = omega arith
+pub commands_begin : (t : Tail) (cs : List Command) → Begins t (map command_piece cs)
+commands_begin t [] = tt
+commands_begin t (commands.PointSet p ∷ cs) = omega arith
+commands_begin t (commands.Pel m ∷ cs) = omega arith
+commands_begin t (commands.SelectBase ∷ cs) = omega arith
+commands_begin t (commands.SelectFront a ∷ cs) = omega arith
+commands_begin t (commands.SelectPair a b ∷ cs) = omega arith
+commands_begin t (commands.SetColor grb ∷ cs) = omega arith
+commands_begin t (commands.Texture word ∷ cs) = omega arith
+commands_begin t (commands.TextureMask word m ∷ cs) = omega arith
+commands_begin t (commands.Text first second ∷ cs) = omega arith
+commands_begin t (commands.TextSize first second m ∷ cs) = omega arith
+commands_begin t (commands.Named size ∷ cs) = omega arith
+commands_begin t (commands.Flag flag on ∷ cs) = omega arith
 
 pub commands_act : (budget : ℕ) (gl : GSet) (saved : OperandLengths) (s : State) (cs : List Command) → All CommandInRange cs → AllTake cs s.drawing →
     Acts budget gl (work_at saved s) (map command_piece cs) [] (work_at saved (record s { drawing = effects cs s.drawing }))
 commands_act budget gl saved s [] inside all = acts_nothing budget gl (work_at saved s)
 commands_act budget gl saved s (c ∷ cs) inside all =
     let next : State = record s { drawing = effect c s.drawing } in
-    acts_behind budget gl (command_piece c ∷ []) (map command_piece cs) (work_at saved s) (work_at saved next) (work_at saved (record next { drawing = effects cs next.drawing })) [] [] (commands_begin cs)
+    acts_behind budget gl (command_piece c ∷ []) (map command_piece cs) (work_at saved s) (work_at saved next) (work_at saved (record next { drawing = effects cs next.drawing })) [] [] (commands_begin (tail_after (Apart gl) (command_piece c ∷ [])) cs)
     (command_acts budget gl saved s c (All-head CommandInRange c cs inside) all.0)
     (commands_act budget (gl_after gl (command_piece c ∷ [])) saved next cs (All-tail CommandInRange c cs inside) all.1)

@@ -2,8 +2,9 @@ use Rattle.std.proofs.Common.{ℕ, ◌≡◌, ◌≢◌, ◌⊎◌, Bool, true, 
 use Rattle.std.proofs.lemmas.List.{take-append-drop}
 use Rattle.std.specs.Io.KnownBytes.{Appends, Keeps}
 use Rattle.std.proofs.KnownBytes.{Appends-kept, Consumes-nil}
-use Rattle.nap_codes.specs.declared.code_set.GSet.{GSet}
-use Rattle.nap_codes.specs.declared.code_set.GSet.TheVariants.{G1}
+use Rattle.nap_canon.specs.declared.tail.Tail.{Tail}
+use Rattle.nap_canon.specs.declared.form.Form.{Form}
+use Rattle.nap_canon.specs.declared.form.Form.TheVariants.{Two}
 use Rattle.nap_draw.specs.Draws.{Cause, stream, memory, device}
 use Rattle.nap_list.specs.declared.device.Inlet as inlet
 use Rattle.nap_list.specs.declared.device.Outlet as outlet
@@ -29,9 +30,10 @@ use Rattle.nap_canon.specs.Converting.{StopsAtOnce, count_of, IsFrontOf, Refuses
 use Rattle.nap_canon.specs.Sinking.{Canonical, sending, shown, bytes_of, bytes_behind, Sends, Grows, Begun, Took, Broke}
 use Rattle.nap_canon.specs.SinkLaws.{grows_more}
 use Rattle.nap_canon.specs.Streams.{list_of}
-use Rattle.nap_canon.specs.Text.{header, written, gl_after, pieces, entry_pieces, text}
-use Rattle.nap_canon.specs.TextParts.{written-append, pieces-append}
-use Rattle.nap_canon.proofs.SinkingLemmas.{sink_writes_text}
+use Rattle.nap_canon.specs.Text.{header, begun_tail, written, tail_after, pieces, entry_pieces, text}
+use Rattle.nap_canon.specs.TextParts.{written-append}
+use Rattle.nap_canon.proofs.SinkingLemmas.{first_of_text, header_sent, sink_writes_text}
+use Rattle.nap_canon.proofs.TextLemmas.{text_of_entries}
 
 -- fronts
 
@@ -42,13 +44,8 @@ front_trans : {A : Type 0} (xs ys zs : List A) → IsFrontOf xs ys → IsFrontOf
 front_trans {A} xs ys zs h k = (h.0 ++ k.0, k.1 ∙ ap (λ (front : List A). front ++ k.0) h.1 ∙ append_assoc xs h.0 k.0)
 
 -- the text of the first entries stands first in that of all
-text_more : (d e : List Entry) → text (d ++ e) ≡ text d ++ written (gl_after G1 (pieces start d)) (pieces (walk start d) e)
-text_more d e =
-    ap (λ (bytes : List ℕ). header ++ bytes) (ap (written G1) (pieces-append start d e) ∙ written-append G1 (pieces start d) (pieces (walk start d) e))
-    ∙ sym (append_assoc header (written G1 (pieces start d)) (written (gl_after G1 (pieces start d)) (pieces (walk start d) e)))
-
 text_front : (d e : List Entry) → IsFrontOf d e → IsFrontOf (text d) (text e)
-text_front d e h = (written (gl_after G1 (pieces start d)) (pieces (walk start d) h.0), ap text h.1 ∙ text_more d h.0)
+text_front d e h = (written (tail_after begun_tail (pieces Two start d)) (pieces Two (walk start d) h.0), ap text h.1 ∙ text_of_entries Two d h.0)
 
 module _ {O : Type 0} (o : outlet.Ghosts O) (w : O) (s : Canonical O) (begins : Begun o w s) (works : o.failed s.outlet ≡ false) where
   -- the text of what a sink took went out
@@ -61,12 +58,11 @@ module _ {O : Type 0} (o : outlet.Ghosts O) (w : O) (s : Canonical O) (begins : 
 
   broke_text : (t : Canonical O) (d : List Entry) (e : Entry) (h : Broke o s d e t) → Grows (sending o w 0) (broke_bytes t d e h) (shown o t)
   broke_text t d e h =
-      let none : Sends (sending o w 0) header false (shown o s) = subst (λ (broke : Bool). Sends (sending o w 0) header broke (shown o s)) works begins.begins in
+      let none = header_sent Two o w s begins works in
       let part = take h.part (bytes_behind s d e) in
-      let bytes : bytes_of s d ≡ written G1 (pieces start d) =
-      ap (λ (gl : GSet). written gl (pieces s.state d)) begins.gl ∙ ap (λ (u : State). written G1 (pieces u d)) begins.state in
+      let bytes = first_of_text Two o w s begins works d in
       let all : header ++ (bytes_of s d ++ part) ≡ text d ++ part =
-      ap (λ (bs : List ℕ). header ++ (bs ++ part)) bytes ∙ sym (append_assoc header (written G1 (pieces start d)) part) in
+      ap (λ (bs : List ℕ). header ++ (bs ++ part)) bytes ∙ sym (append_assoc header (written begun_tail (pieces Two start d)) part) in
       subst (λ (bs : List ℕ). Grows (sending o w 0) bs (shown o t)) all
       (grows_more (sending o w 0) (shown o s) (shown o t) header (bytes_of s d ++ part) none.grows h.grows)
 
@@ -75,17 +71,18 @@ module _ {O : Type 0} (o : outlet.Ghosts O) (w : O) (s : Canonical O) (begins : 
   unfolding pieces
   broke_front t d e rest h =
       let u = walk start d in
-      let gl = gl_after G1 (pieces start d) in
-      let one = entry_pieces u e in
-      let behind : bytes_behind s d e ≡ written gl one =
-      ap (λ (g : GSet). written (gl_after g (pieces s.state d)) (entry_pieces (walk s.state d) e)) begins.gl
-      ∙ ap (λ (v : State). written (gl_after G1 (pieces v d)) (entry_pieces (walk v d) e)) begins.state in
-      let later = written (gl_after gl one) (pieces (after u e) rest) in
-      let more : written gl (pieces u (e ∷ rest)) ≡ bytes_behind s d e ++ later =
-      written-append gl one (pieces (after u e) rest) ∙ ap (λ (bs : List ℕ). bs ++ later) (sym behind) in
+      let tail = tail_after begun_tail (pieces Two start d) in
+      let one = entry_pieces Two u e in
+      let behind : bytes_behind s d e ≡ written tail one =
+      ap (λ (f : Form). written (tail_after s.tail (pieces f s.state d)) (entry_pieces f (walk s.state d) e)) begins.form_is
+      ∙ ap (λ (t : Tail). written (tail_after t (pieces Two s.state d)) (entry_pieces Two (walk s.state d) e)) begins.tail
+      ∙ ap (λ (v : State). written (tail_after begun_tail (pieces Two v d)) (entry_pieces Two (walk v d) e)) begins.state in
+      let later = written (tail_after tail one) (pieces Two (after u e) rest) in
+      let more : written tail (pieces Two u (e ∷ rest)) ≡ bytes_behind s d e ++ later =
+      written-append tail one (pieces Two (after u e) rest) ∙ ap (λ (bs : List ℕ). bs ++ later) (sym behind) in
       let parts : bytes_behind s d e ≡ take h.part (bytes_behind s d e) ++ drop h.part (bytes_behind s d e) = sym (take-append-drop h.part (bytes_behind s d e)) in (
         drop h.part (bytes_behind s d e) ++ later,
-        text_more d (e ∷ rest)
+        text_of_entries Two d (e ∷ rest)
             ∙ ap (λ (bs : List ℕ). text d ++ bs) (more ∙ ap (λ (bs : List ℕ). bs ++ later) parts ∙ append_assoc (take h.part (bytes_behind s d e)) (drop h.part (bytes_behind s d e)) later)
             ∙ sym (append_assoc (text d) (take h.part (bytes_behind s d e)) (drop h.part (bytes_behind s d e) ++ later)),
       )
@@ -234,8 +231,8 @@ module _ {O : Type 0} (o : outlet.Ghosts O) (w : O) (s : Canonical O) (begins : 
       let sent : Sends (sending o w 0) header true (shown o s) = subst (λ (broke : Bool). Sends (sending o w 0) header broke (shown o s)) fails begins.begins in
       let q = take sent.part header in
       let front : (d : List Entry) → IsFrontOf q (text d) = λ d. (
-        drop sent.part header ++ written G1 (pieces start d),
-        ap (λ (bytes : List ℕ). bytes ++ written G1 (pieces start d)) (sym (take-append-drop sent.part header)) ∙ append_assoc q (drop sent.part header) (written G1 (pieces start d)),
+        drop sent.part header ++ written begun_tail (pieces Two start d),
+        ap (λ (bytes : List ℕ). bytes ++ written begun_tail (pieces Two start d)) (sym (take-append-drop sent.part header)) ∙ append_assoc q (drop sent.part header) (written begun_tail (pieces Two start d)),
       ) in
       let is : answer ≡ Err (fault.Write s.written) = subst (λ (b : Bool). Concludes s.written (Ok tt) b answer) failed ends in (
         q,

@@ -1,13 +1,12 @@
-use Rattle.std.proofs.Common.{ℕ, ◌≡◌, ◌≤◌, ◌+◌, ◌*◌, List, [], ◌∷◌, ◌++◌, length, map, All, Bool, true, false, Option, Some, Ok, ap, subst, arith}
+use Rattle.std.proofs.Common.{ℕ, ◌≡◌, ◌≤◌, ◌+◌, ◌*◌, List, [], ◌∷◌, ◌++◌, refl, length, map, All, Bool, true, false, Option, Some, Ok, ap, subst, arith}
 use Rattle.std.specs.Prelude.{◌/◌, ◌%◌, ◌==◌, if◌then◌else◌}
 use Rattle.std.proofs.lemmas.List.Elements.{All-nil, All-cons, All-head, All-tail}
-use Rattle.nap_values.specs.Coordinates.{Coordinates, IsInSquare, displacement_to}
+use Rattle.nap_values.specs.Coordinates.{Coordinates, IsInSquare}
 use Rattle.nap_values.specs.Colours.{Components, HasSixteenBitParts}
 use Rattle.nap_values.specs.Domains.{OperandLengths}
 use Rattle.nap_values.specs.Laws.{IsWord}
 use Rattle.nap_values.specs.Spellings as spellings
 use Rattle.nap_values.specs.Spellings.{move_bytes, point_bytes, addr_bytes, grb_bytes}
-use Rattle.nap_values.proofs.PublicLaws.{displacements_lead_there}
 use Rattle.nap_codes.specs.declared.code_set.GSet.{GSet}
 use Rattle.nap_codes.specs.declared.opcode.Opcode.{Opcode}
 use Rattle.nap_codes.specs.declared.opcode.Opcode.TheVariants as opcodes
@@ -32,12 +31,19 @@ use Rattle.nap_draw.specs.Geometry.{arc_points, poly_points}
 use Rattle.nap_draw.specs.Rule as rule
 use Rattle.nap_draw.specs.Rule.{Drawn, ink_of}
 use Rattle.nap_reader.specs.Stream.{run_limit}
+use Rattle.nap_canon.specs.Text.{tail_after}
+use Rattle.nap_canon.specs.declared.form.Form.{Form}
+use Rattle.nap_canon.specs.declared.form.Form.TheVariants as forms
+use Rattle.nap_canon.specs.declared.tail.Tail.{Tail}
+use Rattle.nap_canon.specs.declared.tail.Tail.TheVariants.{Apart}
+use Rattle.nap_codes.specs.declared.code_set.GSet.TheVariants.{G1}
+use Rattle.nap_list.specs.declared.attribute.Pen.TheVariants as pens
+use Rattle.nap_canon.specs.Equality.{same_pen}
 use Rattle.nap_canon.specs.Range.{HeldInRange}
-use Rattle.nap_canon.specs.Spelling.{opcode, domain, word_byte, onward_bytes, shape_bytes, domain_again, map_pieces, command_piece, spelled}
+use Rattle.nap_canon.specs.Spelling.{opcode, domain, word_byte, shape_bytes, domain_again, line_piece, map_pieces, command_piece, spelled}
 use Rattle.nap_canon.specs.declared.command.Command.{Command}
 use Rattle.nap_canon.specs.Commands.{effects}
 use Rattle.nap_canon.specs.Bring.{bring_colour}
-use Rattle.nap_canon.specs.Text.{gl_after}
 use Rattle.nap_canon.proofs.BringLemmas.{colour_leads}
 use Rattle.nap_canon.proofs.CommandRules.{work_at}
 use Rattle.nap_canon.proofs.CommandLemmas.{commands_act}
@@ -46,11 +52,14 @@ use Rattle.nap_canon.proofs.DefinitionLemmas as definitions
 use Rattle.nap_canon.proofs.EntryRules as rules
 use Rattle.nap_canon.proofs.HoldingLemmas.{holding, after_holding, held_work, entry_drawn, Draws, drawn_draws}
 use Rattle.nap_canon.proofs.NameLemmas as names
-use Rattle.nap_canon.proofs.OperandLemmas.{word_of, AreOperands, no_bytes, word_bytes, both_bytes, move_operand, point_operand, colour_operand, address_operand}
+use Rattle.nap_canon.proofs.OperandLemmas.{word_of, AreOperands, no_bytes, word_bytes, both_bytes, colour_operand, address_operand}
 use Rattle.nap_canon.proofs.CommandRanges as ranges
 use Rattle.nap_canon.proofs.TakeLemmas.{takes_colour}
 use Rattle.nap_canon.proofs.SavedLemmas.{SavesLengths, saved_after}
-use Rattle.nap_canon.proofs.PieceLemmas.{Acts, Begins, Names, acts_nothing, acts_behind, opcode_acts}
+use Rattle.nap_canon.proofs.EqualityLemmas.{pen_is}
+use Rattle.nap_canon.proofs.PieceLemmas.{Acts, Begins, Names, gl_after, acts_nothing, acts_behind, opcode_acts}
+use Rattle.nap_canon.proofs.ShapeLemmas.{shape_operands}
+use Rattle.nap_canon.proofs.StrokeLemmas.{group_draws, stroke_draws, point_strokes, line_strokes, on_line_strokes, rect_strokes}
 
 -- What a reader does with an entry's own spelling, where the values that it holds stand.
 
@@ -93,22 +102,9 @@ opcode_draws budget gl saved s e byte bytes size op named operands few by =
     drawn_draws budget gl saved s e (opcode byte bytes ∷ [])
     (opcode_acts budget gl (held_work saved s e) byte bytes op (entry_drawn saved s e) named operands.carriers (omega (arith, operands.size_is, few)) by)
 
-pub onward_operands : (p : Coordinates) (qs : List Coordinates) → IsInSquare p → All IsInSquare qs → AreOperands (onward_bytes p qs) (8 * length qs)
-unfolding onward_bytes
-onward_operands p [] inside all = no_bytes
-onward_operands p (q ∷ qs) inside all =
-    let next : IsInSquare q = All-head IsInSquare q qs all in
-    let step = (displacements_lead_there p q inside next).0 in
-    let more = both_bytes (move_bytes (displacement_to p q)) (onward_bytes q qs) 8 (8 * length qs)
-    (move_operand (displacement_to p q) step) (onward_operands q qs next (All-tail IsInSquare q qs all)) in
-    record { size_is = omega (arith, more.size_is); carriers = more.carriers }
-
-pub shape_operands : (p : Coordinates) (qs : List Coordinates) → IsInSquare p → All IsInSquare qs → AreOperands (shape_bytes (p ∷ qs)) (8 + 8 * length qs)
-shape_operands p qs inside all = both_bytes (point_bytes p) (onward_bytes p qs) 8 (8 * length qs) (point_operand p inside) (onward_operands p qs inside all)
-
 arc_acts : (budget : ℕ) (gl : GSet) (saved : OperandLengths) (s : State) (filled : Bool) (p q r : Coordinates) (rs : List Coordinates) (ink : Ink) →
     All IsInSquare (p ∷ q ∷ r ∷ rs) → length (p ∷ q ∷ r ∷ rs) ≤ SHAPE_POINTS →
-    Acts budget gl (work_at saved (holding s (entries.Arc filled (p ∷ q ∷ r ∷ rs) ink))) (spelled (taking s.drawing (ink_values ink)) (entries.Arc filled (p ∷ q ∷ r ∷ rs) ink))
+    Acts budget gl (work_at saved (holding s (entries.Arc filled (p ∷ q ∷ r ∷ rs) ink))) (spelled forms.Two (taking s.drawing (ink_values ink)) (entries.Arc filled (p ∷ q ∷ r ∷ rs) ink))
     (entries.Arc filled (p ∷ q ∷ r ∷ rs) ink ∷ []) (work_at saved (after s (entries.Arc filled (p ∷ q ∷ r ∷ rs) ink)))
 arc_acts budget gl saved s false p q r rs ink all few =
     let first : IsInSquare p = All-head IsInSquare p (q ∷ r ∷ rs) all in
@@ -127,7 +123,7 @@ arc_acts budget gl saved s true p q r rs ink all few =
 
 poly_acts : (budget : ℕ) (gl : GSet) (saved : OperandLengths) (s : State) (filled : Bool) (p q : Coordinates) (qs : List Coordinates) (ink : Ink) →
     All IsInSquare (p ∷ q ∷ qs) → length (p ∷ q ∷ qs) ≤ SHAPE_POINTS →
-    Acts budget gl (work_at saved (holding s (entries.Poly filled (p ∷ q ∷ qs) ink))) (spelled (taking s.drawing (ink_values ink)) (entries.Poly filled (p ∷ q ∷ qs) ink))
+    Acts budget gl (work_at saved (holding s (entries.Poly filled (p ∷ q ∷ qs) ink))) (spelled forms.Two (taking s.drawing (ink_values ink)) (entries.Poly filled (p ∷ q ∷ qs) ink))
     (entries.Poly filled (p ∷ q ∷ qs) ink ∷ []) (work_at saved (after s (entries.Poly filled (p ∷ q ∷ qs) ink)))
 poly_acts budget gl saved s false p q qs ink all few =
     let first : IsInSquare p = All-head IsInSquare p (q ∷ qs) all in
@@ -144,22 +140,21 @@ poly_acts budget gl saved s true p q qs ink all few =
     (shape_operands p (q ∷ qs) first others) (omega (arith, few))
     (rules.shape_rule saved (holding s e) (rule.poly_on true) poly_points p q qs first others (omega (arith, few)) (rules.poly_leads p (q ∷ qs)))
 
-rect_acts : (budget : ℕ) (gl : GSet) (saved : OperandLengths) (s : State) (filled : Bool) (p q : Coordinates) (ink : Ink) → IsInSquare p → IsInSquare q →
-    Acts budget gl (work_at saved (holding s (entries.Rect filled p q ink))) (spelled (taking s.drawing (ink_values ink)) (entries.Rect filled p q ink))
-    (entries.Rect filled p q ink ∷ []) (work_at saved (after s (entries.Rect filled p q ink)))
-rect_acts budget gl saved s false p q ink first second =
-    let all : All IsInSquare (q ∷ []) = All-cons IsInSquare q [] second (All-nil IsInSquare) in
-    let e : Entry = entries.Rect false p q ink in
-    opcode_draws budget gl saved s e 0x32 (shape_bytes (p ∷ q ∷ [])) 16 opcodes.SetRectOutlined names.rect_outlined_named (shape_operands p (q ∷ []) first all) (omega arith)
-    (rules.rect_outlined_rule saved (holding s e) p q first all)
-rect_acts budget gl saved s true p q ink first second =
-    let all : All IsInSquare (q ∷ []) = All-cons IsInSquare q [] second (All-nil IsInSquare) in
-    let e : Entry = entries.Rect true p q ink in
-    opcode_draws budget gl saved s e 0x33 (shape_bytes (p ∷ q ∷ [])) 16 opcodes.SetRectFilled names.rect_filled_named (shape_operands p (q ∷ []) first all) (omega arith)
-    (rules.rect_filled_rule saved (holding s e) p q first all)
+line_acts : (form : Form) (budget : ℕ) (gl : GSet) (saved : OperandLengths) (s : State) (from to : Coordinates) (ink : Ink) → IsInSquare from → IsInSquare to →
+    Draws budget gl saved s (entries.Line from to ink) (line_piece form s.drawing.pen from to ∷ [])
+line_acts forms.One budget gl saved s from to ink first second =
+    stroke_draws forms.One budget gl saved s (entries.Line from to ink) 0x2A (point_bytes from ++ point_bytes to) (line_strokes saved s from to ink first second)
+line_acts forms.Two budget gl saved s from to ink first second = by (same_pen s.drawing.pen (pens.At from)) refl
+  where
+    by : (same : Bool) → same_pen s.drawing.pen (pens.At from) ≡ same → Draws budget gl saved s (entries.Line from to ink) (line_piece forms.Two s.drawing.pen from to ∷ [])
+    by true is =
+        rw is (group_draws budget gl saved s (entries.Line from to ink) 0x28 (point_bytes to)
+        (on_line_strokes saved s from to ink (pen_is s.drawing.pen (pens.At from) is) second))
+    by false is =
+        rw is (stroke_draws forms.Two budget gl saved s (entries.Line from to ink) 0x2A (point_bytes from ++ point_bytes to) (line_strokes saved s from to ink first second))
 
 field_acts : (budget : ℕ) (gl : GSet) (saved : OperandLengths) (s : State) (area : Area) (pen : Pen) → AreaInRange area →
-    Acts budget gl (work_at saved (holding s (entries.Field area pen))) (spelled (taking s.drawing (pen_alone pen)) (entries.Field area pen))
+    Acts budget gl (work_at saved (holding s (entries.Field area pen))) (spelled forms.Two (taking s.drawing (pen_alone pen)) (entries.Field area pen))
     (entries.Field area pen ∷ []) (work_at saved (after s (entries.Field area pen)))
 field_acts budget gl saved s areas.Whole pen inside =
     let e : Entry = entries.Field areas.Whole pen in
@@ -202,14 +197,14 @@ lengths_again : (budget : ℕ) (gl : GSet) (saved : OperandLengths) (s : State) 
 lengths_again budget gl saved s true = domain_acts budget gl (record (work_at saved s) { domain = rule.start_domain })
 lengths_again budget gl saved s false = acts_nothing budget gl (work_at saved s)
 
-again_begins : (back : Bool) → Begins (if back then domain [] ∷ [] else [])
-again_begins true = omega arith
-again_begins false = tt
+again_begins : (t : Tail) (back : Bool) → Begins t (if back then domain [] ∷ [] else [])
+again_begins t true = omega arith
+again_begins t false = tt
 
 reset_acts : (budget : ℕ) (gl : GSet) (saved : OperandLengths) (s : State) (first second : ℕ) (pen : Pen) → IsWord first → IsWord second →
-    Acts budget gl (work_at saved (holding s (entries.Reset first second pen))) (spelled (taking s.drawing (pen_alone pen)) (entries.Reset first second pen))
+    Acts budget gl (work_at saved (holding s (entries.Reset first second pen))) (spelled forms.Two (taking s.drawing (pen_alone pen)) (entries.Reset first second pen))
     (entries.Reset first second pen ∷ []) (work_at saved (after s (entries.Reset first second pen)))
-unfolding walk
+unfolding walk tail_after
 reset_acts budget gl saved s first second pen one two =
     let e : Entry = entries.Reset first second pen in
     let back : Bool = first % 2 == 1 in
@@ -218,52 +213,48 @@ reset_acts budget gl saved s first second pen one two =
     let to : State → Drawn = λ t. record { entries = e ∷ []; work = record (work_at saved t) { domain = lengths_behind back }; clears = second / 16 % 2 == 1 } in
     let by : rule.rule (work_at saved (holding s e)) opcodes.Reset (spellings.words_of bytes) ≡ Ok (to (after s e)) =
     rw (word_of first, word_of second) (ap (λ (t : State). Ok (to t)) (after_holding s e)) in
-    acts_behind budget gl (opcode 0x20 bytes ∷ []) (domain_again first) (work_at saved (holding s e)) (to (after s e)).work (work_at saved (after s e)) (e ∷ []) [] (again_begins back)
+    acts_behind budget gl (opcode 0x20 bytes ∷ []) (domain_again first) (work_at saved (holding s e)) (to (after s e)).work (work_at saved (after s e)) (e ∷ []) [] (again_begins (Apart G1) back)
     (opcode_acts budget gl (work_at saved (holding s e)) 0x20 bytes opcodes.Reset (to (after s e)) names.reset_named operands.carriers (omega (arith, operands.size_is)) by)
     (lengths_again budget (gl_after gl (opcode 0x20 bytes ∷ [])) saved (after s e) back)
 
 -- each kind of entry
-pub entry_acts : (budget : ℕ) (gl : GSet) (saved : OperandLengths) (s : State) (e : Entry) → InRange e → Fits s e → InMode s.drawing.base s.drawing.colour →
+pub entry_acts : (form : Form) (budget : ℕ) (gl : GSet) (saved : OperandLengths) (s : State) (e : Entry) → InRange e → Fits s e → InMode s.drawing.base s.drawing.colour →
     SavesLengths saved s.definition →
-    Acts budget gl (work_at saved (holding s e)) (spelled (taking s.drawing (held e)) e) (e ∷ []) (work_at (saved_after saved e) (after s e))
-entry_acts budget gl saved s (entries.Point at pel colour) inside fits mode saves =
-    let e : Entry = entries.Point at pel colour in
-    opcode_draws budget gl saved s e 0x26 (point_bytes at) 8 opcodes.PointAbs names.point_named (point_operand at inside.0) (omega arith)
-    (rules.point_rule saved (holding s e) at inside.0)
-entry_acts budget gl saved s (entries.Line from to ink) inside fits mode saves =
-    let e : Entry = entries.Line from to ink in
-    opcode_draws budget gl saved s e 0x2A (point_bytes from ++ point_bytes to) 16 opcodes.SetLineAbs names.line_named
-    (both_bytes (point_bytes from) (point_bytes to) 8 8 (point_operand from inside.0) (point_operand to inside.1)) (omega arith)
-    (rules.line_rule saved (holding s e) from to inside.0 inside.1)
-entry_acts budget gl saved s (entries.Arc filled [] ink) inside fits mode saves = absurd (omega (arith, fits.made.0))
-entry_acts budget gl saved s (entries.Arc filled (p ∷ []) ink) inside fits mode saves = absurd (omega (arith, fits.made.0))
-entry_acts budget gl saved s (entries.Arc filled (p ∷ q ∷ []) ink) inside fits mode saves = absurd (omega (arith, fits.made.0))
-entry_acts budget gl saved s (entries.Arc filled (p ∷ q ∷ r ∷ rs) ink) inside fits mode saves = arc_acts budget gl saved s filled p q r rs ink inside.0 fits.made.1
-entry_acts budget gl saved s (entries.Rect filled from to ink) inside fits mode saves = rect_acts budget gl saved s filled from to ink inside.0 inside.1
-entry_acts budget gl saved s (entries.Poly filled [] ink) inside fits mode saves = absurd (omega (arith, fits.made.0))
-entry_acts budget gl saved s (entries.Poly filled (p ∷ []) ink) inside fits mode saves = absurd (omega (arith, fits.made.0))
-entry_acts budget gl saved s (entries.Poly filled (p ∷ q ∷ qs) ink) inside fits mode saves = poly_acts budget gl saved s filled p q qs ink inside.0 fits.made.1
-entry_acts budget gl saved s (entries.Map a grb) inside fits mode saves = map_acts budget gl saved s a grb inside.0 inside.1 mode
-entry_acts budget gl saved s (entries.Blink a on off delay colour) inside fits mode saves =
+    Acts budget gl (work_at saved (holding s e)) (spelled form (taking s.drawing (held e)) e) (e ∷ []) (work_at (saved_after saved e) (after s e))
+entry_acts form budget gl saved s (entries.Point at pel colour) inside fits mode saves =
+    stroke_draws form budget gl saved s (entries.Point at pel colour) 0x26 (point_bytes at) (point_strokes saved s at pel colour inside.0)
+entry_acts form budget gl saved s (entries.Line from to ink) inside fits mode saves = line_acts form budget gl saved s from to ink inside.0 inside.1
+entry_acts form budget gl saved s (entries.Arc filled [] ink) inside fits mode saves = absurd (omega (arith, fits.made.0))
+entry_acts form budget gl saved s (entries.Arc filled (p ∷ []) ink) inside fits mode saves = absurd (omega (arith, fits.made.0))
+entry_acts form budget gl saved s (entries.Arc filled (p ∷ q ∷ []) ink) inside fits mode saves = absurd (omega (arith, fits.made.0))
+entry_acts form budget gl saved s (entries.Arc filled (p ∷ q ∷ r ∷ rs) ink) inside fits mode saves = arc_acts budget gl saved s filled p q r rs ink inside.0 fits.made.1
+entry_acts form budget gl saved s (entries.Rect filled from to ink) inside fits mode saves =
+    stroke_draws form budget gl saved s (entries.Rect filled from to ink) (if filled then 0x33 else 0x32) (shape_bytes (from ∷ to ∷ []))
+    (rect_strokes saved s filled from to ink inside.0 inside.1)
+entry_acts form budget gl saved s (entries.Poly filled [] ink) inside fits mode saves = absurd (omega (arith, fits.made.0))
+entry_acts form budget gl saved s (entries.Poly filled (p ∷ []) ink) inside fits mode saves = absurd (omega (arith, fits.made.0))
+entry_acts form budget gl saved s (entries.Poly filled (p ∷ q ∷ qs) ink) inside fits mode saves = poly_acts budget gl saved s filled p q qs ink inside.0 fits.made.1
+entry_acts form budget gl saved s (entries.Map a grb) inside fits mode saves = map_acts budget gl saved s a grb inside.0 inside.1 mode
+entry_acts form budget gl saved s (entries.Blink a on off delay colour) inside fits mode saves =
     let e : Entry = entries.Blink a on off delay colour in
     let times : List ℕ = word_byte on ∷ word_byte off ∷ word_byte delay ∷ [] in
     let words = word_bytes on (word_byte off ∷ word_byte delay ∷ []) 2 inside.1 (word_bytes off (word_byte delay ∷ []) 1 inside.2 (word_bytes delay [] 0 inside.3 no_bytes)) in
     opcode_draws budget gl saved s e 0x3F (addr_bytes a ++ times) 7 opcodes.Blink names.blink_named (both_bytes (addr_bytes a) times 4 3 (address_operand a inside.0) words) (omega arith)
     (rules.blink_rule saved (holding s e) a on off delay inside.0)
-entry_acts budget gl saved s (entries.BlinkEnd colour) inside fits mode saves =
+entry_acts form budget gl saved s (entries.BlinkEnd colour) inside fits mode saves =
     opcode_draws budget gl saved s (entries.BlinkEnd colour) 0x3F [] 0 opcodes.Blink names.blink_named no_bytes (omega arith) (rules.blink_end_rule saved (holding s (entries.BlinkEnd colour)))
-entry_acts budget gl saved s (entries.Wait word) inside fits mode saves =
+entry_acts form budget gl saved s (entries.Wait word) inside fits mode saves =
     opcode_draws budget gl saved s (entries.Wait word) 0x3D (word_byte word ∷ []) 1 opcodes.Wait names.wait_named (word_bytes word [] 0 inside no_bytes) (omega arith)
     (rules.wait_rule saved (holding s (entries.Wait word)) word)
-entry_acts budget gl saved s (entries.Field area pen) inside fits mode saves = field_acts budget gl saved s area pen inside.0
-entry_acts budget gl saved s (entries.Reset first second pen) inside fits mode saves = reset_acts budget gl saved s first second pen inside.0 inside.1
-entry_acts budget gl saved s (entries.Char set byte hand) inside fits mode saves = controls.char_draws budget gl saved s set byte hand fits.made
-entry_acts budget gl saved s (entries.TextMove step hand) inside fits mode saves = controls.step_draws budget gl saved s step hand fits.made
-entry_acts budget gl saved s (entries.ToEol hand) inside fits mode saves = controls.to_eol_draws budget gl saved s hand fits.comes
-entry_acts budget gl saved s (entries.BlinkMark on colour) inside fits mode saves = controls.blink_mark_draws budget gl saved s on colour
-entry_acts budget gl saved s entries.Bell inside fits mode saves = controls.bell_draws budget gl saved s
-entry_acts budget gl saved s (entries.Cursor kind) inside fits mode saves = controls.cursor_draws budget gl saved s kind
-entry_acts budget gl saved s (entries.Clear pen) inside fits mode saves = controls.clear_draws budget gl saved s pen
-entry_acts budget gl saved s (entries.GlyphStart byte) inside fits mode saves = definitions.glyph_draws budget gl saved s byte fits.made fits.comes
-entry_acts budget gl saved s (entries.MaskStart mask) inside fits mode saves = definitions.mask_draws budget gl saved s mask fits.comes
-entry_acts budget gl saved s entries.DefEnd inside fits mode saves = definitions.end_draws budget gl saved s fits.comes saves
+entry_acts form budget gl saved s (entries.Field area pen) inside fits mode saves = field_acts budget gl saved s area pen inside.0
+entry_acts form budget gl saved s (entries.Reset first second pen) inside fits mode saves = reset_acts budget gl saved s first second pen inside.0 inside.1
+entry_acts form budget gl saved s (entries.Char set byte hand) inside fits mode saves = controls.char_draws budget gl saved s set byte hand fits.made
+entry_acts form budget gl saved s (entries.TextMove step hand) inside fits mode saves = controls.step_draws budget gl saved s step hand fits.made
+entry_acts form budget gl saved s (entries.ToEol hand) inside fits mode saves = controls.to_eol_draws budget gl saved s hand fits.comes
+entry_acts form budget gl saved s (entries.BlinkMark on colour) inside fits mode saves = controls.blink_mark_draws budget gl saved s on colour
+entry_acts form budget gl saved s entries.Bell inside fits mode saves = controls.bell_draws budget gl saved s
+entry_acts form budget gl saved s (entries.Cursor kind) inside fits mode saves = controls.cursor_draws budget gl saved s kind
+entry_acts form budget gl saved s (entries.Clear pen) inside fits mode saves = controls.clear_draws budget gl saved s pen
+entry_acts form budget gl saved s (entries.GlyphStart byte) inside fits mode saves = definitions.glyph_draws budget gl saved s byte fits.made fits.comes
+entry_acts form budget gl saved s (entries.MaskStart mask) inside fits mode saves = definitions.mask_draws budget gl saved s mask fits.comes
+entry_acts form budget gl saved s entries.DefEnd inside fits mode saves = definitions.end_draws budget gl saved s fits.comes saves

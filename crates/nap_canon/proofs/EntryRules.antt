@@ -11,6 +11,7 @@ use Rattle.nap_values.proofs.PublicLaws.{displacements_lead_there, addresses_spe
 use Rattle.nap_codes.specs.declared.opcode.Opcode.TheVariants as opcodes
 use Rattle.nap_list.specs.declared.attribute.Area.TheVariants as areas
 use Rattle.nap_list.specs.declared.attribute.Colour.TheVariants as colours
+use Rattle.nap_list.specs.declared.attribute.Pen.TheVariants as pens
 use Rattle.nap_list.specs.declared.entry.Entry.{Entry}
 use Rattle.nap_list.specs.declared.entry.Entry.TheVariants as entries
 use Rattle.nap_list.specs.declared.state.Drawing.{Drawing}
@@ -19,7 +20,7 @@ use Rattle.nap_list.specs.Range.{IsAddress}
 use Rattle.nap_list.specs.State.{walk, with_colour}
 use Rattle.nap_draw.specs.declared.work.Work.{Work}
 use Rattle.nap_draw.specs.Operands.{operands, moves}
-use Rattle.nap_draw.specs.Geometry.{points_at, between, away, reached, arc_points, poly_points}
+use Rattle.nap_draw.specs.Geometry.{points_at, joined, between, away, reached, arc_points, poly_points}
 use Rattle.nap_draw.specs.Rule.{rule, drawn, point_on, line_on, rect_on, field_on, shape_from_point}
 use Rattle.nap_draw.proofs.PublicLaws.{whole_operand_first, no_operands}
 use Rattle.nap_canon.specs.Spelling.{word_byte, onward_bytes, shape_bytes}
@@ -32,6 +33,12 @@ pub point_rule : (saved : OperandLengths) (s : State) (p : Coordinates) → IsIn
     rule (work_at saved s) opcodes.PointAbs (words_of (point_bytes p)) ≡ Ok (drawn (work_at saved s) (point_on s.drawing p ∷ []))
 unfolding points_at
 point_rule saved s p inside = rw (point_alone p inside, point_there p inside) refl
+
+-- a line that goes on from the pen
+pub on_line_rule : (saved : OperandLengths) (s : State) (p q : Coordinates) → s.drawing.pen ≡ pens.At p → IsInSquare q →
+    rule (work_at saved s) opcodes.LineAbs (words_of (point_bytes q)) ≡ Ok (drawn (work_at saved s) (line_on s.drawing (record { from = p; to = q }) ∷ []))
+unfolding points_at joined
+on_line_rule saved s p q pen inside = rw (point_alone q inside, point_there q inside, pen) refl
 
 -- two points
 

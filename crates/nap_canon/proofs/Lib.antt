@@ -26,9 +26,14 @@ pub mod HoldingLemmas
 pub mod SavedLemmas
 pub mod ControlLemmas
 pub mod DefinitionLemmas
+pub mod ShapeLemmas
+pub mod StrokeLemmas
 pub mod EntryLemmas
+pub mod RunLemmas
+pub mod KindLemmas
 pub mod ListLemmas
 pub mod CanonicalLaws
+pub mod FormLemmas
 pub mod PublicLaws
 pub mod CheckLemmas
 pub mod LexedLemmas

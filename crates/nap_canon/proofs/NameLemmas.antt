@@ -34,6 +34,10 @@ pub line_named : Names 0x2A opcodes.SetLineAbs
 unfolding front row_of control0_rows control0_front plain_code gl_front opcode_rows pdi_front opcode_front left_out_opcode
 line_named = refl
 
+pub on_line_named : Names 0x28 opcodes.LineAbs
+unfolding front row_of control0_rows control0_front plain_code gl_front opcode_rows pdi_front opcode_front left_out_opcode
+on_line_named = refl
+
 pub arc_outlined_named : Names 0x2E opcodes.SetArcOutlined
 unfolding front row_of control0_rows control0_front plain_code gl_front opcode_rows pdi_front opcode_front left_out_opcode
 arc_outlined_named = refl

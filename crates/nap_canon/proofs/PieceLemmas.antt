@@ -16,9 +16,11 @@ use Rattle.nap_list.specs.State.{walk}
 use Rattle.nap_draw.specs.declared.work.Work.{Work}
 use Rattle.nap_draw.specs.Rule.{Drawn, rule, drawn}
 use Rattle.nap_reader.specs.Stream.{Placed, Machine, is_operand_byte, run_limit, placed_from}
-use Rattle.nap_canon.specs.Spelling.{Piece, opcode, primary, control}
-use Rattle.nap_canon.specs.Text.{piece_bytes, written, gl_after}
-use Rattle.nap_canon.specs.TextParts.{written-append, gl_after-append}
+use Rattle.nap_canon.specs.Spelling.{Piece, opcode, group, primary, control}
+use Rattle.nap_canon.specs.declared.tail.Tail.{Tail}
+use Rattle.nap_canon.specs.declared.tail.Tail.TheVariants.{Apart}
+use Rattle.nap_canon.specs.Text.{gl_of, is_joined, piece_bytes, written, tail_after}
+use Rattle.nap_canon.specs.TextParts.{written-append, tail_after-append}
 use Rattle.nap_canon.proofs.PlacedLemmas.{words_of-placed, placed_from-append, spelled_run}
 use Rattle.nap_canon.proofs.CodeLemmas.{code_reads}
 use Rattle.nap_canon.proofs.ReadLemmas.{standing, Reads, BeginsAnew, reads_run}
@@ -33,56 +35,83 @@ sets_with gl = record start_sets { gl = gl }
 abbrev pub at : ℕ → GSet → Work → Machine
 at budget gl work = standing budget (sets_with gl) work
 
--- Pieces are read as these entries, and leave this work. Where G1 is in GL behind them, no operand byte may come first there.
+-- the set in GL behind pieces that stand behind no run, where this one was in GL
+abbrev pub gl_after : GSet → List Piece → GSet
+gl_after gl ps = gl_of (tail_after (Apart gl) ps)
+
+-- Pieces that stand behind no run are read as these entries, and leave this work. Where G1 is in GL behind them, no operand byte may come first there.
 abbrev pub Acts : ℕ → GSet → Work → List Piece → List Entry → Work → Type 0
 Acts budget gl work ps es left = (n : ℕ) (xs : List Placed) (more : List Entry) (end : Machine) →
     (gl_after gl ps ≡ G1 → BeginsAnew xs) → Reads (at budget (gl_after gl ps) left) xs more end →
-    Reads (at budget gl work) (placed_from n (written gl ps) ++ xs) (es ++ more) end
+    Reads (at budget gl work) (placed_from n (written (Apart gl) ps) ++ xs) (es ++ more) end
 
--- no operand byte comes first in the bytes of pieces where G1 is in GL
-abbrev pub Begins : List Piece → Type 0
-Begins [] = ⊤
-Begins (opcode byte operands ∷ ps) = byte < 64
-Begins (primary code ∷ ps) = ⊤
-Begins (control [] ∷ ps) = ⊥
-Begins (control (byte ∷ bytes) ∷ ps) = byte < 32
+-- behind this tail the pieces join no run, and no operand byte comes first in their bytes where G1 is in GL
+abbrev pub Begins : Tail → List Piece → Type 0
+Begins t [] = ⊤
+Begins t (opcode byte operands ∷ ps) = byte < 64
+Begins t (group byte operands ∷ ps) = (is_joined t byte (length operands) ≡ false) × (byte < 64)
+Begins t (primary code ∷ ps) = ⊤
+Begins t (control [] ∷ ps) = ⊥
+Begins t (control (byte ∷ bytes) ∷ ps) = byte < 32
 
 no_operand : (byte : ℕ) → byte < 64 → is_operand_byte byte ≡ false
 no_operand byte below = grind (arith, nat_tests)
 
-begins_anew : (n : ℕ) (ps : List Piece) (xs : List Placed) → Begins ps → (gl_after G1 ps ≡ G1 → BeginsAnew xs) → BeginsAnew (placed_from n (written G1 ps) ++ xs)
-unfolding written gl_after placed_from
-begins_anew n [] xs begins behind = behind refl
-begins_anew n (opcode byte operands ∷ ps) xs begins behind = no_operand byte begins
-begins_anew n (primary code ∷ ps) xs begins behind = refl
-begins_anew n (control [] ∷ ps) xs begins behind = absurd begins
-begins_anew n (control (byte ∷ bytes) ∷ ps) xs begins behind = no_operand byte (omega (arith, begins))
+begins_anew : (n : ℕ) (t : Tail) (ps : List Piece) (xs : List Placed) → Begins t ps → (gl_after G1 ps ≡ G1 → BeginsAnew xs) →
+    BeginsAnew (placed_from n (written (Apart G1) ps) ++ xs)
+unfolding written tail_after placed_from
+begins_anew n t [] xs begins behind = behind refl
+begins_anew n t (opcode byte operands ∷ ps) xs begins behind = no_operand byte begins
+begins_anew n t (group byte operands ∷ ps) xs begins behind = no_operand byte begins.1
+begins_anew n t (primary code ∷ ps) xs begins behind = refl
+begins_anew n t (control [] ∷ ps) xs begins behind = absurd begins
+begins_anew n t (control (byte ∷ bytes) ∷ ps) xs begins behind = no_operand byte (omega (arith, begins))
+
+-- Pieces that join no run are written as they are behind none.
+
+pub written_apart : (t : Tail) (ps : List Piece) → Begins t ps → written t ps ≡ written (Apart (gl_of t)) ps
+unfolding written
+written_apart t [] begins = refl
+written_apart t (opcode byte operands ∷ ps) begins = refl
+written_apart t (group byte operands ∷ ps) begins = rw begins.0 refl
+written_apart t (primary code ∷ ps) begins = refl
+written_apart t (control bytes ∷ ps) begins = refl
+
+pub gl_apart : (t : Tail) (ps : List Piece) → Begins t ps → gl_of (tail_after t ps) ≡ gl_after (gl_of t) ps
+unfolding tail_after
+gl_apart t [] begins = refl
+gl_apart t (opcode byte operands ∷ ps) begins = refl
+gl_apart t (group byte operands ∷ ps) begins = rw begins.0 refl
+gl_apart t (primary code ∷ ps) begins = refl
+gl_apart t (control bytes ∷ ps) begins = refl
 
 -- no pieces
 pub acts_nothing : (budget : ℕ) (gl : GSet) (work : Work) → Acts budget gl work [] [] work
-unfolding written gl_after placed_from
+unfolding written tail_after placed_from
 acts_nothing budget gl work n xs more end anew behind = behind
 
 -- pieces behind others
-pub acts_behind : (budget : ℕ) (gl : GSet) (ps qs : List Piece) (work between left : Work) (es fs : List Entry) → Begins qs →
+pub acts_behind : (budget : ℕ) (gl : GSet) (ps qs : List Piece) (work between left : Work) (es fs : List Entry) → Begins (tail_after (Apart gl) ps) qs →
     Acts budget gl work ps es between → Acts budget (gl_after gl ps) between qs fs left → Acts budget gl work (ps ++ qs) (es ++ fs) left
 acts_behind budget gl ps qs work between left es fs begins first second n xs more end anew behind =
+    let t : Tail = tail_after (Apart gl) ps in
     let mid : GSet = gl_after gl ps in
-    let next : ℕ = n + length (written gl ps) in
-    let rest : List Placed = placed_from next (written mid qs) ++ xs in
+    let next : ℕ = n + length (written (Apart gl) ps) in
+    let rest : List Placed = placed_from next (written (Apart mid) qs) ++ xs in
     let whole : GSet = gl_after gl (ps ++ qs) in
-    let sets : whole ≡ gl_after mid qs = gl_after-append gl ps qs in
+    let sets : whole ≡ gl_after mid qs = ap gl_of (tail_after-append (Apart gl) ps qs) ∙ gl_apart t qs begins in
     let last : gl_after mid qs ≡ G1 → BeginsAnew xs = λ is. anew (sets ∙ is) in
     let tail : Reads (at budget mid between) rest (fs ++ more) end =
     second next xs more end last (subst (λ (s : GSet). Reads (at budget s left) xs more end) sets behind) in
     let opens : mid ≡ G1 → BeginsAnew rest =
-    λ is. subst (λ (s : GSet). BeginsAnew (placed_from next (written s qs) ++ xs)) (sym is) (begins_anew next qs xs begins (λ e. last (ap (λ (s : GSet). gl_after s qs) is ∙ e))) in
-    let parts : placed_from n (written gl (ps ++ qs)) ++ xs ≡ placed_from n (written gl ps) ++ rest =
-    ap (λ (bs : List ℕ). placed_from n bs ++ xs) (written-append gl ps qs)
-    ∙ ap (λ (ys : List Placed). ys ++ xs) (placed_from-append n (written gl ps) (written mid qs))
-    ∙ append_assoc (placed_from n (written gl ps)) (placed_from next (written mid qs)) xs in
+    λ is. subst (λ (s : GSet). BeginsAnew (placed_from next (written (Apart s) qs) ++ xs)) (sym is)
+    (begins_anew next t qs xs begins (λ e. last (ap (λ (s : GSet). gl_after s qs) is ∙ e))) in
+    let parts : placed_from n (written (Apart gl) (ps ++ qs)) ++ xs ≡ placed_from n (written (Apart gl) ps) ++ rest =
+    ap (λ (bs : List ℕ). placed_from n bs ++ xs) (written-append (Apart gl) ps qs ∙ ap (λ (bs : List ℕ). written (Apart gl) ps ++ bs) (written_apart t qs begins))
+    ∙ ap (λ (ys : List Placed). ys ++ xs) (placed_from-append n (written (Apart gl) ps) (written (Apart mid) qs))
+    ∙ append_assoc (placed_from n (written (Apart gl) ps)) (placed_from next (written (Apart mid) qs)) xs in
     subst (λ (ys : List Placed). Reads (at budget gl work) ys ((es ++ fs) ++ more) end) (sym parts)
-    (subst (λ (ds : List Entry). Reads (at budget gl work) (placed_from n (written gl ps) ++ rest) ds end) (sym (append_assoc es fs more))
+    (subst (λ (ds : List Entry). Reads (at budget gl work) (placed_from n (written (Apart gl) ps) ++ rest) ds end) (sym (append_assoc es fs more))
     (first n rest (fs ++ more) end opens tail))
 
 -- an opcode with its operands
@@ -111,7 +140,7 @@ shifts_out budget gl work n xs es end behind =
 -- the opcode where its set may have to be shifted in
 shifted_in : (budget : ℕ) (gl : GSet) (work : Work) (byte : ℕ) (operands : List ℕ) (n : ℕ) (xs : List Placed) (es : List Entry) (end : Machine) →
     ((k : ℕ) → Reads (at budget G1 work) (placed_from k (byte ∷ operands) ++ xs) es end) →
-    Reads (at budget gl work) (placed_from n (piece_bytes gl (opcode byte operands)) ++ xs) es end
+    Reads (at budget gl work) (placed_from n (piece_bytes (Apart gl) (opcode byte operands)) ++ xs) es end
 unfolding placed_from
 shifted_in budget G1 work byte operands n xs es end read = read n
 shifted_in budget G0 work byte operands n xs es end read = shifts_out budget G0 work n (placed_from (suc n) (byte ∷ operands) ++ xs) es end (read (suc n))
@@ -120,8 +149,14 @@ shifted_in budget G3 work byte operands n xs es end read = shifts_out budget G3 
 
 pub opcode_acts : (budget : ℕ) (gl : GSet) (work : Work) (byte : ℕ) (operands : List ℕ) (op : Opcode) (d : Drawn) → Names byte op → All IsOperandByte operands →
     length operands ≤ run_limit → rule work op (spellings.words_of operands) ≡ Ok d → Acts budget gl work (opcode byte operands ∷ []) d.entries d.work
-unfolding written gl_after
+unfolding written tail_after
 opcode_acts budget gl work byte operands op d names all few by n xs more end anew behind =
-    subst (λ (bs : List ℕ). Reads (at budget gl work) (placed_from n bs ++ xs) (d.entries ++ more) end) (sym (append-nil (piece_bytes gl (opcode byte operands))))
+    subst (λ (bs : List ℕ). Reads (at budget gl work) (placed_from n bs ++ xs) (d.entries ++ more) end) (sym (append-nil (piece_bytes (Apart gl) (opcode byte operands))))
     (shifted_in budget gl work byte operands n xs (d.entries ++ more) end
     (λ k. opcode_in_gl budget work byte operands op d names all few by k xs more end (anew refl) behind))
+
+-- a group of operands is written behind its opcode, where it stands behind no run
+pub group_acts : (budget : ℕ) (gl : GSet) (work : Work) (byte : ℕ) (operands : List ℕ) (op : Opcode) (d : Drawn) → Names byte op → All IsOperandByte operands →
+    length operands ≤ run_limit → rule work op (spellings.words_of operands) ≡ Ok d → Acts budget gl work (group byte operands ∷ []) d.entries d.work
+unfolding written tail_after
+group_acts budget gl work byte operands op d names all few by = opcode_acts budget gl work byte operands op d names all few by

@@ -1,8 +1,10 @@
 use Rattle.nap_list.specs.declared.device.Outlet as outlet
+use Rattle.nap_canon.specs.declared.form.Form.TheVariants.{One, Two}
 use Rattle.nap_canon.specs.Sinking.{WritesText}
-use Rattle.nap_canon.specs.Laws.{BringLeads, TextOfPrefix, TextIsPlain, PlainOperandLengths, TextIsRead, TextLeads, CanonicalStreamsAgree}
+use Rattle.nap_canon.specs.Laws.{BringLeads, TextOfPrefix, TextIsPlain, PlainOperandLengths, TextIsRead, TextLeads, FormsAgree, CanonicalStreamsAgree}
 use Rattle.nap_canon.proofs.ActingLemmas as acting
 use Rattle.nap_canon.proofs.CanonicalLaws as canonical
+use Rattle.nap_canon.proofs.FormLemmas as forms
 use Rattle.nap_canon.proofs.ModeLemmas as modes
 use Rattle.nap_canon.proofs.PlainTexts as plain_texts
 use Rattle.nap_canon.proofs.SinkingLemmas as sinks
@@ -13,20 +15,35 @@ use Rattle.nap_canon.proofs.TextLemmas as texts
 pub bring_leads : BringLeads
 bring_leads = modes.bring_leads
 
-pub text_of_prefix : TextOfPrefix
-text_of_prefix = texts.text_of_prefix
+pub text_of_prefix : TextOfPrefix Two
+text_of_prefix = texts.text_of_prefix Two
 
-pub text_is_plain : TextIsPlain
-text_is_plain = plain_texts.text_is_plain
+pub text1_of_prefix : TextOfPrefix One
+text1_of_prefix = texts.text_of_prefix One
+
+pub text_is_plain : TextIsPlain Two
+text_is_plain = plain_texts.text_is_plain Two
+
+pub text1_is_plain : TextIsPlain One
+text1_is_plain = plain_texts.text_is_plain One
 
 pub plain_operand_lengths : PlainOperandLengths
 plain_operand_lengths = acting.plain_operand_lengths
 
-pub text_is_read : TextIsRead
-text_is_read = canonical.text_is_read
+pub text_is_read : TextIsRead Two
+text_is_read = canonical.text_is_read Two
 
-pub text_leads : TextLeads
-text_leads = canonical.text_leads
+pub text1_is_read : TextIsRead One
+text1_is_read = canonical.text_is_read One
+
+pub text_leads : TextLeads Two
+text_leads = canonical.text_leads Two
+
+pub text1_leads : TextLeads One
+text1_leads = canonical.text_leads One
+
+pub forms_agree : FormsAgree
+forms_agree = forms.forms_agree
 
 pub canonical_streams_agree : CanonicalStreamsAgree
 canonical_streams_agree = canonical.canonical_streams_agree

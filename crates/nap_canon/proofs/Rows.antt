@@ -1,4 +1,4 @@
-use Rattle.std.proofs.Common.{◌≡◌, ℕ, List, [], ◌∷◌, ◌++◌, false, refl}
+use Rattle.std.proofs.Common.{◌≡◌, ℕ, List, [], ◌∷◌, ◌++◌, true, false, refl}
 use Rattle.std.specs.Prelude.{pos, zero, suc}
 use Rattle.nap_codes.specs.declared.code_set.CharSet.TheVariants as chars
 use Rattle.nap_codes.specs.declared.control.Size.TheVariants as named
@@ -18,7 +18,8 @@ use Rattle.nap_list.specs.declared.entry.Entry.TheVariants as entries
 use Rattle.nap_list.specs.State.{start_text, start_texture, start_drawing}
 use Rattle.nap_canon.specs.Bring.{bring, bring_pen, bring_pel, bring_colour, bring_texture, bring_text}
 use Rattle.nap_canon.specs.Spelling.{onward_bytes}
-use Rattle.nap_canon.specs.Text.{header, text, written, pieces}
+use Rattle.nap_canon.specs.declared.tail.Tail.TheVariants.{InRun}
+use Rattle.nap_canon.specs.Text.{header, is_joined, text, text1, written, pieces}
 
 -- Texts of a few entries, computed.
 
@@ -113,3 +114,30 @@ a_pair_of_colours : text (entries.Map 1048576 (record { g = 0; r = 49152; b = 0 
     ≡ header ++ 0x3E ∷ 0x44 ∷ zeros 3 ++ (0x3C ∷ 0x52 ∷ zeros 7) ++ 0x3E ∷ 0x44 ∷ zeros 3 ++ 0x48 ∷ zeros 3 ++ 0x26 ∷ 0x52 ∷ zeros 7
 unfolding pieces written bring bring_pen bring_pel bring_colour bring_texture bring_text digits_of words_of_pairs words_of_triples grb_bytes addr_bytes point_bytes zeros half
 a_pair_of_colours = refl
+
+-- each line goes on from the pen, and the third joins the run of the second
+three_lines : List Entry
+three_lines = entries.Line origin half ink ∷ entries.Line half quarter ink ∷ entries.Line quarter origin ink ∷ []
+
+lines_from_the_pen : text three_lines ≡ header ++ 0x2A ∷ zeros 8 ++ (0x52 ∷ zeros 7) ++ 0x28 ∷ (0x49 ∷ zeros 7) ++ zeros 8
+unfolding pieces written bring bring_pen bring_pel bring_colour bring_texture bring_text digits_of words_of_pairs point_bytes zeros three_lines origin half quarter ink own
+lines_from_the_pen = refl
+
+lines_alone : text1 three_lines ≡ header ++ 0x2A ∷ zeros 8 ++ (0x52 ∷ zeros 7) ++ 0x2A ∷ (0x52 ∷ zeros 7) ++ (0x49 ∷ zeros 7) ++ 0x2A ∷ (0x49 ∷ zeros 7) ++ zeros 8
+unfolding pieces written bring bring_pen bring_pel bring_colour bring_texture bring_text digits_of words_of_pairs point_bytes zeros three_lines origin half quarter ink own
+lines_alone = refl
+
+points_of_a_run : text (dot half ∷ dot quarter ∷ []) ≡ header ++ 0x26 ∷ (0x52 ∷ zeros 7) ++ 0x49 ∷ zeros 7
+unfolding pieces written bring bring_pen bring_pel bring_colour bring_texture bring_text digits_of words_of_pairs point_bytes zeros half quarter dot own
+points_of_a_run = refl
+
+a_bell_between : text (dot half ∷ entries.Bell ∷ dot half ∷ []) ≡ header ++ 0x26 ∷ (0x52 ∷ zeros 7) ++ 0x07 ∷ 0x26 ∷ 0x52 ∷ zeros 7
+unfolding pieces written bring bring_pen bring_pel bring_colour bring_texture bring_text digits_of words_of_pairs point_bytes zeros half dot own
+a_bell_between = refl
+
+-- a group may fill a run to the last byte, and none goes past it
+a_full_run : is_joined (InRun (record { opcode = 0x26; length = 16376 })) 0x26 8 ≡ true
+a_full_run = refl
+
+past_a_run : is_joined (InRun (record { opcode = 0x26; length = 16384 })) 0x26 8 ≡ false
+past_a_run = refl

@@ -1,13 +1,13 @@
 use Rattle.std.proofs.Common.{ℕ, suc, ◌+◌, ◌≡◌, ◌<◌, List, [], ◌∷◌, ◌++◌, length, take, drop, get_or, ap, sym, subst, ◌∙◌, append-nil}
 use Rattle.std.proofs.lemmas.List.{take_more, take-append-drop}
 use Rattle.std.proofs.Math.Seq.{drop-cons}
-use Rattle.nap_codes.specs.declared.code_set.GSet.TheVariants.{G1}
+use Rattle.nap_canon.specs.declared.form.Form.{Form}
 use Rattle.nap_list.specs.declared.entry.Entry.{Entry}
 use Rattle.nap_list.specs.State.{start, after, walk, Fits, AllFit}
 use Rattle.nap_list.proofs.PublicLaws.{walks_join, fits_join}
 use Rattle.nap_canon.specs.Spelling.{Piece}
-use Rattle.nap_canon.specs.Text.{written, gl_after, entry_pieces, pieces, text}
-use Rattle.nap_canon.specs.TextParts.{pieces-append, gl_after-append}
+use Rattle.nap_canon.specs.Text.{begun_tail, written, tail_after, entry_pieces, pieces, text_in}
+use Rattle.nap_canon.specs.TextParts.{pieces-append, tail_after-append}
 use Rattle.nap_canon.proofs.TextLemmas.{text_of_entries}
 
 -- The text along a list, one entry more.
@@ -15,26 +15,26 @@ use Rattle.nap_canon.proofs.TextLemmas.{text_of_entries}
 one_more : (es : List Entry) (i : ℕ) (e : Entry) → i < length es → e ≡ get_or es i e → take (i + 1) es ≡ take i es ++ e ∷ []
 one_more es i e within is = take_more es i e within ∙ ap (λ (x : Entry). take i es ++ x ∷ []) (sym is)
 
-one_entry : (es : List Entry) (e : Entry) → pieces (walk start es) (e ∷ []) ≡ entry_pieces (walk start es) e
+one_entry : (form : Form) (es : List Entry) (e : Entry) → pieces form (walk start es) (e ∷ []) ≡ entry_pieces form (walk start es) e
 unfolding pieces
-one_entry es e = append-nil (entry_pieces (walk start es) e)
+one_entry form es e = append-nil (entry_pieces form (walk start es) e)
 
-pub text_more : (es : List Entry) (i : ℕ) (e : Entry) → i < length es → e ≡ get_or es i e →
-    text (take i es) ++ written (gl_after G1 (pieces start (take i es))) (entry_pieces (walk start (take i es)) e) ≡ text (take (i + 1) es)
-text_more es i e within is =
+pub text_more : (form : Form) (es : List Entry) (i : ℕ) (e : Entry) → i < length es → e ≡ get_or es i e →
+    text_in form (take i es) ++ written (tail_after begun_tail (pieces form start (take i es))) (entry_pieces form (walk start (take i es)) e) ≡ text_in form (take (i + 1) es)
+text_more form es i e within is =
     let so_far : List Entry = take i es in
-    ap (λ (ps : List Piece). text so_far ++ written (gl_after G1 (pieces start so_far)) ps) (sym (one_entry so_far e))
-    ∙ sym (text_of_entries so_far (e ∷ []))
-    ∙ ap text (sym (one_more es i e within is))
+    ap (λ (ps : List Piece). text_in form so_far ++ written (tail_after begun_tail (pieces form start so_far)) ps) (sym (one_entry form so_far e))
+    ∙ sym (text_of_entries form so_far (e ∷ []))
+    ∙ ap (text_in form) (sym (one_more es i e within is))
 
-pub gl_more : (es : List Entry) (i : ℕ) (e : Entry) → i < length es → e ≡ get_or es i e →
-    gl_after (gl_after G1 (pieces start (take i es))) (entry_pieces (walk start (take i es)) e) ≡ gl_after G1 (pieces start (take (i + 1) es))
-gl_more es i e within is =
+pub tail_more : (form : Form) (es : List Entry) (i : ℕ) (e : Entry) → i < length es → e ≡ get_or es i e →
+    tail_after (tail_after begun_tail (pieces form start (take i es))) (entry_pieces form (walk start (take i es)) e) ≡ tail_after begun_tail (pieces form start (take (i + 1) es))
+tail_more form es i e within is =
     let so_far : List Entry = take i es in
-    sym (gl_after-append G1 (pieces start so_far) (entry_pieces (walk start so_far) e))
-    ∙ ap (λ (ps : List Piece). gl_after G1 (pieces start so_far ++ ps)) (sym (one_entry so_far e))
-    ∙ ap (gl_after G1) (sym (pieces-append start so_far (e ∷ [])))
-    ∙ ap (λ (xs : List Entry). gl_after G1 (pieces start xs)) (sym (one_more es i e within is))
+    sym (tail_after-append begun_tail (pieces form start so_far) (entry_pieces form (walk start so_far) e))
+    ∙ ap (λ (ps : List Piece). tail_after begun_tail (pieces form start so_far ++ ps)) (sym (one_entry form so_far e))
+    ∙ ap (tail_after begun_tail) (sym (pieces-append form start so_far (e ∷ [])))
+    ∙ ap (λ (xs : List Entry). tail_after begun_tail (pieces form start xs)) (sym (one_more es i e within is))
 
 pub walk_more : (es : List Entry) (i : ℕ) (e : Entry) → i < length es → e ≡ get_or es i e →
     after (walk start (take i es)) e ≡ walk start (take (i + 1) es)

@@ -3,7 +3,8 @@ use Rattle.std.proofs.lemmas.List.{take_more, map-append, take-append-drop}
 use Rattle.std.proofs.Math.Seq.{drop-cons}
 use Rattle.nap_values.specs.Coordinates.{Coordinates, displacement_to}
 use Rattle.nap_values.specs.Spellings.{move_bytes, point_bytes}
-use Rattle.nap_codes.specs.declared.code_set.GSet.{GSet}
+use Rattle.nap_canon.specs.declared.tail.Tail.{Tail}
+use Rattle.nap_canon.specs.declared.form.Form.{Form}
 use Rattle.nap_canon.specs.declared.command.Command.{Command}
 use Rattle.nap_list.specs.declared.entry.Entry.{Entry}
 use Rattle.nap_list.specs.declared.state.State.{State}
@@ -11,8 +12,8 @@ use Rattle.nap_list.specs.Entry.{held}
 use Rattle.nap_list.specs.State.{taking}
 use Rattle.nap_canon.specs.Bring.{bring}
 use Rattle.nap_canon.specs.Spelling.{Piece, command_piece, onward_bytes, shape, shape_bytes, spelled}
-use Rattle.nap_canon.specs.Text.{to_opcodes, piece_bytes, gl_behind, written, gl_after, entry_pieces}
-use Rattle.nap_canon.specs.TextParts.{written-append, gl_after-append}
+use Rattle.nap_canon.specs.Text.{gl_of, to_opcodes, piece_bytes, tail_behind, written, tail_after, entry_pieces}
+use Rattle.nap_canon.specs.TextParts.{written-append, tail_after-append}
 
 -- one displacement more of a shape
 pub onward_more : (now next piece whole : List ℕ) (from to : Coordinates) (others : List Coordinates) (i : ℕ) → i < length others → to ≡ get_or others i to →
@@ -32,30 +33,30 @@ onward_more now next piece whole from to others i within is step spelled so_far 
     ∙ so_far
 
 -- a shape: its opcode with the first point, and the displacements to the others
-pub shape_joined : (gl : GSet) (outlined code : ℕ) (filled : Bool) (first : Coordinates) (others points : List Coordinates) (head point bytes : List ℕ) →
-    code ≡ (if filled then (outlined + 1) else outlined) → head ≡ to_opcodes gl ++ code ∷ [] → point ≡ point_bytes first → bytes ≡ head ++ point →
-    points ≡ first ∷ others → bytes ++ onward_bytes first others ≡ piece_bytes gl (shape outlined filled points)
-shape_joined gl outlined code filled first others points head point bytes opcode begun placed both all =
+pub shape_joined : (tail : Tail) (outlined code : ℕ) (filled : Bool) (first : Coordinates) (others points : List Coordinates) (head point bytes : List ℕ) →
+    code ≡ (if filled then (outlined + 1) else outlined) → head ≡ to_opcodes (gl_of tail) ++ code ∷ [] → point ≡ point_bytes first → bytes ≡ head ++ point →
+    points ≡ first ∷ others → bytes ++ onward_bytes first others ≡ piece_bytes tail (shape outlined filled points)
+shape_joined tail outlined code filled first others points head point bytes opcode begun placed both all =
     let rest : List ℕ = onward_bytes first others in
-    ap (λ (bs : List ℕ). bs ++ rest) (both ∙ ap (λ (bs : List ℕ). bs ++ point) begun ∙ ap (λ (bs : List ℕ). (to_opcodes gl ++ code ∷ []) ++ bs) placed)
-    ∙ append_assoc (to_opcodes gl ++ code ∷ []) (point_bytes first) rest
-    ∙ append_assoc (to_opcodes gl) (code ∷ []) (point_bytes first ++ rest)
-    ∙ ap (λ (byte : ℕ). to_opcodes gl ++ byte ∷ shape_bytes (first ∷ others)) opcode
-    ∙ ap (λ (ps : List Coordinates). piece_bytes gl (shape outlined filled ps)) (sym all)
+    ap (λ (bs : List ℕ). bs ++ rest) (both ∙ ap (λ (bs : List ℕ). bs ++ point) begun ∙ ap (λ (bs : List ℕ). (to_opcodes (gl_of tail) ++ code ∷ []) ++ bs) placed)
+    ∙ append_assoc (to_opcodes (gl_of tail) ++ code ∷ []) (point_bytes first) rest
+    ∙ append_assoc (to_opcodes (gl_of tail)) (code ∷ []) (point_bytes first ++ rest)
+    ∙ ap (λ (byte : ℕ). to_opcodes (gl_of tail) ++ byte ∷ shape_bytes (first ∷ others)) opcode
+    ∙ ap (λ (ps : List Coordinates). piece_bytes tail (shape outlined filled ps)) (sym all)
 
 -- pieces behind others
 
-pub bytes_join : (gl : GSet) (ps qs : List Piece) (taken : List ℕ) →
-    (taken ++ written gl ps) ++ written (gl_after gl ps) qs ≡ taken ++ written gl (ps ++ qs)
-bytes_join gl ps qs taken =
-    append_assoc taken (written gl ps) (written (gl_after gl ps) qs) ∙ ap (λ (bs : List ℕ). taken ++ bs) (sym (written-append gl ps qs))
+pub bytes_join : (tail : Tail) (ps qs : List Piece) (taken : List ℕ) →
+    (taken ++ written tail ps) ++ written (tail_after tail ps) qs ≡ taken ++ written tail (ps ++ qs)
+bytes_join tail ps qs taken =
+    append_assoc taken (written tail ps) (written (tail_after tail ps) qs) ∙ ap (λ (bs : List ℕ). taken ++ bs) (sym (written-append tail ps qs))
 
-pub bytes_behind : (gl : GSet) (ps : List Piece) (q : Piece) (taken : List ℕ) →
-    (taken ++ written gl ps) ++ piece_bytes (gl_after gl ps) q ≡ taken ++ written gl (ps ++ q ∷ [])
+pub bytes_behind : (tail : Tail) (ps : List Piece) (q : Piece) (taken : List ℕ) →
+    (taken ++ written tail ps) ++ piece_bytes (tail_after tail ps) q ≡ taken ++ written tail (ps ++ q ∷ [])
 unfolding written
-bytes_behind gl ps q taken =
-    ap (λ (bs : List ℕ). (taken ++ written gl ps) ++ bs) (sym (append-nil (piece_bytes (gl_after gl ps) q)))
-    ∙ bytes_join gl ps (q ∷ []) taken
+bytes_behind tail ps q taken =
+    ap (λ (bs : List ℕ). (taken ++ written tail ps) ++ bs) (sym (append-nil (piece_bytes (tail_after tail ps) q)))
+    ∙ bytes_join tail ps (q ∷ []) taken
 
 -- what holds at any answer
 pub on_ok_from : {T E P : Type 0} (r : Result T E) → P → OnOk r P
@@ -87,61 +88,65 @@ commands_more commands i c within is =
     ap (map command_piece) (take_more commands i c within ∙ ap (λ (x : Command). take i commands ++ x ∷ []) (sym is))
     ∙ map-append command_piece (take i commands) (c ∷ [])
 
-pub bytes_more : (gl mid : GSet) (commands : List Command) (i : ℕ) (c : Command) (taken now next : List ℕ) → i < length commands → c ≡ get_or commands i c →
-    next ≡ now ++ piece_bytes mid (command_piece c) → now ≡ taken ++ written gl (map command_piece (take i commands)) →
-    mid ≡ gl_after gl (map command_piece (take i commands)) → next ≡ taken ++ written gl (map command_piece (take (i + 1) commands))
-bytes_more gl mid commands i c taken now next within is step so_far sets =
+pub bytes_more : (tail mid : Tail) (commands : List Command) (i : ℕ) (c : Command) (taken now next : List ℕ) → i < length commands → c ≡ get_or commands i c →
+    next ≡ now ++ piece_bytes mid (command_piece c) → now ≡ taken ++ written tail (map command_piece (take i commands)) →
+    mid ≡ tail_after tail (map command_piece (take i commands)) → next ≡ taken ++ written tail (map command_piece (take (i + 1) commands))
+bytes_more tail mid commands i c taken now next within is step so_far ends =
     let ps : List Piece = map command_piece (take i commands) in
     step
     ∙ ap (λ (bs : List ℕ). bs ++ piece_bytes mid (command_piece c)) so_far
-    ∙ ap (λ (s : GSet). (taken ++ written gl ps) ++ piece_bytes s (command_piece c)) sets
-    ∙ bytes_behind gl ps (command_piece c) taken
-    ∙ ap (λ (qs : List Piece). taken ++ written gl qs) (sym (commands_more commands i c within is))
+    ∙ ap (λ (u : Tail). (taken ++ written tail ps) ++ piece_bytes u (command_piece c)) ends
+    ∙ bytes_behind tail ps (command_piece c) taken
+    ∙ ap (λ (qs : List Piece). taken ++ written tail qs) (sym (commands_more commands i c within is))
 
-pub gl_more : (gl mid next : GSet) (commands : List Command) (i : ℕ) (c : Command) → i < length commands → c ≡ get_or commands i c →
-    next ≡ gl_behind mid (command_piece c) → mid ≡ gl_after gl (map command_piece (take i commands)) →
-    next ≡ gl_after gl (map command_piece (take (i + 1) commands))
-unfolding gl_after
-gl_more gl mid next commands i c within is step sets =
+pub tail_more : (tail mid next : Tail) (commands : List Command) (i : ℕ) (c : Command) → i < length commands → c ≡ get_or commands i c →
+    next ≡ tail_behind mid (command_piece c) → mid ≡ tail_after tail (map command_piece (take i commands)) →
+    next ≡ tail_after tail (map command_piece (take (i + 1) commands))
+unfolding tail_after
+tail_more tail mid next commands i c within is step ends =
     step
-    ∙ ap (λ (s : GSet). gl_behind s (command_piece c)) sets
-    ∙ sym (gl_after-append gl (map command_piece (take i commands)) (command_piece c ∷ []))
-    ∙ ap (gl_after gl) (sym (commands_more commands i c within is))
+    ∙ ap (λ (u : Tail). tail_behind u (command_piece c)) ends
+    ∙ sym (tail_after-append tail (map command_piece (take i commands)) (command_piece c ∷ []))
+    ∙ ap (tail_after tail) (sym (commands_more commands i c within is))
 
 -- what is left of commands behind the next one
-pub commands_left : (gl mid : GSet) (commands : List Command) (i : ℕ) (c : Command) → i < length commands → c ≡ get_or commands i c →
-    mid ≡ gl_after gl (map command_piece (take i commands)) →
-    (written gl (map command_piece (take i commands)) ++ piece_bytes mid (command_piece c))
-    ++ written (gl_after gl (map command_piece (take (i + 1) commands))) (map command_piece (drop (i + 1) commands))
-    ≡ written gl (map command_piece commands)
-commands_left gl mid commands i c within is sets =
+pub commands_left : (tail mid : Tail) (commands : List Command) (i : ℕ) (c : Command) → i < length commands → c ≡ get_or commands i c →
+    mid ≡ tail_after tail (map command_piece (take i commands)) →
+    (written tail (map command_piece (take i commands)) ++ piece_bytes mid (command_piece c))
+    ++ written (tail_after tail (map command_piece (take (i + 1) commands))) (map command_piece (drop (i + 1) commands))
+    ≡ written tail (map command_piece commands)
+commands_left tail mid commands i c within is ends =
     let front : List Piece = map command_piece (take (i + 1) commands) in
     let back : List Piece = map command_piece (drop (i + 1) commands) in
-    ap (λ (bs : List ℕ). bs ++ written (gl_after gl front) back) (bytes_more gl mid commands i c [] _ _ within is refl refl sets)
-    ∙ sym (written-append gl front back)
-    ∙ ap (written gl) (sym (map-append command_piece (take (i + 1) commands) (drop (i + 1) commands)))
-    ∙ ap (λ (cs : List Command). written gl (map command_piece cs)) (take-append-drop (i + 1) commands)
+    ap (λ (bs : List ℕ). bs ++ written (tail_after tail front) back) (bytes_more tail mid commands i c [] _ _ within is refl refl ends)
+    ∙ sym (written-append tail front back)
+    ∙ ap (written tail) (sym (map-append command_piece (take (i + 1) commands) (drop (i + 1) commands)))
+    ∙ ap (λ (cs : List Command). written tail (map command_piece cs)) (take-append-drop (i + 1) commands)
 
 -- an entry: its bring, and its spelling where the values that it holds stand
 
-module _ (gl mid : GSet) (s t : State) (e : Entry) (told : List Command) (brought : told ≡ bring s.drawing (held e)) (state : t ≡ s)
-    (sets : mid ≡ gl_after gl (map command_piece told)) where
-  pub entry_bytes : (taken between next : List ℕ) → between ≡ taken ++ written gl (map command_piece told) →
-      next ≡ between ++ written mid (spelled (taking t.drawing (held e)) e) → next ≡ taken ++ written gl (entry_pieces s e)
-  entry_bytes taken between next first second =
-      let qs : List Piece = spelled (taking s.drawing (held e)) e in
-      second
-      ∙ ap (λ (u : State). between ++ written mid (spelled (taking u.drawing (held e)) e)) state
-      ∙ ap (λ (g : GSet). between ++ written g qs) sets
-      ∙ ap (λ (bs : List ℕ). bs ++ written (gl_after gl (map command_piece told)) qs) first
-      ∙ bytes_join gl (map command_piece told) qs taken
-      ∙ ap (λ (cs : List Command). taken ++ written gl (map command_piece cs ++ qs)) brought
+module _ (tail mid : Tail) (f form : Form) (s t : State) (e : Entry) (same : form ≡ f) (state : t ≡ s)
+    (ends : mid ≡ tail_after tail (map command_piece (bring s.drawing (held e)))) where
+  -- the spelling in the terms of the start
+  at_start : spelled form (taking t.drawing (held e)) e ≡ spelled f (taking s.drawing (held e)) e
+  at_start = ap (λ (g : Form). spelled g (taking t.drawing (held e)) e) same ∙ ap (λ (u : State). spelled f (taking u.drawing (held e)) e) state
 
-  pub entry_gl : (next : GSet) → next ≡ gl_after mid (spelled (taking t.drawing (held e)) e) → next ≡ gl_after gl (entry_pieces s e)
-  entry_gl next is =
-      let qs : List Piece = spelled (taking s.drawing (held e)) e in
-      is
-      ∙ ap (λ (u : State). gl_after mid (spelled (taking u.drawing (held e)) e)) state
-      ∙ ap (λ (g : GSet). gl_after g qs) sets
-      ∙ sym (gl_after-append gl (map command_piece told) qs)
-      ∙ ap (λ (cs : List Command). gl_after gl (map command_piece cs ++ qs)) brought
+  pub entry_bytes : written tail (map command_piece (bring s.drawing (held e))) ++ written mid (spelled form (taking t.drawing (held e)) e) ≡ written tail (entry_pieces f s e)
+  entry_bytes =
+      let told : List Piece = map command_piece (bring s.drawing (held e)) in
+      let qs : List Piece = spelled f (taking s.drawing (held e)) e in
+      ap (λ (ps : List Piece). written tail told ++ written mid ps) at_start
+      ∙ ap (λ (u : Tail). written tail told ++ written u qs) ends
+      ∙ sym (written-append tail told qs)
+
+  pub entry_tail : (next : Tail) → next ≡ tail_after mid (spelled form (taking t.drawing (held e)) e) → next ≡ tail_after tail (entry_pieces f s e)
+  entry_tail next is =
+      let qs : List Piece = spelled f (taking s.drawing (held e)) e in
+      is ∙ ap (tail_after mid) at_start ∙ ap (λ (u : Tail). tail_after u qs) ends ∙ sym (tail_after-append tail (map command_piece (bring s.drawing (held e))) qs)
+
+-- the bring, and what comes behind it
+pub led_bytes : (tail : Tail) (form : Form) (s : State) (e : Entry) →
+    written tail (map command_piece (bring s.drawing (held e)))
+    ++ written (tail_after tail (map command_piece (bring s.drawing (held e)))) (spelled form (taking s.drawing (held e)) e)
+    ≡ written tail (entry_pieces form s e)
+led_bytes tail form s e = entry_bytes tail (tail_after tail (map command_piece (bring s.drawing (held e)))) form form s s e refl refl refl

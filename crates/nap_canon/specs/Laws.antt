@@ -1,6 +1,6 @@
-use Rattle.std.specs.Prelude.{ℕ, ◌≡◌, ◌↔◌, List, ◌++◌, None, IsSome}
+use Rattle.std.specs.Prelude.{ℕ, ◌≡◌, ◌≤◌, ◌↔◌, length, List, ◌++◌, None, IsSome}
 use Rattle.nap_values.specs.Domains.{OperandLengths}
-use Rattle.nap_codes.specs.declared.code_set.GSet.TheVariants.{G1}
+use Rattle.nap_canon.specs.declared.form.Form.{Form}
 use Rattle.nap_codes.specs.CodeSets.{start_sets}
 use Rattle.nap_list.specs.declared.entry.Entry.{Entry}
 use Rattle.nap_list.specs.Entry.{held}
@@ -12,22 +12,23 @@ use Rattle.nap_canon.specs.Bring.{bring}
 use Rattle.nap_canon.specs.Commands.{effects}
 use Rattle.nap_canon.specs.Plain.{IsPlain}
 use Rattle.nap_canon.specs.Streams.{IsAccepted, list_of, IsCanonicalOf}
-use Rattle.nap_canon.specs.Text.{text, written, pieces, gl_after}
+use Rattle.nap_canon.specs.Text.{gl_of, begun_tail, text_in, text, text1, written, pieces, tail_after}
 
 -- The bring of an entry that fits leads to the values that it holds.
 abbrev pub BringLeads : Type 0
 BringLeads = (es : List Entry) (e : Entry) → AllFit start es → Fits (walk start es) e →
     effects (bring (walk start es).drawing (held e)) (walk start es).drawing ≡ taking (walk start es).drawing (held e)
 
--- The first entries of a list that fits fit too, and the text of the list begins with theirs.
-abbrev pub TextOfPrefix : Type 0
-TextOfPrefix = (es fs : List Entry) → AllFit start (es ++ fs) →
-    AllFit start es × (text (es ++ fs) ≡ text es ++ written (gl_after G1 (pieces start es)) (pieces (walk start es) fs))
+-- The first entries of a list that fits fit too, and the text of the list in this form begins with theirs.
+abbrev pub TextOfPrefix : Form → Type 0
+TextOfPrefix form = (es fs : List Entry) → AllFit start (es ++ fs) →
+    AllFit start es
+    × (text_in form (es ++ fs) ≡ text_in form es ++ written (tail_after begun_tail (pieces form start es)) (pieces form (walk start es) fs))
 
--- The text of a list that fits is plain: it uses no macro and no displacement from the pen, and one length of operands.
+-- The text of a list that fits is plain, in this form: it uses no macro and no displacement from the pen, and one length of operands.
 -- `canon` ensures that the list is in range.
-abbrev pub TextIsPlain : Type 0
-TextIsPlain = (es : List Entry) → AllFit start es → AllInRange es → IsPlain (text es)
+abbrev pub TextIsPlain : Form → Type 0
+TextIsPlain form = (es : List Entry) → AllFit start es → AllInRange es → IsPlain (text_in form es)
 
 -- In a plain stream that is accepted, each opcode but DOMAIN and RESET acts under operands of eight words and of four.
 abbrev pub PlainOperandLengths : Type 0
@@ -39,16 +40,16 @@ pub record IsReadAs (budget : ℕ) (p : List ℕ) (es : List Entry) : Type 0 whe
   pub list : list_of budget p ≡ es
   pub uncharged : (means budget p).machine.left ≡ budget
 
--- The text of a legal list is read as that list. `canon` ensures that the list is in range.
-abbrev pub TextIsRead : Type 0
-TextIsRead = (budget : ℕ) (es : List Entry) → Legal es → AllInRange es → IsReadAs budget (text es) es
+-- The text of a legal list in this form is read as that list. `canon` ensures that the list is in range.
+abbrev pub TextIsRead : Form → Type 0
+TextIsRead form = (budget : ℕ) (es : List Entry) → Legal es → AllInRange es → IsReadAs budget (text_in form es) es
 
 -- DOMAIN's lengths of operands in canonical text
 abbrev pub text_lengths : OperandLengths
 text_lengths = record { multi = 8; single = 4 }
 
 -- what is known of a stream once its open run has acted: the list and its state, and where the text of it leaves the rest
-pub record LeadsAlong (budget : ℕ) (p : List ℕ) (es : List Entry) : Type 0 where
+pub record LeadsAlong (form : Form) (budget : ℕ) (p : List ℕ) (es : List Entry) : Type 0 where
   pub going : (begun budget p).refusal ≡ None
   pub unrefused : (with_run (begun budget p)).refusal ≡ None
   pub list : (with_run (begun budget p)).entries ≡ es
@@ -56,12 +57,21 @@ pub record LeadsAlong (budget : ℕ) (p : List ℕ) (es : List Entry) : Type 0 w
   pub domain : (with_run (begun budget p)).machine.work.domain ≡ text_lengths
   -- so are those that come back at the end of a definition
   pub saved : IsSome (walk start es).definition → (with_run (begun budget p)).machine.work.saved ≡ text_lengths
-  pub sets : (with_run (begun budget p)).machine.sets ≡ record start_sets { gl = gl_after G1 (pieces start es) }
+  pub sets : (with_run (begun budget p)).machine.sets ≡ record start_sets { gl = gl_of (tail_after begun_tail (pieces form start es)) }
   pub uncharged : (with_run (begun budget p)).machine.left ≡ budget
 
--- The text of a list that fits, a definition left open or not, leads to its state.
-abbrev pub TextLeads : Type 0
-TextLeads = (budget : ℕ) (es : List Entry) → AllFit start es → AllInRange es → LeadsAlong budget (text es) es
+-- The text of a list that fits, in this form, leads to its state, whether a definition is left open or not.
+abbrev pub TextLeads : Form → Type 0
+TextLeads form = (budget : ℕ) (es : List Entry) → AllFit start es → AllInRange es → LeadsAlong form budget (text_in form es) es
+
+-- the first stream is the canonical one of the second, and no longer
+pub record Shortens (budget : ℕ) (c p : List ℕ) : Type 0 where
+  pub canonical : IsCanonicalOf budget c p
+  pub no_longer : length c ≤ length p
+
+-- The text of a legal list in the first form is a stream whose canonical one is the text of the list, which is no longer.
+abbrev pub FormsAgree : Type 0
+FormsAgree = (budget : ℕ) (es : List Entry) → Legal es → AllInRange es → Shortens budget (text es) (text1 es)
 
 -- what holds of canonical streams
 pub record CanonicalStreams (budget : ℕ) : Type 0 where

@@ -15,6 +15,8 @@ use Rattle.nap_codes.specs.declared.control.CursorKind.TheVariants as cursors
 use Rattle.nap_list.specs.declared.attribute.Area.{Area}
 use Rattle.nap_list.specs.declared.attribute.Area.TheVariants as areas
 use Rattle.nap_list.specs.declared.attribute.Colour.TheVariants as colours
+use Rattle.nap_list.specs.declared.attribute.Pen.{Pen}
+use Rattle.nap_list.specs.declared.attribute.Pen.TheVariants as pens
 use Rattle.nap_list.specs.declared.state.Drawing.{Drawing}
 use Rattle.nap_list.specs.declared.entry.Entry.{Entry}
 use Rattle.nap_list.specs.declared.entry.Entry.TheVariants as entries
@@ -22,12 +24,17 @@ use Rattle.nap_canon.specs.declared.command.Command.{Command}
 use Rattle.nap_canon.specs.declared.command.Command.TheVariants as commands
 use Rattle.nap_canon.specs.declared.command.Flag.{Flag}
 use Rattle.nap_canon.specs.declared.command.Flag.TheVariants as flags
+use Rattle.nap_canon.specs.declared.form.Form.{Form}
+use Rattle.nap_canon.specs.declared.form.Form.TheVariants as forms
 use Rattle.nap_canon.specs.Bring.{bring_colour}
+use Rattle.nap_canon.specs.Equality.{same_pen}
 
 -- a piece of canonical text
 pub data Piece : Type 0 where
   -- an opcode, and the bytes of its operands
   opcode : ℕ → List ℕ → Piece
+  -- an opcode and a group of its operands, which can join a run of that opcode
+  group : ℕ → List ℕ → Piece
   -- a code of the primary characters
   primary : ℕ → Piece
   -- controls with the bytes that belong to them, which mean the same whatever is in GL
@@ -133,27 +140,45 @@ domain_again first = if first % 2 == 1 then domain [] ∷ [] else []
 abbrev pub map_pieces : Drawing → ℕ → Components → List Piece
 map_pieces d a grb = map command_piece (bring_colour d.base d.colour (Some (colours.Front a))) ++ opcode 0x3C (grb_bytes grb) ∷ []
 
+-- points, lines and rectangles can join a run in the second form alone
+abbrev pub stroke : Form → ℕ → List ℕ → Piece
+stroke forms.One byte operands = opcode byte operands
+stroke forms.Two byte operands = group byte operands
+
+-- a line between two points
+abbrev pub line_between : Form → Coordinates → Coordinates → Piece
+line_between form from to = stroke form 0x2A (point_bytes from ++ point_bytes to)
+
+-- a line, which in the second form goes on from the pen where it starts there
+abbrev pub line_piece : Form → Pen → Coordinates → Coordinates → Piece
+line_piece forms.One pen from to = line_between forms.One from to
+line_piece forms.Two pen from to = if same_pen pen (pens.At from) then group 0x28 (point_bytes to) else line_between forms.Two from to
+
+-- a rectangle by the opcode of the outlined one, which that of the filled one follows
+abbrev pub rect_piece : Form → Bool → Coordinates → Coordinates → Piece
+rect_piece form filled from to = stroke form (if filled then 0x33 else 0x32) (shape_bytes (from ∷ to ∷ []))
+
 -- how an entry is spelled where the values that it holds stand
-abbrev pub spelled : Drawing → Entry → List Piece
-spelled d (entries.Point at pel colour) = opcode 0x26 (point_bytes at) ∷ []
-spelled d (entries.Line from to ink) = opcode 0x2A (point_bytes from ++ point_bytes to) ∷ []
-spelled d (entries.Arc filled points ink) = shape 0x2E filled points ∷ []
-spelled d (entries.Rect filled from to ink) = shape 0x32 filled (from ∷ to ∷ []) ∷ []
-spelled d (entries.Poly filled points ink) = shape 0x36 filled points ∷ []
-spelled d (entries.Char set code hand) = char_piece set code ∷ []
-spelled d (entries.TextMove step hand) = control (step_bytes step) ∷ []
-spelled d (entries.ToEol hand) = escape 0x47 ∷ []
-spelled d (entries.Map a grb) = map_pieces d a grb
-spelled d (entries.Blink a on off delay colour) =
+abbrev pub spelled : Form → Drawing → Entry → List Piece
+spelled form d (entries.Point at pel colour) = stroke form 0x26 (point_bytes at) ∷ []
+spelled form d (entries.Line from to ink) = line_piece form d.pen from to ∷ []
+spelled form d (entries.Arc filled points ink) = shape 0x2E filled points ∷ []
+spelled form d (entries.Rect filled from to ink) = rect_piece form filled from to ∷ []
+spelled form d (entries.Poly filled points ink) = shape 0x36 filled points ∷ []
+spelled form d (entries.Char set code hand) = char_piece set code ∷ []
+spelled form d (entries.TextMove step hand) = control (step_bytes step) ∷ []
+spelled form d (entries.ToEol hand) = escape 0x47 ∷ []
+spelled form d (entries.Map a grb) = map_pieces d a grb
+spelled form d (entries.Blink a on off delay colour) =
     opcode 0x3F (addr_bytes a ++ word_byte on ∷ word_byte off ∷ word_byte delay ∷ []) ∷ []
-spelled d (entries.BlinkEnd colour) = opcode 0x3F [] ∷ []
-spelled d (entries.BlinkMark on colour) = escape (if on then 0x4E else 0x5E) ∷ []
-spelled d (entries.Wait word) = opcode 0x3D (word_byte word ∷ []) ∷ []
-spelled d entries.Bell = control (0x07 ∷ []) ∷ []
-spelled d (entries.Cursor kind) = escape (cursor_byte kind) ∷ []
-spelled d (entries.Field area pen) = opcode 0x38 (area_bytes area) ∷ []
-spelled d (entries.Reset first second pen) = opcode 0x20 (word_byte first ∷ word_byte second ∷ []) ∷ domain_again first
-spelled d (entries.Clear pen) = control (0x0C ∷ []) ∷ []
-spelled d (entries.GlyphStart code) = control (0x1B ∷ 0x43 ∷ code ∷ []) ∷ []
-spelled d (entries.MaskStart mask) = control (0x1B ∷ 0x44 ∷ mask_byte mask ∷ []) ∷ []
-spelled d entries.DefEnd = escape 0x45 ∷ []
+spelled form d (entries.BlinkEnd colour) = opcode 0x3F [] ∷ []
+spelled form d (entries.BlinkMark on colour) = escape (if on then 0x4E else 0x5E) ∷ []
+spelled form d (entries.Wait word) = opcode 0x3D (word_byte word ∷ []) ∷ []
+spelled form d entries.Bell = control (0x07 ∷ []) ∷ []
+spelled form d (entries.Cursor kind) = escape (cursor_byte kind) ∷ []
+spelled form d (entries.Field area pen) = opcode 0x38 (area_bytes area) ∷ []
+spelled form d (entries.Reset first second pen) = opcode 0x20 (word_byte first ∷ word_byte second ∷ []) ∷ domain_again first
+spelled form d (entries.Clear pen) = control (0x0C ∷ []) ∷ []
+spelled form d (entries.GlyphStart code) = control (0x1B ∷ 0x43 ∷ code ∷ []) ∷ []
+spelled form d (entries.MaskStart mask) = control (0x1B ∷ 0x44 ∷ mask_byte mask ∷ []) ∷ []
+spelled form d entries.DefEnd = escape 0x45 ∷ []

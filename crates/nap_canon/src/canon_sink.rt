@@ -1,9 +1,10 @@
 //! A sink that writes the canonical text of its entries.
 ghost use Rattle.std.specs.Prelude.{◌≡◌, [], ◌∷◌, true, false, OnOk, IsErrOf};
 ghost use Rattle.nap_list.specs.State.{Fits, after};
-ghost use Rattle.nap_canon.specs.Sinking.{Begun, Took, Broke};
+ghost use Rattle.nap_canon.specs.Sinking.{BegunIn, Begun, Took, Broke};
 ghost use Rattle.nap_canon.specs.SinkLaws.{took_none, took_more, took_broke};
 
+use crate::form::Form;
 use crate::output::Output;
 use crate::writer::Writer;
 use nap_list::{Entry, Outlet, Sink, SinkFault};
@@ -22,7 +23,7 @@ impl<O: Outlet + Drop> Model for CanonSink<O> {
 
     ghost Value = { Canonical O };
 
-    ghost view = { λ s. record { outlet = s.writer.to.outlet; written = s.writer.to.written; gl = s.writer.gl; state = s.writer.state } };
+    ghost view = { λ s. record { outlet = s.writer.to.outlet; written = s.writer.to.written; form = s.writer.form; tail = s.writer.tail; state = s.writer.state } };
 }
 
 impl<O: Outlet + Drop> CanonSink<O> {
@@ -31,7 +32,15 @@ impl<O: Outlet + Drop> CanonSink<O> {
         requires { O.failed outlet ≡ false }
         ensures { Begun O.Outlet outlet result }
     {
-        let mut writer = Writer::new(Output { outlet, written: 0 });
+        CanonSink::in_form(Form::Two, outlet)
+    }
+
+    /// A sink of a text in this form.
+    pub(crate) fn in_form(form: Form, outlet: O) -> CanonSink<O>
+        requires { O.failed outlet ≡ false }
+        ensures { BegunIn form O.Outlet outlet result }
+    {
+        let mut writer = Writer::new(form, Output { outlet, written: 0 });
         // The outlet knows of a failure.
         let _ = writer.begin();
         CanonSink { writer }

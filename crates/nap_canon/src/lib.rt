@@ -6,12 +6,14 @@ mod canon_sink;
 mod command;
 mod conversion;
 mod fault;
+mod form;
 pub mod laws;
 mod output;
 mod piece;
 mod plain;
 mod ranges;
 mod stream;
+mod tail;
 mod text;
 mod writer;
 
@@ -20,7 +22,7 @@ pub use conversion::{ConvertFault, convert};
 pub use fault::CanonFault;
 pub use plain::is_plain;
 pub use stream::normalise;
-pub use text::canon;
+pub use text::{canon, canon_form1};
 
 #[cfg(test)]
 mod tests;

@@ -34,6 +34,15 @@ impl Piece {
         }
     }
 
+    /// These bytes.
+    pub(crate) fn of(bytes: &[u8]) -> Piece
+        requires room { length bytes.now ≤ 18 }
+        ensures bytes { result ≡ bytes.now }
+        ensures size { length result ≡ length bytes.now }
+    {
+        Piece::new().with(bytes)
+    }
+
     /// An opcode, behind SO where G1 isn't in GL.
     pub(crate) fn opcode(gl: GSet, opcode: u8) -> Piece
         ensures bytes { result ≡ to_opcodes gl ++ opcode ∷ [] }

@@ -6,6 +6,7 @@ use std::process::Abort;
 
 mod canon_sink;
 mod conversion;
+mod forms;
 mod growth;
 mod lists;
 mod macros;

@@ -1,16 +1,19 @@
 //! Writes the canonical text of entries, one after another.
 ghost use Rattle.std.specs.Prelude.{◌≡◌, ◌+◌, ◌≤◌, ◌++◌, [], ◌∷◌, map, length, IfOk, is_err, OnOk, OnErr};
 ghost use Rattle.nap_codes.specs.declared.code_set.GSet.TheVariants.{G1};
+ghost use Rattle.nap_canon.specs.declared.tail.Tail.TheVariants.{Apart};
 ghost use Rattle.nap_list.specs.Entry.{held};
 ghost use Rattle.nap_list.specs.State.{start, after, Fits};
 ghost use Rattle.nap_canon.specs.declared.piece.Piece.{Piece};
 ghost use Rattle.nap_canon.specs.Bring.{bring};
 ghost use Rattle.nap_canon.specs.Spelling.{size_byte, flag_byte, escape, command_piece};
-ghost use Rattle.nap_canon.specs.Text.{header, piece_bytes, written, gl_behind, gl_after, entry_pieces};
+ghost use Rattle.nap_canon.specs.Text.{header, gl_of, begun_tail, piece_bytes, written, tail_behind, tail_after, entry_pieces};
 
 use crate::byte_sink::ByteSink;
 use crate::command::{Command, Commands, Flag};
+use crate::form::Form;
 use crate::piece::Piece;
+use crate::tail::Tail;
 use nap_codes::{GSet, Size};
 use nap_list::{Entry, State};
 use nap_values::{put_addr, put_grb, put_move, put_point};
@@ -29,6 +32,8 @@ mod opcodes {
     pub(crate) const POINT_SET_ABS: u8 = 0x24;
 
     pub(crate) const POINT_ABS: u8 = 0x26;
+
+    pub(crate) const LINE_ABS: u8 = 0x28;
 
     pub(crate) const SET_LINE_ABS: u8 = 0x2A;
 
@@ -56,7 +61,8 @@ const LENGTHS: u8 = 0x5F;
 #[derive(Drop)]
 pub(crate) struct Writer<T: ByteSink + Drop> {
     to: T,
-    gl: GSet,
+    form: Form,
+    tail: Tail,
     state: State,
 }
 
@@ -90,13 +96,14 @@ fn flag_byte(flag: Flag, on: bool) -> u8
 }
 
 impl<T: ByteSink + Drop> Writer<T> {
-    /// A writer of a text that isn't begun.
-    pub(crate) fn new(to: T) -> Writer<T>
-        ensures { result ≡ record { to = to; gl = G1; state = start } }
+    /// A writer of a text in this form that isn't begun.
+    pub(crate) fn new(form: Form, to: T) -> Writer<T>
+        ensures { result ≡ record { to = to; form = form; tail = begun_tail; state = start } }
     {
         Writer {
             to,
-            gl: GSet::G1,
+            form,
+            tail: Tail::Apart(GSet::G1),
             state: State::start(),
         }
     }
@@ -104,8 +111,8 @@ impl<T: ByteSink + Drop> Writer<T> {
     /// Begins the text: SO brings the opcodes into GL, and DOMAIN makes the operands eight words and four words long.
     pub(crate) fn begin(&mut self) -> Result<(), T::Fault>
         ensures sent { T.sent self.old.to header (is_err result) self.new.to }
-        ensures gl { self.new.gl ≡ self.old.gl }
-        ensures state { self.new.state ≡ self.old.state }
+        ensures tail { self.new.tail ≡ Apart (gl_of self.old.tail) }
+        ensures kept { (self.new.form ≡ self.old.form) × (self.new.state ≡ self.old.state) }
     {
         self.control(&[0x0E, opcodes::DOMAIN, LENGTHS])
     }
@@ -128,37 +135,38 @@ impl<T: ByteSink + Drop> Writer<T> {
     /// Takes the bytes of an opcode with its operands, behind which the opcodes are in GL.
     fn drawn(&mut self, piece: Piece) -> Result<(), T::Fault>
         ensures sent { T.sent self.old.to piece (is_err result) self.new.to }
-        ensures gl { self.new.gl ≡ G1 }
-        ensures state { self.new.state ≡ self.old.state }
+        ensures tail { self.new.tail ≡ Apart G1 }
+        ensures kept { (self.new.form ≡ self.old.form) × (self.new.state ≡ self.old.state) }
     {
-        self.gl = GSet::G1;
+        self.tail = Tail::Apart(GSet::G1);
         self.to.take(piece.as_slice())
     }
 
     /// Takes controls with the bytes that belong to them.
     fn control(&mut self, bytes: &[u8]) -> Result<(), T::Fault>
         ensures sent { T.sent self.old.to bytes.now (is_err result) self.new.to }
-        ensures gl { self.new.gl ≡ self.old.gl }
-        ensures state { self.new.state ≡ self.old.state }
+        ensures tail { self.new.tail ≡ Apart (gl_of self.old.tail) }
+        ensures kept { (self.new.form ≡ self.old.form) × (self.new.state ≡ self.old.state) }
     {
+        self.tail = Tail::Apart(self.tail.gl());
         self.to.take(bytes)
     }
 
     /// Takes a control of the C1 set.
     fn escape(&mut self, byte: u8) -> Result<(), T::Fault>
-        ensures sent { T.sent self.old.to (piece_bytes self.old.gl (escape byte)) (is_err result) self.new.to }
-        ensures gl { self.new.gl ≡ self.old.gl }
-        ensures state { self.new.state ≡ self.old.state }
+        ensures sent { T.sent self.old.to (piece_bytes self.old.tail (escape byte)) (is_err result) self.new.to }
+        ensures tail { self.new.tail ≡ Apart (gl_of self.old.tail) }
+        ensures kept { (self.new.form ≡ self.old.form) × (self.new.state ≡ self.old.state) }
     {
         self.control(&[0x1B, byte])
     }
 
     fn command(&mut self, command: Command) -> Result<(), T::Fault>
-        ensures sent { T.sent self.old.to (piece_bytes self.old.gl (command_piece command)) (is_err result) self.new.to }
-        ensures gl { self.new.gl ≡ gl_behind self.old.gl (command_piece command) }
-        ensures state { self.new.state ≡ self.old.state }
+        ensures sent { T.sent self.old.to (piece_bytes self.old.tail (command_piece command)) (is_err result) self.new.to }
+        ensures tail { self.new.tail ≡ tail_behind self.old.tail (command_piece command) }
+        ensures kept { (self.new.form ≡ self.old.form) × (self.new.state ≡ self.old.state) }
     {
-        let gl = self.gl;
+        let gl = self.tail.gl();
         match command {
             Command::PointSet(point) => {
                 self.drawn(Piece::opcode(gl, opcodes::POINT_SET_ABS).with(&put_point(point)))
@@ -201,9 +209,9 @@ impl<T: ByteSink + Drop> Writer<T> {
     }
 
     fn commands(&mut self, commands: &Commands) -> Result<(), T::Fault>
-        ensures sent { T.sent self.old.to (written self.old.gl (map command_piece commands.now)) (is_err result) self.new.to }
-        ensures gl { OnOk result (self.new.gl ≡ gl_after self.old.gl (map command_piece commands.now)) }
-        ensures state { self.new.state ≡ self.old.state }
+        ensures sent { T.sent self.old.to (written self.old.tail (map command_piece commands.now)) (is_err result) self.new.to }
+        ensures tail { OnOk result (self.new.tail ≡ tail_after self.old.tail (map command_piece commands.now)) }
+        ensures kept { (self.new.form ≡ self.old.form) × (self.new.state ≡ self.old.state) }
     {
         for command in commands.as_slice() {
             self.command(*command)?;
@@ -213,9 +221,9 @@ impl<T: ByteSink + Drop> Writer<T> {
 
     /// Writes the bring of an entry, which has nothing where all values that it holds stand.
     fn lead(&mut self, entry: &Entry) -> Result<(), T::Fault>
-        ensures sent { T.sent self.old.to (written self.old.gl (map command_piece (bring self.old.state.drawing (held entry.now)))) (is_err result) self.new.to }
-        ensures gl { OnOk result (self.new.gl ≡ gl_after self.old.gl (map command_piece (bring self.old.state.drawing (held entry.now)))) }
-        ensures state { self.new.state ≡ self.old.state }
+        ensures sent { T.sent self.old.to (written self.old.tail (map command_piece (bring self.old.state.drawing (held entry.now)))) (is_err result) self.new.to }
+        ensures tail { OnOk result (self.new.tail ≡ tail_after self.old.tail (map command_piece (bring self.old.state.drawing (held entry.now)))) }
+        ensures kept { (self.new.form ≡ self.old.form) × (self.new.state ≡ self.old.state) }
     {
         if self.state.drawing.stands(entry) {
             return Ok(());
@@ -227,8 +235,9 @@ impl<T: ByteSink + Drop> Writer<T> {
     /// Writes an entry that may come next: its bring, and its spelling. The state stays where this fails.
     pub(crate) fn put_ref(&mut self, entry: &Entry) -> Result<(), T::Fault>
         requires { Fits self.old.state entry.now }
-        ensures sent { T.sent self.old.to (written self.old.gl (entry_pieces self.old.state entry.now)) (is_err result) self.new.to }
-        ensures gl { OnOk result (self.new.gl ≡ gl_after self.old.gl (entry_pieces self.old.state entry.now)) }
+        ensures sent { T.sent self.old.to (written self.old.tail (entry_pieces self.old.form self.old.state entry.now)) (is_err result) self.new.to }
+        ensures tail { OnOk result (self.new.tail ≡ tail_after self.old.tail (entry_pieces self.old.form self.old.state entry.now)) }
+        ensures form { self.new.form ≡ self.old.form }
         ensures state { OnOk result (self.new.state ≡ after self.old.state entry.now) }
         ensures still { OnErr result (self.new.state ≡ self.old.state) }
     {

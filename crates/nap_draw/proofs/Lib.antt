@@ -8,6 +8,7 @@ pub mod Decoding
 pub mod Domains
 pub mod Endings
 pub mod Fits
+pub mod JoinedRuns
 pub mod Links
 pub mod Outlines
 pub mod PublicLaws

@@ -5,10 +5,12 @@ use Rattle.nap_codes.specs.declared.opcode.Opcode.TheVariants as opcodes
 use Rattle.nap_codes.specs.Tables.{left_out_opcode}
 use Rattle.nap_draw.specs.Operands.{operands}
 use Rattle.nap_draw.specs.Laws.{RuleFits, CodeFits, CodeValuesAreInRange, DrawnValuesAreInRange, OpcodesAreDrawn, WholeOperandFirst, NoOperands}
+use Rattle.nap_draw.specs.Joining.{RunsJoin}
 use Rattle.nap_draw.proofs.Cuts.{operands-front}
 use Rattle.nap_draw.proofs.Fits as fits
 use Rattle.nap_draw.proofs.RangeLemmas as ranges
 use Rattle.nap_draw.proofs.CodeRanges as code_ranges
+use Rattle.nap_draw.proofs.JoinedRuns as joined_runs
 
 -- The proofs of the laws.
 
@@ -43,3 +45,6 @@ whole_operand_first k operand rest some is =
 pub no_operands : NoOperands
 unfolding operands
 no_operands k = refl
+
+pub runs_join : RunsJoin
+runs_join = joined_runs.runs_join

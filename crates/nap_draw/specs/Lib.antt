@@ -6,4 +6,5 @@ pub mod Codes
 pub mod Draws
 pub mod Acts
 pub mod Doing
+pub mod Joining
 pub mod Laws

@@ -1,5 +1,6 @@
 //! Laws of the rules, over their definitions alone.
 ghost use Rattle.nap_draw.specs.Laws.{RuleFits, CodeFits, DrawnValuesAreInRange, CodeValuesAreInRange, OpcodesAreDrawn, WholeOperandFirst, NoOperands};
+ghost use Rattle.nap_draw.specs.Joining.{RunsJoin};
 
 /// The entries of an opcode fit where the states agree, which they do again after it.
 pub fn rule_fits()
@@ -34,4 +35,9 @@ pub fn whole_operand_first()
 /// A run of no words has no operands.
 pub fn no_operands()
     ensures { NoOperands }
+{}
+
+/// An opcode with a run of whole operands, and the same opcode with one more run, do what it does with both runs as one.
+pub fn runs_join()
+    ensures { RunsJoin }
 {}

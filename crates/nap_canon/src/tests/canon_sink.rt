@@ -75,11 +75,8 @@ fn a_stream_is_written_in_pieces_of_any_size(rt: HostRuntime) {
     for most in [1, 2, 5, 64] {
         let left = read_into(&rt, alloc, b"\x0E&R@@I@@", Full::new(alloc, 64, most));
         assert_eq!(rt; left.refusal, None);
-        assert_eq!(rt; (left.failed, left.written), (false, 21));
-        assert_eq!(rt;
-            left.kept.as_slice(),
-            b"\x0E!_&R@@@@@@@&I@@@@@@@".as_slice()
-        );
+        assert_eq!(rt; (left.failed, left.written), (false, 20));
+        assert_eq!(rt; left.kept.as_slice(), b"\x0E!_&R@@@@@@@I@@@@@@@".as_slice());
     }
 }
 

@@ -402,7 +402,7 @@ fn shapes_that_differ_in_nothing(rt: HostRuntime) -> Result<(), Fail> {
     let rows = [
         (
             canon(alloc, &[dressed_line(), dressed_line()])?,
-            b"\x0E!_!_GGGGGGGO>@@@A\x7F\x7F\x7F\x7F#COGGGGGGG*HD@@@@@@R@@@@@@@*HD@@@@@@R@@@@@@@".as_slice(),
+            b"\x0E!_!_GGGGGGGO>@@@A\x7F\x7F\x7F\x7F#COGGGGGGG*HD@@@@@@R@@@@@@@HD@@@@@@R@@@@@@@".as_slice(),
         ),
         (
             canon(alloc, &[clear(quarter()), dot(quarter()), clear(quarter())])?,

@@ -26,7 +26,7 @@ fn streams_with_a_canonical_one(rt: HostRuntime) -> Result<(), Fail> {
         (b"\x0E#CR)I@@", b"\x0E!_#CR@@@@@@@*@@@@@@@@I@@@@@@@"),
         (
             b"\x0E0I@@I@@(@@@",
-            b"\x0E!_2@@@@@@@@I@@@@@@@2H@@@@@@@I@@@@@@@*P@@@@@@@@@@@@@@@",
+            b"\x0E!_2@@@@@@@@I@@@@@@@H@@@@@@@I@@@@@@@(@@@@@@@@",
         ),
         (b"\x0E8", b"\x0E!_8"),
         (
@@ -72,11 +72,14 @@ fn long_run(alloc: Global, count: usize) -> Result<Vec<u8>, AllocError> {
     Ok(bytes)
 }
 
-/// The canonical stream of this many points in the corner.
+/// The canonical stream of this many points in the corner: a run has 2,048 at most.
 fn corners(alloc: Global, count: usize) -> Result<Vec<u8>, AllocError> {
     let mut bytes = Vec::from_slice(alloc, b"\x0E!_")?;
-    for _ in 0..count {
-        bytes.extend_from_slice(b"&@@@@@@@@")?;
+    for index in 0..count {
+        if index % 2_048 == 0 {
+            bytes.push(b'&')?;
+        }
+        bytes.extend_from_slice(b"@@@@@@@@")?;
     }
     Ok(bytes)
 }

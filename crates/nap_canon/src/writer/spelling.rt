@@ -1,17 +1,20 @@
 //! How each entry is spelled where the values that it holds stand.
-ghost use Rattle.std.specs.Prelude.{◌≡◌, ◌<◌, ◌+◌, ◌++◌, [], ◌∷◌, if◌then◌else◌, is_err, OnOk};
+ghost use Rattle.std.specs.Prelude.{◌≡◌, ◌<◌, ◌≤◌, ◌+◌, ◌++◌, [], ◌∷◌, length, if◌then◌else◌, is_err, OnOk};
 ghost use Rattle.nap_codes.specs.declared.code_set.GSet.TheVariants.{G0, G1};
+ghost use Rattle.nap_canon.specs.declared.tail.Tail.TheVariants.{Apart};
 ghost use Rattle.nap_list.specs.Entry.{held};
 ghost use Rattle.nap_list.specs.State.{taking};
-ghost use Rattle.nap_canon.specs.Spelling.{word_byte, mask_byte, cursor_byte, step_bytes, area_bytes, onward_bytes, shape, char_piece, domain_again, opcode, primary, map_pieces, spelled};
-ghost use Rattle.nap_canon.specs.Text.{piece_bytes, written, gl_behind, gl_after};
+ghost use Rattle.nap_canon.specs.Spelling.{word_byte, mask_byte, cursor_byte, step_bytes, area_bytes, onward_bytes, shape, char_piece, domain_again, opcode, group, primary, stroke, line_piece, rect_piece, map_pieces, spelled};
+ghost use Rattle.nap_canon.specs.Text.{gl_of, piece_bytes, written, tail_behind, tail_after};
 
 use crate::byte_sink::ByteSink;
 use crate::command::Commands;
+use crate::form::Form;
 use crate::piece::Piece;
+use crate::tail::Tail;
 use crate::writer::{LENGTHS, Writer, opcodes};
 use nap_codes::{CharSet, CursorKind, GSet, Mask, TextStep};
-use nap_list::{Area, Colour, Entry};
+use nap_list::{Area, Colour, Entry, Pen};
 use nap_values::{Addr, Grb, Point, Word, put_addr, put_grb, put_move, put_point};
 
 /// The argument of DEF TEXTURE.
@@ -48,8 +51,8 @@ impl<T: ByteSink + Drop> Writer<T> {
     /// The displacements from a point to the others in turn.
     fn onward(&mut self, first: Point, others: &[Point]) -> Result<(), T::Fault>
         ensures sent { T.sent self.old.to (onward_bytes first others.now) (is_err result) self.new.to }
-        ensures gl { self.new.gl ≡ self.old.gl }
-        ensures state { self.new.state ≡ self.old.state }
+        ensures tail { self.new.tail ≡ self.old.tail }
+        ensures kept { (self.new.form ≡ self.old.form) × (self.new.state ≡ self.old.state) }
     {
         let mut from = first;
         for to in others {
@@ -62,11 +65,11 @@ impl<T: ByteSink + Drop> Writer<T> {
     /// A shape through its points, by the opcode of the outlined one.
     fn shape(&mut self, outlined: u8, filled: bool, points: &[Point]) -> Result<(), T::Fault>
         requires { outlined < 255 }
-        ensures sent { T.sent self.old.to (piece_bytes self.old.gl (shape outlined filled points.now)) (is_err result) self.new.to }
-        ensures gl { self.new.gl ≡ G1 }
-        ensures state { self.new.state ≡ self.old.state }
+        ensures sent { T.sent self.old.to (piece_bytes self.old.tail (shape outlined filled points.now)) (is_err result) self.new.to }
+        ensures tail { self.new.tail ≡ Apart G1 }
+        ensures kept { (self.new.form ≡ self.old.form) × (self.new.state ≡ self.old.state) }
     {
-        let piece = Piece::opcode(self.gl, shape_opcode(outlined, filled));
+        let piece = Piece::opcode(self.tail.gl(), shape_opcode(outlined, filled));
         match points.split_first() {
             Some((first, others)) => {
                 self.drawn(piece.with(&put_point(*first)))?;
@@ -76,22 +79,73 @@ impl<T: ByteSink + Drop> Writer<T> {
         }
     }
 
+    /// A group of operands: behind their opcode, unless they join a run of it.
+    fn group(&mut self, opcode: u8, operands: &[u8]) -> Result<(), T::Fault>
+        requires few { length operands.now ≤ 16 }
+        ensures sent { T.sent self.old.to (piece_bytes self.old.tail (group opcode operands.now)) (is_err result) self.new.to }
+        ensures tail { self.new.tail ≡ tail_behind self.old.tail (group opcode operands.now) }
+        ensures kept { (self.new.form ≡ self.old.form) × (self.new.state ≡ self.old.state) }
+    {
+        let tail = self.tail;
+        self.tail = tail.behind(opcode, operands.len());
+        if tail.joins(opcode, operands.len()) {
+            return self.to.take(operands);
+        }
+        let piece = Piece::opcode(tail.gl(), opcode).with(operands);
+        self.to.take(piece.as_slice())
+    }
+
+    /// The opcode of a point, a line or a rectangle with its operands.
+    fn stroke(&mut self, opcode: u8, operands: &[u8]) -> Result<(), T::Fault>
+        requires few { length operands.now ≤ 16 }
+        ensures sent { T.sent self.old.to (piece_bytes self.old.tail (stroke self.old.form opcode operands.now)) (is_err result) self.new.to }
+        ensures tail { self.new.tail ≡ tail_behind self.old.tail (stroke self.old.form opcode operands.now) }
+        ensures kept { (self.new.form ≡ self.old.form) × (self.new.state ≡ self.old.state) }
+    {
+        match self.form {
+            Form::One => self.drawn(Piece::opcode(self.tail.gl(), opcode).with(operands)),
+            Form::Two => self.group(opcode, operands),
+        }
+    }
+
+    /// A line, which in the second form goes on from the pen where it starts there.
+    fn line(&mut self, from: Point, to: Point) -> Result<(), T::Fault>
+        ensures sent { T.sent self.old.to (piece_bytes self.old.tail (line_piece self.old.form self.old.state.drawing.pen from to)) (is_err result) self.new.to }
+        ensures tail { self.new.tail ≡ tail_behind self.old.tail (line_piece self.old.form self.old.state.drawing.pen from to) }
+        ensures kept { (self.new.form ≡ self.old.form) × (self.new.state ≡ self.old.state) }
+    {
+        if self.form == Form::Two && self.state.drawing.pen == Pen::At(from) {
+            return self.group(opcodes::LINE_ABS, &put_point(to));
+        }
+        let points = Piece::of(&put_point(from)).with(&put_point(to));
+        self.stroke(opcodes::SET_LINE_ABS, points.as_slice())
+    }
+
+    fn rect(&mut self, filled: bool, from: Point, to: Point) -> Result<(), T::Fault>
+        ensures sent { T.sent self.old.to (piece_bytes self.old.tail (rect_piece self.old.form filled from to)) (is_err result) self.new.to }
+        ensures tail { self.new.tail ≡ tail_behind self.old.tail (rect_piece self.old.form filled from to) }
+        ensures kept { (self.new.form ≡ self.old.form) × (self.new.state ≡ self.old.state) }
+    {
+        let corners = Piece::of(&put_point(from)).with(&put_move(from.to(to)));
+        self.stroke(shape_opcode(opcodes::SET_RECT, filled), corners.as_slice())
+    }
+
     /// A code of the primary characters, behind which they are in GL.
     fn primary(&mut self, code: u8) -> Result<(), T::Fault>
-        ensures sent { T.sent self.old.to (piece_bytes self.old.gl (primary code)) (is_err result) self.new.to }
-        ensures gl { self.new.gl ≡ G0 }
-        ensures state { self.new.state ≡ self.old.state }
+        ensures sent { T.sent self.old.to (piece_bytes self.old.tail (primary code)) (is_err result) self.new.to }
+        ensures tail { self.new.tail ≡ Apart G0 }
+        ensures kept { (self.new.form ≡ self.old.form) × (self.new.state ≡ self.old.state) }
     {
-        let piece = Piece::primary(self.gl, code);
-        self.gl = GSet::G0;
+        let piece = Piece::primary(self.tail.gl(), code);
+        self.tail = Tail::Apart(GSet::G0);
         self.to.take(piece.as_slice())
     }
 
     /// A character: SS2 brings G2 and SS3 brings G3 for it alone, and a DRCS is G3 for that time.
     fn character(&mut self, set: CharSet, code: u8) -> Result<(), T::Fault>
-        ensures sent { T.sent self.old.to (piece_bytes self.old.gl (char_piece set code)) (is_err result) self.new.to }
-        ensures gl { self.new.gl ≡ gl_behind self.old.gl (char_piece set code) }
-        ensures state { self.new.state ≡ self.old.state }
+        ensures sent { T.sent self.old.to (piece_bytes self.old.tail (char_piece set code)) (is_err result) self.new.to }
+        ensures tail { self.new.tail ≡ tail_behind self.old.tail (char_piece set code) }
+        ensures kept { (self.new.form ≡ self.old.form) × (self.new.state ≡ self.old.state) }
     {
         match set {
             CharSet::Primary => self.primary(code),
@@ -104,8 +158,8 @@ impl<T: ByteSink + Drop> Writer<T> {
     /// A format effector.
     fn text_move(&mut self, step: TextStep) -> Result<(), T::Fault>
         ensures sent { T.sent self.old.to (step_bytes step) (is_err result) self.new.to }
-        ensures gl { self.new.gl ≡ self.old.gl }
-        ensures state { self.new.state ≡ self.old.state }
+        ensures tail { self.new.tail ≡ Apart (gl_of self.old.tail) }
+        ensures kept { (self.new.form ≡ self.old.form) × (self.new.state ≡ self.old.state) }
     {
         match step {
             TextStep::Apb => self.control(&[0x08]),
@@ -120,60 +174,55 @@ impl<T: ByteSink + Drop> Writer<T> {
 
     /// SET COLOR at an address, which is brought where it isn't the colour.
     fn map(&mut self, addr: Addr, grb: Grb) -> Result<(), T::Fault>
-        ensures sent { T.sent self.old.to (written self.old.gl (map_pieces self.old.state.drawing addr grb)) (is_err result) self.new.to }
-        ensures gl { OnOk result (self.new.gl ≡ gl_after self.old.gl (map_pieces self.old.state.drawing addr grb)) }
-        ensures state { self.new.state ≡ self.old.state }
+        ensures sent { T.sent self.old.to (written self.old.tail (map_pieces self.old.state.drawing addr grb)) (is_err result) self.new.to }
+        ensures tail { OnOk result (self.new.tail ≡ tail_after self.old.tail (map_pieces self.old.state.drawing addr grb)) }
+        ensures kept { (self.new.form ≡ self.old.form) × (self.new.state ≡ self.old.state) }
     {
         let drawing = &self.state.drawing;
         let bring = Commands::bring_colour(drawing.base, drawing.colour, Colour::Front(addr));
         self.commands(&bring)?;
-        self.drawn(Piece::opcode(self.gl, opcodes::SET_COLOR).with(&put_grb(grb)))
+        self.drawn(Piece::opcode(self.tail.gl(), opcodes::SET_COLOR).with(&put_grb(grb)))
     }
 
     /// RESET, and DOMAIN once more where that puts the lengths of operands back.
     #[tactic(auto, unfolding(crate::specs::Text::written))]
     fn reset(&mut self, first: Word, second: Word) -> Result<(), T::Fault>
-        ensures sent { T.sent self.old.to (written self.old.gl (opcode 0x20 (word_byte first ∷ word_byte second ∷ []) ∷ domain_again first)) (is_err result) self.new.to }
-        ensures gl { self.new.gl ≡ G1 }
-        ensures state { self.new.state ≡ self.old.state }
+        ensures sent { T.sent self.old.to (written self.old.tail (opcode 0x20 (word_byte first ∷ word_byte second ∷ []) ∷ domain_again first)) (is_err result) self.new.to }
+        ensures tail { self.new.tail ≡ Apart G1 }
+        ensures kept { (self.new.form ≡ self.old.form) × (self.new.state ≡ self.old.state) }
     {
-        let piece = Piece::opcode(self.gl, opcodes::RESET);
+        let piece = Piece::opcode(self.tail.gl(), opcodes::RESET);
         let words = piece.word(first).word(second);
         if first.get() % 2 == 0 {
             return self.drawn(words);
         }
         self.drawn(words)?;
-        self.drawn(Piece::opcode(self.gl, opcodes::DOMAIN).with(&[LENGTHS]))
+        self.drawn(Piece::opcode(self.tail.gl(), opcodes::DOMAIN).with(&[LENGTHS]))
     }
 
     /// FIELD with its area.
     fn field(&mut self, area: Area) -> Result<(), T::Fault>
-        ensures sent { T.sent self.old.to (piece_bytes self.old.gl (opcode 0x38 (area_bytes area))) (is_err result) self.new.to }
-        ensures gl { self.new.gl ≡ G1 }
-        ensures state { self.new.state ≡ self.old.state }
+        ensures sent { T.sent self.old.to (piece_bytes self.old.tail (opcode 0x38 (area_bytes area))) (is_err result) self.new.to }
+        ensures tail { self.new.tail ≡ Apart G1 }
+        ensures kept { (self.new.form ≡ self.old.form) × (self.new.state ≡ self.old.state) }
     {
         match area {
-            Area::Whole => self.drawn(Piece::opcode(self.gl, opcodes::FIELD)),
+            Area::Whole => self.drawn(Piece::opcode(self.tail.gl(), opcodes::FIELD)),
             Area::Part { from, to } => self.shape(opcodes::FIELD, false, &[from, to]),
         }
     }
 
     /// How an entry is spelled where the values that it holds stand.
-    #[tactic(auto, unfolding(crate::specs::Text::written, crate::specs::Text::gl_after))]
+    #[tactic(auto, unfolding(crate::specs::Text::written, crate::specs::Text::tail_after))]
     pub(super) fn spelling(&mut self, entry: &Entry) -> Result<(), T::Fault>
-        ensures sent { T.sent self.old.to (written self.old.gl (spelled (taking self.old.state.drawing (held entry.now)) entry.now)) (is_err result) self.new.to }
-        ensures gl { OnOk result (self.new.gl ≡ gl_after self.old.gl (spelled (taking self.old.state.drawing (held entry.now)) entry.now)) }
-        ensures state { self.new.state ≡ self.old.state }
+        ensures sent { T.sent self.old.to (written self.old.tail (spelled self.old.form (taking self.old.state.drawing (held entry.now)) entry.now)) (is_err result) self.new.to }
+        ensures tail { OnOk result (self.new.tail ≡ tail_after self.old.tail (spelled self.old.form (taking self.old.state.drawing (held entry.now)) entry.now)) }
+        ensures kept { (self.new.form ≡ self.old.form) × (self.new.state ≡ self.old.state) }
     {
-        let gl = self.gl;
+        let gl = self.tail.gl();
         match entry {
-            Entry::Point { at, .. } => {
-                self.drawn(Piece::opcode(gl, opcodes::POINT_ABS).with(&put_point(*at)))
-            }
-            Entry::Line { from, to, .. } => {
-                let piece = Piece::opcode(gl, opcodes::SET_LINE_ABS).with(&put_point(*from));
-                self.drawn(piece.with(&put_point(*to)))
-            }
+            Entry::Point { at, .. } => self.stroke(opcodes::POINT_ABS, &put_point(*at)),
+            Entry::Line { from, to, .. } => self.line(*from, *to),
             Entry::Arc { filled, points, .. } => self.shape(
                 opcodes::SET_ARC,
                 *filled,
@@ -184,7 +233,7 @@ impl<T: ByteSink + Drop> Writer<T> {
                 from,
                 to,
                 ..
-            } => self.shape(opcodes::SET_RECT, *filled, &[*from, *to]),
+            } => self.rect(*filled, *from, *to),
             Entry::Poly { filled, points, .. } => self.shape(
                 opcodes::SET_POLY,
                 *filled,

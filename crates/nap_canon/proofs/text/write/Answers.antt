@@ -1,37 +1,42 @@
-use Rattle.std.proofs.Common.{◌≡◌, ◌++◌, ℕ, Bool, false, List, [], ◌∷◌, append-nil, take, ap, sym, subst, ◌∙◌}
+use Rattle.std.proofs.Common.{◌≡◌, ◌++◌, ℕ, List, [], ◌∷◌, append-nil, take, ap, sym, subst, ◌∙◌}
 use Rattle.std.proofs.lemmas.List.Elements.{All-nil, All-more}
-use Rattle.std.specs.Io.KnownBytes.{Appends}
-use Rattle.nap_codes.specs.declared.code_set.GSet.{GSet}
-use Rattle.nap_codes.specs.declared.code_set.GSet.TheVariants.{G1}
-use Rattle.nap_list.specs.declared.device.Outlet as outlet
+use Rattle.nap_canon.specs.declared.form.Form.{Form}
+use Rattle.nap_canon.specs.declared.tail.Tail.{Tail}
 use Rattle.nap_list.specs.declared.entry.Entry.{Entry}
 use Rattle.nap_list.specs.declared.state.State.{State}
 use Rattle.nap_list.specs.Device.{Writing}
 use Rattle.nap_list.specs.Range.{InRange}
 use Rattle.nap_list.specs.State.{start, walk, Fits, after}
-use Rattle.nap_canon.specs.Sinking.{Canonical, Begun, Sends, sending, shown}
+use Rattle.nap_canon.specs.Sinking.{Canonical}
 use Rattle.nap_canon.specs.Spelling.{Piece}
-use Rattle.nap_canon.specs.Text.{written, gl_after, pieces, entry_pieces, header, text}
-use Rattle.nap_canon.proofs.WalkLemmas.{text_more, gl_more, walk_more, fits_at}
+use Rattle.nap_canon.specs.Text.{written, tail_after, pieces, entry_pieces, header, text_in}
+use Rattle.nap_canon.proofs.SinkingLemmas.{header_sent}
+use Rattle.nap_canon.proofs.WalkLemmas.{text_more, tail_more, walk_more, fits_at}
 use Rattle.nap_canon.proofs.text.write.Goals as goal
 
-alone : (s : State) (e : Entry) → pieces s (e ∷ []) ≡ entry_pieces s e
+alone : (form : Form) (s : State) (e : Entry) → pieces form s (e ∷ []) ≡ entry_pieces form s e
 unfolding pieces
-alone s e = append-nil (entry_pieces s e)
+alone form s e = append-nil (entry_pieces form s e)
 
--- the outlet took the header
-header_of : {O : Type 0} (o : outlet.Ghosts O) (w : O) (s : Canonical O) → Begun o w s → o.failed s.outlet ≡ false → Appends (o.taken w) (o.taken s.outlet) header
-header_of o w s begun works = (subst (λ (broke : Bool). Sends (sending o w 0) header broke (shown o s)) works begun.begins).grows.taken
+-- one entry in the terms of the text
+next_pieces : {O : Type 0} (form : Form) (u : Canonical O) (so_far : State) (e : Entry) → u.form ≡ form → u.state ≡ so_far → pieces u.form u.state (e ∷ []) ≡ entry_pieces form so_far e
+next_pieces form u so_far e same state =
+    alone u.form u.state e
+    ∙ ap (λ (f : Form). entry_pieces f u.state e) same
+    ∙ ap (λ (s : State). entry_pieces form s e) state
 
 pub loop-entry-init : goal.loop-entry-init
-unfolding pieces written gl_after walk
-loop-entry-init c = record {
-  text = header_of _ c.new.result c.new-sink.result c.new-sink.ensures (sym c.failed.ensures ∙ c.if-failed.false)
-      ∙ ap (λ (bs : List ℕ). bs ++ header) (ap (λ (t : Writing _). t.writer.items) c.new.ensures ∙ c.in_ok-bytes.ensures.items);
-  gl = c.new-sink.ensures.gl;
-  state = c.new-sink.ensures.state;
-  range = All-nil InRange;
-}
+unfolding pieces written tail_after walk
+loop-entry-init c =
+    let begun = c.in_form-sink.ensures in
+    record {
+      text = (header_sent c.args.form _ c.new.result c.in_form-sink.result begun (sym c.failed.ensures ∙ c.if-failed.false)).grows.taken
+          ∙ ap (λ (bs : List ℕ). bs ++ header) (ap (λ (t : Writing _). t.writer.items) c.new.ensures ∙ c.in_ok-bytes.ensures.items);
+      form_is = begun.form_is;
+      tail = begun.tail;
+      state = begun.state;
+      range = All-nil InRange;
+    }
 
 pub put_ref-requires : goal.put_ref-requires
 put_ref-requires c =
@@ -40,28 +45,29 @@ put_ref-requires c =
 
 pub loop-entry-preserved : goal.loop-entry-preserved
 loop-entry-preserved c =
+    let form = c.args.form in
     let es = c.args.entries.now in
     let i = c.loop-entry.entry-index in
     let e = c.entry-item.result in
     let within = c.loop-entry-test.true in
     let is = c.entry-item.is in
-    let gl = c.loop-entry.sink.gl in
-    let s = c.loop-entry.sink.state in
+    let sink = c.loop-entry.sink in
+    let so_far = walk start (take i es) in
     let took = c.in-Ok.ensures.took in
+    let next = next_pieces form sink so_far e c.loop-entry.invariant.form_is c.loop-entry.invariant.state in
     record {
       text =
           took.bytes.grows.taken
-          ∙ ap (λ (bs : List ℕ). bs ++ written gl (pieces s (e ∷ []))) c.loop-entry.invariant.text
-          ∙ ap (λ (ps : List Piece). text (take i es) ++ written gl ps) (alone s e)
-          ∙ ap (λ (set : GSet). text (take i es) ++ written set (entry_pieces s e)) c.loop-entry.invariant.gl
-          ∙ ap (λ (t : State). text (take i es) ++ written (gl_after G1 (pieces start (take i es))) (entry_pieces t e)) c.loop-entry.invariant.state
-          ∙ text_more es i e within is;
-      gl =
-          took.gl
-          ∙ ap (gl_after gl) (alone s e)
-          ∙ ap (λ (set : GSet). gl_after set (entry_pieces s e)) c.loop-entry.invariant.gl
-          ∙ ap (λ (t : State). gl_after (gl_after G1 (pieces start (take i es))) (entry_pieces t e)) c.loop-entry.invariant.state
-          ∙ gl_more es i e within is;
+          ∙ ap (λ (bs : List ℕ). bs ++ written sink.tail (pieces sink.form sink.state (e ∷ []))) c.loop-entry.invariant.text
+          ∙ ap (λ (ps : List Piece). text_in form (take i es) ++ written sink.tail ps) next
+          ∙ ap (λ (t : Tail). text_in form (take i es) ++ written t (entry_pieces form so_far e)) c.loop-entry.invariant.tail
+          ∙ text_more form es i e within is;
+      form_is = took.form ∙ c.loop-entry.invariant.form_is;
+      tail =
+          took.tail
+          ∙ ap (tail_after sink.tail) next
+          ∙ ap (λ (t : Tail). tail_after t (entry_pieces form so_far e)) c.loop-entry.invariant.tail
+          ∙ tail_more form es i e within is;
       state = c.in-Ok.ensures.after ∙ ap (λ (t : State). after t e) c.loop-entry.invariant.state ∙ walk_more es i e within is;
       range = All-more InRange es i e within c.loop-entry.invariant.range (subst InRange is c.in_range.ensures);
     }

@@ -8,7 +8,7 @@ use Rattle.nap_canon.proofs.WriterLemmas.{onward_more, sent_second}
 use Rattle.nap_canon.proofs.writer.Writer.onward.Goals as goal
 
 pub loop-to-init : goal.loop-to-init
-loop-to-init g c = record { sent = ([], g.met.T.ByteSink.sent_none c.args.self.now.to, refl); gl = refl; state = refl }
+loop-to-init g c = record { sent = ([], g.met.T.ByteSink.sent_none c.args.self.now.to, refl); tail = refl; kept = (refl, refl) }
 
 pub loop-to-preserved : goal.loop-to-preserved
 loop-to-preserved g c =
@@ -22,8 +22,8 @@ loop-to-preserved g c =
         onward_more so_far.0 next piece (onward_bytes c.args.first c.args.others.now) c.loop-to.from c.to-item.result c.args.others.now c.loop-to.to-index
             c.loop-to-test.true c.to-item.is refl (c.deref.ensures.0 ∙ c.put_move.ensures ∙ ap move_bytes c.to.ensures) so_far.2,
       );
-      gl = c.loop-to.invariant.gl;
-      state = c.loop-to.invariant.state;
+      tail = c.loop-to.invariant.tail;
+      kept = c.loop-to.invariant.kept;
     }
 
 pub returns-in_err-take-clause-sent : goal.returns-in_err-take-clause-sent

@@ -7,6 +7,6 @@ abbrev pub invariant-loop-to : goal.invariant-loop-to
 invariant-loop-to g l = record {
   sent : (done : List ℕ) × g.T.ByteSink.sent l.fn.self.to done false l.self.to
       × (done ++ onward_bytes l.from (drop l.to-index l.others) ≡ onward_bytes l.fn.first l.others);
-  gl : l.self.gl ≡ l.fn.self.gl;
-  state : l.self.state ≡ l.fn.self.state;
+  tail : l.self.tail ≡ l.fn.self.tail;
+  kept : (l.self.form ≡ l.fn.self.form) × (l.self.state ≡ l.fn.self.state);
 }

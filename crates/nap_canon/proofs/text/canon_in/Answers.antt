@@ -6,7 +6,7 @@ use Rattle.nap_canon.specs.Plain.{IsPlain}
 use Rattle.nap_canon.proofs.CanonicalLaws.{text_is_read}
 use Rattle.nap_canon.proofs.PlainTexts.{text_is_plain}
 use Rattle.nap_canon.proofs.FaultLemmas.{illegal_there, illegal_nowhere, never_breaks}
-use Rattle.nap_canon.proofs.text.canon.Goals as goal
+use Rattle.nap_canon.proofs.text.canon_in.Goals as goal
 
 pub returns-in-Err-clause-illegal : goal.returns-in-Err-clause-illegal
 returns-in-Err-clause-illegal c = illegal_there c.args.entries.now c.in-Err.index c.in-Err.ensures.err
@@ -24,8 +24,8 @@ returns-clause-illegal c =
 pub returns-clause-read_back : goal.returns-clause-read_back
 returns-clause-read_back c budget =
     subst (λ (bytes : List ℕ). IsReadAs budget bytes c.args.entries.now) (sym c.in_ok-bytes.ensures.text)
-    (text_is_read budget c.args.entries.now (c.in_default.ensures.ok.0 refl) c.in_ok-bytes.ensures.range)
+    (text_is_read c.args.form budget c.args.entries.now (c.in_default.ensures.ok.0 refl) c.in_ok-bytes.ensures.range)
 
 pub returns-clause-plain : goal.returns-clause-plain
 returns-clause-plain c =
-    subst IsPlain (sym c.in_ok-bytes.ensures.text) (text_is_plain c.args.entries.now (c.in_default.ensures.ok.0 refl).fit c.in_ok-bytes.ensures.range)
+    subst IsPlain (sym c.in_ok-bytes.ensures.text) (text_is_plain c.args.form c.args.entries.now (c.in_default.ensures.ok.0 refl).fit c.in_ok-bytes.ensures.range)

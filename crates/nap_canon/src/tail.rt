@@ -1,0 +1,70 @@
+//! How the text so far ends.
+ghost use Rattle.std.specs.Prelude.{◌≡◌, ◌≤◌};
+ghost use Rattle.nap_canon.specs.declared.tail.Tail.TheVariants.{InRun};
+ghost use Rattle.nap_canon.specs.Text.{gl_of, length_of, is_joined, run_behind};
+
+use nap_codes::GSet;
+use nap_reader::RUN_LIMIT;
+
+/// A run of operands behind their opcode.
+#[derive(Clone, Copy, PartialEq, Eq, Drop)]
+pub(crate) struct Run {
+    /// The byte of the opcode.
+    pub(crate) opcode: u8,
+    /// The bytes of the operands.
+    pub(crate) length: usize,
+}
+
+/// How the text so far ends.
+#[derive(Clone, Copy, PartialEq, Eq, Drop)]
+pub(crate) enum Tail {
+    /// With this set in GL, and with no run that operands can join.
+    Apart(GSet),
+    /// With a run, which operands can join. The opcodes are in GL.
+    InRun(Run),
+}
+
+impl Tail {
+    /// The set in GL.
+    pub(crate) fn gl(self) -> GSet
+        ensures { result ≡ gl_of self }
+    {
+        match self {
+            Tail::Apart(gl) => gl,
+            Tail::InRun(_) => GSet::G1,
+        }
+    }
+
+    /// Whether this many bytes of operands join the run: it is of the same opcode, and has room for them.
+    pub(crate) fn joins(self, opcode: u8, count: usize) -> bool
+        requires few { count ≤ 16 }
+        ensures { result ≡ is_joined self opcode count }
+    {
+        match self {
+            Tail::Apart(_) => false,
+            Tail::InRun(run) => run.opcode == opcode && run.length <= RUN_LIMIT - count,
+        }
+    }
+
+    fn length(self) -> usize
+        ensures { result ≡ length_of self }
+    {
+        match self {
+            Tail::Apart(_) => 0,
+            Tail::InRun(run) => run.length,
+        }
+    }
+
+    /// The tail behind this many bytes of operands.
+    pub(crate) fn behind(self, opcode: u8, count: usize) -> Tail
+        requires few { count ≤ 16 }
+        ensures { result ≡ InRun (run_behind self opcode count) }
+    {
+        let length = if self.joins(opcode, count) {
+            self.length() + count
+        } else {
+            count
+        };
+        Tail::InRun(Run { opcode, length })
+    }
+}
