@@ -24,6 +24,7 @@ use Rattle.nap_list.specs.declared.state.State.{State}
 use Rattle.nap_list.specs.declared.points.TheConstants.{SHAPE_POINTS}
 use Rattle.nap_list.specs.Entry.{held, ink_values, hand_values, colour_alone, pen_alone}
 use Rattle.nap_list.specs.Range.{IsAddress, InRange, PenInRange, ColourInRange, InkInRange, HandInRange, AreaInRange}
+use Rattle.nap_list.specs.Known.{is_known}
 use Rattle.nap_list.specs.State.{Fits, taking, after, walk, with_colour}
 use Rattle.nap_list.specs.Agreement.{InMode}
 use Rattle.nap_draw.specs.declared.work.Work.{Work}
@@ -166,8 +167,8 @@ field_acts budget gl saved s (areas.Part p q) pen inside =
     (rules.part_field_rule saved (holding s e) p q inside.0 all)
 
 map_acts : (budget : ℕ) (gl : GSet) (saved : OperandLengths) (s : State) (a : ℕ) (grb : Components) → IsAddress a → HasSixteenBitParts grb →
-    InMode s.drawing.base s.drawing.colour → Acts budget gl (work_at saved s) (map_pieces s.drawing a grb) (entries.Map a grb ∷ []) (work_at saved (after s (entries.Map a grb)))
-map_acts budget gl saved s a grb address colour mode =
+    InMode s.drawing.base s.drawing.colour → is_known a grb s.known ≡ false → Acts budget gl (work_at saved s) (map_pieces s.drawing a grb) (entries.Map a grb ∷ []) (work_at saved (after s (entries.Map a grb)))
+map_acts budget gl saved s a grb address colour mode new =
     let front : Option Colour = Some (colours.Front a) in
     let cs : List Command = bring_colour s.drawing.base s.drawing.colour front in
     let between : Drawing = with_colour (colours.Front a) s.drawing in
@@ -179,7 +180,7 @@ map_acts budget gl saved s a grb address colour mode =
     (subst (λ (d : Drawing). Acts budget gl (work_at saved s) (map command_piece cs) [] (work_at saved (record s { drawing = d }))) leads brought)
     (opcode_acts budget (gl_after gl (map command_piece cs)) (work_at saved (record s { drawing = between })) 0x3C (grb_bytes grb) opcodes.SetColor
     (record { entries = entries.Map a grb ∷ []; work = work_at saved (after s (entries.Map a grb)); clears = false })
-    names.set_color_named operands.carriers (omega (arith, operands.size_is)) (rules.map_rule saved s a grb colour))
+    names.set_color_named operands.carriers (omega (arith, operands.size_is)) (rules.map_rule saved s a grb colour new))
 
 -- the lengths of operands behind a RESET
 abbrev lengths_behind : Bool → OperandLengths
@@ -234,7 +235,7 @@ entry_acts form budget gl saved s (entries.Rect filled from to ink) inside fits 
 entry_acts form budget gl saved s (entries.Poly filled [] ink) inside fits mode saves = absurd (omega (arith, fits.made.0))
 entry_acts form budget gl saved s (entries.Poly filled (p ∷ []) ink) inside fits mode saves = absurd (omega (arith, fits.made.0))
 entry_acts form budget gl saved s (entries.Poly filled (p ∷ q ∷ qs) ink) inside fits mode saves = poly_acts budget gl saved s filled p q qs ink inside.0 fits.made.1
-entry_acts form budget gl saved s (entries.Map a grb) inside fits mode saves = map_acts budget gl saved s a grb inside.0 inside.1 mode
+entry_acts form budget gl saved s (entries.Map a grb) inside fits mode saves = map_acts budget gl saved s a grb inside.0 inside.1 mode fits.comes
 entry_acts form budget gl saved s (entries.Blink a on off delay colour) inside fits mode saves =
     let e : Entry = entries.Blink a on off delay colour in
     let times : List ℕ = word_byte on ∷ word_byte off ∷ word_byte delay ∷ [] in

@@ -17,6 +17,7 @@ use Rattle.nap_list.specs.declared.entry.Entry.TheVariants as entries
 use Rattle.nap_list.specs.declared.state.Drawing.{Drawing}
 use Rattle.nap_list.specs.declared.state.State.{State}
 use Rattle.nap_list.specs.Range.{IsAddress}
+use Rattle.nap_list.specs.Known.{is_known, setting}
 use Rattle.nap_list.specs.State.{walk, with_colour}
 use Rattle.nap_draw.specs.declared.work.Work.{Work}
 use Rattle.nap_draw.specs.Operands.{operands, moves}
@@ -132,14 +133,14 @@ part_field_rule saved s p q inside all =
     rw (shape_read p (q ∷ []) inside all, point_there p inside, (displacements_lead_there p q inside (All-head IsInSquare q [] all)).1) refl
 
 -- a colour of the map
-pub map_rule : (saved : OperandLengths) (s : State) (a : ℕ) (grb : Components) → HasSixteenBitParts grb →
+pub map_rule : (saved : OperandLengths) (s : State) (a : ℕ) (grb : Components) → HasSixteenBitParts grb → is_known a grb s.known ≡ false →
     rule (work_at saved (record s { drawing = with_colour (colours.Front a) s.drawing })) opcodes.SetColor (words_of (grb_bytes grb))
     ≡ Ok (record {
       entries = entries.Map a grb ∷ [];
-      work = work_at saved (record s { drawing = with_colour (colours.Front a) s.drawing; last = None });
+      work = work_at saved (record s { drawing = with_colour (colours.Front a) s.drawing; last = None; known = setting a grb s.known });
       clears = false;
     })
-map_rule saved s a grb inside = rw (colour_alone grb inside, colour_there grb inside) refl
+map_rule saved s a grb inside new = rw (colour_alone grb inside, colour_there grb inside, new) refl
 
 -- blinking
 

@@ -10,7 +10,7 @@ use Rattle.nap_list.specs.declared.entry.Entry.{Entry}
 use Rattle.nap_list.specs.declared.state.Drawing.{Drawing}
 use Rattle.nap_list.specs.declared.state.State.{State}
 use Rattle.nap_list.specs.Entry.{held}
-use Rattle.nap_list.specs.State.{base_shown, taking, drawn, definition_after, last_after, after, walk}
+use Rattle.nap_list.specs.State.{base_shown, taking, drawn, definition_after, last_after, known_after, after, walk}
 use Rattle.nap_draw.specs.declared.work.Work.{Work}
 use Rattle.nap_draw.specs.Rule as rule
 use Rattle.nap_draw.specs.Rule.{Drawn}
@@ -48,6 +48,7 @@ after_holding s e =
       drawing = drawn s.definition d e;
       definition = definition_after s.definition d e;
       last = last_after e;
+      known = known_after s.known e;
     })
     (taking_twice s.drawing (held e))
 

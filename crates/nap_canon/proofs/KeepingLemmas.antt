@@ -1,4 +1,4 @@
-use Rattle.std.proofs.Common.{ℕ, zero, suc, ◌≡◌, ◌≢◌, List, [], ◌∷◌, map, true, false, Option, Some, None, Result, Ok, Err, refl, ◌∙◌}
+use Rattle.std.proofs.Common.{ℕ, zero, suc, ◌≡◌, ◌≢◌, List, [], ◌∷◌, map, Bool, true, false, Option, Some, None, Result, Ok, Err, refl, ◌∙◌}
 use Rattle.std.specs.Prelude.{⊤}
 use Rattle.std.specs.Option.{option_map, option_and_then}
 use Rattle.nap_codes.specs.declared.code.Code.{Code}
@@ -15,13 +15,14 @@ use Rattle.nap_list.specs.declared.entry.Entry.TheVariants as entries
 use Rattle.nap_list.specs.declared.state.Drawing.{Drawing}
 use Rattle.nap_list.specs.declared.state.LastChar.{LastChar}
 use Rattle.nap_list.specs.declared.state.State.{State}
+use Rattle.nap_list.specs.Known.{is_known}
 use Rattle.nap_list.specs.State.{after, walk}
 use Rattle.nap_draw.specs.declared.fault.DrawFault.{DrawFault}
 use Rattle.nap_draw.specs.declared.work.Work.{Work}
 use Rattle.nap_draw.specs.Codes.{char_on, copies, puts, with_last, code_rule}
 use Rattle.nap_draw.specs.Geometry.{points_at, reached, joined, between, away, across, arc_points, poly_points}
 use Rattle.nap_draw.specs.Operands.{operands}
-use Rattle.nap_draw.specs.Rule.{Drawn, and_then, drawn, with_drawing, moves_of, some_of, pairs_of, first_of, few_of, pen_point, draws, draws_one, goes, with_operands, from_pen, with_pairs, shape_from_pen, shape_from_point, point_on, line_on, rect_on, arc_on, poly_on, field_on, area_of, blinks, blink, colours_as, set_color_rule, rule}
+use Rattle.nap_draw.specs.Rule.{Drawn, and_then, drawn, with_drawing, moves_of, some_of, pairs_of, first_of, few_of, pen_point, draws, draws_one, goes, with_operands, from_pen, with_pairs, shape_from_pen, shape_from_point, point_on, line_on, rect_on, arc_on, poly_on, field_on, area_of, blinks, blink, maps, colours_as, set_color_rule, rule}
 
 -- What opcodes, characters and controls leave as it was: the lengths of operands, those that are saved, and the
 -- definition that is open. DOMAIN and RESET, and the starts and the end of a definition, are none of them.
@@ -124,12 +125,19 @@ blinks_keep work k colour [] = record { domain = refl; saved = refl; definition 
 blinks_keep work k colour (group ∷ groups) =
     record { domain = refl; saved = refl; definition = walk_keeps (blink k colour) (λ g. tt) work.state (group ∷ groups) }
 
+maps_keep : (work : Work) (a : ℕ) (grb : Components) → KeepsBy work (maps work a grb)
+maps_keep work a grb = by (is_known a grb work.state.known) refl
+  where
+    by : (known : Bool) → is_known a grb work.state.known ≡ known → KeepsBy work (maps work a grb)
+    by true is = rw is (value_keeps work work.state.drawing)
+    by false is = rw is (record { domain = refl; saved = refl; definition = refl })
+
 colours_keep : (work : Work) (colour : Colour) (grb : Components) → KeepsBy work (colours_as work colour grb)
 unfolding walk
 colours_keep work (colours.Own origin) grb = record { domain = refl; saved = refl; definition = refl }
 colours_keep work (colours.Direct old) grb = record { domain = refl; saved = refl; definition = refl }
-colours_keep work (colours.Front a) grb = record { domain = refl; saved = refl; definition = refl }
-colours_keep work (colours.Pair a b) grb = record { domain = refl; saved = refl; definition = refl }
+colours_keep work (colours.Front a) grb = maps_keep work a grb
+colours_keep work (colours.Pair a b) grb = maps_keep work a grb
 colours_keep work (colours.ByReset preset) grb = tt
 
 set_color_keeps : (work : Work) (operands : List (List ℕ)) → KeepsBy work (set_color_rule work operands)

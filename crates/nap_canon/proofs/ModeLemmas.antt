@@ -13,7 +13,8 @@ use Rattle.nap_list.specs.declared.state.State.{State}
 use Rattle.nap_list.specs.declared.entry.Entry.{Entry}
 use Rattle.nap_list.specs.declared.entry.Entry.TheVariants as entries
 use Rattle.nap_list.specs.Entry.{held}
-use Rattle.nap_list.specs.State.{ColourFits, Fits, base_shown, colour_code, taking, with_pen_at, saved_values, drawn, definition_after, after, start, walk, AllFit}
+use Rattle.nap_list.specs.Known.{colour_code}
+use Rattle.nap_list.specs.State.{ColourFits, Fits, base_shown, taking, with_pen_at, saved_values, drawn, definition_after, after, start, walk, AllFit}
 use Rattle.nap_list.specs.Agreement.{InMode}
 use Rattle.nap_canon.specs.Laws.{BringLeads}
 use Rattle.nap_canon.proofs.BringLemmas.{held_leads}

@@ -8,6 +8,7 @@ mod canon_sink;
 mod conversion;
 mod forms;
 mod growth;
+mod known;
 mod lists;
 mod macros;
 mod plain;

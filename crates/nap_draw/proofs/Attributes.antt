@@ -1,19 +1,22 @@
-use Rattle.std.proofs.Common.{◌≡◌, ◌/◌, ◌%◌, eqb, cond, ℕ, ◌+◌, ◌<◌, ◌≤◌, ◌≢◌, min, List, [], ◌∷◌, map, length, take, drop, false, None, Ok, Err, refl, ◌∙◌, ap, arith, length-drop}
+use Rattle.std.proofs.Common.{◌≡◌, ◌/◌, ◌%◌, eqb, cond, ℕ, ◌+◌, ◌<◌, ◌≤◌, ◌≢◌, min, List, [], ◌∷◌, map, length, take, drop, true, false, None, Ok, Err, refl, ◌∙◌, ap, arith, length-drop}
 use Rattle.std.proofs.lemmas.List.{take_all}
 use Rattle.std.specs.List.{slice_index}
 use Rattle.nap_list.specs.declared.attribute.Pen.{Pen}
 use Rattle.nap_values.specs.Domains.{OperandLengths}
+use Rattle.nap_values.specs.Colours.{Components}
 use Rattle.nap_values.specs.Operands.{colour_of}
 use Rattle.nap_list.specs.declared.entry.Entry.TheVariants as entries
 use Rattle.nap_list.specs.declared.state.Drawing.{Drawing}
 use Rattle.nap_list.specs.declared.state.State.{State}
+use Rattle.nap_list.specs.declared.known.MapColour.{MapColour}
+use Rattle.nap_list.specs.Known.{is_known, setting, reset_known}
 use Rattle.nap_list.specs.State.{reset, walk}
 use Rattle.nap_list.specs.Agreement.{InMode}
 use Rattle.nap_draw.proofs.Walks.{left_by}
 use Rattle.nap_draw.specs.declared.fault.DrawFault.TheVariants as faults
 use Rattle.nap_draw.specs.declared.work.Work.{Work}
 use Rattle.nap_draw.specs.Operands.{operands}
-use Rattle.nap_draw.specs.Rule.{start_domain, reset_rule, drawn, colours_as, set_color_rule, blink, blinks, blink_rule}
+use Rattle.nap_draw.specs.Rule.{start_domain, reset_rule, drawn, maps, colours_as, set_color_rule, blink, blinks, blink_rule}
 use Rattle.nap_draw.proofs.Cuts.{operands-front, operands_none}
 use Rattle.nap_draw.proofs.Still.{walk_stays, wait_stays, blink_stays}
 
@@ -40,6 +43,15 @@ set_one work k run some more few =
     let whole : take n run ≡ run = take_all n run (omega arith) in
     ap (set_color_rule work) (one ∙ ap (λ (os : List (List ℕ)). take n run ∷ os) (operands_none k (drop n run) rest)) ∙ ap (λ (o : List ℕ). colours_as work work.state.drawing.colour (colour_of o)) whole
 
+-- a colour at an address
+
+pub known_colour : (work : Work) (a : ℕ) (grb : Components) → is_known a grb work.state.known ≡ true → maps work a grb ≡ Ok (drawn work [])
+known_colour work a grb is = rw is refl
+
+pub new_colour : (work : Work) (a : ℕ) (grb : Components) (known : List MapColour) → is_known a grb work.state.known ≡ false → known ≡ setting a grb work.state.known →
+    maps work a grb ≡ Ok (record { entries = entries.Map a grb ∷ []; work = record work { state = record work.state { last = None; known = known } }; clears = false })
+new_colour work a grb known is learns = rw (is, learns) refl
+
 -- WAIT
 
 pub wait_none : (work : Work) (run : List ℕ) → length run ≡ 0 → drawn work (map entries.Wait run) ≡ drawn work []
@@ -51,7 +63,7 @@ pub wait_some : (work : Work) (run : List ℕ) → length run ≢ 0 →
 wait_some work [] more = absurd (more refl)
 wait_some work (word ∷ words) more =
     let d = work.state.drawing in
-    let there = walk_stays d entries.Wait (wait_stays d) work.state.definition work.state.last word words in
+    let there = walk_stays d entries.Wait (wait_stays d) work.state work.state.last word words in
     ap (λ s. record { entries = map entries.Wait (word ∷ words); work = record work { state = s }; clears = false }) there
 
 -- BLINK
@@ -67,7 +79,7 @@ groups_some : (work : Work) (groups rest : List (List ℕ)) (group : List ℕ) �
 groups_some work groups rest group mode is =
     let d = work.state.drawing in
     let k = work.domain.single in
-    let there = walk_stays d (blink k d.colour) (blink_stays d k mode) work.state.definition work.state.last group rest in
+    let there = walk_stays d (blink k d.colour) (blink_stays d k mode) work.state work.state.last group rest in
     let made : drawn work (blinks k d.colour (group ∷ rest)) ≡ record { entries = map (blink k d.colour) (group ∷ rest); work = record work { state = record work.state { last = None } }; clears = false }
     = ap (λ s. record { entries = map (blink k d.colour) (group ∷ rest); work = record work { state = s }; clears = false }) there in
     rw is made
@@ -84,20 +96,20 @@ blink_some work run mode more =
 
 -- RESET
 
-pub reset_is : (w : Work) (run : List ℕ) (first second bits : ℕ) (pen : Pen) (domain : OperandLengths) (d : Drawing) → InMode w.state.drawing.base w.state.drawing.colour →
+pub reset_is : (w : Work) (run : List ℕ) (first second bits : ℕ) (pen : Pen) (domain : OperandLengths) (d : Drawing) (known : List MapColour) → InMode w.state.drawing.base w.state.drawing.colour →
     first ≡ slice_index run 0 → second ≡ slice_index run 1 → pen ≡ w.state.drawing.pen → domain ≡ cond (eqb (first % 2) 1) start_domain w.domain → bits ≡ second →
-    d ≡ reset first second w.state.drawing → reset_rule w (slice_index run 0) (slice_index run 1) ≡ Ok (record {
+    d ≡ reset first second w.state.drawing → known ≡ reset_known first w.state.known → reset_rule w (slice_index run 0) (slice_index run 1) ≡ Ok (record {
       entries = entries.Reset first second pen ∷ [];
-      work = record w { domain = domain; state = record w.state { drawing = d; last = None } };
+      work = record w { domain = domain; state = record w.state { drawing = d; last = None; known = known } };
       clears = eqb (bits / 16 % 2) 1;
     })
 unfolding walk
-reset_is w run first second bits pen domain d mode one two where_ has reads there =
+reset_is w run first second bits pen domain d known mode one two where_ has reads there learns =
     let a = slice_index run 0 in
     let b = slice_index run 1 in
     let entry = entries.Reset a b w.state.drawing.pen in
     let left = left_by w.state entry (record { pen = refl; pel = tt; colour = tt; texture = tt; text = tt }) mode in
-    rw (there, has, reads, one, two, where_) (ap (λ (s : State). Ok (record {
+    rw (there, learns, has, reads, one, two, where_) (ap (λ (s : State). Ok (record {
       entries = entry ∷ [];
       work = record w { domain = cond (eqb (a % 2) 1) start_domain w.domain; state = s };
       clears = eqb (b / 16 % 2) 1;

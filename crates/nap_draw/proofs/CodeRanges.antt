@@ -57,6 +57,7 @@ module _ (work : Work) (r : StateInRange work.state) where
         drawing = record { pen = r.drawing.pen; pel = r.drawing.pel; base = r.drawing.base; colour = r.drawing.colour; texture = r.drawing.texture; text = text };
         definition = r.definition;
         last = r.last;
+        known = r.known;
       } in
       (All-nil InRange, walk_ranged (with_drawing work d).state [] there (All-nil InRange))
 

@@ -1,4 +1,4 @@
-use Rattle.std.proofs.Common.{◌-◌, ◌≡◌, ℕ, ◌+◌, ◌/◌, List, [], ◌∷◌, ◌++◌, map, Bool, true, false, cond, eqb, ltb, ◌<◌, ◌≤◌, length, arith, Option, Some, None, IsSome, Result, Ok, Err, refl, sym, subst}
+use Rattle.std.proofs.Common.{◌-◌, ◌≡◌, ℕ, ◌+◌, ◌/◌, List, [], ◌∷◌, ◌++◌, map, Bool, true, false, cond, eqb, ltb, ◌<◌, ◌≤◌, length, arith, Option, Some, None, IsSome, Result, Ok, Err, refl, sym, subst, ap, ◌∙◌}
 use Rattle.std.specs.Option.{option_map, option_and_then, option_or}
 use Rattle.nap_list.specs.declared.points.TheConstants.{SHAPE_POINTS}
 use Rattle.nap_values.specs.Coordinates.{Coordinates, Displacement, point_at}
@@ -26,6 +26,7 @@ use Rattle.nap_list.specs.declared.state.LastChar.{LastChar}
 use Rattle.nap_codes.specs.declared.code.Code.{Code}
 use Rattle.nap_codes.specs.declared.code.Code.TheVariants as codes
 use Rattle.nap_list.specs.Entry.{held, hand_values, nothing, WellMade}
+use Rattle.nap_list.specs.Known.{is_known, setting}
 use Rattle.nap_list.specs.State.{AllFit, Comes, TextureFits, MaskFits, with_colour, after, walk, with_pen_at}
 use Rattle.nap_list.specs.Agreement.{ColourAgrees, InMode, Holds, StatesAgree}
 use Rattle.nap_list.proofs.PublicLaws.{agreeing_fits, fits_join, walks_join}
@@ -34,7 +35,7 @@ use Rattle.std.proofs.lemmas.Bool.Decides.{nat_tests}
 use Rattle.nap_draw.specs.declared.fault.DrawFault.{DrawFault}
 use Rattle.nap_draw.specs.declared.fault.DrawFault.TheVariants as faults
 use Rattle.nap_draw.specs.Geometry.{end_of, points_at, reached, joined, between, away, across, arc_points, poly_points}
-use Rattle.nap_draw.specs.Rule.{Drawn, and_then, some_of, pairs_of, first_of, few_of, moves_of, pen_point, drawn, draws, draws_one, goes, with_drawing, domain_rule, domain_in, with_domain, shape_from_pen, shape_from_point, area_of, field_rule, point_on, line_on, rect_on, arc_on, poly_on, field_on, reset_rule, colour_of_base, selected, maps, colours_as, set_color_rule, blink, blinks, rule}
+use Rattle.nap_draw.specs.Rule.{Drawn, and_then, some_of, pairs_of, first_of, few_of, moves_of, pen_point, drawn, mapped, draws, draws_one, goes, with_drawing, domain_rule, domain_in, with_domain, shape_from_pen, shape_from_point, area_of, field_rule, point_on, line_on, rect_on, arc_on, poly_on, field_on, reset_rule, colour_of_base, selected, maps, colours_as, set_color_rule, blink, blinks, rule}
 use Rattle.nap_draw.specs.Codes.{IsMade, hand_of, copies, ended, ended_by, opened_by, opens, puts, with_last, code_rule}
 use Rattle.nap_draw.specs.Laws.{RuleFits, CodeFits}
 use Rattle.nap_draw.specs.Doing.{MayFollow, landed, start_of}
@@ -74,6 +75,7 @@ pel_agrees s pel shown a = record {
   drawing = record { pen = a.drawing.pen; base = a.drawing.base; colour = a.drawing.colour; mode = a.drawing.mode; texture = a.drawing.texture };
   definition = a.definition;
   last = a.last;
+  known = a.known;
   made = a.made;
 }
 
@@ -83,6 +85,7 @@ pen_agrees s (Some p) shown a = record {
   drawing = record { pen = tt; base = a.drawing.base; colour = a.drawing.colour; mode = a.drawing.mode; texture = a.drawing.texture };
   definition = a.definition;
   last = a.last;
+  known = a.known;
   made = a.made;
 }
 
@@ -215,12 +218,12 @@ field_fits work ms = each_fits work (area_of work ms) _ (λ area. one_fits work 
 
 wait_fits : (work : Work) (run : List ℕ) → Fitting work (drawn work (map entries.Wait run))
 unfolding Fitting
-wait_fits work run shown a = stays_fit work.state.drawing entries.Wait (wait_stays work.state.drawing) work.state.definition work.state.last run shown a
+wait_fits work run shown a = stays_fit work.state.drawing entries.Wait (wait_stays work.state.drawing) work.state work.state.last run shown a
 
 blink_groups_fit : (work : Work) (k : ℕ) (groups : List (List ℕ)) → Fitting work (drawn work (map (blink k work.state.drawing.colour) groups))
 unfolding Fitting
 blink_groups_fit work k groups shown a =
-    let d = work.state.drawing in stays_fit d (blink k d.colour) (blink_stays d k a.drawing.mode) work.state.definition work.state.last groups shown a
+    let d = work.state.drawing in stays_fit d (blink k d.colour) (blink_stays d k a.drawing.mode) work.state work.state.last groups shown a
 
 blink_fits : (work : Work) (k : ℕ) (groups : List (List ℕ)) → Fitting work (drawn work (blinks k work.state.drawing.colour groups))
 blink_fits work k [] = single_fits work (entries.BlinkEnd work.state.drawing.colour) (record { pen = tt; pel = tt; colour = refl; texture = tt; text = tt }) tt tt
@@ -236,6 +239,7 @@ text_agrees s look shown a = record {
   drawing = record { pen = a.drawing.pen; base = a.drawing.base; colour = a.drawing.colour; mode = a.drawing.mode; texture = a.drawing.texture };
   definition = a.definition;
   last = a.last;
+  known = a.known;
   made = a.made;
 }
 
@@ -249,6 +253,7 @@ texture_agrees s word mask shown a = record {
   drawing = record { pen = a.drawing.pen; base = a.drawing.base; colour = a.drawing.colour; mode = a.drawing.mode; texture = mask_agrees s.drawing.texture mask shown.drawing.texture a.drawing.texture };
   definition = a.definition;
   last = a.last;
+  known = a.known;
   made = a.made;
 }
 
@@ -265,18 +270,21 @@ select_agrees s [] shown a = record {
   drawing = record { pen = a.drawing.pen; base = a.drawing.base; colour = base_agrees s.drawing.base shown.drawing.colour; mode = base_mode s.drawing.base; texture = a.drawing.texture };
   definition = a.definition;
   last = a.last;
+  known = a.known;
   made = a.made;
 }
 select_agrees s (x ∷ []) shown a = record {
   drawing = record { pen = a.drawing.pen; base = a.drawing.base; colour = tt; mode = tt; texture = a.drawing.texture };
   definition = a.definition;
   last = a.last;
+  known = a.known;
   made = a.made;
 }
 select_agrees s (x ∷ y ∷ more) shown a = record {
   drawing = record { pen = a.drawing.pen; base = a.drawing.base; colour = tt; mode = tt; texture = a.drawing.texture };
   definition = a.definition;
   last = a.last;
+  known = a.known;
   made = a.made;
 }
 
@@ -286,6 +294,7 @@ direct_agrees s grb shown a = record {
   drawing = record { pen = a.drawing.pen; base = tt; colour = tt; mode = refl; texture = a.drawing.texture };
   definition = a.definition;
   last = a.last;
+  known = a.known;
   made = a.made;
 }
 
@@ -306,23 +315,36 @@ direct_fits : (work : Work) (grb : Components) → IsFitting work (Ok (drawn (wi
 unfolding IsFitting
 direct_fits work grb = silent_fits work (with_drawing work (record work.state.drawing { base = bases.Direct grb; colour = colours.Direct grb })) (direct_agrees work.state grb)
 
-map_fits : (work : Work) (a : ℕ) (grb : Components) → ColourIsMapped work.state.drawing.colour → IsFitting work (maps work a grb)
+attribute_fits : (work w : Work) → ((shown : State) → StatesAgree work.state shown → StatesAgree w.state shown) → IsFitting work (Ok (drawn w []))
+unfolding IsFitting
+attribute_fits work w agrees = silent_fits work w agrees
+
+new_fits : (work : Work) (a : ℕ) (grb : Components) → ColourIsMapped work.state.drawing.colour → is_known a grb work.state.known ≡ false →
+    IsFitting work (Ok (record { entries = entries.Map a grb ∷ []; work = record work { state = mapped work.state a grb }; clears = false }))
 unfolding IsFitting Fitting AllFit walk
-map_fits work a grb mapped shown agrees = (
-  (record { values = record { pen = tt; colour = tt; texture = tt }; made = tt; comes = tt }, tt),
+new_fits work a grb chosen new shown agrees = (
+  (record { values = record { pen = tt; colour = tt; texture = tt }; made = tt; comes = ap (is_known a grb) (sym agrees.known) ∙ new }, tt),
   record {
     drawing = record {
       pen = agrees.drawing.pen;
       base = agrees.drawing.base;
-      colour = mapped_agrees work.state.drawing.colour (colours.Front a) mapped;
+      colour = mapped_agrees work.state.drawing.colour (colours.Front a) chosen;
       mode = agrees.drawing.mode;
       texture = agrees.drawing.texture;
     };
     definition = agrees.definition;
     last = refl;
+    known = ap (setting a grb) agrees.known;
     made = tt;
   },
 )
+
+map_fits : (work : Work) (a : ℕ) (grb : Components) → ColourIsMapped work.state.drawing.colour → IsFitting work (maps work a grb)
+map_fits work a grb chosen = by (is_known a grb work.state.known) refl
+  where
+    by : (known : Bool) → is_known a grb work.state.known ≡ known → IsFitting work (maps work a grb)
+    by true is = rw is (attribute_fits work work (λ shown agrees. agrees))
+    by false is = rw is (new_fits work a grb chosen is)
 
 colours_fit : (work : Work) (colour : Colour) (grb : Components) → work.state.drawing.colour ≡ colour → IsFitting work (colours_as work colour grb)
 colours_fit work (colours.Own origin) grb is = direct_fits work grb
@@ -335,10 +357,6 @@ set_color_fits : (work : Work) (operands : List (List ℕ)) → IsFitting work (
 set_color_fits work [] = fault_fits work faults.Missing
 set_color_fits work (operand ∷ []) = colours_fit work work.state.drawing.colour (colour_of operand) refl
 set_color_fits work (operand ∷ other ∷ more) = fault_fits work faults.ManyColours
-
-attribute_fits : (work w : Work) → ((shown : State) → StatesAgree work.state shown → StatesAgree w.state shown) → IsFitting work (Ok (drawn w []))
-unfolding IsFitting
-attribute_fits work w agrees = silent_fits work w agrees
 
 list_fits : (work : Work) (list : List Entry) → Fitting work (drawn work list) → IsFitting work (Ok (drawn work list))
 unfolding IsFitting

@@ -22,6 +22,7 @@ use Rattle.nap_list.specs.declared.attribute.Colour.TheVariants as colours
 use Rattle.nap_list.specs.declared.entry.Entry.{Entry}
 use Rattle.nap_list.specs.declared.entry.Entry.TheVariants as entries
 use Rattle.nap_list.specs.declared.state.Drawing.{Drawing}
+use Rattle.nap_list.specs.Known.{is_known}
 use Rattle.nap_list.specs.State.{corner, walk, with_colour, with_pen_at}
 use Rattle.nap_list.specs.Range.{IsAddress, PenInRange, BaseInRange, ColourInRange, SizeInRange, InkInRange, AreaInRange, InRange, AllInRange, DrawingInRange, StateInRange}
 use Rattle.nap_draw.specs.declared.spans.Span.{Span}
@@ -32,7 +33,7 @@ use Rattle.nap_draw.specs.Operands.{cut, operands, moves, addresses}
 use Rattle.nap_draw.specs.Geometry.{onward, end_of, points_at, reached, joined, span, span_by, between, away, across, round, arc_points, poly_points}
 use Rattle.nap_draw.specs.Rule.{Drawn, rule, drawn, with_drawing, draws, draws_one, goes, and_then, some_of, moves_of, first_move, pen_point, pairs_of, first_of, few_of, with_operands, from_pen, with_pairs, shape_from_pen, shape_from_point, domain_in, domain_rule, part, area_of, field_rule, reset_rule, text_rule, texture_rule, colour_of_base, selected, select_rule, maps, colours_as, set_color_rule, blink, blinks, blink_rule, ink_of, point_on, line_on, rect_on, arc_on, poly_on, field_on}
 use Rattle.nap_draw.specs.Laws.{DrawnValuesAreInRange}
-use Rattle.nap_draw.proofs.WalkRanges.{unwrap_ranged, with_pen_at_ranged, with_colour_ranged, at_ranged, walk_ranged}
+use Rattle.nap_draw.proofs.WalkRanges.{setting_ranged, unwrap_ranged, with_pen_at_ranged, with_colour_ranged, at_ranged, walk_ranged}
 
 -- What rules give is in range.
 
@@ -195,7 +196,7 @@ ink_ranged d r = record { pel = r.pel; colour = r.colour; texture = r.texture }
 -- the values change, and nothing is drawn
 silent_ranged : (work : Work) (d : Drawing) → StateInRange work.state → DrawingInRange d → Ranged (Ok (drawn (with_drawing work d) []))
 unfolding walk
-silent_ranged work d r new = (All-nil InRange, record { drawing = new; definition = r.definition; last = r.last })
+silent_ranged work d r new = (All-nil InRange, record { drawing = new; definition = r.definition; last = r.last; known = r.known })
 
 module _ (work : Work) (r : StateInRange work.state) where
   list_ranged : (es : List Entry) → AllInRange es → Ranged (Ok (drawn work es))
@@ -375,10 +376,14 @@ module _ (work : Work) (r : StateInRange work.state) where
       (with_colour_ranged (selected work.state.drawing.base chosen) work.state.drawing (selected_ranged chosen (addresses_ranged work.domain.single run all)) r.drawing)
 
   maps_ranged : (a : ℕ) (grb : Components) → IsAddress a → HasSixteenBitParts grb → Ranged (maps work a grb)
-  maps_ranged a grb address parts = (
-    All-cons InRange (entries.Map a grb) [] (address, parts) (All-nil InRange),
-    record { drawing = r.drawing; definition = r.definition; last = tt },
-  )
+  maps_ranged a grb address parts = by (is_known a grb work.state.known) refl
+    where
+      by : (known : Bool) → is_known a grb work.state.known ≡ known → Ranged (maps work a grb)
+      by true is = rw is (silent_ranged work work.state.drawing r r.drawing)
+      by false is = rw is (
+        All-cons InRange (entries.Map a grb) [] (address, parts) (All-nil InRange),
+        record { drawing = r.drawing; definition = r.definition; last = tt; known = setting_ranged a grb work.state.known address parts r.known },
+      )
 
   direct_ranged : (grb : Components) → HasSixteenBitParts grb →
       Ranged (Ok (drawn (with_drawing work (record work.state.drawing { base = bases.Direct grb; colour = colours.Direct grb })) []))

@@ -9,7 +9,6 @@ use Rattle.nap_list.specs.declared.entry.Entry.{Entry}
 use Rattle.nap_list.specs.declared.entry.Entry.TheVariants as entries
 use Rattle.nap_list.specs.declared.state.Drawing.{Drawing}
 use Rattle.nap_list.specs.declared.state.LastChar.{LastChar}
-use Rattle.nap_list.specs.declared.state.Opened.{Opened}
 use Rattle.nap_list.specs.declared.state.State.{State}
 use Rattle.nap_list.specs.Entry.{held, WellMade}
 use Rattle.nap_list.specs.State.{AllFit, Comes, after, walk}
@@ -18,36 +17,37 @@ use Rattle.nap_list.proofs.PublicLaws.{agreeing_fits}
 use Rattle.nap_draw.specs.Rule.{blink}
 use Rattle.nap_draw.proofs.Walks.{left_by}
 
-abbrev at : Drawing → Option Opened → Option LastChar → State
-at d o last = record { drawing = d; definition = o; last = last }
+-- the state with these values, and with this last character
+abbrev at : Drawing → State → Option LastChar → State
+at d s last = record s { drawing = d; last = last }
 
 -- entries that leave the values as they stand
 pub record Stays {A : Type 0} (d : Drawing) (entry : A → Entry) : Type 0 where
-  pub stays : (x : A) (o : Option Opened) (last : Option LastChar) → after (at d o last) (entry x) ≡ at d o None
+  pub stays : (x : A) (s : State) (last : Option LastChar) → after (at d s last) (entry x) ≡ at d s None
   pub holds : (x : A) → Holds (held (entry x)) d
   pub made : (x : A) → WellMade (entry x)
   pub comes : (x : A) (s : State) → Comes s (entry x)
 
 module _ {A : Type 0} (d : Drawing) (entry : A → Entry) (by : Stays d entry) where
-  pub walk_stays : (o : Option Opened) (last : Option LastChar) (x : A) (xs : List A) → walk (at d o last) (map entry (x ∷ xs)) ≡ at d o None
+  pub walk_stays : (s : State) (last : Option LastChar) (x : A) (xs : List A) → walk (at d s last) (map entry (x ∷ xs)) ≡ at d s None
   unfolding walk
-  walk_stays o last x [] = by.stays x o last
-  walk_stays o last x (y ∷ ys) = ap (λ s. walk s (map entry (y ∷ ys))) (by.stays x o last) ∙ walk_stays o None y ys
+  walk_stays s last x [] = by.stays x s last
+  walk_stays s last x (y ∷ ys) = ap (λ t. walk t (map entry (y ∷ ys))) (by.stays x s last) ∙ walk_stays s None y ys
 
-  pub stays_fit : (o : Option Opened) (last : Option LastChar) (xs : List A) (shown : State) → StatesAgree (at d o last) shown →
-      AllFit shown (map entry xs) × StatesAgree (walk (at d o last) (map entry xs)) (walk shown (map entry xs))
+  pub stays_fit : (s : State) (last : Option LastChar) (xs : List A) (shown : State) → StatesAgree (at d s last) shown →
+      AllFit shown (map entry xs) × StatesAgree (walk (at d s last) (map entry xs)) (walk shown (map entry xs))
   unfolding AllFit walk
-  stays_fit o last [] shown a = (tt, a)
-  stays_fit o last (x ∷ xs) shown a =
+  stays_fit s last [] shown a = (tt, a)
+  stays_fit s last (x ∷ xs) shown a =
       let e = entry x in
-      let here = agreeing_fits (at d o last) shown e a (by.holds x) (by.made x) (by.comes x (at d o last)) in
-      let there = by.stays x o last in
-      let then = stays_fit o None xs (after shown e) (subst (λ (s : State). StatesAgree s (after shown e)) there here.1) in
-      ((here.0, then.0), subst (λ (s : State). StatesAgree (walk s (map entry xs)) (walk (after shown e) (map entry xs))) (sym there) then.1)
+      let here = agreeing_fits (at d s last) shown e a (by.holds x) (by.made x) (by.comes x (at d s last)) in
+      let there = by.stays x s last in
+      let then = stays_fit s None xs (after shown e) (subst (λ (t : State). StatesAgree t (after shown e)) there here.1) in
+      ((here.0, then.0), subst (λ (t : State). StatesAgree (walk t (map entry xs)) (walk (after shown e) (map entry xs))) (sym there) then.1)
 
 pub wait_stays : (d : Drawing) → Stays d entries.Wait
 wait_stays d = record {
-  stays = λ word o last. refl;
+  stays = λ word s last. refl;
   holds = λ word. record { pen = tt; pel = tt; colour = tt; texture = tt; text = tt };
   made = λ word. tt;
   comes = λ word s. tt;
@@ -55,7 +55,7 @@ wait_stays d = record {
 
 pub blink_stays : (d : Drawing) (k : ℕ) → InMode d.base d.colour → Stays d (blink k d.colour)
 blink_stays d k mode = record {
-  stays = λ group o last. left_by (at d o last) (blink k d.colour group) (record { pen = tt; pel = tt; colour = refl; texture = tt; text = tt }) mode;
+  stays = λ group s last. left_by (at d s last) (blink k d.colour group) (record { pen = tt; pel = tt; colour = refl; texture = tt; text = tt }) mode;
   holds = λ group. record { pen = tt; pel = tt; colour = refl; texture = tt; text = tt };
   made = λ group. tt;
   comes = λ group s. tt;

@@ -1,8 +1,9 @@
 use Rattle.std.proofs.Common.{ℕ, zero, suc, ◌-◌, ◌/◌, ◌%◌, eqb, List, [], ◌∷◌, All, length, Option, Some, None, IfSome, arith}
-use Rattle.std.specs.Prelude.{slice_get, unwrap_or}
+use Rattle.std.specs.Prelude.{slice_get, take, unwrap_or}
 use Rattle.std.proofs.lemmas.Bool.{cond_both}
-use Rattle.std.proofs.lemmas.List.Elements.{All-head, All-tail}
+use Rattle.std.proofs.lemmas.List.Elements.{All-nil, All-cons, All-head, All-tail, All-take, All-filter}
 use Rattle.nap_values.specs.Coordinates.{Coordinates, IsInSquare, IsInRange}
+use Rattle.nap_values.specs.Colours.{Components, HasSixteenBitParts}
 use Rattle.nap_list.specs.declared.attribute.Pen.{Pen}
 use Rattle.nap_list.specs.declared.attribute.Pen.TheVariants as pens
 use Rattle.nap_list.specs.declared.attribute.Base.{Base}
@@ -18,8 +19,10 @@ use Rattle.nap_list.specs.declared.state.Opened.{Opened}
 use Rattle.nap_list.specs.declared.state.LastChar.{LastChar}
 use Rattle.nap_list.specs.declared.state.State.{State}
 use Rattle.nap_list.specs.Entry.{held, ink_values, hand_values, colour_alone, pen_alone}
-use Rattle.nap_list.specs.State.{start_drawing, start_texture, start_text, base_shown, taking, with_pen, with_pen_at, with_colour, corner, colour_code, reset, saved_values, drawn, definition_after, last_after, after, walk}
-use Rattle.nap_list.specs.Range.{IsByte, PenInRange, BaseInRange, ColourInRange, TextureInRange, TextInRange, InkInRange, HandInRange, InRange, AllInRange, DrawingInRange, OpenedInRange, StateInRange}
+use Rattle.nap_list.specs.declared.known.MapColour.{MapColour}
+use Rattle.nap_list.specs.Known.{colour_code, elsewhere, setting}
+use Rattle.nap_list.specs.State.{start_drawing, start_texture, start_text, base_shown, taking, with_pen, with_pen_at, with_colour, corner, reset, saved_values, drawn, definition_after, last_after, known_after, after, walk}
+use Rattle.nap_list.specs.Range.{IsAddress, IsByte, MapColourInRange, PenInRange, BaseInRange, ColourInRange, TextureInRange, TextInRange, InkInRange, HandInRange, InRange, AllInRange, DrawingInRange, OpenedInRange, StateInRange}
 
 -- A walk over entries in range, from a state in range, leads to a state in range.
 
@@ -166,6 +169,18 @@ last_ranged : (e : Entry) → InRange e → IfSome (last_after e) (λ (last : La
 last_ranged (entries.Char set code hand) new = new.0
 last_ranged _ new = tt
 
+pub setting_ranged : (addr : ℕ) (grb : Components) (known : List MapColour) → IsAddress addr → HasSixteenBitParts grb → All MapColourInRange known →
+    All MapColourInRange (setting addr grb known)
+setting_ranged addr grb known there parts all =
+    All-cons MapColourInRange (record { addr = addr; grb = grb }) (take 15 (elsewhere addr known)) (there, parts)
+    (All-take MapColourInRange 15 (elsewhere addr known) (All-filter _ MapColourInRange known all))
+
+known_ranged : (known : List MapColour) (e : Entry) → InRange e → All MapColourInRange known → All MapColourInRange (known_after known e)
+known_ranged known (entries.Map addr grb) new all = setting_ranged addr grb known new.0 new.1 all
+known_ranged known (entries.Reset first second pen) new all =
+    cond_both (eqb (colour_code first) 0) _ _ (All MapColourInRange) (λ _. all) (λ _. All-nil MapColourInRange)
+known_ranged known _ new all = all
+
 pub after_ranged : (s : State) (e : Entry) → StateInRange s → InRange e → StateInRange (after s e)
 after_ranged s e r new =
     let taken = taking_ranged s.drawing (held e) r.drawing (held_ranged e new) in
@@ -173,6 +188,7 @@ after_ranged s e r new =
       drawing = drawn_ranged s.definition (taking s.drawing (held e)) e r.definition taken new;
       definition = definition_ranged s.definition (taking s.drawing (held e)) e r.definition taken new;
       last = last_ranged e new;
+      known = known_ranged s.known e new r.known;
     }
 
 pub walk_ranged : (s : State) (es : List Entry) → StateInRange s → AllInRange es → StateInRange (walk s es)

@@ -7,7 +7,7 @@ use Rattle.nap_list.specs.declared.entry.Entry.{Entry}
 use Rattle.nap_list.specs.declared.state.Drawing.{Drawing}
 use Rattle.nap_list.specs.declared.state.State.{State}
 use Rattle.nap_list.specs.Entry.{held, WellMade}
-use Rattle.nap_list.specs.State.{with_pen, with_pen_at, drawn, definition_after, last_after, after, walk, Comes, corner}
+use Rattle.nap_list.specs.State.{with_pen, with_pen_at, drawn, definition_after, last_after, known_after, after, walk, Comes, corner}
 use Rattle.nap_list.specs.Agreement.{InMode, Holds}
 use Rattle.nap_list.proofs.PublicLaws.{taking_nothing}
 use Rattle.nap_draw.specs.declared.spans.Figure.{Figure}
@@ -49,9 +49,9 @@ module _ {A : Type 0} (entry : Drawing → A → Entry) (at : A → Coordinates)
 
 -- what an entry leaves that holds the values that stand
 pub left_by : (s : State) (e : Entry) → Holds (held e) s.drawing → InMode s.drawing.base s.drawing.colour →
-    after s e ≡ record { drawing = drawn s.definition s.drawing e; definition = definition_after s.definition s.drawing e; last = last_after e }
+    after s e ≡ record { drawing = drawn s.definition s.drawing e; definition = definition_after s.definition s.drawing e; last = last_after e; known = known_after s.known e }
 left_by s e holds mode =
-    let there : Drawing → State = λ d. record { drawing = drawn s.definition d e; definition = definition_after s.definition d e; last = last_after e } in
+    let there : Drawing → State = λ d. record { drawing = drawn s.definition d e; definition = definition_after s.definition d e; last = last_after e; known = known_after s.known e } in
     ap there (taking_nothing (held e) s.drawing holds mode)
 
 -- a pen goes to each point

@@ -20,6 +20,8 @@ use Rattle.nap_list.specs.declared.entry.Entry.{Entry}
 use Rattle.nap_list.specs.declared.entry.Entry.TheVariants as entries
 use Rattle.nap_list.specs.declared.state.Drawing.{Drawing}
 use Rattle.nap_list.specs.declared.points.TheConstants.{SHAPE_POINTS}
+use Rattle.nap_list.specs.declared.state.State.{State}
+use Rattle.nap_list.specs.Known.{is_known, setting}
 use Rattle.nap_list.specs.State.{start, walk, with_colour, with_pen_at}
 use Rattle.nap_draw.specs.declared.work.Work.{Work}
 use Rattle.nap_draw.specs.declared.fault.DrawFault.{DrawFault}
@@ -226,9 +228,15 @@ selected base (a ∷ b ∷ more) = colours.Pair a b
 abbrev pub select_rule : Work → List ℕ → Result Drawn DrawFault
 select_rule work run = Ok (drawn (with_drawing work (with_colour (selected work.state.drawing.base (addresses work.domain.single run)) work.state.drawing)) [])
 
--- a new colour at an address; the colours chosen stay
+-- the state with a new colour at an address; the colours chosen stay
+abbrev pub mapped : State → ℕ → Components → State
+mapped s a grb = record s { last = None; known = setting a grb s.known }
+
+-- a new colour at an address; one that is known there already adds nothing
 abbrev pub maps : Work → ℕ → Components → Result Drawn DrawFault
-maps work a grb = Ok (record { entries = entries.Map a grb ∷ []; work = record work { state = record work.state { last = None } }; clears = false })
+maps work a grb =
+    if is_known a grb work.state.known then Ok (drawn work []) else
+    Ok (record { entries = entries.Map a grb ∷ []; work = record work { state = mapped work.state a grb }; clears = false })
 
 -- a new colour: of mode 0, or at the address that is chosen
 abbrev pub colours_as : Work → Colour → Components → Result Drawn DrawFault

@@ -62,13 +62,17 @@ impl Work {
         self.state.drawing.colour = Colour::Direct(grb);
     }
 
-    /// A new colour at the address.
+    /// A new colour at the address; one that is known there adds nothing.
     fn map<S: Sink>(&mut self, addr: Addr, grb: Grb, sink: &mut S) -> Result<(), DrawFault>
         requires { StatesAgree self.old.state (S.state sink.old) }
         ensures { Does S.Sink quiet (maps self.old addr grb) self.old self.new sink.old sink.new result }
     {
+        if self.state.known.has(addr, grb) {
+            return Ok(());
+        }
         self.put(Entry::Map { addr, grb }, sink)?;
         self.state.last = None;
+        self.state.known.set(addr, grb);
         Ok(())
     }
 }

@@ -26,6 +26,7 @@ impl Work {
         self.put(Entry::Reset { first, second, pen }, sink)?;
         self.state.drawing.reset(first, second);
         self.state.last = None;
+        self.state.known.reset(first);
         self.domain = domain;
         Ok(second.get() / 16 % 2 == 1)
     }

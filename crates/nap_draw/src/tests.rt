@@ -15,6 +15,7 @@ use std::test::Fail;
 mod codes;
 mod definitions;
 mod faults;
+mod known;
 mod limits;
 mod resets;
 mod sinks;

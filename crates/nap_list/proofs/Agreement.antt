@@ -1,4 +1,4 @@
-use Rattle.std.proofs.Common.{◌≡◌, ℕ, Bool, true, false, Option, Some, None, refl, sym, subst, cond}
+use Rattle.std.proofs.Common.{◌≡◌, ℕ, List, Bool, true, false, Option, Some, None, refl, ap, sym, subst, cond}
 use Rattle.std.specs.Prelude.{unwrap_or, IsSome, IfSome, ◌==◌, slice_get, length, ◌-◌, ◌/◌, ◌%◌}
 use Rattle.nap_values.specs.Coordinates.{Coordinates, Displacement}
 use Rattle.nap_list.specs.declared.attribute.Origin.TheVariants as origins
@@ -18,7 +18,9 @@ use Rattle.nap_list.specs.declared.state.State.{State}
 use Rattle.nap_list.specs.declared.entry.Entry.{Entry}
 use Rattle.nap_list.specs.declared.entry.Entry.TheVariants as entries
 use Rattle.nap_list.specs.Entry.{held, IsCode, WellMade}
-use Rattle.nap_list.specs.State.{PenFits, ColourFits, MaskFits, TextureFits, HeldFits, Comes, base_shown, colour_code, taking, with_pen, with_pen_at, reset, saved_values, drawn, definition_after, last_after, start_texture}
+use Rattle.nap_list.specs.State.{PenFits, ColourFits, MaskFits, TextureFits, HeldFits, Comes, base_shown, taking, with_pen, with_pen_at, reset, saved_values, drawn, definition_after, last_after, known_after, start_texture}
+use Rattle.nap_list.specs.Known.{colour_code, is_known}
+use Rattle.nap_list.specs.declared.known.MapColour.{MapColour}
 use Rattle.nap_list.specs.Agreement.{BaseAgrees, ColourAgrees, InMode, Agrees, DefinitionsAgree, StatesAgree, Holds, AgreeingFits}
 use Rattle.nap_list.specs.Laws.{StartAgrees, TakingNothing}
 
@@ -201,6 +203,7 @@ comes_too s shown (entries.ToEol hand) h comes = subst (λ (l : Option LastChar)
 comes_too s shown (entries.GlyphStart code) h comes = none_agrees s.definition shown.definition h.definition comes
 comes_too s shown (entries.MaskStart mask) h comes = none_agrees s.definition shown.definition h.definition comes
 comes_too s shown entries.DefEnd h comes = some_agrees s.definition shown.definition h.definition comes
+comes_too s shown (entries.Map a grb) h comes = subst (λ (known : List MapColour). is_known a grb known ≡ false) h.known comes
 comes_too s shown e h comes = tt
 
 last_made : (e : Entry) → WellMade e → IfSome (last_after e) (λ (last : LastChar). IsCode last.code)
@@ -221,6 +224,7 @@ agreeing_fits s shown e agree holds made comes =
         drawing = drawn_agree s.definition shown.definition d d' e agree.definition taken;
         definition = definition_agrees s.definition shown.definition d d' e agree.definition taken;
         last = refl;
+        known = ap (λ (known : List MapColour). known_after known e) agree.known;
         made = last_made e made;
       },
     )
@@ -231,6 +235,7 @@ start_agrees = record {
   drawing = record { pen = refl; base = refl; colour = tt; mode = refl; texture = refl };
   definition = tt;
   last = refl;
+  known = refl;
   made = tt;
 }
 

@@ -2,3 +2,4 @@ pub mod Agreement
 pub mod Breaks
 pub mod Walks
 pub mod PublicLaws
+mod KnownRows

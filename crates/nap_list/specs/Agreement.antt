@@ -49,6 +49,7 @@ pub record StatesAgree (s shown : State) : Type 0 where
   pub drawing : Agrees s.drawing shown.drawing
   pub definition : DefinitionsAgree s.definition shown.definition
   pub last : s.last ≡ shown.last
+  pub known : s.known ≡ shown.known
   -- (as it is after any entries that fit)
   pub made : IfSome shown.last (λ last. IsCode last.code)
 

@@ -5,5 +5,6 @@ pub mod Laws
 pub mod Propositions
 pub mod Range
 pub mod Reading
+pub mod Known
 pub mod State
 pub mod Counting

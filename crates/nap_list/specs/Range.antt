@@ -25,6 +25,7 @@ use Rattle.nap_list.specs.declared.state.Definition.{Definition}
 use Rattle.nap_list.specs.declared.state.Definition.TheVariants as definitions
 use Rattle.nap_list.specs.declared.state.Opened.{Opened}
 use Rattle.nap_list.specs.declared.state.State.{State}
+use Rattle.nap_list.specs.declared.known.MapColour.{MapColour}
 
 -- The parts of entries and of states are values of their types. So it is of all that a program has, which the types of the
 -- definitions don't tell: they hold any number.
@@ -124,8 +125,13 @@ pub record OpenedInRange (opened : Opened) : Type 0 where
   pub what : DefinitionInRange opened.what
   pub saved : DrawingInRange opened.saved
 
+-- The parts of a colour of the map are values of their types.
+abbrev pub MapColourInRange : MapColour → Type 0
+MapColourInRange known = IsAddress known.addr × HasSixteenBitParts known.grb
+
 -- The parts of a state are values of their types.
 pub record StateInRange (s : State) : Type 0 where
   pub drawing : DrawingInRange s.drawing
   pub definition : IfSome s.definition OpenedInRange
   pub last : IfSome s.last (λ last. IsByte last.code)
+  pub known : All MapColourInRange s.known

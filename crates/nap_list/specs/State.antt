@@ -20,7 +20,9 @@ use Rattle.nap_list.specs.declared.state.Definition.TheVariants as definitions
 use Rattle.nap_list.specs.declared.state.Opened.{Opened}
 use Rattle.nap_list.specs.declared.state.LastChar.{LastChar}
 use Rattle.nap_list.specs.declared.state.State.{State}
+use Rattle.nap_list.specs.declared.known.MapColour.{MapColour}
 use Rattle.nap_list.specs.Entry.{held, WellMade}
+use Rattle.nap_list.specs.Known.{colour_code, is_known, setting, reset_known}
 
 -- the values before any entry
 
@@ -42,7 +44,7 @@ start_drawing = record {
 
 -- the state before any entry
 abbrev pub start : State
-start = record { drawing = start_drawing; definition = None; last = None }
+start = record { drawing = start_drawing; definition = None; last = None; known = [] }
 
 -- a held pen fits: one that is no point has to stand already
 abbrev pub PenFits : Pen → Option Pen → Type 0
@@ -78,6 +80,7 @@ Comes s (entries.ToEol hand) = IsSome s.last
 Comes s (entries.GlyphStart code) = s.definition ≡ None
 Comes s (entries.MaskStart mask) = s.definition ≡ None
 Comes s entries.DefEnd = IsSome s.definition
+Comes s (entries.Map a grb) = is_known a grb s.known ≡ false
 Comes s _ = ⊤
 
 -- the entry may come next
@@ -118,10 +121,6 @@ with_colour colour d = record d { colour = colour }
 -- the corner straight across from the first
 abbrev pub corner : Coordinates → Coordinates → Coordinates
 corner from to = record { x = to.x; y = from.y }
-
--- the colour code in a reset's first word
-abbrev pub colour_code : ℕ → ℕ
-colour_code first = first / 2 % 4
 
 -- b1 of the first word puts the pel back, b2 and b3 choose the colours, b1 and b4 of the second put text look and texture back
 abbrev pub reset : ℕ → ℕ → Drawing → Drawing
@@ -173,12 +172,19 @@ abbrev pub last_after : Entry → Option LastChar
 last_after (entries.Char set code hand) = Some (record { set = set; code = code })
 last_after _ = None
 
+-- the colours of the map that are known behind an entry: a new one is, and a reset that chooses colours leaves none
+abbrev pub known_after : List MapColour → Entry → List MapColour
+known_after known (entries.Map a grb) = setting a grb known
+known_after known (entries.Reset first second pen) = reset_known first known
+known_after known _ = known
+
 -- the state that an entry leaves: it takes the held values, and then has its effect
 abbrev pub after : State → Entry → State
 after s e = record {
   drawing = drawn s.definition (taking s.drawing (held e)) e;
   definition = definition_after s.definition (taking s.drawing (held e)) e;
   last = last_after e;
+  known = known_after s.known e;
 }
 
 -- the state that a list of entries leaves

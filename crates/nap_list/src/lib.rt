@@ -5,6 +5,7 @@ mod attribute;
 mod count_sink;
 mod device;
 mod entry;
+mod known;
 pub mod laws;
 mod legality;
 mod points;
@@ -17,6 +18,7 @@ pub use attribute::{
 pub use count_sink::CountSink;
 pub use device::{DeviceFault, Inlet, Outlet, READS, Source, Target};
 pub use entry::Entry;
+pub use known::{KNOWN, Known, MapColour};
 pub use legality::legal;
 pub use points::{Points, SHAPE_POINTS};
 pub use sink::{ListSink, Sink, SinkFault};

@@ -2,12 +2,13 @@
 ghost use Rattle.std.specs.Prelude.{◌≡◌, ◌↔◌, IsTrue};
 ghost use Rattle.nap_list.specs.Entry.{held, ink_values, hand_values, colour_alone};
 ghost use Rattle.nap_list.specs.Agreement.{Stands};
-ghost use Rattle.nap_list.specs.State.{start_texture, start_text, start_drawing, start, corner, PenFits, ColourFits, TextureFits, HeldFits, Comes, Fits, taking, with_pen, saved_values, reset, drawn, definition_after, last_after, after};
+ghost use Rattle.nap_list.specs.State.{start_texture, start_text, start_drawing, start, corner, PenFits, ColourFits, TextureFits, HeldFits, Comes, Fits, taking, with_pen, saved_values, reset, drawn, definition_after, last_after, known_after, after};
 
 use crate::attribute::{
     Base, CharSize, Colour, Hand, Held, Ink, Origin, Pen, Preset, TextLook, Texture,
 };
 use crate::entry::Entry;
+use crate::known::Known;
 use nap_codes::{CharSet, Mask, Size};
 use nap_values::{Move, Point, Word};
 
@@ -64,6 +65,8 @@ pub struct State {
     pub definition: Option<Opened>,
     /// The last entry, where it was a character.
     pub last: Option<LastChar>,
+    /// The colours of the map that are known.
+    pub known: Known,
 }
 
 impl Texture {
@@ -288,10 +291,11 @@ impl State {
             drawing: Drawing::start(),
             definition: None,
             last: None,
+            known: Known::new(),
         }
     }
 
-    /// The same state again.
+    /// The same state again. It takes no memory.
     pub fn copy(&self) -> State
         ensures { result ≡ self.now }
     {
@@ -299,6 +303,7 @@ impl State {
             drawing: self.drawing,
             definition: self.definition,
             last: self.last,
+            known: self.known.copy(),
         }
     }
 
@@ -310,6 +315,7 @@ impl State {
             Entry::GlyphStart(_) => self.definition.is_none(),
             Entry::MaskStart(_) => self.definition.is_none(),
             Entry::DefEnd => self.definition.is_some(),
+            Entry::Map { addr, grb } => !self.known.has(*addr, *grb),
             _ => true,
         }
     }
@@ -326,6 +332,7 @@ impl State {
         ensures definition { self.new.definition ≡ Some (record { what = what; saved = self.old.drawing }) }
         ensures drawing { self.new.drawing ≡ with_pen Pen.Start self.old.drawing }
         ensures last { self.new.last ≡ self.old.last }
+        ensures known { self.new.known ≡ self.old.known }
     {
         self.definition = Some(Opened {
             what,
@@ -339,6 +346,7 @@ impl State {
         ensures definition { self.new.definition ≡ None }
         ensures drawing { self.new.drawing ≡ saved_values self.old.definition self.old.drawing }
         ensures last { self.new.last ≡ self.old.last }
+        ensures known { self.new.known ≡ self.old.known }
     {
         if let Some(opened) = self.definition {
             self.drawing = opened.saved;
@@ -350,6 +358,7 @@ impl State {
     fn act(&mut self, entry: &Entry)
         ensures drawing { self.new.drawing ≡ drawn self.old.definition self.old.drawing entry.now }
         ensures definition { self.new.definition ≡ definition_after self.old.definition self.old.drawing entry.now }
+        ensures known { self.new.known ≡ self.old.known }
     {
         match entry {
             Entry::Point { at, .. } => self.drawing.pen = Pen::At(*at),
@@ -384,6 +393,17 @@ impl State {
         }
     }
 
+    /// What an entry does to the colours of the map that are known.
+    fn learn(&mut self, entry: &Entry)
+        ensures { self.new ≡ record self.old { known = known_after self.old.known entry.now } }
+    {
+        match entry {
+            Entry::Map { addr, grb } => self.known.set(*addr, *grb),
+            Entry::Reset { first, .. } => self.known.reset(*first),
+            _ => {}
+        }
+    }
+
     /// Goes on to the state that an entry leaves that fits.
     pub fn step(&mut self, entry: &Entry)
         requires { Fits self.old entry.now }
@@ -391,6 +411,7 @@ impl State {
     {
         self.drawing.show(entry);
         self.act(entry);
+        self.learn(entry);
         self.last = last_char(entry);
     }
 

@@ -10,7 +10,7 @@ use Rattle.nap_codes.specs.Front as codes
 use Rattle.nap_list.specs.declared.entry.Entry.{Entry}
 use Rattle.nap_list.specs.declared.state.Opened.{Opened}
 use Rattle.nap_list.specs.State.{start}
-use Rattle.nap_list.specs.Range.{InRange, AllInRange, StateInRange}
+use Rattle.nap_list.specs.Range.{InRange, AllInRange, MapColourInRange, StateInRange}
 use Rattle.nap_draw.specs.declared.fault.DrawFault.{DrawFault}
 use Rattle.nap_draw.specs.Codes.{code_rule}
 use Rattle.nap_draw.specs.Rule.{Drawn, rule}
@@ -150,6 +150,7 @@ start_ranged = record {
   };
   definition = tt;
   last = tt;
+  known = All-nil MapColourInRange;
 }
 
 begun_ranged : (budget : ℕ) (p : List ℕ) → Ranged (begun budget p)

@@ -13,6 +13,7 @@ use std::test::Fail;
 mod cuts;
 mod definitions;
 mod faults;
+mod known;
 mod macros;
 mod pairs;
 mod sinks;

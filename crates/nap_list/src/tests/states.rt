@@ -4,9 +4,9 @@ use super::samples::{
     field, hand, letter, line, middle, new_colour, plain_text, plain_texture, polygon, quarter,
     rectangle, reset, size, word,
 };
-use crate::{Base, CharSize, Colour, Drawing, Entry, Origin, Pen, State, TextLook, Texture};
+use crate::{Base, CharSize, Colour, Drawing, Entry, Known, Origin, Pen, State, TextLook, Texture};
 use nap_codes::{CursorKind, Mask, Size, TextStep};
-use nap_values::{Move, Point};
+use nap_values::{Grb, Move, Point};
 use std::test::Fail;
 
 fn pen_after(entry: Entry) -> Option<Pen> {
@@ -98,12 +98,15 @@ fn the_end_of_a_definition_puts_the_values_back(rt: HostRuntime) {
         },
         definition: None,
         last: None,
+        known: Known::new(),
     };
     assert!(rt; left_by(&entries) == Some(want));
 }
 
 #[test]
 fn a_new_colour_of_the_map_selects_it(rt: HostRuntime) {
+    let mut known = Known::new();
+    known.set(address(1_048_576), Grb::new(0, 49_152, 0));
     let want = State {
         drawing: Drawing {
             colour: Colour::Front(address(1_048_576)),
@@ -111,6 +114,7 @@ fn a_new_colour_of_the_map_selects_it(rt: HostRuntime) {
         },
         definition: None,
         last: None,
+        known,
     };
     assert!(rt; left_by(&[new_colour()]) == Some(want));
 }
@@ -142,6 +146,7 @@ fn after_reset(first: u8, second: u8) -> Option<Drawing> {
         drawing: changed(),
         definition: None,
         last: None,
+        known: Known::new(),
     };
     let entry = reset(first, second, Pen::At(middle()));
     if !state.fits(&entry) {

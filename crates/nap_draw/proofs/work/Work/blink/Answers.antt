@@ -33,7 +33,7 @@ pub put_blinks-requires : goal.put_blinks-requires
 put_blinks-requires g c =
     let s = c.args.self.now.state in
     let k = c.args.self.now.domain.single in
-    (stays_fit s.drawing (blink k s.drawing.colour) (blink_stays s.drawing k c.requires.drawing.mode) s.definition s.last (operands (k + 3) c.args.run.now) _ c.requires).0
+    (stays_fit s.drawing (blink k s.drawing.colour) (blink_stays s.drawing k c.requires.drawing.mode) s s.last (operands (k + 3) c.args.run.now) _ c.requires).0
 
 pub returns-in_err-put_blinks : goal.returns-in_err-put_blinks
 returns-in_err-put_blinks g c =

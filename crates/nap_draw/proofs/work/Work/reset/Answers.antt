@@ -14,11 +14,11 @@ put-requires g c = record {
 pub returns-in_err-put : goal.returns-in_err-put
 returns-in_err-put g c =
     let first = c.word_at-first.result in
-    let by = reset_is c.args.self.now c.args.run.now first _ _ _ _ _ c.requires.drawing.mode c.word_at-first.ensures c.word_at-second.ensures c.pen-pen.ensures c.domain_after-domain.ensures refl refl in
+    let by = reset_is c.args.self.now c.args.run.now first _ _ _ _ _ _ c.requires.drawing.mode c.word_at-first.ensures c.word_at-second.ensures c.pen-pen.ensures c.domain_after-domain.ensures refl refl refl in
     let fault = err_from_is_err_and c.from_residual.result c.from_residual.ensures.1 in
     rw (fault.1, fault.2) (does_stop g.S.Sink told _ _ _ _ _ _ by c.in_err-put.ensures)
 
 pub returns : goal.returns
 returns g c =
-    let by = reset_is c.args.self.now c.args.run.now c.word_at-first.result _ _ _ _ _ c.requires.drawing.mode c.word_at-first.ensures c.word_at-second.ensures c.pen-pen.ensures c.domain_after-domain.ensures c.get.ensures.value c.reset.ensures in
+    let by = reset_is c.args.self.now c.args.run.now c.word_at-first.result _ _ _ _ _ _ c.requires.drawing.mode c.word_at-first.ensures c.word_at-second.ensures c.pen-pen.ensures c.domain_after-domain.ensures c.get.ensures.value c.reset.ensures c.reset-2.ensures in
     does_put g.S.Sink told _ c.args.self.now _ _ _ _ _ by c.in_ok-put.ensures

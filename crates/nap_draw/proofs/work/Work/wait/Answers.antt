@@ -18,7 +18,7 @@ returns-then-is_empty g c =
 pub put_pauses-requires : goal.put_pauses-requires
 put_pauses-requires g c =
     let s = c.args.self.now.state in
-    (stays_fit s.drawing Wait (wait_stays s.drawing) s.definition s.last c.args.run.now _ c.requires).0
+    (stays_fit s.drawing Wait (wait_stays s.drawing) s s.last c.args.run.now _ c.requires).0
 
 pub returns-in_err-put_pauses : goal.returns-in_err-put_pauses
 returns-in_err-put_pauses g c =
