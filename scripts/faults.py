@@ -72,7 +72,13 @@ GLYPH = Page(
         "LINE 4194304,0 4194304,4194304 pel=0,0 colour=own-start texture=0/none",
     ],
 )
-MANY = Page("too many displacements", bytes.fromhex("0e214034") + b"@" * 1025, refusal="refused 14 ManyPoints at 3")
+# the most displacements of a polygon
+DISPLACEMENTS = 2000
+MANY = Page(
+    "too many displacements",
+    bytes.fromhex("0e214034") + b"@" * (DISPLACEMENTS + 1),
+    refusal="refused 14 ManyPoints at 3",
+)
 PAGES = [
     POINT,
     Page("circle", "0e2e404040494040", [CIRCLE], [CIRCLE_LINE]),
@@ -81,9 +87,9 @@ PAGES = [
     Page("shown macro", "1b41210e26521b43411b45", [CENTRE, "1b4341", "1b45"], [CENTRE_LINE, "GLYPH 41", "END"]),
     Page(
         "polygon",
-        bytes.fromhex("0e214034") + b"@" * 1024,
-        [b"\x36" + b"@" * 8200],
-        ["POLY-OUTLINED" + " 0,0" * 1025 + " pel=0,0 colour=own-start texture=0/none"],
+        bytes.fromhex("0e214034") + b"@" * DISPLACEMENTS,
+        [b"\x36" + b"@" * (8 * (DISPLACEMENTS + 1))],
+        ["POLY-OUTLINED" + " 0,0" * (DISPLACEMENTS + 1) + " pel=0,0 colour=own-start texture=0/none"],
     ),
     MANY,
     GLYPH,

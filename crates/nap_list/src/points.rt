@@ -10,7 +10,7 @@ use std::alloc::{AllocError, Global};
 use std::marker::Model;
 
 /// The most points of an arc or a polygon, the start among them (our profile).
-pub const SHAPE_POINTS: usize = 1_025;
+pub const SHAPE_POINTS: usize = 2_001;
 
 /// The points of a shape, in the order in which they are drawn.
 #[derive(Debug, Drop)]

@@ -22,7 +22,7 @@ impl Model for Budget {
 
 impl Budget {
     /// The greatest budget, in bytes.
-    pub const MOST: u32 = 16_777_216;
+    pub const MOST: u32 = 67_108_864;
 
     /// The usual budget, in bytes.
     pub const USUAL: u32 = 1_048_576;

@@ -295,11 +295,11 @@ fn a_reset_and_a_field_hold_the_pen(rt: HostRuntime) -> Result<(), Fail> {
 fn the_longest_polygon(rt: HostRuntime) -> Result<(), Fail> {
     let alloc = rt.alloc();
     let mut bytes = Vec::from_slice(alloc, b"\x0E!@4")?;
-    for _ in 0..1_024 {
+    for _ in 0..2_000 {
         bytes.push(0x40)?;
     }
     let mut points = Points::new(alloc);
-    for _ in 0..1_025 {
+    for _ in 0..2_001 {
         points.push(Point::ORIGIN)?;
     }
     let polygon = Entry::Poly {
@@ -311,7 +311,7 @@ fn the_longest_polygon(rt: HostRuntime) -> Result<(), Fail> {
         bytes: &bytes,
         list: &[polygon],
         refusal: None,
-        fed: 1_028,
+        fed: 2_004,
     };
     row.agrees_near_its_end(&rt, alloc)?;
     bytes.push(0x40)?;
@@ -319,7 +319,7 @@ fn the_longest_polygon(rt: HostRuntime) -> Result<(), Fail> {
         bytes: &bytes,
         list: &[],
         refusal: refusal(Fault::ManyPoints, 3),
-        fed: 1_029,
+        fed: 2_005,
     };
     row.agrees_near_its_end(&rt, alloc)?;
     Ok(())
@@ -399,15 +399,16 @@ fn a_refusal_stays(rt: HostRuntime) {
 fn budgets_have_a_limit(rt: HostRuntime) {
     for (bytes, want) in [
         (0, Some(0)),
-        (16_777_216, Some(16_777_216)),
-        (16_777_217, None),
+        (16_777_217, Some(16_777_217)),
+        (67_108_864, Some(67_108_864)),
+        (67_108_865, None),
     ] {
         assert_eq!(rt; Budget::new(bytes).map(Budget::get), want);
     }
     assert_eq!(rt; Budget::usual().get(), 1_048_576);
     assert_eq!(rt;
         (Budget::MOST, Budget::USUAL, RUN_LIMIT),
-        (16_777_216, 1_048_576, 16_384)
+        (67_108_864, 1_048_576, 16_384)
     );
 }
 

@@ -129,8 +129,8 @@ fn short_pages_survive_want_of_memory(rt: HostRuntime) {
 
 #[test]
 fn a_large_shape_survives_want_of_memory(rt: HostRuntime) {
-    let mut page = [0x40; 1_028];
-    let mut want = [0x40; 8_204];
+    let mut page = [0x40; 2_004];
+    let mut want = [0x40; 16_012];
     page[..4].copy_from_slice(b"\x0E!@4");
     want[..4].copy_from_slice(b"\x0E!_6");
     survives(&rt, rt.alloc(), &page, &want, 1);

@@ -622,7 +622,7 @@ fn the_longest_polygon(rt: HostRuntime) -> Result<(), Fail> {
         ink: ink(),
     };
     let text = canon(alloc, &[polygon])?;
-    assert_eq!(rt; text.len(), 8_204);
+    assert_eq!(rt; text.len(), 16_012);
     assert_eq!(rt; text.as_slice(), want.as_slice());
     Ok(())
 }

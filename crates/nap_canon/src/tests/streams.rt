@@ -63,13 +63,23 @@ fn pages_with_text_and_glyphs(rt: HostRuntime) -> Result<(), Fail> {
     Ok(())
 }
 
-/// POINT ABS with this many operand bytes of zero.
-fn long_run(alloc: Global, count: usize) -> Result<Vec<u8>, AllocError> {
-    let mut bytes = Vec::from_slice(alloc, b"\x0E&")?;
+/// These bytes, and behind them this many operand bytes of zero.
+fn with_zeros(alloc: Global, front: &[u8], count: usize) -> Result<Vec<u8>, AllocError> {
+    let mut bytes = Vec::from_slice(alloc, front)?;
     for _ in 0..count {
         bytes.push(0x40)?;
     }
     Ok(bytes)
+}
+
+/// POINT ABS with this many operand bytes of zero.
+fn long_run(alloc: Global, count: usize) -> Result<Vec<u8>, AllocError> {
+    with_zeros(alloc, b"\x0E&", count)
+}
+
+/// A polygon from the corner with this many displacements of one word.
+fn polygon(alloc: Global, count: usize) -> Result<Vec<u8>, AllocError> {
+    with_zeros(alloc, b"\x0E!@4", count)
 }
 
 /// The canonical stream of this many points in the corner: a run has 2,048 at most.
@@ -94,6 +104,22 @@ fn the_longest_run(rt: HostRuntime) -> Result<(), Fail> {
     );
     let longer = long_run(alloc, 16_385)?;
     refuses(&rt, alloc, &longer, Fault::LongRun, 1);
+    Ok(())
+}
+
+#[test]
+fn the_longest_polygon(rt: HostRuntime) -> Result<(), Fail> {
+    let alloc = rt.alloc();
+    for (count, operands, length) in [
+        (1_024, 8_200, 8_204),
+        (1_025, 8_208, 8_212),
+        (2_000, 16_008, 16_012),
+    ] {
+        let want = with_zeros(alloc, b"\x0E!_6", operands)?;
+        assert_eq!(rt; want.len(), length);
+        normalises(&rt, alloc, &polygon(alloc, count)?, &want)?;
+    }
+    refuses(&rt, alloc, &polygon(alloc, 2_001)?, Fault::ManyPoints, 3);
     Ok(())
 }
 

@@ -29,7 +29,7 @@ fn help_is_printed_whole(rt: HostRuntime) -> Result<(), Fail> {
                 "naplps list",
                 "--hex",
                 "--budget <N>",
-                "0 to 16777216 [default: 1048576]",
+                "0 to 67108864 [default: 1048576]",
             ],
         ),
         (
@@ -40,7 +40,7 @@ fn help_is_printed_whole(rt: HostRuntime) -> Result<(), Fail> {
                 "naplps check",
                 "--hex",
                 "--budget <N>",
-                "0 to 16777216 [default: 1048576]",
+                "0 to 67108864 [default: 1048576]",
             ],
         ),
         (
@@ -51,7 +51,7 @@ fn help_is_printed_whole(rt: HostRuntime) -> Result<(), Fail> {
                 "naplps canon",
                 "--stream",
                 "--budget <N>",
-                "0 to 16777216 [default: 1048576]",
+                "0 to 67108864 [default: 1048576]",
             ],
         ),
     ] {

@@ -17,7 +17,7 @@ fn wrong_words_print_nothing(rt: HostRuntime) -> Result<(), Fail> {
         ["list", "--budget=1", "--budget=1"],
         ["list", "--hex", "--budget"],
         ["list", "--budget", "many"],
-        ["list", "--budget", "16777217"],
+        ["list", "--budget", "67108865"],
         ["list", "--hex", "--budget=-1"],
         ["--version", "list", "--hex"],
     ] {
@@ -49,7 +49,7 @@ fn options_are_what_the_words_say(rt: HostRuntime) -> Result<(), Fail> {
         ("--budget", "1", 1),
         ("--budget", "007", 7),
         ("--budget", "+70000", 70_000),
-        ("--budget", "16777216", 16_777_216),
+        ("--budget", "67108864", 67_108_864),
     ] {
         let said = options(alloc, &["canon", option, number])?;
         assert_eq!(rt; said, Some((want, false)), "{number}");
@@ -58,6 +58,6 @@ fn options_are_what_the_words_say(rt: HostRuntime) -> Result<(), Fail> {
     }
     assert_eq!(rt; options(alloc, &["list"])?, Some((1_048_576, false)));
     assert_eq!(rt; options(alloc, &["list", "--budget=-0"])?, Some((0, false)));
-    assert_eq!(rt; options(alloc, &["list", "--budget=16777217"])?, None);
+    assert_eq!(rt; options(alloc, &["list", "--budget=67108865"])?, None);
     Ok(())
 }

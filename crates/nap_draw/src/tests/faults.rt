@@ -2,7 +2,7 @@
 use super::{at, field, refuses, reset};
 use crate::DrawFault;
 use nap_codes::Opcode;
-use nap_list::{Area, Pen};
+use nap_list::{Area, Pen, SHAPE_POINTS};
 use std::alloc::{AllocError, Global};
 use std::test::Fail;
 
@@ -62,10 +62,14 @@ fn faults_of_operands_come_before_points(rt: HostRuntime) -> Result<(), Fail> {
         refuses(&rt, alloc, &[(op, bytes)], &[], DrawFault::Missing)?;
     }
     for (op, count, fault) in [
-        (Opcode::PolyFilled, 1_024, DrawFault::Outside),
-        (Opcode::PolyFilled, 1_025, DrawFault::ManyPoints),
-        (Opcode::SetArcOutlined, 1_025, DrawFault::Outside),
-        (Opcode::SetArcOutlined, 1_026, DrawFault::ManyPoints),
+        (Opcode::PolyFilled, SHAPE_POINTS - 1, DrawFault::Outside),
+        (Opcode::PolyFilled, SHAPE_POINTS, DrawFault::ManyPoints),
+        (Opcode::SetArcOutlined, SHAPE_POINTS, DrawFault::Outside),
+        (
+            Opcode::SetArcOutlined,
+            SHAPE_POINTS + 1,
+            DrawFault::ManyPoints,
+        ),
     ] {
         let bytes = far(alloc, count)?;
         let opcodes = [(Opcode::Domain, b"@".as_slice()), (op, &bytes)];
@@ -87,8 +91,12 @@ fn faults_where_the_pen_is_unknown(rt: HostRuntime) -> Result<(), Fail> {
         (Opcode::RectFilled, 0, DrawFault::Missing),
         (Opcode::RectFilled, 1, DrawFault::PenUnknown),
         (Opcode::ArcOutlined, 0, DrawFault::Missing),
-        (Opcode::PolyOutlined, 1_024, DrawFault::PenUnknown),
-        (Opcode::PolyOutlined, 1_025, DrawFault::ManyPoints),
+        (
+            Opcode::PolyOutlined,
+            SHAPE_POINTS - 1,
+            DrawFault::PenUnknown,
+        ),
+        (Opcode::PolyOutlined, SHAPE_POINTS, DrawFault::ManyPoints),
         (Opcode::Field, 1, DrawFault::PenUnknown),
         (Opcode::Field, 2, DrawFault::Outside),
     ] {

@@ -29,15 +29,15 @@ fn diagonal(alloc: Global, from: u32, to: u32) -> Result<Points, AllocError> {
 fn the_longest_polygon(rt: HostRuntime) -> Result<(), Fail> {
     let alloc = rt.alloc();
     let lengths = (Opcode::Domain, b"_".as_slice());
-    let steps = units(alloc, 1_024)?;
-    let list = [poly(false, diagonal(alloc, 0, 1_024)?)];
+    let steps = units(alloc, 2_000)?;
+    let list = [poly(false, diagonal(alloc, 0, 2_000)?)];
     gives(
         &rt,
         alloc,
         &[lengths, (Opcode::PolyOutlined, &steps)],
         &list,
     )?;
-    let steps = units(alloc, 1_025)?;
+    let steps = units(alloc, 2_001)?;
     let opcodes = [lengths, (Opcode::PolyOutlined, &steps)];
     refuses(&rt, alloc, &opcodes, &[], DrawFault::ManyPoints)?;
     Ok(())
@@ -47,15 +47,15 @@ fn the_longest_polygon(rt: HostRuntime) -> Result<(), Fail> {
 fn the_longest_arc_from_a_point(rt: HostRuntime) -> Result<(), Fail> {
     let alloc = rt.alloc();
     let lengths = (Opcode::Domain, b"_".as_slice());
-    let operands = units(alloc, 1_025)?;
-    let list = [arc(true, diagonal(alloc, 1, 1_025)?)];
+    let operands = units(alloc, 2_001)?;
+    let list = [arc(true, diagonal(alloc, 1, 2_001)?)];
     gives(
         &rt,
         alloc,
         &[lengths, (Opcode::SetArcFilled, &operands)],
         &list,
     )?;
-    let operands = units(alloc, 1_026)?;
+    let operands = units(alloc, 2_002)?;
     let opcodes = [lengths, (Opcode::SetArcFilled, &operands)];
     refuses(&rt, alloc, &opcodes, &[], DrawFault::ManyPoints)?;
     Ok(())

@@ -97,7 +97,7 @@ fn bytes_of_a_position_are_in_range(rt: HostRuntime) {
 #[test]
 fn points_of_an_arc_are_in_range(rt: HostRuntime) -> Result<(), Fail> {
     let alloc = rt.alloc();
-    for (count, want) in [(2, Err(0)), (3, Ok(())), (1_025, Ok(())), (1_026, Err(0))] {
+    for (count, want) in [(2, Err(0)), (3, Ok(())), (2_001, Ok(())), (2_002, Err(0))] {
         assert_eq!(rt; alone(arc(alloc, count)?), want, "{count} points");
     }
     Ok(())
@@ -106,7 +106,7 @@ fn points_of_an_arc_are_in_range(rt: HostRuntime) -> Result<(), Fail> {
 #[test]
 fn points_of_a_polygon_are_in_range(rt: HostRuntime) -> Result<(), Fail> {
     let alloc = rt.alloc();
-    for (count, want) in [(1, Err(0)), (2, Ok(())), (1_025, Ok(())), (1_026, Err(0))] {
+    for (count, want) in [(1, Err(0)), (2, Ok(())), (2_001, Ok(())), (2_002, Err(0))] {
         assert_eq!(rt; alone(polygon(alloc, count)?), want, "{count} points");
     }
     Ok(())

@@ -1,6 +1,6 @@
 //! Entries and points kept in memory.
 use super::samples::{middle, points, polygon, quarter, word};
-use crate::{Entry, ListSink, Points, Sink};
+use crate::{Entry, ListSink, Points, SHAPE_POINTS, Sink};
 use std::test::Fail;
 
 #[test]
@@ -27,7 +27,7 @@ fn points_keep_their_order(rt: HostRuntime) -> Result<(), Fail> {
 #[test]
 fn room_for_points_is_taken_at_once(rt: HostRuntime) -> Result<(), Fail> {
     let alloc = rt.alloc();
-    let room = Points::with_capacity(alloc, 1_025)?;
+    let room = Points::with_capacity(alloc, SHAPE_POINTS)?;
     assert!(rt; room.as_slice().is_empty());
     assert!(rt; Points::with_capacity(alloc, usize::MAX).is_err());
     Ok(())

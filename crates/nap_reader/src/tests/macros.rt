@@ -72,6 +72,7 @@ fn bodies_come_next_where_they_are_called(rt: HostRuntime) -> Result<(), Fail> {
         // A body calls itself.
         (endless, USUAL, 0, over, (12, 1_048_576, 1_048_588)),
         (endless, 0, 0, over, (12, 0, 12)),
+        (endless, 16_777_217, 0, over, (12, 16_777_216, 16_777_228)),
         // RESET clears the names, and not the body that is being read.
         (
             b"\x1B@!\x0E @P&R\x1BE\x1B/z\x1D!\x1D!",
