@@ -433,10 +433,6 @@ fn text_and_colours_that_differ_in_nothing(rt: HostRuntime) -> Result<(), Fail> 
             canon(alloc, &[ended(direct()), ended(direct())])?,
             b"\x0E!_<IIIIIII]??",
         ),
-        (
-            canon(alloc, &[map(1), map(1)])?,
-            b"\x0E!_>@@@A<R@@@@@@@<R@@@@@@@",
-        ),
     ];
     for (text, want) in rows {
         assert_eq!(rt; text.as_slice(), want);
