@@ -5,7 +5,6 @@ use Rattle.std.proofs.lemmas.List.Elements.{All-nil, All-cons, All-head, All-tai
 use Rattle.nap_codes.specs.declared.code.Code.{Code}
 use Rattle.nap_codes.specs.declared.code.Code.TheVariants as codes
 use Rattle.nap_codes.specs.declared.code_set.CodeSet.TheVariants as code_sets
-use Rattle.nap_codes.specs.declared.opcode.Opcode.{Opcode}
 use Rattle.nap_codes.specs.declared.opcode.Opcode.TheVariants as opcodes
 use Rattle.nap_canon.specs.declared.plain.Begun.{Begun}
 use Rattle.nap_canon.specs.declared.plain.Begun.TheVariants as begun
@@ -60,9 +59,6 @@ plain_told (codes.Op opcodes.SetLineRel) = λ h. h
 plain_told _ = tt
 
 -- the first opcode
-
-other_opcode : (op : Opcode) → op ≡ opcodes.Domain → begun_with begun.Nothing (codes.Op op) ≡ Some begun.Drawing
-other_opcode op is = rw is refl
 
 first_turns : (b : Begun) (code : Code) → Turns AsksFirst b code (begun_with b code)
 unfolding DomainFirst

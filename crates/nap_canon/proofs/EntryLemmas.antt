@@ -6,7 +6,7 @@ use Rattle.nap_values.specs.Colours.{Components, HasSixteenBitParts}
 use Rattle.nap_values.specs.Domains.{OperandLengths}
 use Rattle.nap_values.specs.Laws.{IsWord}
 use Rattle.nap_values.specs.Spellings as spellings
-use Rattle.nap_values.specs.Spellings.{move_bytes, point_bytes, addr_bytes, grb_bytes}
+use Rattle.nap_values.specs.Spellings.{point_bytes, addr_bytes, grb_bytes}
 use Rattle.nap_codes.specs.declared.code_set.GSet.{GSet}
 use Rattle.nap_codes.specs.declared.opcode.Opcode.{Opcode}
 use Rattle.nap_codes.specs.declared.opcode.Opcode.TheVariants as opcodes
@@ -30,7 +30,7 @@ use Rattle.nap_list.specs.Agreement.{InMode}
 use Rattle.nap_draw.specs.declared.work.Work.{Work}
 use Rattle.nap_draw.specs.Geometry.{arc_points, poly_points}
 use Rattle.nap_draw.specs.Rule as rule
-use Rattle.nap_draw.specs.Rule.{Drawn, ink_of}
+use Rattle.nap_draw.specs.Rule.{Drawn}
 use Rattle.nap_reader.specs.Stream.{run_limit}
 use Rattle.nap_canon.specs.Text.{tail_after}
 use Rattle.nap_canon.specs.declared.form.Form.{Form}

@@ -128,9 +128,6 @@ group_no_longer byte other operands more few t u same = (at (is_joined t byte (l
 line_no_longer : (pen : Pen) (from to : Coordinates) → NoLonger (line_piece Two pen from to ∷ []) (line_piece One pen from to ∷ [])
 line_no_longer pen from to = at (same_pen pen (pens.At from)) refl
   where
-    both : List ℕ
-    both = point_bytes from ++ point_bytes to
-
     at : (same : Bool) → same_pen pen (pens.At from) ≡ same → NoLonger (line_piece Two pen from to ∷ []) (line_piece One pen from to ∷ [])
     at true is = rw is (group_no_longer 0x28 0x2A (point_bytes to) (point_bytes from ++ point_bytes to) (omega (arith, length-append (point_bytes from) (point_bytes to))))
     at false is = rw is (group_no_longer 0x2A 0x2A (point_bytes from ++ point_bytes to) (point_bytes from ++ point_bytes to) (omega arith))

@@ -1,5 +1,4 @@
 //! An outlet whose bytes are counted.
-ghost use Rattle.std.specs.Prelude.{◌≡◌};
 ghost use Rattle.nap_canon.specs.Sinking.{Sends, sending};
 ghost use Rattle.nap_canon.specs.SinkLaws.{sends_none, sends_more, sends_cut};
 

@@ -1,5 +1,5 @@
 //! The ranges of the parts of an entry, which their types keep. These functions do nothing but show them.
-ghost use Rattle.std.specs.Prelude.{All, IfSome};
+ghost use Rattle.std.specs.Prelude.{All};
 ghost use Rattle.nap_values.specs.Coordinates.{IsInSquare, IsInRange};
 ghost use Rattle.nap_values.specs.Colours.{HasSixteenBitParts};
 ghost use Rattle.nap_values.specs.Laws.{IsWord};

@@ -1,10 +1,9 @@
 //! Writes the canonical text of entries, one after another.
-ghost use Rattle.std.specs.Prelude.{◌≡◌, ◌+◌, ◌≤◌, ◌++◌, [], ◌∷◌, map, length, IfOk, is_err, OnOk, OnErr};
+ghost use Rattle.std.specs.Prelude.{◌≡◌, map, is_err, OnOk, OnErr};
 ghost use Rattle.nap_codes.specs.declared.code_set.GSet.TheVariants.{G1};
 ghost use Rattle.nap_canon.specs.declared.tail.Tail.TheVariants.{Apart};
 ghost use Rattle.nap_list.specs.Entry.{held};
 ghost use Rattle.nap_list.specs.State.{start, after, Fits};
-ghost use Rattle.nap_canon.specs.declared.piece.Piece.{Piece};
 ghost use Rattle.nap_canon.specs.Bring.{bring};
 ghost use Rattle.nap_canon.specs.Spelling.{size_byte, flag_byte, escape, command_piece};
 ghost use Rattle.nap_canon.specs.Text.{header, gl_of, begun_tail, piece_bytes, written, tail_behind, tail_after, entry_pieces};

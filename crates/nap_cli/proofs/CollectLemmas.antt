@@ -10,9 +10,9 @@ use Rattle.nap_reader.specs.declared.fault.Fault.TheVariants as fault
 use Rattle.nap_reader.specs.declared.fault.Refusal.{Refusal}
 use Rattle.nap_reader.specs.declared.feeding.FeedFault.TheVariants as feed_fault
 use Rattle.nap_reader.specs.declared.reader.Reader.{Reader}
-use Rattle.nap_reader.specs.Breaking.{cause_of, BreaksInRun, BreaksWithin}
+use Rattle.nap_reader.specs.Breaking.{cause_of, BreaksWithin}
 use Rattle.nap_reader.specs.Feeding.{Feeds}
-use Rattle.nap_reader.specs.Standing.{Answers, AnswersBy, IsTaken, Stands, StopsBy, budget_of, left_of, refusal_of, sink_of}
+use Rattle.nap_reader.specs.Standing.{Answers, AnswersBy, Stands, StopsBy, budget_of, left_of, refusal_of, sink_of}
 use Rattle.nap_reader.specs.Stream.{Outcome, begun, ended_by, means}
 use Rattle.nap_reader.proofs.PublicLaws.{fed_breaks_among, more_bytes_keep_refusal}
 use Rattle.nap_cli.specs.declared.failure.Failure.{Failure}
@@ -72,20 +72,6 @@ module _ {I S : Type 0} (i : inlet.Ghosts I) {g : Ghosts S} (old new : Reader S 
   -- each read of a refused stream gave a byte
   pub reads_few : (reading i initial final).reads ≤ length p
   reads_few = omega (arith, h.last.reads, h.last.once, h.stops.1, ap length h.last.parts, length-append h.last.before h.last.last)
-
--- A stream was refused at its end.
-module _ {S : Type 0} {g : Ghosts S} (s : S) (budget : ℕ) (p : List ℕ) (t : S) (r : Refusal) (fails : r.fault ≡ fault.Sink → g.failed t ≡ true)
-    (own : cause_of r.fault ≡ stream → IsTaken g s (means budget p) t (Some r)) (broke : cause_of r.fault ≢ stream → BreaksInRun g s budget p t r) where
-  there : cause_of r.fault ≢ stream → BreaksWithin budget p r.place
-  there other = let h = broke other in inr (h.place, h.part.unrefused)
-
-  ends_by : (cause : Cause) → cause_of r.fault ≡ cause → RefusedBy g budget p r cause
-  ends_by stream is = (own is).0
-  ends_by memory is = there (λ own. let bad = sym is ∙ own in cc)
-  ends_by device is = (there (λ own. let bad = sym is ∙ own in cc), (t, fails (device_fault r.fault is)))
-
-  pub refused_at_end : RefusedBy g budget p r (cause_of r.fault)
-  refused_at_end = ends_by (cause_of r.fault) refl
 
 -- two readings, one after the other
 module _ (first second whole : Reading) (p more : List ℕ) (few : first.reads ≤ length p) (none_failed : first.failed ≡ first.failed_before)

@@ -1,4 +1,4 @@
-use Rattle.std.proofs.Common.{◌≡◌, ◌≢◌, ◌≤◌, ◌∙◌, ◌||◌, inl, inr, ℕ, List, [], Bool, true, false, Option, Result, Ok, Err, is_err, refl, sym, subst, take, length, length-take, arith}
+use Rattle.std.proofs.Common.{◌≡◌, ◌≢◌, ◌≤◌, ◌∙◌, ◌||◌, inr, ℕ, List, [], Bool, true, false, Option, Result, Ok, Err, is_err, refl, sym, subst, take, length, length-take, arith}
 use Rattle.std.proofs.lemmas.List.{take_all}
 use Rattle.std.proofs.Math.Bool.{or-true}
 use Rattle.std.specs.Io.KnownBytes.{Appends}
@@ -7,7 +7,7 @@ use Rattle.clap.specs.declared.error.kind.ErrorKind.TheVariants as kind
 use Rattle.nap_cli.specs.declared.failure.Failure.{Failure}
 use Rattle.nap_cli.specs.declared.failure.Failure.TheVariants as failure
 use Rattle.nap_cli.specs.Devices.{Outputs, Takes}
-use Rattle.nap_cli.specs.Commands.{Explains, IsToldAs, ShowsHelp, ShowsText, Tells, TellsWrong, WantsMemory}
+use Rattle.nap_cli.specs.Commands.{Explains, IsToldAs, ShowsHelp, ShowsText, Tells, WantsMemory}
 use Rattle.nap_cli.specs.Failures.{status_of, told_text}
 
 -- What standard error took of a line that was written.
@@ -68,14 +68,6 @@ explains_memory kind.DisplayHelp before after status h = memory_at_help before a
 explains_memory kind.DisplayVersion before after status h = memory_at_help before after status h
 explains_memory kind.OutOfMemory before after status h = h
 explains_memory _ before after status h = inr h
-
--- wrong words
-pub explains_wrong : (k : ErrorKind) (before after : Outputs) (status : ℕ) → k ≢ kind.OutOfMemory → (k ≢ kind.DisplayHelp) × (k ≢ kind.DisplayVersion) →
-    TellsWrong before after status → Explains k before after status
-explains_wrong kind.DisplayHelp before after status m n h = absurd (n.0 refl)
-explains_wrong kind.DisplayVersion before after status m n h = absurd (n.1 refl)
-explains_wrong kind.OutOfMemory before after status m n h = absurd (m refl)
-explains_wrong _ before after status m n h = inl h
 
 -- words that ask for help
 pub explains_help : (k : ErrorKind) (before after : Outputs) (status : ℕ) → ((k ≢ kind.DisplayHelp) × (k ≢ kind.DisplayVersion) → ⊥) →

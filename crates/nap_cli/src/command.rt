@@ -116,7 +116,7 @@ const CANON_HELP: &str =
 
 const CANON_EXAMPLE: &str =
     "With --hex the canonical stream is printed as lower-case digits. A refused page prints nothing; standard error says why.
-With --stream, which goes without --hex, a refused page prints the canonical stream of what comes before the refusal.
+With --stream, which goes without --hex, a refused page prints the canonical text of what comes before the refusal.
 Statuses are those of 'naplps --help'.
 
 Example:
@@ -181,7 +181,9 @@ fn canon_command<'a>(alloc: Global, texts: &'a BudgetTexts) -> Result<clap::Comm
     let stream = Arg::new(alloc, STREAM)
         .long(STREAM)
         .action(ArgAction::SetTrue)
-        .help("Prints while it reads, and keeps no entry, so that a page of any length will do");
+        .help(
+            "Prints while it reads, and keeps no entry, so its memory doesn't grow with the page",
+        );
     subcommand(alloc, texts, CANON, CANON_HELP, CANON_EXAMPLE)?.arg(stream)
 }
 

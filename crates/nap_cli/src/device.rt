@@ -1,5 +1,5 @@
 //! Whole inputs and whole outputs.
-ghost use Rattle.std.specs.Prelude.{◌≡◌, ◌+◌, ◌-◌, ◌^◌, ◌<◌, ◌≤◌, ◌||◌, ℕ, List, true, IfOk, IsErrOf, OnOk, is_err, length, MatchResult};
+ghost use Rattle.std.specs.Prelude.{◌≡◌, ◌+◌, ◌^◌, ◌<◌, ◌≤◌, ◌||◌, ℕ, List, true, IfOk, is_err, length, MatchResult};
 ghost use Rattle.std.specs.Io.KnownBytes.{Consumes};
 ghost use Rattle.nap_list.specs.declared.device.TheConstants.{READS};
 ghost use Rattle.nap_list.specs.Reading.{IsReadWhole, reading};

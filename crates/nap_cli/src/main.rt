@@ -10,7 +10,6 @@ mod program;
 #[cfg(test)]
 mod tests;
 
-pub use nap_lines::line_of;
 use nap_list::{Source, Target};
 pub use program::{execute, run};
 use std::io::BufWriter;

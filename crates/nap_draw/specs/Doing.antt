@@ -158,12 +158,13 @@ pub record Obeys {S : Type 0} (g : Ghosts S) (by : Result Drawn DrawFault) (w v 
   pub wants : IsErrOf r faults.Memory → WantsBy g by s t
   pub gives : IsErrOf r faults.Sink → GivesSome by
 
--- an opcode that puts nothing changed the work as its rule has it
+-- a rule's refusal of each cause
 abbrev pub RefusedBy : Result Drawn DrawFault → DrawFault → Cause → Type 0
 RefusedBy by fault stream = by ≡ Err fault
 RefusedBy by fault memory = (d : Drawn) × (by ≡ Ok d)
 RefusedBy by fault device = ⊥
 
+-- an opcode that puts nothing changed the work as its rule has it
 abbrev pub Sets : Result Drawn DrawFault → Work → Work → Result (Unit {0}) DrawFault → Type 0
 Sets by w v (Ok _) = by ≡ Ok (record { entries = []; work = v; clears = false })
 Sets by w v (Err fault) = (v ≡ w) × RefusedBy by fault (cause_of fault)

@@ -1,5 +1,4 @@
 //! Characters, and the controls that repeat them (C1 set).
-ghost use Rattle.std.specs.Prelude.{◌≡◌};
 ghost use Rattle.nap_codes.specs.declared.code.Code.TheVariants as codes;
 ghost use Rattle.nap_list.specs.Entry.{IsCode};
 ghost use Rattle.nap_list.specs.Agreement.{StatesAgree};

@@ -1,5 +1,5 @@
 //! SELECT COLOR and SET COLOR: the colour modes and the colour map.
-ghost use Rattle.std.specs.Prelude.{◌≡◌, [], false, Ok};
+ghost use Rattle.std.specs.Prelude.{◌≡◌};
 ghost use Rattle.nap_list.specs.Agreement.{StatesAgree};
 ghost use Rattle.nap_draw.specs.Operands.{addresses};
 ghost use Rattle.nap_draw.specs.Rule.{selected, colours_as, maps, with_drawing, rule};

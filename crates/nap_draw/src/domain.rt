@@ -1,5 +1,5 @@
 //! DOMAIN: the lengths of operands, and the logical pel.
-ghost use Rattle.std.specs.Prelude.{◌≡◌, ◌/◌, ◌%◌, ◌+◌};
+ghost use Rattle.std.specs.Prelude.{◌≡◌};
 ghost use Rattle.nap_draw.specs.Rule.{domain_in, rule};
 ghost use Rattle.nap_draw.specs.Doing.{Sets};
 

@@ -1,5 +1,5 @@
 //! LINE and RECTANGLE, and their SET forms.
-ghost use Rattle.std.specs.Prelude.{◌≡◌, Some, if◌then◌else◌};
+ghost use Rattle.std.specs.Prelude.{Some, if◌then◌else◌};
 ghost use Rattle.nap_list.specs.Agreement.{StatesAgree};
 ghost use Rattle.nap_draw.specs.Rule.{draws, rule};
 ghost use Rattle.nap_draw.specs.Doing.{Does, quiet, linked, paired, stroke_on};

@@ -1,5 +1,5 @@
 //! ARC and POLYGON, and their SET forms.
-ghost use Rattle.std.specs.Prelude.{◌≡◌, ◌-◌, ◌<◌, ◌≤◌, ◌∷◌, ◌++◌, Some, length, OnOk, IfOk, slice_get};
+ghost use Rattle.std.specs.Prelude.{◌≡◌, ◌-◌, ◌<◌, ◌≤◌, ◌∷◌, Some, length, OnOk, IfOk, slice_get};
 ghost use Rattle.nap_list.specs.Agreement.{StatesAgree};
 ghost use Rattle.nap_draw.specs.Geometry.{round};
 ghost use Rattle.nap_draw.specs.Rule.{draws_one, shape_from_pen, shape_from_point};

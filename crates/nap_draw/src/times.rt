@@ -1,5 +1,4 @@
 //! WAIT and BLINK.
-ghost use Rattle.std.specs.Prelude.{◌≡◌};
 ghost use Rattle.nap_list.specs.Agreement.{StatesAgree};
 ghost use Rattle.nap_draw.specs.Rule.{rule};
 ghost use Rattle.nap_draw.specs.Doing.{Does, quiet};

@@ -1,5 +1,5 @@
 //! The fields of a line.
-ghost use Rattle.std.specs.Prelude.{◌≡◌, Some, codes};
+ghost use Rattle.std.specs.Prelude.{◌≡◌, Some};
 ghost use Rattle.nap_lines.specs.Lines.{point_text, move_text, points_text, grb_text, code_text, colour_text, pen_text, texture_text, ink_text, size_text, flag_text, look_text, hand_text, fill_text, set_text, step_text, area_text, mark_text, cursor_text, mask_text};
 
 use nap_codes::{CharSet, CursorKind, Mask, Size, TextStep};

@@ -31,10 +31,6 @@ pen_itself pens.Start = refl
 pen_itself (pens.At p) = tt
 pen_itself pens.After = refl
 
-base_itself : (base : Base) → BaseAgrees base base
-base_itself (bases.Own origin) = refl
-base_itself (bases.Direct grb) = tt
-
 colour_itself : (colour : Colour) → ColourAgrees colour colour
 colour_itself (colours.Own origin) = tt
 colour_itself (colours.Direct grb) = tt

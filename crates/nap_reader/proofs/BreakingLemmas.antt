@@ -1,17 +1,13 @@
 use Rattle.std.proofs.Common.{ℕ, ◌≡◌, ◌≢◌, ◌<◌, ◌≤◌, ◌⊎◌, List, [], ◌∷◌, ◌++◌, length, Bool, true, false, cond, Option, Some, None, Result, Ok, Err, refl, ap, sym, ◌∙◌, subst, inl, inr, arith, append-nil, length-append}
 use Rattle.nap_list.specs.declared.sink.Sink.{Ghosts}
 use Rattle.nap_list.specs.declared.entry.Entry.{Entry}
-use Rattle.nap_codes.specs.declared.code.CodeFault.{CodeFault}
-use Rattle.nap_codes.specs.declared.code.CodeFault.TheVariants as code_faults
 use Rattle.nap_draw.specs.declared.fault.DrawFault.{DrawFault}
 use Rattle.nap_draw.specs.Draws.{Cause, stream, memory, device}
 use Rattle.nap_draw.specs.Rule.{Drawn, rule}
-use Rattle.nap_reader.specs.declared.fault.Fault.{Fault}
 use Rattle.nap_reader.specs.declared.fault.Fault.TheVariants as faults
 use Rattle.nap_reader.specs.declared.fault.Refusal.{Refusal}
 use Rattle.nap_reader.specs.declared.body.OpenBody.{OpenBody}
 use Rattle.nap_reader.specs.declared.reader.OpenRun.{OpenRun}
-use Rattle.nap_reader.specs.Faults.{code_fault}
 use Rattle.nap_reader.specs.Stream as model
 use Rattle.nap_reader.specs.Stream.{Machine, Outcome, Unfinished, is_operand_byte, run_limit, refusal, placed_from, begun, with_run}
 use Rattle.nap_reader.specs.Breaking.{cause_of, closed_by, TookPart, IsCharged, CanBreakAt, BreaksAt, BreaksFrom, BreaksWith, BreaksInRun}
@@ -21,25 +17,6 @@ use Rattle.nap_reader.proofs.LeadsLemmas.{leads_entries, leads_taken, leads_unre
 use Rattle.nap_reader.proofs.ReadingLemmas.{word_joins}
 use Rattle.nap_reader.proofs.LawLemmas.{more_bytes_keep_entries}
 use Rattle.nap_reader.proofs.PartLemmas.{breaks_longer}
-
--- a fault of a code is the stream's own
-pub code_fault_own : (fault : CodeFault) → cause_of (code_fault fault) ≡ stream
-code_fault_own code_faults.EighthBit = refl
-code_fault_own code_faults.BadEscape = refl
-code_fault_own code_faults.ShiftAlone = refl
-code_fault_own code_faults.ShiftedCode = refl
-code_fault_own code_faults.BadArgument = refl
-code_fault_own (code_faults.LeftOut _) = refl
-
--- want of memory is none
-pub no_memory_own : (fault : Fault) → fault ≡ faults.Memory → cause_of fault ≢ stream
-no_memory_own fault e own = let bad = sym (ap cause_of e) ∙ own in cc
-
--- what is neither want of memory nor a failed device is the stream's own
-pub own_cause : (fault : Fault) → (fault ≡ faults.Memory → ⊥) → (fault ≡ faults.Sink → ⊥) → cause_of fault ≡ stream
-own_cause faults.Memory no_memory no_device = absurd (no_memory refl)
-own_cause faults.Sink no_memory no_device = absurd (no_device refl)
-own_cause _ no_memory no_device = refl
 
 closed_by_operand : (o : Outcome) (b : ℕ) → is_operand_byte b ≡ true → closed_by o b ≡ o
 closed_by_operand o b word = rw word refl

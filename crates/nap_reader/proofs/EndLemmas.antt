@@ -1,10 +1,9 @@
 use Rattle.std.proofs.Common.{ℕ, ◌≡◌, List, [], ◌∷◌, ◌++◌, length, false, Option, Some, None, Result, Ok, Err, refl, ap, sym, ◌∙◌, subst, append_assoc}
 use Rattle.nap_list.specs.declared.sink.Sink.{Ghosts}
 use Rattle.nap_list.specs.declared.entry.Entry.{Entry}
-use Rattle.nap_list.specs.declared.state.Opened.{Opened}
 use Rattle.nap_draw.specs.declared.fault.DrawFault.{DrawFault}
 use Rattle.nap_draw.specs.Rule.{Drawn, rule}
-use Rattle.nap_draw.specs.Draws.{Cause, stream, memory, device, Draws}
+use Rattle.nap_draw.specs.Draws.{Cause, stream, memory, device}
 use Rattle.nap_draw.specs.Draws as draws
 use Rattle.nap_reader.specs.declared.fault.Fault.TheVariants as faults
 use Rattle.nap_reader.specs.declared.fault.Refusal.{Refusal}
@@ -13,7 +12,7 @@ use Rattle.nap_reader.specs.declared.reader.OpenRun.{OpenRun}
 use Rattle.nap_reader.specs.Faults.{draw_fault}
 use Rattle.nap_reader.specs.Stream as model
 use Rattle.nap_reader.specs.Course as course
-use Rattle.nap_reader.specs.Stream.{Placed, Machine, Unfinished, Outcome, is_operand, is_operand_byte, half_read, refusal, after_drawing, drawn_front, front, outcome_from, placed_from, begun, with_drawn, with_run, with_code, ended_by, means}
+use Rattle.nap_reader.specs.Stream.{Placed, Machine, Outcome, is_operand, is_operand_byte, half_read, refusal, after_drawing, drawn_front, front, outcome_from, placed_from, begun, with_drawn, with_run, with_code, ended_by, means}
 use Rattle.nap_reader.specs.Breaking.{cause_of, open_place, run_place, BreaksBetween}
 use Rattle.nap_reader.specs.Standing.{IsTaken}
 use Rattle.nap_reader.specs.Holding.{Holding, IsHeld, IsHeldIn, IsOpenBody, unfinished_by, Continues, ContinuesPast, Ends, BeginsAll, ClosesInto}
@@ -156,39 +155,12 @@ module _ {S : Type 0} (g : Ghosts S) (s : S) (budget : ℕ) (p : List ℕ) (t : 
       by_cause memory e d = (memory_acts (drew_by memory e), record { place = open_place_is g s o t h k open_run no_body is; part = subst (BreaksBetween g s o (with_run o) u) (sym e) d })
       by_cause device e d = (device_acts (drew_by device e), record { place = open_place_is g s o t h k open_run no_body is; part = subst (BreaksBetween g s o (with_run o) u) (sym e) d })
 
--- what is unfinished at the end
-module _ {S : Type 0} (g : Ghosts S) (s : S) (o : Outcome) (t : S) (h : Holding) (n : ℕ) (k : Ends g s o t h) where
-  pub settles_cut : (h.half ≡ [] → ⊥) → IsTaken g s (with_code o n o.unfinished) t (Some (refusal faults.Cut n))
-  settles_cut some = subst (λ (x : Option Unfinished). IsTaken g s (with_code o n x) t (Some (refusal faults.Cut n))) (sym k.half) (at h.half some)
-    where
-      at : (half : List ℕ) → (half ≡ [] → ⊥) → IsTaken g s (with_code o n (Some (half_read half))) t (Some (refusal faults.Cut n))
-      at [] none = absurd (none refl)
-      at (b ∷ bs) none = (refl, k.taken)
-
-  at_rest : h.half ≡ [] → o.unfinished ≡ Some model.nothing
-  at_rest none = k.half ∙ ap (λ (half : List ℕ). Some (half_read half)) none
-
-  pub settles_unended : h.half ≡ [] → (opened : Opened) → h.machine.work.state.definition ≡ Some opened →
-      IsTaken g s (with_code o n o.unfinished) t (Some (refusal faults.Unended n))
-  settles_unended none opened is = rw (at_rest none, k.work, is) (refl, k.taken)
-
-  pub settles : h.half ≡ [] → h.machine.work.state.definition ≡ None → IsTaken g s (with_code o n o.unfinished) t None
-  settles none is = rw (at_rest none, k.work, is) (k.refusal, k.taken)
-
 -- a stream that is refused only at its end, if at all
 module _ (budget : ℕ) (p : List ℕ) (live : (begun budget p).refusal ≡ None) where
   pub means_settled : (with_run (begun budget p)).refusal ≡ None →
       means budget p ≡ with_code (with_run (begun budget p)) (length p) (with_run (begun budget p)).unfinished
   means_settled none =
       ap (ended_by (begun budget p) (length p)) live ∙ ap (model.with_end (with_run (begun budget p)) (length p)) none
-
-  pub means_refused : (r : Refusal) → (with_run (begun budget p)).refusal ≡ Some r → means budget p ≡ with_run (begun budget p)
-  means_refused r e =
-      ap (ended_by (begun budget p) (length p)) live ∙ ap (model.with_end (with_run (begun budget p)) (length p)) e
-
--- a stream that was refused before its end
-pub means_latched : (budget : ℕ) (p : List ℕ) (r : Refusal) → (begun budget p).refusal ≡ Some r → means budget p ≡ begun budget p
-means_latched budget p r e = ap (ended_by (begun budget p) (length p)) e
 
 -- what is taken once nothing is unfinished but a code or a definition is what the stream means
 pub ended_taken : {S : Type 0} (g : Ghosts S) (s : S) (budget : ℕ) (p : List ℕ) (t : S) (h : Holding) (u : S) (answer : Option Refusal) (fed : ℕ) →

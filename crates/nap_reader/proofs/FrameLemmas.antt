@@ -1,6 +1,6 @@
 use Rattle.std.proofs.Common.{ℕ, suc, ◌+◌, ◌-◌, ◌≡◌, ◌<◌, ◌≤◌, List, [], ◌∷◌, ◌++◌, length, take, drop, get_or, Some, refl, sym, ◌∙◌, ap, arith, append_assoc, append-nil, length-append, length-take, length-drop}
 use Rattle.std.proofs.lemmas.List.{drop_more}
-use Rattle.std.proofs.lemmas.List.Elements.{All-head, All-tail, All-pop, All-push}
+use Rattle.std.proofs.lemmas.List.Elements.{All-head, All-tail, All-pop}
 use Rattle.nap_reader.specs.declared.frames.Frame.{Frame}
 use Rattle.nap_reader.specs.Stored.{part, StoreState}
 use Rattle.nap_reader.specs.Framed.{placed_at, frame_bytes, unread, IsFrame, FramesIn}
@@ -57,9 +57,6 @@ last-frame n frames before frame e h = (All-pop (IsFrame n) frames before (Some 
 
 pub length-part : (bytes : List ℕ) (start end : ℕ) → start ≤ end → end ≤ length bytes → length (part bytes start end) ≡ end - start
 length-part bytes start end h within = length-take (end - start) (drop start bytes) ∙ omega (arith, length-drop start bytes)
-
-pub frames-push : (n : ℕ) (frames : List Frame) (frame : Frame) → FramesIn n frames → IsFrame n frame → FramesIn n (frames ++ frame ∷ [])
-frames-push n frames frame h one = All-push (IsFrame n) frames frame h one
 
 -- how much is unread once one more body is read
 pub length-unread-push : (bytes : List ℕ) (frames : List Frame) (frame : Frame) → IsFrame (length bytes) frame →

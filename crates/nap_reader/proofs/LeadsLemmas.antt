@@ -5,7 +5,7 @@ use Rattle.nap_list.specs.declared.entry.Entry.{Entry}
 use Rattle.nap_draw.specs.declared.fault.DrawFault.{DrawFault}
 use Rattle.nap_draw.specs.declared.fault.DrawFault.TheVariants as draw_faults
 use Rattle.nap_draw.specs.Rule.{Drawn}
-use Rattle.nap_draw.specs.Draws.{Cause, stream, memory, device, Draws}
+use Rattle.nap_draw.specs.Draws.{Cause, stream, memory, device}
 use Rattle.nap_draw.specs.Draws as draws
 use Rattle.nap_reader.specs.declared.fault.Fault.TheVariants as faults
 use Rattle.nap_reader.specs.declared.fault.Refusal.{Refusal}

@@ -16,7 +16,7 @@ use Rattle.nap_list.specs.declared.sink.Sink.{Ghosts}
 use Rattle.nap_draw.specs.declared.fault.DrawFault.{DrawFault}
 use Rattle.nap_draw.specs.Codes.{code_rule}
 use Rattle.nap_draw.specs.Rule.{Drawn, IsDrawn, rule}
-use Rattle.nap_draw.specs.Draws.{stream, Draws}
+use Rattle.nap_draw.specs.Draws.{stream}
 use Rattle.nap_draw.specs.Draws as draws
 use Rattle.nap_reader.specs.declared.fault.Fault.TheVariants as faults
 use Rattle.nap_reader.specs.declared.fault.Refusal.{Refusal}
@@ -25,10 +25,9 @@ use Rattle.nap_reader.specs.declared.reader.Reader.{Reader}
 use Rattle.nap_reader.specs.declared.kind.Kind.{Kind}
 use Rattle.nap_reader.specs.declared.kind.Kind.TheVariants as kinds
 use Rattle.nap_reader.specs.Bodies.{between, in_body, body_of}
-use Rattle.nap_reader.specs.Course as course
 use Rattle.nap_reader.specs.Kinds.{kind_of}
 use Rattle.nap_reader.specs.Faults.{code_fault, draw_fault}
-use Rattle.nap_reader.specs.Stream.{Placed, Machine, Outcome, bytes_of, is_operand, run_limit, refusal, all_at, charged, after_drawing, drawn_front, shown_front, code_front, front, start_machine, outcome_from, placed_from, begun}
+use Rattle.nap_reader.specs.Stream.{Placed, Outcome, bytes_of, is_operand, run_limit, refusal, all_at, charged, after_drawing, drawn_front, shown_front, code_front, front, start_machine, outcome_from, placed_from, begun}
 use Rattle.nap_reader.specs.Breaking.{cause_of}
 use Rattle.nap_reader.specs.Holding.{Holding, IsHeld, IsHalf, IsHeldBy, IsOpenRun, IsOwn, IsRefused, Continues, ReachesBy, ReachesWith, Shows, ShowsBy, frames_left, holding_of, machine_of}
 use Rattle.nap_reader.proofs.StreamLemmas.{bytes_of-append}
@@ -247,21 +246,6 @@ module _ {S : Type 0} (g : Ghosts S) (s : S) (o : Outcome) (t : S) (h : Holding)
     -- it is an operand outside a run
     pub code_strays : kind_of c ≡ kinds.Strays → IsRefused g s o t h (refusal faults.Stray x.place)
     code_strays kind = leads_to_refusal g s o t h (x ∷ pending) k _ (whole _ kind)
-
-    -- it acts by a rule
-    module _ (m : Machine) (by : Result Drawn DrawFault) (acts : front h.machine (k.rest ++ x ∷ pending) ≡ drawn_front m x.place pending by) where
-      -- its entries are put
-      pub code_draws : (u : S) (drawn : Drawn) (h' : Holding) → TookMore g → by ≡ Ok drawn → g.took t drawn.entries u → (g.failed t ≡ false → g.failed u ≡ false) →
-          h'.machine ≡ after_drawing m drawn → IsHeld [] h' → Continues g s o u h' pending
-      code_draws u drawn h' law is_drawn took clear same held =
-          leads_on g s o t h (x ∷ pending) k u drawn.entries h' pending law held
-          (acts ∙ ap (drawn_front m x.place pending) is_drawn ∙ ap (λ (m : Machine). course.act drawn.entries m pending) (sym same)) took clear
-
-      -- it is refused
-      pub code_refused : (u : S) (fault : DrawFault) →
-          draws.DrawsBy g.took g.broke g.failed by t u fault (draws.cause_of fault) → cause_of (draw_fault fault) ≡ stream →
-          IsRefused g s o u h (refusal (draw_fault fault) x.place)
-      code_refused u fault drew own = leads_to_fault g s o t h (x ∷ pending) k u m x.place pending by acts fault drew own
 
     -- a character or a control
     pub acts : (acting : Code) → kind_of c ≡ kinds.Acts acting →

@@ -40,10 +40,6 @@ pub bound : (bytes : List ℕ) (spans : List Span) (from stored name end : ℕ) 
 bound bytes spans from stored name end h all =
     rw (all, map-set (part_at bytes) spans (name - 32) (record { start = from; end = length bytes }), part-all bytes from h, drop_of_length-le bytes {i = length bytes} (omega arith), length-drop) refl
 
--- what stands behind this index of a list
-dropped : (xs ys : List ℕ) → drop (length xs) (xs ++ ys) ≡ ys
-dropped xs ys = drop-append-le (length xs) xs ys (omega arith) ∙ ap (λ (zs : List ℕ). zs ++ ys) (drop_of_length-le xs {i = length xs} (omega arith))
-
 pub bound_grown : (bytes : List ℕ) (spans : List Span) (from stored name ender end : ℕ) → All (IsBefore from) spans → from ≤ length bytes → end ≡ length bytes →
     state_of (bytes ++ 0x1B ∷ ender ∷ []) (set spans (name - 32) (record { start = from; end = end })) (length (bytes ++ 0x1B ∷ ender ∷ [])) (stored + (end - from))
     ≡ shown (state_of bytes spans from stored) name ender

@@ -149,12 +149,6 @@ pub record ContinuesPast {S : Type 0} (g : Ghosts S) (s : S) (known : List Entry
   pub continues : Continues g s o t h pending
   pub done : continues.done ≡ known
 
--- the same, where these are the first of them
-pub record ContinuesFrom {S : Type 0} (g : Ghosts S) (s : S) (known : List Entry) (o : Outcome) (t : S) (h : Holding) (pending : List Placed) : Type 0 where
-  pub continues : Continues g s o t h pending
-  pub more : List Entry
-  pub done : continues.done ≡ known ++ more
-
 -- A sink that was s has the entries that were known, and a part of those that the outcome has more: some. That has no refusal.
 pub record BreaksPast {S : Type 0} (g : Ghosts S) (s : S) (known : List Entry) (o : Outcome) (t : S) (cause : Cause) : Type 0 where
   pub more : List Entry

@@ -1,8 +1,6 @@
 //! The bodies that are being read.
-ghost use Rattle.std.specs.Prelude.{◌≡◌, ◌<◌, ◌≤◌, [], ◌∷◌, ◌++◌, length, MatchOption, OnOk, OnErr};
+ghost use Rattle.std.specs.Prelude.{◌≡◌, ◌<◌, [], ◌∷◌, ◌++◌, length, MatchOption, OnOk, OnErr};
 ghost use Rattle.nap_reader.specs.Framed.{FramesIn, unread, placed_at};
-ghost use Rattle.nap_reader.specs.Stored.{part_at};
-ghost use Rattle.nap_reader.specs.Stream.{all_at};
 
 use crate::store::Span;
 use smallvec::SmallVec;

@@ -1,5 +1,5 @@
 //! The bodies of the macros.
-ghost use Rattle.std.specs.Prelude.{◌≡◌, ◌+◌, ◌<◌, ◌≤◌, ◌-◌, [], ◌∷◌, ◌++◌, length, replicate, OnOk, OnErr, IfOk, if◌then◌else◌};
+ghost use Rattle.std.specs.Prelude.{◌≡◌, ◌+◌, ◌<◌, ◌≤◌, [], ◌∷◌, ◌++◌, length, OnOk, OnErr, IfOk, if◌then◌else◌};
 ghost use Rattle.nap_reader.specs.Bodies.{no_names, body_of, store_limit};
 ghost use Rattle.nap_reader.specs.Stored.{IsBefore, closed, part_at, shown};
 ghost use Rattle.nap_codes.specs.Laws.{IsGraphic};

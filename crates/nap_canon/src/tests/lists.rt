@@ -10,8 +10,10 @@ use std::test::Fail;
 fn points_lines_and_circles(rt: HostRuntime) -> Result<(), Fail> {
     let alloc = rt.alloc();
     let rows = [
-        (canon(alloc, &[])?, b"\x0E!_".as_slice()),
-        (canon(alloc, &[dot(middle())])?, b"\x0E!_&R@@@@@@@"),
+        (
+            canon(alloc, &[dot(middle())])?,
+            b"\x0E!_&R@@@@@@@".as_slice(),
+        ),
         (
             canon(alloc, &[line(Point::ORIGIN, middle(), ink())])?,
             b"\x0E!_*@@@@@@@@R@@@@@@@",
@@ -593,10 +595,6 @@ fn lists_that_are_not_legal(rt: HostRuntime) {
         (canon(alloc, &[Entry::DefEnd]), 0),
         (canon(alloc, &[Entry::GlyphStart(0x41)]), 1),
         (canon(alloc, &[Entry::Bell, Entry::DefEnd]), 1),
-        (
-            canon(alloc, &[dot(middle()), ended(AFTER_RESET), Entry::DefEnd]),
-            1,
-        ),
     ];
     for (answer, index) in rows {
         assert_eq!(rt; answer.err(), Some(CanonFault::Illegal(index)));

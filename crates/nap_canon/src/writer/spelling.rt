@@ -1,5 +1,5 @@
 //! How each entry is spelled where the values that it holds stand.
-ghost use Rattle.std.specs.Prelude.{◌≡◌, ◌<◌, ◌≤◌, ◌+◌, ◌++◌, [], ◌∷◌, length, if◌then◌else◌, is_err, OnOk};
+ghost use Rattle.std.specs.Prelude.{◌≡◌, ◌<◌, ◌≤◌, ◌+◌, [], ◌∷◌, length, if◌then◌else◌, is_err, OnOk};
 ghost use Rattle.nap_codes.specs.declared.code_set.GSet.TheVariants.{G0, G1};
 ghost use Rattle.nap_canon.specs.declared.tail.Tail.TheVariants.{Apart};
 ghost use Rattle.nap_list.specs.Entry.{held};

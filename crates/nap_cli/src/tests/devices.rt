@@ -206,26 +206,6 @@ fn an_output_that_fails_later_takes_all(rt: HostRuntime) -> Result<(), Fail> {
     Ok(())
 }
 
-#[test]
-fn a_failing_input_is_a_read_fault(rt: HostRuntime) -> Result<(), Fail> {
-    let alloc = rt.alloc();
-    for command in ["list", "check", "canon"] {
-        let words = words_of(alloc, &[command])?;
-        let mut errors = Target::new(Vec::new(alloc));
-        let (output, status) = run(
-            alloc,
-            words.as_slice(),
-            &mut Source::new(Broken(false)),
-            Target::new(Vec::new(alloc)),
-            &mut errors,
-        );
-        assert!(rt; output.into_inner().is_empty());
-        assert_eq!(rt; errors.into_inner().as_slice(), b"read fault\n".as_slice());
-        assert_eq!(rt; status, 3);
-    }
-    Ok(())
-}
-
 // A read that failed isn't tried again, wherever it comes, although the bytes behind it would make a page.
 #[test]
 fn a_failed_read_is_not_tried_again(rt: HostRuntime) -> Result<(), Fail> {

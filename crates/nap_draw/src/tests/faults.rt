@@ -1,5 +1,5 @@
 //! Refused opcodes, and which fault is given where several hold.
-use super::{at, field, refuses, reset};
+use super::{field, refuses, reset};
 use crate::DrawFault;
 use nap_codes::Opcode;
 use nap_list::{Area, Pen, SHAPE_POINTS};

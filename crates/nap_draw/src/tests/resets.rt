@@ -1,5 +1,5 @@
 //! What RESET leaves, and which opcodes clear all macros.
-use super::{AT_START, HALF, answer_to, at, dot, gives, middle, pair, point, reset, size, word};
+use super::{AT_START, HALF, answer_to, at, dot, gives, middle, pair, reset, size};
 use nap_codes::Opcode;
 use nap_list::{Colour, Entry, Origin, Pen};
 use nap_values::{Addr, Point};

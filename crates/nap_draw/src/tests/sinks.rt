@@ -1,13 +1,11 @@
 //! Opcodes whose sink fails.
-ghost use Rattle.std.specs.Prelude.{◌≡◌, ◌++◌, List, true, false};
+ghost use Rattle.std.specs.Prelude.{◌≡◌, ◌++◌, List, true};
 ghost use Rattle.std.proofs.Common.{sym, ap, ◌∙◌, append-nil, append_assoc};
 ghost use Rattle.nap_list.specs.State.{start, walk};
 ghost use Rattle.nap_list.specs.declared.entry.Entry.{Entry};
-ghost use Rattle.nap_list.specs.declared.sink.SinkFault.{SinkFault};
-ghost use Rattle.nap_list.specs.declared.sink.SinkFault.TheVariants.{Write};
 
 use super::codes::{LETTER, drawn, hand, is_made};
-use super::{arc, at, blink, dot, has_rule, line, rect, way, word, words};
+use super::{at, blink, dot, has_rule, line, rect, word, words};
 use crate::{DrawFault, RUN_LIMIT, Work, apply};
 use nap_codes::{Code, Mask, Opcode};
 use nap_list::{Entry, ListSink, Pen, Sink, SinkFault};

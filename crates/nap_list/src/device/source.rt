@@ -1,5 +1,5 @@
 //! A reader of `std` as an inlet.
-ghost use Rattle.std.specs.Prelude.{◌≡◌, ◌+◌, ◌-◌, ◌^◌, ◌<◌, ◌≤◌, ◌||◌, false, min, is_err};
+ghost use Rattle.std.specs.Prelude.{◌≡◌, false};
 
 use crate::device::{DeviceFault, Inlet};
 use std::io::Read;

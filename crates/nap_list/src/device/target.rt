@@ -1,5 +1,5 @@
 //! A writer of `std` as an outlet.
-ghost use Rattle.std.specs.Prelude.{◌≡◌, ◌<◌, ◌≤◌, ◌||◌, false, not, length, IfOk, is_err};
+ghost use Rattle.std.specs.Prelude.{◌≡◌, false};
 
 use crate::device::{DeviceFault, Outlet};
 use std::io::Write;
