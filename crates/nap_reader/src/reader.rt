@@ -1,5 +1,5 @@
 //! Reads a stream in pieces.
-ghost use Rattle.std.specs.Prelude.{◌⊎◌, ◌≡◌, ◌≢◌, ◌+◌, ◌-◌, ◌^◌, ◌<◌, ◌≤◌, ℕ, List, [], ◌∷◌, ◌++◌, Option, None, Some, Err, true, false, length, vec_len, OnOk, IfOk, IsOk, IfErr, IfSome, IsSome, MatchOption, MatchResult};
+ghost use Rattle.std.specs.Prelude.{All, map, take, ◌⊎◌, ◌≡◌, ◌≢◌, ◌+◌, ◌-◌, ◌^◌, ◌<◌, ◌≤◌, ℕ, List, [], ◌∷◌, ◌++◌, None, Some, Err, true, false, length, vec_len, OnOk, IfOk, IsOk, IfErr, MatchOption, MatchResult};
 ghost use Rattle.std.specs.Option.{ForNone};
 ghost use Rattle.nap_list.specs.State.{start};
 ghost use Rattle.std.proofs.Props.{props};
@@ -74,8 +74,7 @@ impl<S: Sink> Reader<S> {
     ghost use Rattle.nap_reader.specs.Bodies as bodies;
     ghost use Rattle.nap_reader.specs.Bodies.{body_of};
     ghost use Rattle.nap_reader.specs.Framed.{placed_at};
-    ghost use Rattle.nap_reader.specs.Stored.{part_at};
-    ghost use Rattle.nap_reader.specs.Holding.{AllAt, BreaksInBody, BreaksSome, CarriesWord, Charges, ClosesBy, Continues, ContinuesPast, Drains, Ends, IsOwn, IsStill, Places, Presents, Reaches, ReachesWith, ReadsOn, RunAt, SameBodies, SameBytes, SameCounts, Shows, frames_left, held_place, holding_of};
+    ghost use Rattle.nap_reader.specs.Holding.{AllAt, BreaksInBody, BreaksSome, CarriesWord, Charges, ClosesBy, Continues, ContinuesPast, Drains, Ends, IsOwn, IsStill, Places, Reaches, ReachesWith, ReadsOn, RunAt, SameBodies, SameBytes, SameCounts, Shows, frames_left, held_place, holding_of};
     ghost use Rattle.nap_reader.specs.Standing.{Answers, IsBounded, IsTaken, Stands, StopsAt, budget_of, charged_of, fed_of, left_of, refusal_of, sink_of, turns_of};
 
     /// A reader at the start of a stream, which puts the entries into this sink.
@@ -131,14 +130,44 @@ impl<S: Sink> Reader<S> {
         if let Some(refusal) = self.refusal {
             return Err(refusal);
         }
-        for byte in piece {
+        let mut at = 0;
+        while at < piece.len() {
+            let byte = &piece[at];
             let place = self.fed;
             self.fed += 1;
             self.turns += 1;
             self.turn(*byte, place)?;
             self.drain()?;
+            at += 1;
+            at += self.stretch(&piece[at..]);
         }
         Ok(())
+    }
+
+    /// Takes the bytes at the front that are operands of the open run, where there is one, and tells how many. The next
+    /// byte is one that ends the run, or one for which there is no room, and has a turn of its own.
+    fn stretch(&mut self, piece: &[u8]) -> usize
+        requires live { self.old.refusal ≡ None }
+        requires few { fed_of self.old + length piece.now < 2 ^ 63 }
+        ensures within { result ≤ length piece.now }
+        ensures stands { (s : S) (p : List ℕ) → Stands self.old s p → Stands self.new s (p ++ take result piece.now) }
+        ensures live { self.new.refusal ≡ None }
+        ensures sink { self.new.sink ≡ self.old.sink }
+        ensures budget { self.new.budget ≡ self.old.budget }
+        ensures fed { self.new.fed ≡ self.old.fed + result }
+        ensures turns { self.new.turns ≡ self.old.turns + result }
+        ensures charged { self.new.charged ≡ self.old.charged }
+    {
+        if let Some(_) = self.open_body {
+            return 0;
+        }
+        let Some(_) = self.open_run else {
+            return 0;
+        };
+        let count = take_words(&mut self.run, piece);
+        self.fed += count as u64;
+        self.turns += count as u64;
+        count
     }
 
     /// Takes what the bodies have still to give that are being read.
@@ -691,6 +720,27 @@ fn latched(
         Ok(()) => Ok(()),
         Err(fault) => refuse(latch, Fault::from(fault), place),
     }
+}
+
+/// The words of the operand bytes at the front join the run, as far as it and the memory have room for them. Tells how many
+/// there are.
+fn take_words(run: &mut Vec<Word>, piece: &[u8]) -> usize
+    ensures within { result ≤ length piece.now }
+    ensures operands { All (λ b. is_operand_byte b ≡ true) (take result piece.now) }
+    ensures joined { run.new.items ≡ run.old.items ++ map (λ b. b - 64) (take result piece.now) }
+    ensures short { vec_len run.old ≤ run_limit → vec_len run.new ≤ run_limit }
+{
+    let mut count = 0;
+    for byte in piece {
+        let Some(word) = operand(*byte) else {
+            return count;
+        };
+        if run.len() >= RUN_LIMIT || run.push(word).is_err() {
+            return count;
+        }
+        count += 1;
+    }
+    count
 }
 
 /// The word that an operand byte carries.

@@ -1,5 +1,5 @@
-use Rattle.std.proofs.Common.{◌≡◌, ◌+◌, ℕ, List, ◌++◌, None, length, ap, take, drop, get_or, subst, sym, ◌∙◌, arith}
-use Rattle.std.proofs.lemmas.List.{take_all}
+use Rattle.std.proofs.Common.{◌≡◌, ◌≤◌, false, ◌-◌, ◌+◌, ℕ, List, ◌++◌, None, length, ap, take, drop, get_or, subst, sym, ◌∙◌, arith}
+use Rattle.std.proofs.lemmas.List.{take_all, length-drop}
 use Rattle.std.proofs.lemmas.Result.{err_from_is_err_and}
 use Rattle.nap_reader.specs.declared.frames.Frame.{Frame}
 use Rattle.nap_reader.specs.Framed.{unread}
@@ -8,78 +8,88 @@ use Rattle.nap_reader.specs.Breaking.{cause_of}
 use Rattle.nap_reader.specs.Standing.{Answers, Stands, StopsBy, left_of}
 use Rattle.nap_reader.proofs.StandingLemmas.{taken_more, taken_all, one_more, through, turn_stops, drain_stops, drain_breaks, stays, stands_stopped}
 use Rattle.nap_reader.proofs.PlaceLemmas.{places_first}
+use Rattle.nap_reader.proofs.StretchLemmas.{taken_stretch}
 use Rattle.nap_reader.proofs.reader.Reader.feed.Goals as goal
 
 pub returns-in-Some-clause-stands : goal.returns-in-Some-clause-stands
 returns-in-Some-clause-stands g c s p h = stays c.args.self.now c.in-Some.refusal c.in-Some.is s p c.args.piece.now h
 
-pub loop-byte-preserved : goal.loop-byte-preserved
-loop-byte-preserved g c =
-    let i = c.loop-byte.byte-index in
+pub loop-at-preserved : goal.loop-at-preserved
+loop-at-preserved g c =
+    let i = c.loop-at.at in
     let piece = c.args.piece.now in
     let b = get_or piece i 0 in
-    let now = c.loop-byte.self in
+    let now = c.loop-at.self in
     let d = c.drain.new.self in
+    let u = c.stretch-at.new.self in
+    let rest : take (length piece - (i + 1)) (drop (i + 1) piece) ≡ drop (i + 1) piece = take_all _ (drop (i + 1) piece) (omega (arith, length-drop (i + 1) piece)) in
+    let left : c.stretch-at.result ≤ length piece - (i + 1) =
+    omega (arith, c.stretch-at.ensures.within, ap (λ (xs : List ℕ). length xs) rest, length-drop (i + 1) piece) in
+    let whole = λ (all : c.args.self.now.turns ≡ c.args.self.now.fed + c.args.self.now.charged).
+    ap (λ (frames : List Frame). length (unread d.store.bytes frames)) c.in_ok-drain.ensures.answered.1 in
     record {
-      live = c.in_ok-drain.ensures.answered.0;
-      budget = c.drain.ensures.counts.budget ∙ c.turn.ensures.counts.budget ∙ c.loop-byte.invariant.budget;
-      fed = omega (arith, c.drain.ensures.counts.fed, c.turn.ensures.counts.fed, c.loop-byte.invariant.fed);
-      turns = omega (arith, c.drain.ensures.counts.turns, c.turn.ensures.counts.turns, c.loop-byte.invariant.turns);
-      charged = omega (arith, c.drain.ensures.counts.charged, c.turn.ensures.counts.charged, c.loop-byte.invariant.charged);
-      whole = λ _. let none = ap (λ (frames : List Frame). length (unread d.store.bytes frames)) c.in_ok-drain.ensures.answered.1 in omega (arith, d.turned, none);
-      clear = λ before. c.in_ok-drain.ensures.clear (c.in_ok-turn.ensures.clear (c.loop-byte.invariant.clear before));
+      within = omega (arith, c.loop-at-test.true, left);
+      live = c.stretch-at.ensures.live;
+      budget = c.stretch-at.ensures.budget ∙ c.drain.ensures.counts.budget ∙ c.turn.ensures.counts.budget ∙ c.loop-at.invariant.budget;
+      fed = omega (arith, c.stretch-at.ensures.fed, c.drain.ensures.counts.fed, c.turn.ensures.counts.fed, c.loop-at.invariant.fed);
+      turns = omega (arith, c.stretch-at.ensures.turns, c.drain.ensures.counts.turns, c.turn.ensures.counts.turns, c.loop-at.invariant.turns);
+      charged = omega (arith, c.stretch-at.ensures.charged, c.drain.ensures.counts.charged, c.turn.ensures.counts.charged, c.loop-at.invariant.charged);
+      whole = λ all. omega (arith, d.turned, whole all, c.stretch-at.ensures.fed, c.stretch-at.ensures.turns, c.stretch-at.ensures.charged);
+      clear = λ before. subst (λ (t : g.row.S.Denot). g.S.Sink.failed t ≡ false) (sym c.stretch-at.ensures.sink) (c.in_ok-drain.ensures.clear (c.in_ok-turn.ensures.clear (c.loop-at.invariant.clear before)));
       stands = λ s p h.
-          let st = c.loop-byte.invariant.stands s p h in
-          let live = c.loop-byte.invariant.live in
-          subst (λ (q : List ℕ). Stands d s q) (taken_more p piece i c.loop-byte-test.true)
+          let st = c.loop-at.invariant.stands s p h in
+          let live = c.loop-at.invariant.live in
+          let one : Stands d s (p ++ take (i + 1) piece) = subst (λ (q : List ℕ). Stands d s q) (taken_more p piece i c.loop-at-test.true)
           (one_more now d b now.fed (c.drain.ensures.counts.budget ∙ c.turn.ensures.counts.budget) s (p ++ take i piece) (st.fed live) (st.continues live)
           (through now c.turn.new.self d b now.fed s (st.empty live) (c.turn.ensures.reaches s) c.in_ok-turn.ensures.answered (c.drain.ensures.reaches s))
-          c.in_ok-drain.ensures.answered.0 (omega (arith, c.drain.ensures.counts.fed, c.turn.ensures.counts.fed)) (ap (unread d.store.bytes) c.in_ok-drain.ensures.answered.1));
+          c.in_ok-drain.ensures.answered.0 (omega (arith, c.drain.ensures.counts.fed, c.turn.ensures.counts.fed)) (ap (unread d.store.bytes) c.in_ok-drain.ensures.answered.1)) in
+          subst (λ (q : List ℕ). Stands u s q) (taken_stretch p piece (i + 1) c.stretch-at.result)
+          (subst (λ (xs : List ℕ). Stands u s ((p ++ take (i + 1) piece) ++ take c.stretch-at.result xs)) rest (c.stretch-at.ensures.stands s (p ++ take (i + 1) piece) one));
     }
 
 pub returns-clause-stands : goal.returns-clause-stands
 returns-clause-stands g c s p h =
-    subst (λ (q : List ℕ). Stands c.loop-byte.self s (p ++ q)) (take_all c.loop-byte.byte-index c.args.piece.now (omega arith)) (c.loop-byte.invariant.stands s p h)
+    subst (λ (q : List ℕ). Stands c.loop-at.self s (p ++ q)) (take_all c.loop-at.at c.args.piece.now (omega (arith, c.loop-at.invariant.within))) (c.loop-at.invariant.stands s p h)
 
 pub returns-in_err-turn-clause-stands : goal.returns-in_err-turn-clause-stands
 returns-in_err-turn-clause-stands g c s p h =
-    let i = c.loop-byte.byte-index in
+    let i = c.loop-at.at in
     let piece = c.args.piece.now in
     let b = get_or piece i 0 in
-    let now = c.loop-byte.self in
+    let now = c.loop-at.self in
     let u = c.turn.new.self in
     let r = c.in_err-turn.field-0.0 in
-    let live = c.loop-byte.invariant.live in
-    let st = c.loop-byte.invariant.stands s p h in
+    let live = c.loop-at.invariant.live in
+    let st = c.loop-at.invariant.stands s p h in
     let stop =
     turn_stops now u b now.fed c.turn.ensures.counts.budget s (p ++ take i piece) (st.fed live) (st.empty live) (st.continues live) (c.turn.ensures.reaches s) r c.in_err-turn.ensures.answered
     (λ broke. c.in_err-turn.ensures.breaks broke s (p ++ take i piece) (st.continues live) (st.fed live)) c.in_err-turn.ensures.uncharged in
-    subst (λ (q : List ℕ). Stands u s q) (taken_all p piece i c.loop-byte-test.true)
+    subst (λ (q : List ℕ). Stands u s q) (taken_all p piece i c.loop-at-test.true)
     (stands_stopped u r s (p ++ take i piece) b (drop (i + 1) piece) c.in_err-turn.ensures.answered
     (subst (λ (budget : ℕ). StopsBy g.S.Sink s budget (p ++ take i piece) b u.sink (left_of u) r (cause_of r.fault)) (sym c.turn.ensures.counts.budget) stop))
 
 pub returns-in_err-turn-clause-stops : goal.returns-in_err-turn-clause-stops
 returns-in_err-turn-clause-stops g c =
     let e = err_from_is_err_and c.from_residual.result c.from_residual.ensures.1 in
-    let i = c.loop-byte.byte-index in
+    let i = c.loop-at.at in
     let piece = c.args.piece.now in
     let b = get_or piece i 0 in
-    let now = c.loop-byte.self in
+    let now = c.loop-at.self in
     let u = c.turn.new.self in
     let r = c.in_err-turn.field-0.0 in
-    let live = c.loop-byte.invariant.live in
+    let live = c.loop-at.invariant.live in
     rw (e.1, e.2) (λ unrefused. (
       i,
       record {
-        within = c.loop-byte-test.true;
-        fed = omega (arith, c.turn.ensures.counts.fed, c.loop-byte.invariant.fed);
+        within = c.loop-at-test.true;
+        fed = omega (arith, c.turn.ensures.counts.fed, c.loop-at.invariant.fed);
         before = λ s p h.
-            let st = c.loop-byte.invariant.stands s p h in
-            subst (λ (budget : ℕ). (begun budget (p ++ take i piece)).refusal ≡ None) c.loop-byte.invariant.budget
+            let st = c.loop-at.invariant.stands s p h in
+            subst (λ (budget : ℕ). (begun budget (p ++ take i piece)).refusal ≡ None) c.loop-at.invariant.budget
             (subst (Answers g.S.Sink s now.budget (p ++ take i piece) now.sink (left_of now)) live st.answers).refusal;
         there = λ s p h.
-            let st = c.loop-byte.invariant.stands s p h in
-            subst (λ (budget : ℕ). StopsBy g.S.Sink s budget (p ++ take i piece) b u.sink (left_of u) r (cause_of r.fault)) c.loop-byte.invariant.budget
+            let st = c.loop-at.invariant.stands s p h in
+            subst (λ (budget : ℕ). StopsBy g.S.Sink s budget (p ++ take i piece) b u.sink (left_of u) r (cause_of r.fault)) c.loop-at.invariant.budget
             (turn_stops now u b now.fed c.turn.ensures.counts.budget s (p ++ take i piece) (st.fed live) (st.empty live) (st.continues live) (c.turn.ensures.reaches s) r c.in_err-turn.ensures.answered
             (λ broke. c.in_err-turn.ensures.breaks broke s (p ++ take i piece) (st.continues live) (st.fed live)) c.in_err-turn.ensures.uncharged);
       },
@@ -87,15 +97,15 @@ returns-in_err-turn-clause-stops g c =
 
 pub returns-in_err-drain-clause-stands : goal.returns-in_err-drain-clause-stands
 returns-in_err-drain-clause-stands g c s p h =
-    let i = c.loop-byte.byte-index in
+    let i = c.loop-at.at in
     let piece = c.args.piece.now in
     let b = get_or piece i 0 in
-    let now = c.loop-byte.self in
+    let now = c.loop-at.self in
     let t = c.turn.new.self in
     let u = c.drain.new.self in
     let r = c.in_err-drain.field-0.0 in
-    let live = c.loop-byte.invariant.live in
-    let st = c.loop-byte.invariant.stands s p h in
+    let live = c.loop-at.invariant.live in
+    let st = c.loop-at.invariant.stands s p h in
     let same = c.drain.ensures.counts.budget ∙ c.turn.ensures.counts.budget in
     let there = places_first _ t now.fed (st.empty live) c.in_ok-turn.ensures.placed c.in_err-drain.ensures.some in
     let stop =
@@ -105,35 +115,35 @@ returns-in_err-drain-clause-stands g c s p h =
     drain_breaks now t u b now.fed c.turn.ensures.counts.budget (sym c.turn.ensures.counts.turns) (sym c.turn.ensures.counts.fed) g.met.S.Sink.took_more g.met.S.Sink.took_broke g.met.S.Sink.took_none
     s (p ++ take i piece) (st.fed live) (st.empty live) (st.continues live) c.turn.ensures.reaches c.in_ok-turn.ensures.answered c.in_err-drain.ensures.some r
     (λ s o inputs k. let h = c.in_err-drain.ensures.amid broke s o inputs k in (h.0, h.1 now.fed there.0 there.1 ∙ st.fed live))) in
-    subst (λ (q : List ℕ). Stands u s q) (taken_all p piece i c.loop-byte-test.true)
+    subst (λ (q : List ℕ). Stands u s q) (taken_all p piece i c.loop-at-test.true)
     (stands_stopped u r s (p ++ take i piece) b (drop (i + 1) piece) c.in_err-drain.ensures.answered
     (subst (λ (budget : ℕ). StopsBy g.S.Sink s budget (p ++ take i piece) b u.sink (left_of u) r (cause_of r.fault)) (sym same) stop))
 
 pub returns-in_err-drain-clause-stops : goal.returns-in_err-drain-clause-stops
 returns-in_err-drain-clause-stops g c =
     let e = err_from_is_err_and c.from_residual-in_err-drain.result c.from_residual-in_err-drain.ensures.1 in
-    let i = c.loop-byte.byte-index in
+    let i = c.loop-at.at in
     let piece = c.args.piece.now in
     let b = get_or piece i 0 in
-    let now = c.loop-byte.self in
+    let now = c.loop-at.self in
     let t = c.turn.new.self in
     let u = c.drain.new.self in
     let r = c.in_err-drain.field-0.0 in
-    let live = c.loop-byte.invariant.live in
+    let live = c.loop-at.invariant.live in
     let same = c.drain.ensures.counts.budget ∙ c.turn.ensures.counts.budget in
     rw (e.1, e.2) (λ unrefused. (
       i,
       record {
-        within = c.loop-byte-test.true;
-        fed = omega (arith, c.drain.ensures.counts.fed, c.turn.ensures.counts.fed, c.loop-byte.invariant.fed);
+        within = c.loop-at-test.true;
+        fed = omega (arith, c.drain.ensures.counts.fed, c.turn.ensures.counts.fed, c.loop-at.invariant.fed);
         before = λ s p h.
-            let st = c.loop-byte.invariant.stands s p h in
-            subst (λ (budget : ℕ). (begun budget (p ++ take i piece)).refusal ≡ None) c.loop-byte.invariant.budget
+            let st = c.loop-at.invariant.stands s p h in
+            subst (λ (budget : ℕ). (begun budget (p ++ take i piece)).refusal ≡ None) c.loop-at.invariant.budget
             (subst (Answers g.S.Sink s now.budget (p ++ take i piece) now.sink (left_of now)) live st.answers).refusal;
         there = λ s p h.
-            let st = c.loop-byte.invariant.stands s p h in
+            let st = c.loop-at.invariant.stands s p h in
             let there = places_first _ t now.fed (st.empty live) c.in_ok-turn.ensures.placed c.in_err-drain.ensures.some in
-            subst (λ (budget : ℕ). StopsBy g.S.Sink s budget (p ++ take i piece) b u.sink (left_of u) r (cause_of r.fault)) c.loop-byte.invariant.budget
+            subst (λ (budget : ℕ). StopsBy g.S.Sink s budget (p ++ take i piece) b u.sink (left_of u) r (cause_of r.fault)) c.loop-at.invariant.budget
             (drain_stops now t u b now.fed c.turn.ensures.counts.budget same c.turn.ensures.counts.charged c.drain.ensures.counts.charged s (p ++ take i piece) (st.fed live) (st.empty live) (st.continues live) (c.turn.ensures.reaches s)
             c.in_ok-turn.ensures.answered (c.drain.ensures.reaches s) (c.in_err-drain.ensures.left s) r c.in_err-drain.ensures.answered
             (λ broke.

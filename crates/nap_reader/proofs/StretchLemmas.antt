@@ -1,0 +1,67 @@
+use Rattle.std.proofs.Common.{ℕ, ◌+◌, ◌-◌, ◌≡◌, ◌<◌, ◌≤◌, take, drop, get_or, List, [], ◌∷◌, ◌++◌, map, length, All, true, None, Some, sym, ap, subst, ◌∙◌, arith, append-nil, append_assoc, length-append}
+use Rattle.std.proofs.Math.Seq.{take-add}
+use Rattle.std.proofs.lemmas.List.{map-append, take_more}
+use Rattle.std.proofs.lemmas.List.Elements.{All-head, All-tail, All-more}
+use Rattle.nap_list.specs.declared.sink.Sink.{Ghosts}
+use Rattle.nap_reader.specs.declared.reader.OpenRun.{OpenRun}
+use Rattle.nap_reader.specs.declared.reader.Reader.{Reader}
+use Rattle.nap_reader.specs.Stream.{Placed, placed_from, is_operand_byte, run_limit, begun}
+use Rattle.nap_reader.specs.Holding.{Holding, Continues, holding_of, frames_left}
+use Rattle.nap_reader.specs.Standing.{Stands}
+use Rattle.nap_reader.proofs.LeadsLemmas.{leads_more}
+use Rattle.nap_reader.proofs.ReadingLemmas.{word_joins}
+use Rattle.nap_reader.proofs.StandingLemmas.{stands_by}
+
+-- A stretch of bytes is its bytes in turn.
+
+-- the words of operand bytes
+abbrev pub words : List ℕ → List ℕ
+words bytes = map (λ b. b - 64) bytes
+
+-- a piece up to some place, and bytes that come next
+pub taken_stretch : (p piece : List ℕ) (i n : ℕ) → (p ++ take i piece) ++ take n (drop i piece) ≡ p ++ take (i + n) piece
+taken_stretch p piece i n =
+    append_assoc p (take i piece) (take n (drop i piece)) ∙ ap (λ (q : List ℕ). p ++ q) (sym (take-add i n piece))
+
+-- one operand byte more
+pub more_operands : (bytes : List ℕ) (i : ℕ) → i < length bytes → All (λ b. is_operand_byte b ≡ true) (take i bytes) → is_operand_byte (get_or bytes i 0) ≡ true →
+    All (λ b. is_operand_byte b ≡ true) (take (i + 1) bytes)
+more_operands bytes i within all one = All-more (λ b. is_operand_byte b ≡ true) bytes i 0 within all one
+
+-- and its word
+pub more_words : (run bytes : List ℕ) (i word : ℕ) → i < length bytes → word ≡ get_or bytes i 0 - 64 → (run ++ words (take i bytes)) ++ word ∷ [] ≡ run ++ words (take (i + 1) bytes)
+more_words run bytes i word within is =
+    append_assoc run (words (take i bytes)) (word ∷ [])
+    ∙ ap (λ (w : ℕ). run ++ (words (take i bytes) ++ w ∷ [])) is
+    ∙ ap (λ (ws : List ℕ). run ++ ws) (sym (map-append (λ b. b - 64) (take i bytes) (get_or bytes i 0 ∷ [])))
+    ∙ ap (λ (front : List ℕ). run ++ words front) (sym (take_more bytes i 0 within))
+
+-- operand bytes of an open run join it
+pub words_join : {S : Type 0} (g : Ghosts S) (s : S) (budget : ℕ) (t : S) (open_run : OpenRun) (bytes p : List ℕ) (h : Holding) → h.open_body ≡ None → h.open_run ≡ Some open_run →
+    Continues g s (begun budget p) t h [] → All (λ b. is_operand_byte b ≡ true) bytes → length h.run + length bytes ≤ run_limit →
+    Continues g s (begun budget (p ++ bytes)) t (record h { run = h.run ++ words bytes }) []
+unfolding placed_from
+words_join g s budget t open_run [] p h between opened k all few = rw (append-nil p, append-nil h.run) k
+words_join g s budget t open_run (b ∷ bytes) p h between opened k all few =
+    let x : Placed = record { byte = b; place = length p } in
+    let h' : Holding = record h { run = h.run ++ (b - 64) ∷ [] } in
+    let one : Continues g s (begun budget (p ++ b ∷ [])) t h' [] =
+    word_joins g s (begun budget (p ++ b ∷ [])) t h open_run between opened x [] (leads_more g s budget p (b ∷ []) t h k)
+    (All-head (λ b. is_operand_byte b ≡ true) b bytes all) (omega (arith, few)) in
+    rw (sym (append_assoc p (b ∷ []) bytes), sym (append_assoc h.run ((b - 64) ∷ []) (words bytes)))
+    (words_join g s budget t open_run bytes (p ++ b ∷ []) h' between opened one (All-tail (λ b. is_operand_byte b ≡ true) b bytes all)
+    (omega (arith, few, length-append h.run ((b - 64) ∷ []))))
+
+-- a reader that took them stands for them
+pub stands_behind_words : {S : Type 0} {g : Ghosts S} (old new : Reader S g) (open_run : OpenRun) (bytes : List ℕ) → old.refusal ≡ None → old.open_body ≡ None → old.open_run ≡ Some open_run →
+    All (λ b. is_operand_byte b ≡ true) bytes → length old.run.items + length bytes ≤ run_limit → new.refusal ≡ None → new.budget ≡ old.budget → new.sink ≡ old.sink →
+    holding_of new ≡ record (holding_of old) { run = old.run.items ++ words bytes } → new.fed ≡ old.fed + length bytes → frames_left new ≡ frames_left old →
+    (s : S) (p : List ℕ) → Stands old s p → Stands new s (p ++ bytes)
+stands_behind_words {S} {g} old new open_run bytes live between opened all few live' budget sink holding fed frames s p h =
+    let h' : Holding = record (holding_of old) { run = old.run.items ++ words bytes } in
+    let on : Continues g s (begun old.budget (p ++ bytes)) old.sink h' [] =
+    words_join g s old.budget old.sink open_run bytes p (holding_of old) between opened (h.continues live) all few in
+    stands_by new s (p ++ bytes) live' (omega (arith, fed, h.fed live, length-append p bytes)) (frames ∙ h.empty live)
+    (subst (λ (held : Holding). Continues g s (begun new.budget (p ++ bytes)) new.sink held []) (sym holding)
+    (subst (λ (t : S). Continues g s (begun new.budget (p ++ bytes)) t h' []) (sym sink)
+    (subst (λ (budget : ℕ). Continues g s (begun budget (p ++ bytes)) old.sink h' []) (sym budget) on)))
