@@ -48,6 +48,7 @@ impl Move {
     }
 
     /// The displacement with these parts.
+    #[inline]
     pub(crate) fn new(x: i32, y: i32) -> Move
         requires left { negsuc 8388607 ≤ℤ x }
         requires right { x <ℤ pos 8388608 }
@@ -59,6 +60,7 @@ impl Move {
     }
 
     /// The part from left to right.
+    #[inline]
     pub fn x(self) -> i32
         ensures value { result ≡ self.x }
         ensures low { negsuc 8388607 ≤ℤ result }
@@ -68,6 +70,7 @@ impl Move {
     }
 
     /// The part from the bottom up.
+    #[inline]
     pub fn y(self) -> i32
         ensures value { result ≡ self.y }
         ensures low { negsuc 8388607 ≤ℤ result }
@@ -78,11 +81,10 @@ impl Move {
 
     /// The point this far from the origin, None outside the square.
     #[tactic(auto, unfolding(crate::specs::Coordinates::point_at))]
+    #[inline]
     pub fn point(self) -> Option<Point>
         ensures { result ≡ point_at self }
     {
-        let x = u32::try_from(self.x).ok()?;
-        let y = u32::try_from(self.y).ok()?;
-        Point::try_new(x, y)
+        Point::inside(self.x, self.y)
     }
 }

@@ -1,20 +1,24 @@
 //! Reading of operands: the values that words spell.
 
-ghost use Rattle.std.specs.Prelude.{◌≡◌, ◌<◌, ◌≤◌, length};
+ghost use Rattle.std.specs.Prelude.{◌≡◌, ◌<◌, ◌≤◌, [], ◌∷◌, length};
 ghost use Rattle.nap_values.specs.Operands.{multi_of, single_of, colour_of};
 
 use crate::colours::{Addr, Grb};
 use crate::displacement::Move;
-use crate::twos_complement::{MODULUS, signed};
+use crate::twos_complement::{MODULUS, signed, signed_nine};
 use crate::word::Word;
 
 /// The displacement that a multi-value operand of this size spells. Words that the run lacks are zero (PDI operands).
+#[inline]
 pub fn multi(run: &[Word], size: u8) -> Move
     requires some { 0 < length run.now }
     requires most { length run.now ≤ size }
     requires places { size ≤ 8 }
     ensures { result ≡ multi_of run.now }
 {
+    if let [first, second, third] = run {
+        return three(*first, *second, *third);
+    }
     let mut x: u32 = 0;
     let mut y: u32 = 0;
     let mut unit = MODULUS;
@@ -25,6 +29,19 @@ pub fn multi(run: &[Word], size: u8) -> Move
         y += bits % 8 * unit;
     }
     Move::new(signed(x), signed(y))
+}
+
+/// The displacement that three words spell, the most common size.
+#[inline]
+fn three(first: Word, second: Word, third: Word) -> Move
+    ensures { result ≡ multi_of (first ∷ second ∷ third ∷ []) }
+{
+    let first = u32::from(first.get());
+    let second = u32::from(second.get());
+    let third = u32::from(third.get());
+    let x = first / 8 * 64 + second / 8 * 8 + third / 8;
+    let y = first % 8 * 64 + second % 8 * 8 + third % 8;
+    Move::new(signed_nine(x), signed_nine(y))
 }
 
 /// The address that a single-value operand of this size spells. Words that the run lacks are zero (PDI operands).

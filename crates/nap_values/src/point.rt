@@ -26,7 +26,7 @@ impl Model for Point {
 }
 
 impl Point {
-    ghost use Rattle.nap_values.specs.Coordinates.{moved, displacement_to};
+    ghost use Rattle.nap_values.specs.Coordinates.{point_with, moved, displacement_to};
 
     /// The lower left corner of the square.
     pub const ORIGIN: Point = Point { x: 0, y: 0 };
@@ -35,6 +35,7 @@ impl Point {
     pub const LIMIT: u32 = 8_388_608;
 
     /// The point with these coordinates, None where one is above 8,388,607.
+    #[inline]
     pub fn try_new(x: u32, y: u32) -> Option<Point>
         ensures found { IsSome result ↔ ((x < 8388608) × (y < 8388608)) }
         ensures value { IfSome result (λ p. p ≡ record { x = x; y = y }) }
@@ -46,7 +47,24 @@ impl Point {
         }
     }
 
+    /// The point with these coordinates, None outside the square.
+    #[inline]
+    pub(crate) fn inside(x: i32, y: i32) -> Option<Point>
+        ensures { result ≡ point_with x y }
+    {
+        let side = 0..Self::LIMIT as i32;
+        if side.contains(&x) && side.contains(&y) {
+            Some(Point {
+                x: x as u32,
+                y: y as u32,
+            })
+        } else {
+            None
+        }
+    }
+
     /// The coordinate from left to right.
+    #[inline]
     pub fn x(self) -> u32
         ensures value { result ≡ self.x }
         ensures below { result < 8388608 }
@@ -55,6 +73,7 @@ impl Point {
     }
 
     /// The coordinate from the bottom up.
+    #[inline]
     pub fn y(self) -> u32
         ensures value { result ≡ self.y }
         ensures below { result < 8388608 }
@@ -64,12 +83,13 @@ impl Point {
 
     /// The point this far away, None outside the square.
     #[tactic(auto, unfolding(crate::specs::Coordinates::moved))]
+    #[inline]
     pub fn by(self, step: Move) -> Option<Point>
         ensures { result ≡ moved self step }
     {
-        let x = self.x.checked_add_signed(step.x())?;
-        let y = self.y.checked_add_signed(step.y())?;
-        Point::try_new(x, y)
+        let x = self.x as i32 + step.x();
+        let y = self.y as i32 + step.y();
+        Point::inside(x, y)
     }
 
     /// How far it is from here to the other point.

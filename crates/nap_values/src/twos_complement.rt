@@ -1,5 +1,5 @@
 //! Numbers of 24 bits, the highest of which is their sign.
-ghost use Rattle.std.specs.Prelude.{◌≡◌, ◌<◌, ◌≤ℤ◌, ◌<ℤ◌, pos, negsuc};
+ghost use Rattle.std.specs.Prelude.{◌≡◌, ◌*◌, ◌<◌, ◌≤ℤ◌, ◌<ℤ◌, pos, negsuc};
 ghost use Rattle.nap_values.specs.TwosComplement.{signed_of, bits_of};
 
 /// All bits of a number are below this.
@@ -9,6 +9,7 @@ pub(crate) const MODULUS: u32 = 16_777_216;
 const SIGN: u32 = 8_388_608;
 
 /// The number that these bits stand for.
+#[inline]
 pub(crate) fn signed(bits: u32) -> i32
     requires { bits < 16777216 }
     ensures { result ≡ signed_of bits }
@@ -18,6 +19,15 @@ pub(crate) fn signed(bits: u32) -> i32
     } else {
         bits as i32 - MODULUS as i32
     }
+}
+
+/// The number that has these as its nine highest bits, and no others.
+#[inline]
+pub(crate) fn signed_nine(bits: u32) -> i32
+    requires { bits < 512 }
+    ensures { result ≡ signed_of (bits * 32768) }
+{
+    (bits * 8_388_608).cast_signed() >> 8
 }
 
 /// The bits that stand for this number.

@@ -40,6 +40,7 @@ impl Word {
     }
 
     /// The word's number, from 0 to 63.
+    #[inline]
     pub fn get(self) -> u8
         ensures value { result ≡ self }
         ensures below { result < 64 }
