@@ -1,4 +1,4 @@
-use Rattle.std.proofs.Common.{ℕ, ◌≡◌, ◌↔◌, [], ◌∷◌, Option, Some, None, refl}
+use Rattle.std.proofs.Common.{ℕ, ◌≡◌, ◌↔◌, [], ◌∷◌, Option, Some, None, refl, arith}
 use Rattle.nap_codes.specs.declared.code.Code.TheVariants as codes
 use Rattle.nap_codes.specs.declared.code_set.CharSet.{CharSet}
 use Rattle.nap_codes.specs.declared.code_set.CodeSet.{CodeSet}
@@ -49,9 +49,26 @@ in_gl sets byte set range =
     rw (no_control0 byte (row_of control0_rows byte) range.0 refl, graphic_test byte range.0 range.1)
     (in_set sets byte (set_at sets sets.gl) set)
 
+-- the first of them
+space : IsGraphic 0x20
+space = (omega arith, omega arith)
+
+-- where one of them is a character, all are, and of the same set
+pub all_alike : (lexer : LexerState) (byte : ℕ) (set : CharSet) → IsGraphic byte → IsCharacter lexer byte set →
+    (other : ℕ) → IsGraphic other → IsCharacter lexer other set
+all_alike lexer byte set range k other range' =
+    (k.0, (in_gl lexer.sets other set range').0 ((in_gl lexer.sets byte set range).1 k.1))
+
+-- no code is half read: all are where a set of characters is in GL
+pub all_in_gl : (lexer : LexerState) (set : CharSet) → lexer.half ≡ [] →
+    (characters_of (set_at lexer.sets lexer.sets.gl) ≡ Some set) ↔ ((byte : ℕ) → IsGraphic byte → IsCharacter lexer byte set)
+all_in_gl lexer set rests =
+    (λ e byte range. (rests, (in_gl lexer.sets byte set range).0 e), λ k. (in_gl lexer.sets 0x20 set space).1 (k 0x20 space).1)
+
 -- no byte is one amid a code
-pub none_amid : (lexer : LexerState) (byte : ℕ) (set : CharSet) → (lexer.half ≡ [] → ⊥) → (None ≡ Some set) ↔ IsCharacter lexer byte set
-none_amid lexer byte set some = (λ e. cc, λ k. absurd (some k.0))
+pub all_amid : (lexer : LexerState) (set : CharSet) → (lexer.half ≡ [] → ⊥) →
+    (None ≡ Some set) ↔ ((byte : ℕ) → IsGraphic byte → IsCharacter lexer byte set)
+all_amid lexer set some = (λ e. cc, λ k. absurd (some (k 0x20 space).0))
 
 -- no other byte is one
 pub none_beyond : (lexer : LexerState) (byte : ℕ) (set : CharSet) → (IsGraphic byte → ⊥) → (None ≡ Some set) ↔ IsCharacter lexer byte set

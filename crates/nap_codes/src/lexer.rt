@@ -1,9 +1,10 @@
 //! The lexer, which cuts a stream into codes.
 
-ghost use Rattle.std.specs.Prelude.{◌≡◌, ◌↔◌, ◌≤◌, ◌<◌, [], ◌∷◌, Some, IsTrue};
+ghost use Rattle.std.specs.Prelude.{ℕ, ◌≡◌, ◌↔◌, ◌≤◌, ◌<◌, [], ◌∷◌, Some, IsTrue};
 ghost use Rattle.nap_codes.specs.CodeSets.{set_at, start_sets};
 ghost use Rattle.nap_codes.specs.Front.{argument_front, column_front, fault_of, final_front, front, gl_front, plain_code, single_shift_front, unfinished};
 ghost use Rattle.nap_codes.specs.Half.{Ends, half_after, IsHalf, TurnsTo};
+ghost use Rattle.nap_codes.specs.Laws.{IsGraphic};
 ghost use Rattle.nap_codes.specs.Lexer.{IsCharacter, Steps};
 
 use crate::code::{Code, CodeFault, Step};
@@ -86,6 +87,7 @@ impl Lexer {
     }
 
     /// Whether no code is half read.
+    #[inline]
     pub fn at_rest(&self) -> bool
         ensures rests { IsTrue result ↔ (self.now.half ≡ []) }
         ensures unfinished { front self.now.sets self.now.half ≡ unfinished }
@@ -95,10 +97,23 @@ impl Lexer {
 
     /// The set of the character that the byte is by itself, where it is one: no code is half read, and a set of
     /// characters is in GL.
+    #[inline]
     pub fn character(&self, byte: u8) -> Option<CharSet>
         ensures { (set : CharSet) → (result ≡ Some set) ↔ IsCharacter self.now byte set }
     {
-        if !self.at_rest() || byte < 0x20 || byte >= 0x80 {
+        if byte < 0x20 || byte >= 0x80 {
+            return None;
+        }
+        self.characters()
+    }
+
+    /// The set of the characters that all bytes from `20` to `7F` are by themselves, where they are: no code is half
+    /// read, and a set of characters is in GL.
+    #[inline]
+    pub fn characters(&self) -> Option<CharSet>
+        ensures { (set : CharSet) → (result ≡ Some set) ↔ ((byte : ℕ) → IsGraphic byte → IsCharacter self.now byte set) }
+    {
+        if !self.at_rest() {
             return None;
         }
         self.sets.at(self.sets.gl).characters()

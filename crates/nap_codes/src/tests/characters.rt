@@ -27,6 +27,7 @@ fn characters_are_those_of_the_set_in_gl(rt: HostRuntime) {
             behind(&[0x1B, 0x2A, last, 0x1B, 0x6E]),
         ] {
             assert_eq!(rt; lexer.sets().at(lexer.sets().gl), set);
+            assert_eq!(rt; lexer.characters(), want);
             for byte in 0x00..0x20_u8 {
                 assert_eq!(rt; lexer.character(byte), None);
             }
@@ -38,6 +39,15 @@ fn characters_are_those_of_the_set_in_gl(rt: HostRuntime) {
             }
         }
     }
+}
+
+#[test]
+fn shifts_change_the_characters(rt: HostRuntime) {
+    assert_eq!(rt; Lexer::new().characters(), Some(CharSet::Primary));
+    assert_eq!(rt; behind(&[0x0E]).characters(), None);
+    assert_eq!(rt; behind(&[0x0E, 0x0F]).characters(), Some(CharSet::Primary));
+    // A single shift leaves GL as it was.
+    assert_eq!(rt; behind(&[0x19, 0x41]).characters(), Some(CharSet::Primary));
 }
 
 #[test]
@@ -57,6 +67,7 @@ fn no_byte_is_a_character_amid_a_code(rt: HostRuntime) {
         behind(&[0x1C, 0x40]),
     ] {
         assert!(rt; !half.at_rest());
+        assert_eq!(rt; half.characters(), None);
         for byte in 0x00..=0xFF_u8 {
             assert_eq!(rt; half.character(byte), None);
         }
