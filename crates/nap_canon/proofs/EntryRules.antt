@@ -23,7 +23,8 @@ use Rattle.nap_list.specs.State.{walk, with_colour}
 use Rattle.nap_draw.specs.declared.work.Work.{Work}
 use Rattle.nap_draw.specs.Operands.{operands, moves}
 use Rattle.nap_draw.specs.Geometry.{points_at, joined, between, away, reached, arc_points, poly_points}
-use Rattle.nap_draw.specs.Rule.{rule, drawn, point_on, line_on, rect_on, field_on, shape_from_point}
+use Rattle.nap_list.specs.Putting.{point_on}
+use Rattle.nap_draw.specs.Rule.{rule, drawn, line_on, rect_on, field_on, shape_from_point}
 use Rattle.nap_draw.proofs.PublicLaws.{whole_operand_first, no_operands}
 use Rattle.nap_canon.specs.Spelling.{word_byte, onward_bytes, shape_bytes}
 use Rattle.nap_canon.proofs.CommandRules.{work_at}

@@ -16,7 +16,8 @@ use Rattle.nap_list.specs.Range.{IsByte, TextInRange, HandInRange, StepInRange, 
 use Rattle.nap_draw.specs.declared.work.Work.{Work}
 use Rattle.nap_draw.specs.declared.fault.DrawFault.{DrawFault}
 use Rattle.nap_draw.specs.Rule.{Drawn, drawn, with_drawing}
-use Rattle.nap_draw.specs.Codes.{IsMade, hand_of, char_on, copies, ended, ended_by, opens, puts, looks, with_last, code_rule}
+use Rattle.nap_list.specs.State.{hand_of}
+use Rattle.nap_draw.specs.Codes.{IsMade, char_on, copies, ended, ended_by, opens, puts, looks, with_last, code_rule}
 use Rattle.nap_draw.specs.Laws.{CodeValuesAreInRange}
 use Rattle.nap_draw.proofs.WalkRanges.{after_ranged, walk_ranged}
 

@@ -13,7 +13,8 @@ use Rattle.nap_list.proofs.PublicLaws.{agreeing_fits}
 use Rattle.nap_draw.specs.declared.fault.DrawFault.{DrawFault}
 use Rattle.nap_draw.specs.declared.work.Work.{Work}
 use Rattle.nap_draw.specs.Rule.{Drawn, drawn}
-use Rattle.nap_draw.specs.Codes.{hand_of, char_on, copies, with_last, code_rule}
+use Rattle.nap_list.specs.State.{hand_of}
+use Rattle.nap_draw.specs.Codes.{char_on, copies, with_last, code_rule}
 use Rattle.nap_draw.specs.Doing.{copies_in}
 use Rattle.nap_draw.proofs.Walks.{left_by}
 

@@ -18,7 +18,8 @@ use Rattle.nap_draw.specs.declared.spans.Span.{Span}
 use Rattle.nap_draw.specs.declared.work.Work.{Work}
 use Rattle.nap_draw.specs.Operands.{operands, moves}
 use Rattle.nap_draw.specs.Geometry.{onward, points_at, joined, span, span_by, between, away}
-use Rattle.nap_draw.specs.Rule.{Drawn, and_then, drawn, ink_of, draws, moves_of, some_of, pairs_of, pen_point}
+use Rattle.nap_list.specs.State.{ink_of}
+use Rattle.nap_draw.specs.Rule.{Drawn, and_then, drawn, draws, moves_of, some_of, pairs_of, pen_point}
 use Rattle.nap_draw.specs.Joining.{IsWhole, RunsJoin}
 use Rattle.nap_draw.proofs.Cuts.{moves_chunk}
 

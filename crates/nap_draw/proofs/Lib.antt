@@ -12,10 +12,10 @@ pub mod JoinedRuns
 pub mod Links
 pub mod Outlines
 pub mod PublicLaws
-pub mod Puts
 pub mod RangeLemmas
 pub mod Rows
 pub mod Still
+pub mod Texts
 pub mod Turns
 pub mod WalkRanges
 pub mod Walks

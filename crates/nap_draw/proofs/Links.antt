@@ -1,11 +1,16 @@
 use Rattle.std.proofs.Common.{◌≡◌, ◌<◌, List, [], ◌∷◌, ◌++◌, length, get_or, map, Option, Some, refl, sym, ◌∙◌, ap, arith}
 use Rattle.nap_values.specs.Coordinates.{Coordinates}
+use Rattle.std.specs.Option.{option_map}
 use Rattle.nap_list.specs.declared.entry.Entry.{Entry}
+use Rattle.nap_list.specs.declared.entry.Entry.TheVariants.{Line}
 use Rattle.nap_list.specs.declared.state.Drawing.{Drawing}
 use Rattle.nap_draw.specs.declared.spans.Figure.{Figure}
 use Rattle.nap_draw.specs.declared.spans.Figure.TheVariants as figures
 use Rattle.nap_draw.specs.declared.spans.Span.{Span}
+use Rattle.nap_list.specs.Putting.{lines_on}
+use Rattle.nap_list.specs.State.{ink_of}
 use Rattle.nap_draw.specs.Geometry.{end_of, joined}
+use Rattle.nap_draw.specs.Rule.{line_on}
 use Rattle.nap_draw.specs.Doing.{linked, crossed, paired, stroke_on, stroke_end}
 
 -- Figures along points.
@@ -70,3 +75,15 @@ two_of [] left rest a b two first second is = absurd (omega arith)
 two_of (x ∷ []) left rest a b two first second is = absurd (omega arith)
 two_of {A} (x ∷ y ∷ []) left rest a b two first second is = is ∙ (ap (λ (z : A). z ∷ y ∷ rest) (sym first) ∙ ap (λ (z : A). a ∷ z ∷ rest) (sym second))
 two_of (x ∷ y ∷ z ∷ xs) left rest a b two first second is = absurd (omega arith)
+
+-- lines from one point to the next
+
+pub joined_lines : (d : Drawing) (p : Coordinates) (qs : List Coordinates) → map (line_on d) (joined p qs) ≡ lines_on d p qs
+unfolding joined lines_on
+joined_lines d p [] = refl
+joined_lines d p (q ∷ qs) = ap (λ (list : List Entry). Line p q (ink_of d) ∷ list) (joined_lines d q qs)
+
+pub joined_end : (o : Option Span) (p : Coordinates) (qs : List Coordinates) → end_of (option_map (λ s. s.to) o) qs ≡ option_map (λ s. s.to) (end_of o (joined p qs))
+unfolding joined end_of
+joined_end o p [] = refl
+joined_end o p (q ∷ qs) = joined_end (Some (record { from = p; to = q })) q qs

@@ -1,12 +1,13 @@
 use Rattle.std.specs.Prelude.{◌≡◌, ◌≢◌, Bool, true, List, [], Result, Ok, Err, IfOk}
 use Rattle.nap_list.specs.declared.entry.Entry.{Entry}
 use Rattle.nap_list.specs.declared.sink.Sink.{Ghosts}
+use Rattle.nap_list.specs.Putting.{Stops}
 use Rattle.nap_list.specs.State.{AllFit}
 use Rattle.nap_list.specs.Agreement.{StatesAgree}
 use Rattle.nap_draw.specs.declared.fault.DrawFault.{DrawFault}
 use Rattle.nap_draw.specs.declared.work.Work.{Work}
 use Rattle.nap_draw.specs.Rule.{Drawn}
-use Rattle.nap_draw.specs.Draws.{Stops, DrawsBy, cause_of}
+use Rattle.nap_draw.specs.Draws.{DrawsBy, cause_of}
 
 -- a code acted on work w and sink s, by what its rule gives, and left v and t with this answer, which says whether all
 -- macros are cleared: all its entries were taken, each of them fits, and the states agree again; or the work is as it was

@@ -1,8 +1,8 @@
 use Rattle.std.specs.Prelude.{ℕ, zero, suc, List, [], ◌∷◌, ◌++◌, false, Option, Some, None, Result, Ok, Err, ⊤}
 use Rattle.nap_codes.specs.declared.code.Code.{Code}
 use Rattle.nap_codes.specs.declared.code.Code.TheVariants as codes
+use Rattle.nap_codes.specs.declared.code_set.CharSet.{CharSet}
 use Rattle.nap_list.specs.declared.attribute.CharSize.TheVariants as sizes
-use Rattle.nap_list.specs.declared.attribute.Hand.{Hand}
 use Rattle.nap_list.specs.declared.attribute.TextLook.{TextLook}
 use Rattle.nap_list.specs.declared.entry.Entry.{Entry}
 use Rattle.nap_list.specs.declared.entry.Entry.TheVariants as entries
@@ -11,17 +11,13 @@ use Rattle.nap_list.specs.declared.state.LastChar.{LastChar}
 use Rattle.nap_list.specs.declared.state.Opened.{Opened}
 use Rattle.nap_list.specs.declared.state.State.{State}
 use Rattle.nap_list.specs.Entry.{IsCode, StepMade}
-use Rattle.nap_list.specs.State.{after, walk}
+use Rattle.nap_list.specs.State.{after, walk, hand_of}
 use Rattle.nap_draw.specs.declared.work.Work.{Work}
 use Rattle.nap_draw.specs.declared.fault.DrawFault.{DrawFault}
 use Rattle.nap_draw.specs.declared.fault.DrawFault.TheVariants as faults
 use Rattle.nap_draw.specs.Rule.{Drawn, drawn, with_drawing}
 
 -- What characters and controls do.
-
--- what text is drawn with
-abbrev pub hand_of : Drawing → Hand
-hand_of d = record { pen = d.pen; colour = d.colour; text = d.text }
 
 -- a character, with the values that stand
 abbrev pub char_on : Drawing → LastChar → Entry
@@ -31,6 +27,11 @@ char_on d last = entries.Char last.set last.code (hand_of d)
 unfoldable pub copies : State → LastChar → ℕ → List Entry
 copies s last zero = []
 copies s last (suc n) = char_on s.drawing last ∷ copies (after s (char_on s.drawing last)) last n
+
+-- characters of a set: the first in this state, each further one in the state that the one before it left
+unfoldable pub text : State → CharSet → List ℕ → List Entry
+text s set [] = []
+text s set (code ∷ codes) = char_on s.drawing (record { set = set; code = code }) ∷ text (after s (char_on s.drawing (record { set = set; code = code }))) set codes
 
 -- one entry
 abbrev pub puts : Work → Entry → Result Drawn DrawFault

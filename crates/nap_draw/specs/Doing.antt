@@ -13,9 +13,10 @@ use Rattle.nap_list.specs.declared.state.LastChar.{LastChar}
 use Rattle.nap_list.specs.declared.state.State.{State}
 use Rattle.nap_list.specs.declared.sink.Sink.{Ghosts}
 use Rattle.nap_list.specs.declared.sink.SinkFault.{SinkFault}
-use Rattle.nap_list.specs.declared.sink.SinkFault.TheVariants as sink_faults
 use Rattle.nap_list.specs.Entry.{held, WellMade}
-use Rattle.nap_list.specs.State.{Comes, walk, with_pen, corner}
+use Rattle.nap_list.specs.Putting as puts
+use Rattle.nap_list.specs.Shown.{shows_of}
+use Rattle.nap_list.specs.State.{Comes, walk, with_pen, corner, ink_of}
 use Rattle.nap_list.specs.Agreement.{Holds}
 use Rattle.nap_draw.specs.declared.fault.DrawFault.{DrawFault}
 use Rattle.nap_draw.specs.declared.fault.DrawFault.TheVariants as faults
@@ -25,9 +26,9 @@ use Rattle.nap_draw.specs.declared.spans.Span.{Span}
 use Rattle.nap_draw.specs.declared.spans.Figure.{Figure}
 use Rattle.nap_draw.specs.declared.spans.Figure.TheVariants as figures
 use Rattle.nap_draw.specs.declared.work.Work.{Work}
-use Rattle.nap_draw.specs.Rule.{Drawn, ink_of}
+use Rattle.nap_draw.specs.Rule.{Drawn}
 use Rattle.nap_draw.specs.Geometry.{joined, round, arc_points, poly_points}
-use Rattle.nap_draw.specs.Draws.{Cause, stream, memory, device, DrawsBy, PutsAll, cause_of}
+use Rattle.nap_draw.specs.Draws.{Cause, stream, memory, device, DrawsBy, cause_of}
 use Rattle.nap_draw.specs.Acts.{WantsBy, GivesSome}
 
 -- The steps by which a code acts: the run of an opcode is decoded into the room, the entries are put, and then the work changes.
@@ -121,25 +122,13 @@ abbrev pub linked : Figure → Coordinates → List Coordinates → List Span
 linked figures.Line p qs = joined p qs
 linked (figures.Rect filled) p qs = crossed p qs
 
--- memory was wanted, in a sink that takes some, and its device is as it was
-pub record Short {S : Type 0} (g : Ghosts S) (s t : S) : Type 0 where
-  pub grows : g.grows s ≡ true
-  pub same : g.failed t ≡ true → t ≡ s
-
--- the list was put: all of it was taken, or a front of it up to the entry that wasn't
-abbrev pub Put : {S A : Type 0} → (g : Ghosts S) → List Entry → S → S → Result A SinkFault → Type 0
-Put g list s t (Ok _) = g.took s list t × (g.state t ≡ walk (g.state s) list) × (g.failed s ≡ false → g.failed t ≡ false)
-Put g list s t (Err fault) = PutsAll g.took g.broke g.failed list s t (Err fault) × (fault ≡ sink_faults.Write → g.failed t ≡ true)
-    × (fault ≡ sink_faults.Memory → Short g s t)
+-- the list was put into a sink: all of it was taken, or a front of it up to the entry that wasn't
+abbrev pub Put : {S A : Type 0} → Ghosts S → List Entry → S → S → Result A SinkFault → Type 0
+Put g list s t r = puts.Put (shows_of g) list s t r
 
 -- how far a list is put
-pub record Putting {S : Type 0} (g : Ghosts S) (s t : S) (whole rest : List Entry) : Type 0 where
-  pub done : List Entry
-  pub parts : whole ≡ done ++ rest
-  pub taken : g.took s done t
-  pub state : g.state t ≡ walk (g.state s) done
-  pub same : g.failed t ≡ true → t ≡ s
-  pub grows : g.grows t ≡ g.grows s
+abbrev pub Putting : {S : Type 0} → Ghosts S → S → S → List Entry → List Entry → Type 0
+Putting g s t whole rest = puts.Putting (shows_of g) s t whole rest
 
 -- a code acted as its rule has it, and cleared all macros where its answer says so
 abbrev pub Does : {S A : Type 0} → (g : Ghosts S) → (A → Bool) → Result Drawn DrawFault → Work → Work → S → S → Result A DrawFault → Type 0

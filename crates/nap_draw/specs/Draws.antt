@@ -1,4 +1,4 @@
-use Rattle.std.specs.Prelude.{◌≡◌, ◌⊎◌, ◌++◌, Bool, true, false, List, ◌∷◌, Result, Ok, Err}
+use Rattle.std.specs.Prelude.{◌≡◌, ◌⊎◌, Bool, true, false, List, Result, Ok, Err}
 use Rattle.nap_list.specs.declared.entry.Entry.{Entry}
 use Rattle.nap_list.specs.declared.sink.SinkFault.{SinkFault}
 use Rattle.nap_list.specs.declared.sink.SinkFault.TheVariants as sink_faults
@@ -6,6 +6,7 @@ use Rattle.nap_draw.specs.declared.work.Effects.{Effects}
 use Rattle.nap_draw.specs.declared.work.Work.{Work}
 use Rattle.nap_draw.specs.declared.fault.DrawFault.{DrawFault}
 use Rattle.nap_draw.specs.declared.fault.DrawFault.TheVariants as faults
+use Rattle.nap_list.specs.Putting.{Stops, Breaks}
 use Rattle.nap_draw.specs.Rule.{Drawn}
 
 -- the fault where a sink took an entry not
@@ -27,14 +28,6 @@ cause_of faults.Memory = memory
 cause_of faults.Sink = device
 cause_of _ = stream
 
--- a front of the list was taken, and the next entry wasn't
-abbrev pub Stops : {S : Type 0} → (S → List Entry → S → Type 0) → S → List Entry → S → Type 0
-Stops took s list t = (front : List Entry) × (next : Entry) × (rest : List Entry) × (list ≡ front ++ next ∷ rest) × took s front t
-
--- a front of the list was taken, and the next entry broke
-abbrev pub Breaks : {S : Type 0} → (S → List Entry → Entry → S → Type 0) → S → List Entry → S → Type 0
-Breaks broke s list t = (front : List Entry) × (next : Entry) × (rest : List Entry) × (list ≡ front ++ next ∷ rest) × broke s front next t
-
 -- What a sink took of the entries that a rule gives, where this fault was answered. Memory is wanted before the first of
 -- them, or for one of them.
 abbrev pub DrawsBy : {S : Type 0} → (S → List Entry → S → Type 0) → (S → List Entry → Entry → S → Type 0) → (S → Bool) → Result Drawn DrawFault → S → S → DrawFault → Cause → Type 0
@@ -46,12 +39,6 @@ DrawsBy took broke failed by s t fault device = (drawn : Drawn) × (by ≡ Ok dr
 abbrev pub Draws : {S : Type 0} → (S → List Entry → S → Type 0) → (S → List Entry → Entry → S → Type 0) → (S → Bool) → Result Drawn DrawFault → S → S → Result Effects DrawFault → Type 0
 Draws took broke failed by s t (Ok effects) = (entries : List Entry) × (by ≡ Ok (record { entries = entries; work = effects.work; clears = effects.clears })) × took s entries t
 Draws took broke failed by s t (Err fault) = DrawsBy took broke failed by s t fault (cause_of fault)
-
--- what a sink took of a list that was put
-abbrev pub PutsAll : {S : Type 0} → (S → List Entry → S → Type 0) → (S → List Entry → Entry → S → Type 0) → (S → Bool) → List Entry → S → S → Result (Unit {0}) SinkFault → Type 0
-PutsAll took broke failed list s t (Ok _) = took s list t
-PutsAll took broke failed list s t (Err sink_faults.Memory) = Stops took s list t
-PutsAll took broke failed list s t (Err sink_faults.Write) = ((failed s ≡ true) × (t ≡ s)) ⊎ Breaks broke s list t
 
 -- an answer without the macros, which stay
 abbrev pub quietly : Result Work DrawFault → Result Effects DrawFault

@@ -13,7 +13,6 @@ use Rattle.nap_list.specs.declared.attribute.Base.TheVariants as bases
 use Rattle.nap_list.specs.declared.attribute.CharSize.TheVariants as sizes
 use Rattle.nap_list.specs.declared.attribute.Colour.{Colour}
 use Rattle.nap_list.specs.declared.attribute.Colour.TheVariants as colours
-use Rattle.nap_list.specs.declared.attribute.Ink.{Ink}
 use Rattle.nap_list.specs.declared.attribute.Area.{Area}
 use Rattle.nap_list.specs.declared.attribute.Area.TheVariants as areas
 use Rattle.nap_list.specs.declared.entry.Entry.{Entry}
@@ -22,7 +21,8 @@ use Rattle.nap_list.specs.declared.state.Drawing.{Drawing}
 use Rattle.nap_list.specs.declared.points.TheConstants.{SHAPE_POINTS}
 use Rattle.nap_list.specs.declared.state.State.{State}
 use Rattle.nap_list.specs.Known.{is_known, setting}
-use Rattle.nap_list.specs.State.{start, walk, with_colour, with_pen_at}
+use Rattle.nap_list.specs.Putting.{point_on}
+use Rattle.nap_list.specs.State.{start, walk, ink_of, with_colour, with_pen_at}
 use Rattle.nap_draw.specs.declared.work.Work.{Work}
 use Rattle.nap_draw.specs.declared.fault.DrawFault.{DrawFault}
 use Rattle.nap_draw.specs.declared.fault.DrawFault.TheVariants as faults
@@ -72,14 +72,7 @@ pen_point (pens.At p) = Ok p
 pen_point pens.Start = Ok (record { x = 0; y = 0 })
 pen_point pens.After = Err faults.PenUnknown
 
--- what lines and areas are drawn with
-abbrev pub ink_of : Drawing → Ink
-ink_of d = record { pel = d.pel; colour = d.colour; texture = d.texture }
-
 -- what is drawn, with the values that stand
-
-abbrev pub point_on : Drawing → Coordinates → Entry
-point_on d at = entries.Point at d.pel d.colour
 
 abbrev pub line_on : Drawing → Span → Entry
 line_on d s = entries.Line s.from s.to (ink_of d)

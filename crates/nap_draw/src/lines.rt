@@ -1,7 +1,8 @@
 //! LINE and RECTANGLE, and their SET forms.
 ghost use Rattle.std.specs.Prelude.{Some, if◌then◌else◌};
 ghost use Rattle.nap_list.specs.Agreement.{StatesAgree};
-ghost use Rattle.nap_draw.specs.Rule.{draws, rule};
+ghost use Rattle.nap_draw.specs.Geometry.{joined};
+ghost use Rattle.nap_draw.specs.Rule.{draws, line_on, rule};
 ghost use Rattle.nap_draw.specs.Doing.{Does, quiet, linked, paired, stroke_on};
 
 use crate::fault::DrawFault;
@@ -26,7 +27,7 @@ impl Work {
     {
         let from = start(self, run)?;
         points_into(room, self.domain, run)?;
-        self.linked(Figure::Line, from, room, sink)
+        self.joined(from, room, sink)
     }
 
     pub(crate) fn line_rel<S: Sink>(
@@ -40,7 +41,7 @@ impl Work {
     {
         let from = start(self, run)?;
         steps_into(room, from, self.domain, run)?;
-        self.linked(Figure::Line, from, room, sink)
+        self.joined(from, room, sink)
     }
 
     pub(crate) fn set_line_abs<S: Sink>(
@@ -101,6 +102,21 @@ impl Work {
         some_pairs(self, run)?;
         pairs_into(room, self.domain, run)?;
         self.paired(Figure::Rect(filled), room, sink)
+    }
+
+    /// Lines from this point to the first, and on from each to the next.
+    fn joined<S: Sink>(
+        &mut self,
+        from: Point,
+        points: &[Point],
+        sink: &mut S,
+    ) -> Result<(), DrawFault>
+        requires { StatesAgree self.old.state (S.state sink.old) }
+        ensures { Does S.Sink quiet (draws self.old line_on (Some (joined from points.now))) self.old self.new sink.old sink.new result }
+    {
+        sink.put_lines(from, points, &self.state.drawing)?;
+        self.land(points.last().copied());
+        Ok(())
     }
 
     /// The figure from this point to the first, and on from its end to each further one.

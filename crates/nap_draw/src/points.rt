@@ -1,12 +1,12 @@
 //! POINT SET and POINT.
 ghost use Rattle.std.specs.Prelude.{◌≡◌, [], false, Some, Ok};
 ghost use Rattle.nap_list.specs.Agreement.{StatesAgree};
-ghost use Rattle.nap_draw.specs.Rule.{draws, goes, point_on, rule};
+ghost use Rattle.nap_list.specs.Putting.{point_on};
+ghost use Rattle.nap_draw.specs.Rule.{draws, goes, rule};
 ghost use Rattle.nap_draw.specs.Doing.{Does, Sets, quiet};
 
 use crate::fault::DrawFault;
 use crate::operands::{some_operand, start};
-use crate::putting::put_points;
 use crate::room::{points_into, steps_into};
 use crate::work::Work;
 use nap_codes::Opcode;
@@ -83,7 +83,7 @@ impl Work {
         requires { StatesAgree self.old.state (S.state sink.old) }
         ensures { Does S.Sink quiet (draws self.old point_on (Some points.now)) self.old self.new sink.old sink.new result }
     {
-        put_points(points, &self.state.drawing, sink)?;
+        sink.put_points(points, &self.state.drawing)?;
         self.land(points.last().copied());
         Ok(())
     }

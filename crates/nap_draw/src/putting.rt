@@ -4,32 +4,13 @@ ghost use Rattle.nap_list.specs.State.{AllFit};
 ghost use Rattle.nap_list.specs.declared.entry.Entry.TheVariants.{Wait};
 ghost use Rattle.nap_draw.specs.Operands.{operands};
 ghost use Rattle.nap_draw.specs.Geometry.{end_of};
-ghost use Rattle.nap_draw.specs.Rule.{point_on, blink};
+ghost use Rattle.nap_draw.specs.Rule.{blink};
 ghost use Rattle.nap_draw.specs.Doing.{Put, copies_in, linked, paired, stroke_on};
 
 use crate::operands::word_at;
 use crate::spans::{Figure, Span};
 use nap_list::{Drawing, Entry, Hand, LastChar, Pen, Sink, SinkFault};
 use nap_values::{Domain, Point, Word, single};
-
-/// A point at each of the points.
-pub(crate) fn put_points<S: Sink>(
-    points: &[Point],
-    drawing: &Drawing,
-    sink: &mut S,
-) -> Result<(), SinkFault>
-    requires { AllFit (S.state sink.old) (map (point_on drawing.now) points.now) }
-    ensures { Put S.Sink (map (point_on drawing.now) points.now) sink.old sink.new result }
-{
-    for at in points {
-        sink.put(Entry::Point {
-            at: *at,
-            pel: drawing.pel,
-            colour: drawing.colour,
-        })?;
-    }
-    Ok(())
-}
 
 /// The figure from this point to the first, and on from its end to each further one. Gives the last span.
 pub(crate) fn put_linked<S: Sink>(

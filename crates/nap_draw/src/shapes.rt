@@ -8,7 +8,6 @@ ghost use Rattle.nap_draw.specs.Doing.{Does, quiet, outline, shape_end, shape_en
 use crate::fault::DrawFault;
 use crate::operands::count;
 use crate::room::steps_into;
-use crate::spans::ink_of;
 use crate::work::Work;
 use nap_list::{Entry, Ink, Pen, Points, SHAPE_POINTS, Sink};
 use nap_values::{Point, Word, multi};
@@ -96,7 +95,7 @@ impl Work {
     {
         let outline = shape.outline(alloc, from, points)?;
         let pen = Pen::At(shape.end(from, outline.as_slice()));
-        let entry = shape.entry(filled, outline, ink_of(&self.state.drawing));
+        let entry = shape.entry(filled, outline, self.state.drawing.ink());
         self.single(entry, pen, sink)
     }
 }

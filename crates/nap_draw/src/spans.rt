@@ -1,10 +1,9 @@
 //! What is drawn from one point to another.
 ghost use Rattle.std.specs.Prelude.{◌≡◌, option_map};
 ghost use Rattle.nap_draw.specs.Geometry.{span_by};
-ghost use Rattle.nap_draw.specs.Rule.{ink_of};
 ghost use Rattle.nap_draw.specs.Doing.{stroke_on, stroke_end};
 
-use nap_list::{Drawing, Entry, Ink, corner};
+use nap_list::{Drawing, Entry, corner};
 use nap_values::{Move, Point};
 
 /// From one point to another.
@@ -27,7 +26,7 @@ impl Figure {
     pub(crate) fn entry(self, drawing: &Drawing, from: Point, to: Point) -> Entry
         ensures { result ≡ stroke_on self drawing.now (record { from = from; to = to }) }
     {
-        let ink = ink_of(drawing);
+        let ink = drawing.ink();
         match self {
             Figure::Line => Entry::Line { from, to, ink },
             Figure::Rect(filled) => Entry::Rect {
@@ -55,17 +54,6 @@ impl Figure {
     {
         let Span { from, to } = last?;
         Some(self.after(from, to))
-    }
-}
-
-/// What lines and areas are drawn with.
-pub(crate) fn ink_of(drawing: &Drawing) -> Ink
-    ensures { result ≡ ink_of drawing.now }
-{
-    Ink {
-        pel: drawing.pel,
-        colour: drawing.colour,
-        texture: drawing.texture,
     }
 }
 

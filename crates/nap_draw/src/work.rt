@@ -2,7 +2,7 @@
 ghost use Rattle.std.specs.Prelude.{◌≡◌, [], ◌∷◌, Ok, unwrap_or};
 ghost use Rattle.nap_list.specs.State.{after};
 ghost use Rattle.nap_list.specs.Agreement.{StatesAgree};
-ghost use Rattle.nap_draw.specs.Codes.{hand_of};
+ghost use Rattle.nap_list.specs.State.{hand_of};
 ghost use Rattle.nap_draw.specs.Rule.{start_work, pen_point, with_drawing, drawn};
 ghost use Rattle.nap_draw.specs.Doing.{MayFollow, Obeys, Put, landed, pen_moved};
 
@@ -64,11 +64,7 @@ impl Work {
     pub(crate) fn hand(&self) -> Hand
         ensures { result ≡ hand_of self.now.state.drawing }
     {
-        Hand {
-            pen: self.state.drawing.pen,
-            colour: self.state.drawing.colour,
-            text: self.state.drawing.text,
-        }
+        self.state.drawing.hand()
     }
 
     /// How lines and areas are drawn.

@@ -3,3 +3,6 @@ pub mod Breaks
 pub mod Walks
 pub mod PublicLaws
 mod KnownRows
+pub mod Counted
+pub mod Puts
+pub mod Repeats

@@ -8,3 +8,5 @@ pub mod Reading
 pub mod Known
 pub mod State
 pub mod Counting
+pub mod Putting
+pub mod Shown

@@ -13,6 +13,8 @@ use Rattle.nap_list.specs.declared.attribute.CharSize.TheVariants as sizes
 use Rattle.nap_list.specs.declared.attribute.Texture.{Texture}
 use Rattle.nap_list.specs.declared.attribute.TextLook.{TextLook}
 use Rattle.nap_list.specs.declared.attribute.Held.{Held}
+use Rattle.nap_list.specs.declared.attribute.Ink.{Ink}
+use Rattle.nap_list.specs.declared.attribute.Hand.{Hand}
 use Rattle.nap_list.specs.declared.entry.Entry.{Entry}
 use Rattle.nap_list.specs.declared.entry.Entry.TheVariants as entries
 use Rattle.nap_list.specs.declared.state.Drawing.{Drawing}
@@ -41,6 +43,14 @@ start_drawing = record {
   texture = start_texture;
   text = start_text;
 }
+
+-- what lines and areas are drawn with
+abbrev pub ink_of : Drawing → Ink
+ink_of d = record { pel = d.pel; colour = d.colour; texture = d.texture }
+
+-- what text is drawn with
+abbrev pub hand_of : Drawing → Hand
+hand_of d = record { pen = d.pen; colour = d.colour; text = d.text }
 
 -- the state before any entry
 abbrev pub start : State

@@ -21,7 +21,7 @@ pub use entry::Entry;
 pub use known::{KNOWN, Known, MapColour};
 pub use legality::legal;
 pub use points::{Points, SHAPE_POINTS};
-pub use sink::{ListSink, Sink, SinkFault};
+pub use sink::{ListSink, Sink, SinkFault, TextFault};
 pub use state::{Definition, Drawing, LastChar, Opened, State, corner};
 
 #[cfg(test)]

@@ -1,13 +1,17 @@
 //! What takes entries, one after another.
-ghost use Rattle.std.specs.Prelude.{◌≡◌, List, [], ◌∷◌, ◌++◌, Bool, true, false, OnOk, IsErrOf};
+ghost use Rattle.std.specs.Prelude.{◌≡◌, List, [], ◌∷◌, ◌++◌, Bool, true, false, OnOk, IsErrOf, map};
 ghost use Rattle.std.proofs.Common.{sym, ap, ◌∙◌, append-nil, append_assoc};
 ghost use Rattle.nap_list.specs.declared.state.State.{State};
 ghost use Rattle.nap_list.specs.declared.entry.Entry.{Entry};
 ghost use Rattle.nap_list.specs.declared.sink.SinkFault.TheVariants.{Memory};
-ghost use Rattle.nap_list.specs.State.{Fits, after, start, walk};
+ghost use Rattle.nap_list.specs.State.{AllFit, Fits, after, start, walk};
+ghost use Rattle.nap_list.specs.Putting.{Put, PutUpTo, lines_on, point_on, shows, text_in};
 
+use crate::attribute::{Hand, Pen};
 use crate::entry::Entry;
-use crate::state::State;
+use crate::state::{Drawing, State};
+use nap_codes::CharSet;
+use nap_values::Point;
 use std::alloc::{AllocError, AllocFailed, Global};
 use std::marker::Model;
 use thiserror::Error;
@@ -37,6 +41,15 @@ impl<T: Drop> From<AllocFailed<T>> for SinkFault {
     fn from(_: AllocFailed<T>) -> Self {
         SinkFault::Memory
     }
+}
+
+/// Why a text was not taken whole.
+#[derive(Clone, Copy, PartialEq, Eq, Debug, Drop)]
+pub struct TextFault {
+    /// How many of its characters were taken.
+    pub taken: usize,
+    /// Why the next one was not.
+    pub fault: SinkFault,
 }
 
 /// Takes the entries of a display list in their order. It need not keep them.
@@ -69,6 +82,66 @@ pub trait Sink {
         ensures state { IsErrOf result SinkFault.Write → state self.new ≡ state self.old }
         ensures broke { IsErrOf result SinkFault.Write → failed self.old ≡ false → broke self.old [] entry self.new }
         ensures still { IsErrOf result SinkFault.Write → failed self.old ≡ true → self.new ≡ self.old };
+
+    /// Takes a point at each of the points, drawn with the values that stand.
+    fn put_points(&mut self, points: &[Point], drawing: &Drawing) -> Result<(), SinkFault>
+        requires { AllFit (state self.old) (map (point_on drawing.now) points.now) }
+        ensures { Put (shows state grows failed took broke) (map (point_on drawing.now) points.now) self.old self.new result }
+    {
+        for at in points {
+            self.put(Entry::Point {
+                at: *at,
+                pel: drawing.pel,
+                colour: drawing.colour,
+            })?;
+        }
+        Ok(())
+    }
+
+    /// Takes lines, drawn with the values that stand: from this point to the first, and on from each to the next.
+    fn put_lines(
+        &mut self,
+        from: Point,
+        points: &[Point],
+        drawing: &Drawing,
+    ) -> Result<(), SinkFault>
+        requires { AllFit (state self.old) (lines_on drawing.now from points.now) }
+        ensures { Put (shows state grows failed took broke) (lines_on drawing.now from points.now) self.old self.new result }
+    {
+        let mut from = from;
+        for to in points {
+            self.put(Entry::Line {
+                from,
+                to: *to,
+                ink: drawing.ink(),
+            })?;
+            from = *to;
+        }
+        Ok(())
+    }
+
+    /// Takes the characters of a text: the first in this hand, each further one with the pen as text leaves it. An error
+    /// tells how many it took.
+    fn put_text(&mut self, set: CharSet, codes: &[u8], hand: &Hand) -> Result<(), TextFault>
+        requires { AllFit (state self.old) (text_in set hand.now codes.now) }
+        ensures { PutUpTo (shows state grows failed took broke) (text_in set hand.now codes.now) self.old self.new result }
+    {
+        let mut pen = hand.pen;
+        let mut taken = 0;
+        for code in codes {
+            let entry = Entry::Char {
+                set,
+                code: *code,
+                hand: Hand { pen, ..*hand },
+            };
+            match self.put(entry) {
+                Ok(()) => taken += 1,
+                Err(fault) => return Err(TextFault { taken, fault }),
+            }
+            pen = Pen::After;
+        }
+        Ok(())
+    }
 
     /// Nothing was taken.
     ghost took_none: { (s : Self) → took s [] s };

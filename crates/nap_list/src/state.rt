@@ -2,7 +2,7 @@
 ghost use Rattle.std.specs.Prelude.{◌≡◌, ◌↔◌, IsTrue};
 ghost use Rattle.nap_list.specs.Entry.{held, ink_values, hand_values, colour_alone};
 ghost use Rattle.nap_list.specs.Agreement.{Stands};
-ghost use Rattle.nap_list.specs.State.{start_texture, start_text, start_drawing, start, corner, PenFits, ColourFits, TextureFits, HeldFits, Comes, Fits, taking, with_pen, saved_values, reset, drawn, definition_after, last_after, known_after, after};
+ghost use Rattle.nap_list.specs.State.{start_texture, start_text, start_drawing, start, corner, PenFits, ColourFits, TextureFits, HeldFits, Comes, Fits, taking, with_pen, ink_of, hand_of, saved_values, reset, drawn, definition_after, last_after, known_after, after};
 
 use crate::attribute::{
     Base, CharSize, Colour, Hand, Held, Ink, Origin, Pen, Preset, TextLook, Texture,
@@ -126,6 +126,28 @@ impl Drawing {
             colour: Colour::Own(Origin::AtStart),
             texture: Texture::start(),
             text: TextLook::start(),
+        }
+    }
+
+    /// What lines and areas are drawn with.
+    pub fn ink(&self) -> Ink
+        ensures { result ≡ ink_of self.now }
+    {
+        Ink {
+            pel: self.pel,
+            colour: self.colour,
+            texture: self.texture,
+        }
+    }
+
+    /// What text is drawn with.
+    pub fn hand(&self) -> Hand
+        ensures { result ≡ hand_of self.now }
+    {
+        Hand {
+            pen: self.pen,
+            colour: self.colour,
+            text: self.text,
         }
     }
 

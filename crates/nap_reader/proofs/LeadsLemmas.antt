@@ -6,6 +6,7 @@ use Rattle.nap_draw.specs.declared.fault.DrawFault.{DrawFault}
 use Rattle.nap_draw.specs.declared.fault.DrawFault.TheVariants as draw_faults
 use Rattle.nap_draw.specs.Rule.{Drawn}
 use Rattle.nap_draw.specs.Draws.{Cause, stream, memory, device}
+use Rattle.nap_list.specs.Putting as puts
 use Rattle.nap_draw.specs.Draws as draws
 use Rattle.nap_reader.specs.declared.fault.Fault.TheVariants as faults
 use Rattle.nap_reader.specs.declared.fault.Refusal.{Refusal}
@@ -228,11 +229,11 @@ module _ {S : Type 0} (g : Ghosts S) (s t u : S) (known more : List Entry) (take
   still_taken : u ≡ t → g.took s known u
   still_taken same = subst (g.took s known) (sym same) taken
 
-  pub wants_part : TookMore g → (u ≡ t) ⊎ draws.Stops g.took t more u → TookPart g s known more u memory
+  pub wants_part : TookMore g → (u ≡ t) ⊎ puts.Stops g.took t more u → TookPart g s known more u memory
   wants_part law (inl same) = inl (still_taken same)
   wants_part law (inr (first, next, rest, parts, took)) = inr (first, next, rest, parts, law s t u known first taken took)
 
-  pub fails_part : TookBroke g → (g.failed s ≡ false → g.failed t ≡ false) → ((g.failed t ≡ true) × (u ≡ t)) ⊎ draws.Breaks g.broke t more u →
+  pub fails_part : TookBroke g → (g.failed s ≡ false → g.failed t ≡ false) → ((g.failed t ≡ true) × (u ≡ t)) ⊎ puts.Breaks g.broke t more u →
       TookPart g s known more u device
   fails_part law clear (inl (set, same)) = inl (at (g.failed s) refl, still_taken same)
     where

@@ -6,7 +6,8 @@ use Rattle.nap_draw.specs.Rule.{blink}
 use Rattle.nap_draw.specs.Doing.{Putting}
 use Rattle.nap_draw.proofs.Cuts.{operands_none}
 use Rattle.nap_draw.proofs.Still.{blink_left}
-use Rattle.nap_draw.proofs.Puts.{put_begins, put_fits, put_goes, put_stops, put_ends}
+use Rattle.nap_list.specs.Shown.{shows_of}
+use Rattle.nap_list.proofs.Puts.{put_begins, put_fits, put_goes, put_stops, put_ends}
 use Rattle.nap_draw.proofs.putting.put_blinks.Goals as goal
 
 pub loop-group-init : goal.loop-group-init
@@ -19,7 +20,7 @@ loop-group-init g c =
       finite = tt;
       size = size;
       putting = subst (λ (run : List ℕ). Putting g.S.Sink c.args.sink.now c.args.sink.now (map f (operands (c.args.domain.single + 3) c.args.run.now)) (map f (operands (c.args.domain.single + 3) run)))
-          (sym all) (put_begins g.S.Sink c.args.sink.now _ (g.met.S.Sink.took_none c.args.sink.now));
+          (sym all) (put_begins (shows_of g.S.Sink) c.args.sink.now _ (g.met.S.Sink.took_none c.args.sink.now));
     }
 
 pub put-requires : goal.put-requires
@@ -27,7 +28,7 @@ put-requires g c =
     let inv = c.loop-group.invariant in
     let steps = c.in-Some.ensures.steps in
     let rest = chunks_rest c.next.new.self in
-    put_fits g.S.Sink _ _ _ _ _ c.blink_of.result inv.putting (blink_left c.args.domain.single _ c.args.drawing.now.colour (chunks_rest c.loop-group.group-iterator) c.in-Some.group.now rest c.blink_of.result inv.size steps.1.0 steps.1.1 steps.1.2 c.blink_of.ensures) c.requires
+    put_fits (shows_of g.S.Sink) _ _ _ _ _ c.blink_of.result inv.putting (blink_left c.args.domain.single _ c.args.drawing.now.colour (chunks_rest c.loop-group.group-iterator) c.in-Some.group.now rest c.blink_of.result inv.size steps.1.0 steps.1.1 steps.1.2 c.blink_of.ensures) c.requires
 
 pub loop-group-preserved : goal.loop-group-preserved
 loop-group-preserved g c =
@@ -39,7 +40,7 @@ loop-group-preserved g c =
       can = omega (arith, steps.0, inv.can);
       finite = tt;
       size = steps.0 ∙ inv.size;
-      putting = put_goes g.S.Sink _ _ _ _ _ _ c.blink_of.result g.met.S.Sink.took_more inv.putting (blink_left c.args.domain.single _ c.args.drawing.now.colour (chunks_rest c.loop-group.group-iterator) c.in-Some.group.now rest c.blink_of.result inv.size steps.1.0 steps.1.1 steps.1.2 c.blink_of.ensures)
+      putting = put_goes (shows_of g.S.Sink) _ _ _ _ _ _ c.blink_of.result g.met.S.Sink.took_more inv.putting (blink_left c.args.domain.single _ c.args.drawing.now.colour (chunks_rest c.loop-group.group-iterator) c.in-Some.group.now rest c.blink_of.result inv.size steps.1.0 steps.1.1 steps.1.2 c.blink_of.ensures)
           put.took put.after put.only_write put.grows;
     }
 
@@ -50,9 +51,9 @@ returns-in_err-put g c =
     let put = c.in_err-put.ensures in
     let rest = chunks_rest c.next.new.self in
     let fault = err_from_is_err_and c.from_residual.result c.from_residual.ensures.1 in
-    rw (fault.1, fault.2) (put_stops g.S.Sink (Unit {0}) _ _ _ _ _ _ c.blink_of.result _ g.met.S.Sink.took_broke inv.putting (blink_left c.args.domain.single _ c.args.drawing.now.colour (chunks_rest c.loop-group.group-iterator) c.in-Some.group.now rest c.blink_of.result inv.size steps.1.0 steps.1.1 steps.1.2 c.blink_of.ensures)
+    rw (fault.1, fault.2) (put_stops (shows_of g.S.Sink) (Unit {0}) _ _ _ _ _ _ c.blink_of.result _ g.met.S.Sink.took_broke inv.putting (blink_left c.args.domain.single _ c.args.drawing.now.colour (chunks_rest c.loop-group.group-iterator) c.in-Some.group.now rest c.blink_of.result inv.size steps.1.0 steps.1.1 steps.1.2 c.blink_of.ensures)
     put.memory put.broke put.still put.write put.wants)
 
 pub returns : goal.returns
 returns g c =
-    put_ends g.S.Sink _ _ _ _ (tt {0}) c.loop-group.invariant.putting (ap (map (blink c.args.domain.single c.args.drawing.now.colour)) (operands_none (c.args.domain.single + 3) _ c.in-None.ensures.steps.1.0))
+    put_ends (shows_of g.S.Sink) _ _ _ _ (tt {0}) c.loop-group.invariant.putting (ap (map (blink c.args.domain.single c.args.drawing.now.colour)) (operands_none (c.args.domain.single + 3) _ c.in-None.ensures.steps.1.0))

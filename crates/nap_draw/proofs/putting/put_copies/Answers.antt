@@ -3,7 +3,8 @@ use Rattle.std.proofs.lemmas.Result.{err_from_is_err_and}
 use Rattle.nap_list.specs.declared.attribute.Hand.{Hand}
 use Rattle.nap_list.specs.declared.entry.Entry.TheVariants.{Char}
 use Rattle.nap_draw.proofs.Copies.{copies_turn, copies_end}
-use Rattle.nap_draw.proofs.Puts.{put_begins, put_fits, put_goes, put_stops, put_ends}
+use Rattle.nap_list.specs.Shown.{shows_of}
+use Rattle.nap_list.proofs.Puts.{put_begins, put_fits, put_goes, put_stops, put_ends}
 use Rattle.nap_draw.proofs.putting.put_copies.Goals as goal
 
 pub loop-init : goal.loop-init
@@ -12,7 +13,7 @@ loop-init g c =
     record {
       most = omega arith;
       all = c.get-end.ensures.value;
-      putting = rw none (put_begins g.S.Sink c.args.sink.now _ (g.met.S.Sink.took_none c.args.sink.now));
+      putting = rw none (put_begins (shows_of g.S.Sink) c.args.sink.now _ (g.met.S.Sink.took_none c.args.sink.now));
     }
 
 pub put-requires : goal.put-requires
@@ -20,7 +21,7 @@ put-requires g c =
     let inv = c.loop.invariant in
     let hand : Hand = record c.args.hand { pen = c.loop.pen } in
     let less : c.loop.counter < c.args.count = omega (arith, inv.all) in
-    put_fits g.S.Sink _ _ _ _ _ (Char c.args.last.set c.args.last.code hand) inv.putting (copies_turn c.args.last hand c.args.count c.loop.counter less) c.requires
+    put_fits (shows_of g.S.Sink) _ _ _ _ _ (Char c.args.last.set c.args.last.code hand) inv.putting (copies_turn c.args.last hand c.args.count c.loop.counter less) c.requires
 
 pub loop-preserved : goal.loop-preserved
 loop-preserved g c =
@@ -31,7 +32,7 @@ loop-preserved g c =
     record {
       most = omega arith;
       all = inv.all;
-      putting = put_goes g.S.Sink _ _ _ _ _ _ (Char c.args.last.set c.args.last.code hand) g.met.S.Sink.took_more inv.putting (copies_turn c.args.last hand c.args.count c.loop.counter less)
+      putting = put_goes (shows_of g.S.Sink) _ _ _ _ _ _ (Char c.args.last.set c.args.last.code hand) g.met.S.Sink.took_more inv.putting (copies_turn c.args.last hand c.args.count c.loop.counter less)
           put.took put.after put.only_write put.grows;
     }
 
@@ -42,11 +43,11 @@ returns-in_err-put g c =
     let hand : Hand = record c.args.hand { pen = c.loop.pen } in
     let less : c.loop.counter < c.args.count = omega (arith, inv.all) in
     let fault = err_from_is_err_and c.from_residual.result c.from_residual.ensures.1 in
-    rw (fault.1, fault.2) (put_stops g.S.Sink (Unit {0}) _ _ _ _ _ _ (Char c.args.last.set c.args.last.code hand) _ g.met.S.Sink.took_broke inv.putting
+    rw (fault.1, fault.2) (put_stops (shows_of g.S.Sink) (Unit {0}) _ _ _ _ _ _ (Char c.args.last.set c.args.last.code hand) _ g.met.S.Sink.took_broke inv.putting
     (copies_turn c.args.last hand c.args.count c.loop.counter less) put.memory put.broke put.still put.write put.wants)
 
 pub returns : goal.returns
 returns g c =
     let inv = c.loop.invariant in
     let hand : Hand = record c.args.hand { pen = c.loop.pen } in
-    put_ends g.S.Sink _ _ _ _ (tt {0}) inv.putting (copies_end c.args.last hand c.args.count c.loop.counter (omega (arith, inv.all)))
+    put_ends (shows_of g.S.Sink) _ _ _ _ (tt {0}) inv.putting (copies_end c.args.last hand c.args.count c.loop.counter (omega (arith, inv.all)))

@@ -7,7 +7,7 @@ use Rattle.nap_list.specs.declared.state.LastChar.{LastChar}
 use Rattle.nap_list.specs.declared.state.State.{State}
 use Rattle.nap_list.specs.State.{walk, with_pen}
 use Rattle.nap_draw.specs.declared.fault.DrawFault.{DrawFault}
-use Rattle.nap_draw.specs.Codes.{hand_of}
+use Rattle.nap_list.specs.State.{hand_of}
 use Rattle.nap_draw.specs.Rule.{Drawn, drawn}
 use Rattle.nap_draw.proofs.Acting.{obeys_put, obeys_stop}
 use Rattle.nap_draw.proofs.Copies.{char_holds, char_left}

@@ -1,7 +1,7 @@
 use Rattle.std.proofs.Common.{None, ◌∙◌, refl}
 use Rattle.std.proofs.lemmas.Result.{err_from_is_err_and}
 use Rattle.nap_draw.specs.Geometry.{end_of}
-use Rattle.nap_draw.specs.Rule.{point_on}
+use Rattle.nap_list.specs.Putting.{point_on}
 use Rattle.nap_draw.specs.Doing.{quiet}
 use Rattle.nap_draw.proofs.Acting.{does_put, does_stop}
 use Rattle.nap_draw.proofs.Fits.{all_fit}

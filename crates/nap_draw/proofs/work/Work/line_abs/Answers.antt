@@ -21,4 +21,4 @@ returns-in_err-points_into g c =
 pub returns : goal.returns
 returns g c =
     let all = c.in_ok-points_into.ensures ∙ ap Some (ap (λ (ps : List Coordinates). ps) (sym c.deref.ensures.value)) in
-    does_as g.S.Sink quiet _ _ _ _ _ _ _ ((c.in_ok-from.ensures.ok (λ p ms. draws c.args.self.now line_on (option_map (joined p) (points_at ms)))) ∙ ap (λ o. draws c.args.self.now line_on (option_map (joined c.in_ok-from.from) o)) all) c.linked.ensures
+    does_as g.S.Sink quiet _ _ _ _ _ _ _ ((c.in_ok-from.ensures.ok (λ p ms. draws c.args.self.now line_on (option_map (joined p) (points_at ms)))) ∙ ap (λ o. draws c.args.self.now line_on (option_map (joined c.in_ok-from.from) o)) all) c.joined.ensures

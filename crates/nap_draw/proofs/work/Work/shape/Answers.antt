@@ -16,7 +16,7 @@ pub single-requires : goal.single-requires
 single-requires g c =
     let s = c.args.self.now.state in
     let ps = outline c.args.shape (c.args.from ∷ c.args.points.now) in
-    rw (c.entry-entry.ensures, c.ink_of.ensures, c.end.ensures, c.as_slice.ensures, c.in_ok-outline.ensures) (record {
+    rw (c.entry-entry.ensures, c.ink.ensures, c.end.ensures, c.as_slice.ensures, c.in_ok-outline.ensures) (record {
       agrees = c.requires.agrees;
       follows = record {
         holds = holds_shape c.args.shape c.args.filled s.drawing ps;
@@ -29,5 +29,5 @@ single-requires g c =
 pub returns : goal.returns
 returns g c =
     let w = c.args.self.now in
-    let made = c.entry-entry.ensures ∙ (ap (shape_entry c.args.shape c.args.filled c.in_ok-outline.outline) c.ink_of.ensures ∙ ap (λ ps. shape_on c.args.shape c.args.filled w.state.drawing ps) c.in_ok-outline.ensures) in
+    let made = c.entry-entry.ensures ∙ (ap (shape_entry c.args.shape c.args.filled c.in_ok-outline.outline) c.ink.ensures ∙ ap (λ ps. shape_on c.args.shape c.args.filled w.state.drawing ps) c.in_ok-outline.ensures) in
     does_as g.S.Sink quiet _ _ _ _ _ _ _ (ap (λ (e : Entry). Ok (drawn w (e ∷ []))) (sym made)) c.single.ensures.does

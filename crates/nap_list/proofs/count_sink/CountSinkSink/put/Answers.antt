@@ -1,6 +1,5 @@
-use Rattle.nap_list.specs.State.{walk}
+use Rattle.nap_list.proofs.Counted.{one}
 use Rattle.nap_list.proofs.count_sink.CountSinkSink.put.Goals as goal
 
 pub returns-clause-took : goal.returns-clause-took
-unfolding walk
-returns-clause-took c = record { count = c.in-Some.ensures.1; state = c.step.ensures }
+returns-clause-took c = one c.args.self.now c.advance.new.self c.args.entry c.advance.result c.advance.ensures

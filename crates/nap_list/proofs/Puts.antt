@@ -1,18 +1,22 @@
-use Rattle.std.proofs.Common.{◌≡◌, ℕ, suc, ◌+◌, ◌<◌, ◌≤◌, map, length, drop, get_or, add-one, drop-cons, ◌⊎◌, List, [], ◌∷◌, ◌++◌, Bool, true, false, Result, Ok, Err, IsErrOf, OnOk, inl, inr, refl, sym, ◌∙◌, ap, subst, append-nil, append_assoc}
+use Rattle.std.proofs.Common.{◌≡◌, ℕ, suc, ◌+◌, ◌<◌, ◌≤◌, map, length, drop, get_or, add-one, drop-cons, ◌⊎◌, List, [], ◌∷◌, ◌++◌, Bool, true, false, Result, Ok, Err, IsErrOf, OnOk, inl, inr, refl, sym, ◌∙◌, ap, subst, append-nil, append_assoc, length-append}
 use Rattle.std.proofs.lemmas.List.{drop_all}
+use Rattle.nap_values.specs.Coordinates.{Coordinates}
+use Rattle.nap_codes.specs.declared.code_set.CharSet.{CharSet}
+use Rattle.nap_list.specs.declared.attribute.Hand.{Hand}
+use Rattle.nap_list.specs.declared.attribute.Pen.TheVariants.{After}
 use Rattle.nap_list.specs.declared.entry.Entry.{Entry}
+use Rattle.nap_list.specs.declared.entry.Entry.TheVariants as entries
+use Rattle.nap_list.specs.declared.state.Drawing.{Drawing}
 use Rattle.nap_list.specs.declared.state.State.{State}
-use Rattle.nap_list.specs.declared.sink.Sink.{Ghosts}
 use Rattle.nap_list.specs.declared.sink.SinkFault.{SinkFault}
 use Rattle.nap_list.specs.declared.sink.SinkFault.TheVariants.{Memory, Write}
-use Rattle.nap_list.specs.State.{Fits, AllFit, after, walk}
-use Rattle.nap_list.proofs.PublicLaws.{walks_join, fits_join}
-use Rattle.nap_draw.specs.Draws.{Breaks}
-use Rattle.nap_draw.specs.Doing.{Put, Putting}
+use Rattle.nap_list.specs.State.{Fits, AllFit, after, walk, ink_of}
+use Rattle.nap_list.proofs.Walks.{walks_join, fits_join}
+use Rattle.nap_list.specs.Putting.{Breaks, SinkShows, Put, Putting, HaltsAfter, Short, lines_on, text_in}
 
 -- Putting of a list, entry by entry.
 
-module _ {S : Type 0} (g : Ghosts S) where
+module _ {S : Type 0} (g : SinkShows S) where
   pub put_begins : (s : S) (whole : List Entry) → g.took s [] s → Putting g s s whole whole
   unfolding walk
   put_begins s whole none = record { done = []; parts = refl; taken = none; state = refl; same = λ _. refl; grows = refl }
@@ -68,6 +72,54 @@ module _ {S : Type 0} (g : Ghosts S) where
           let parts = putting.parts ∙ ap (λ (list : List Entry). putting.done ++ list) is in
           inr (putting.done, x, rest, parts, subst (λ (d : List Entry). g.broke s d x u) (append-nil putting.done) (law s t u putting.done [] x putting.taken (breaks refl h)))
 
+  -- how many were put
+  pub begins_none : (s : S) (whole : List Entry) (none : g.took s [] s) → length (put_begins s whole none).done ≡ 0
+  unfolding put_begins
+  begins_none s whole none = refl
+
+  pub goes_one : (s t u : S) (whole rest list : List Entry) (x : Entry) (law : (s t u : S) (d e : List Entry) → g.took s d t → g.took t e u → g.took s (d ++ e) u)
+      (putting : Putting g s t whole list) (is : list ≡ x ∷ rest) (took : g.took t (x ∷ []) u) (state : g.state u ≡ after (g.state t) x)
+      (only : g.failed u ≡ true → IsErrOf {T = Unit {0}} (Ok tt) Write) (grows : g.grows u ≡ g.grows t) →
+      length (put_goes s t u whole rest list x law putting is took state only grows).done ≡ length putting.done + 1
+  unfolding put_goes
+  goes_one s t u whole rest list x law putting is took state only grows = length-append putting.done (x ∷ [])
+
+  -- the next entry wasn't taken, behind so many
+  pub put_halts : (s t u : S) (whole rest list : List Entry) (x : Entry) (n : ℕ) (e : SinkFault) →
+      ((s t u : S) (d e : List Entry) (x : Entry) → g.took s d t → g.broke t e x u → g.broke s (d ++ e) x u) →
+      (putting : Putting g s t whole list) → length putting.done ≡ n → (g.failed t ≡ true → n ≡ 0) → list ≡ x ∷ rest →
+      (IsErrOf {T = Unit {0}} (Err e) Memory → u ≡ t) → (IsErrOf {T = Unit {0}} (Err e) Write → g.failed t ≡ false → g.broke t [] x u) →
+      (IsErrOf {T = Unit {0}} (Err e) Write → g.failed t ≡ true → u ≡ t) → (IsErrOf {T = Unit {0}} (Err e) Write → g.failed u ≡ true) →
+      (IsErrOf {T = Unit {0}} (Err e) Memory → g.grows t ≡ true) → HaltsAfter g whole s u n e × (e ≡ Write → g.failed u ≡ true) × (e ≡ Memory → Short g s u)
+  put_halts s t u whole rest list x n Memory law putting count first is memory breaks still set wants = (
+    record {
+      front = putting.done;
+      next = x;
+      rest = rest;
+      parts = putting.parts ∙ ap (λ (list : List Entry). putting.done ++ list) is;
+      count = count;
+      taken = subst (g.took s putting.done) (sym (memory refl)) putting.taken;
+    },
+    λ e. let bad : ⊥ = cc in absurd bad,
+    λ _. record {
+      grows = sym putting.grows ∙ wants refl;
+      same = λ failed. memory refl ∙ putting.same (ap g.failed (sym (memory refl)) ∙ failed);
+    },
+  )
+  put_halts s t u whole rest list x n Write law putting count first is memory breaks still set wants =
+      (by_flag (g.failed t) refl, λ _. set refl, λ e. let bad : ⊥ = cc in absurd bad)
+    where
+      by_flag : (b : Bool) → g.failed t ≡ b → HaltsAfter g whole s u n Write
+      by_flag true h = inl (ap g.failed (sym (putting.same h)) ∙ h, still refl h ∙ putting.same h, first h)
+      by_flag false h = inr (record {
+        front = putting.done;
+        next = x;
+        rest = rest;
+        parts = putting.parts ∙ ap (λ (list : List Entry). putting.done ++ list) is;
+        count = count;
+        broken = subst (λ (d : List Entry). g.broke s d x u) (append-nil putting.done) (law s t u putting.done [] x putting.taken (breaks refl h));
+      })
+
   -- all was put
   pub put_ends : {A : Type 0} (s t : S) (whole list : List Entry) (a : A) → Putting g s t whole list → list ≡ [] → Put {S = S} {A = A} g whole s t (Ok a)
   put_ends s t whole list a putting is =
@@ -104,3 +156,25 @@ left_end f xs i most = ap (map f) (drop_all i xs most)
 
 pub drop_at : {A : Type 0} (xs : List A) (i : ℕ) (x : A) → i < length xs → x ≡ get_or xs i x → drop i xs ≡ x ∷ drop (i + 1) xs
 drop_at xs i x less is = rw add-one (drop-cons xs i x less ∙ ap (λ y. y ∷ drop (suc i) xs) (sym is))
+
+-- lines and characters, one by one
+
+pub lines_left : (d : Drawing) (from to : Coordinates) (points : List Coordinates) (i : ℕ) → i < length points → to ≡ get_or points i to →
+    lines_on d from (drop i points) ≡ entries.Line from to (ink_of d) ∷ lines_on d to (drop (i + 1) points)
+unfolding lines_on
+lines_left d from to points i less is = ap (lines_on d from) (drop_at points i to less is)
+
+pub lines_end : (d : Drawing) (from : Coordinates) (points : List Coordinates) (i : ℕ) → length points ≤ i → lines_on d from (drop i points) ≡ []
+unfolding lines_on
+lines_end d from points i most = ap (lines_on d from) (drop_all i points most)
+
+pub text_left : (set : CharSet) (hand : Hand) (codes : List ℕ) (i : ℕ) → i < length codes →
+    text_in set hand (drop i codes) ≡ entries.Char set (get_or codes i 0) hand ∷ text_in set (record hand { pen = After }) (drop (i + 1) codes)
+unfolding text_in
+text_left set hand codes i less =
+    let next : drop i codes ≡ get_or codes i 0 ∷ drop (i + 1) codes = rw add-one (drop-cons codes i 0 less) in
+    ap (text_in set hand) next
+
+pub text_end : (set : CharSet) (hand : Hand) (codes : List ℕ) (i : ℕ) → length codes ≤ i → text_in set hand (drop i codes) ≡ []
+unfolding text_in
+text_end set hand codes i most = ap (text_in set hand) (drop_all i codes most)

@@ -1,0 +1,50 @@
+use Rattle.std.proofs.Common.{◌≡◌, ℕ, suc, length, List, [], ◌∷◌, ◌++◌, All, Some, refl, ◌∙◌, ap, arith}
+use Rattle.nap_codes.specs.declared.code_set.CharSet.{CharSet}
+use Rattle.nap_list.specs.declared.attribute.Pen.TheVariants as pens
+use Rattle.nap_list.specs.declared.entry.Entry.{Entry}
+use Rattle.nap_list.specs.declared.state.LastChar.{LastChar}
+use Rattle.nap_list.specs.declared.state.State.{State}
+use Rattle.nap_list.specs.Entry.{IsCode}
+use Rattle.nap_list.specs.Putting.{text_in}
+use Rattle.nap_list.specs.State.{AllFit, after, walk, with_pen, hand_of}
+use Rattle.nap_list.specs.Agreement.{InMode, StatesAgree}
+use Rattle.nap_list.proofs.PublicLaws.{agreeing_fits}
+use Rattle.nap_list.proofs.Repeats.{text_leaves}
+use Rattle.nap_draw.specs.Codes.{char_on, text}
+use Rattle.nap_draw.proofs.Copies.{char_holds, char_left}
+
+-- What the characters of a text leave.
+
+typed : State → CharSet → ℕ → State
+typed s set code = record s { drawing = with_pen pens.After s.drawing; last = Some (record { set = set; code = code }) }
+
+pub text_is : (s : State) (set : CharSet) (codes : List ℕ) → InMode s.drawing.base s.drawing.colour → text s set codes ≡ text_in set (hand_of s.drawing) codes
+unfolding text text_in typed
+text_is s set [] mode = refl
+text_is s set (code ∷ codes) mode =
+    let last : LastChar = record { set = set; code = code } in
+    ap (λ (t : State). char_on s.drawing last ∷ text t set codes) (char_left last s mode) ∙ ap (λ (list : List Entry). char_on s.drawing last ∷ list) (text_is (typed s set code) set codes mode)
+
+pub text_left : (s : State) (set : CharSet) (codes front : List ℕ) (code : ℕ) → InMode s.drawing.base s.drawing.colour → codes ≡ front ++ code ∷ [] →
+    walk s (text s set codes) ≡ record s { drawing = with_pen pens.After s.drawing; last = Some (record { set = set; code = code }) }
+text_left s set codes front code mode is =
+    ap (walk s) (text_is s set codes mode) ∙ (text_leaves s set (hand_of s.drawing) codes front code is ∙ char_left (record { set = set; code = code }) s mode)
+
+pub text_fits : (s shown : State) (set : CharSet) (codes : List ℕ) → StatesAgree s shown → All IsCode codes →
+    AllFit shown (text s set codes) × StatesAgree (walk s (text s set codes)) (walk shown (text s set codes))
+unfolding text walk AllFit
+text_fits s shown set [] agrees made = (tt, agrees)
+text_fits s shown set (code ∷ codes) agrees made =
+    let last : LastChar = record { set = set; code = code } in
+    let e = char_on s.drawing last in
+    let here = agreeing_fits s shown e agrees (char_holds last s) (made 0 code (omega arith)) tt in
+    let then = text_fits (after s e) (after shown e) set codes here.1 (λ k d less. made (suc k) d (omega arith)) in
+    ((here.0, then.0), then.1)
+
+pub text_none : (s : State) (set : CharSet) (codes : List ℕ) → codes ≡ [] → walk s (text s set codes) ≡ s
+unfolding text walk
+text_none s set codes is = ap (λ (codes : List ℕ). walk s (text s set codes)) is
+
+pub no_codes : (codes : List ℕ) → length codes ≡ 0 → codes ≡ []
+no_codes [] none = refl
+no_codes (code ∷ codes) none = absurd (omega arith)
