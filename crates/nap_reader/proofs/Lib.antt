@@ -1,6 +1,7 @@
 pub mod CourseLemmas
 pub mod KindLemmas
 pub mod BodyLemmas
+pub mod OperandLemmas
 pub mod StretchLemmas
 pub mod StoreLemmas
 pub mod StreamLemmas

@@ -1,7 +1,6 @@
-use Rattle.std.proofs.Common.{ℕ, ◌+◌, ◌-◌, ◌≡◌, ◌<◌, ◌≤◌, take, drop, get_or, List, [], ◌∷◌, ◌++◌, map, length, All, true, None, Some, sym, ap, subst, ◌∙◌, arith, append-nil, append_assoc, length-append}
+use Rattle.std.proofs.Common.{ℕ, ◌+◌, ◌-◌, ◌≡◌, ◌≤◌, take, drop, List, [], ◌∷◌, ◌++◌, map, length, All, true, None, Some, sym, ap, subst, ◌∙◌, arith, append-nil, append_assoc, length-append}
 use Rattle.std.proofs.Math.Seq.{take-add}
-use Rattle.std.proofs.lemmas.List.{map-append, take_more}
-use Rattle.std.proofs.lemmas.List.Elements.{All-head, All-tail, All-more}
+use Rattle.std.proofs.lemmas.List.Elements.{All-head, All-tail}
 use Rattle.nap_list.specs.declared.sink.Sink.{Ghosts}
 use Rattle.nap_reader.specs.declared.reader.OpenRun.{OpenRun}
 use Rattle.nap_reader.specs.declared.reader.Reader.{Reader}
@@ -22,19 +21,6 @@ words bytes = map (λ b. b - 64) bytes
 pub taken_stretch : (p piece : List ℕ) (i n : ℕ) → (p ++ take i piece) ++ take n (drop i piece) ≡ p ++ take (i + n) piece
 taken_stretch p piece i n =
     append_assoc p (take i piece) (take n (drop i piece)) ∙ ap (λ (q : List ℕ). p ++ q) (sym (take-add i n piece))
-
--- one operand byte more
-pub more_operands : (bytes : List ℕ) (i : ℕ) → i < length bytes → All (λ b. is_operand_byte b ≡ true) (take i bytes) → is_operand_byte (get_or bytes i 0) ≡ true →
-    All (λ b. is_operand_byte b ≡ true) (take (i + 1) bytes)
-more_operands bytes i within all one = All-more (λ b. is_operand_byte b ≡ true) bytes i 0 within all one
-
--- and its word
-pub more_words : (run bytes : List ℕ) (i word : ℕ) → i < length bytes → word ≡ get_or bytes i 0 - 64 → (run ++ words (take i bytes)) ++ word ∷ [] ≡ run ++ words (take (i + 1) bytes)
-more_words run bytes i word within is =
-    append_assoc run (words (take i bytes)) (word ∷ [])
-    ∙ ap (λ (w : ℕ). run ++ (words (take i bytes) ++ w ∷ [])) is
-    ∙ ap (λ (ws : List ℕ). run ++ ws) (sym (map-append (λ b. b - 64) (take i bytes) (get_or bytes i 0 ∷ [])))
-    ∙ ap (λ (front : List ℕ). run ++ words front) (sym (take_more bytes i 0 within))
 
 -- operand bytes of an open run join it
 pub words_join : {S : Type 0} (g : Ghosts S) (s : S) (budget : ℕ) (t : S) (open_run : OpenRun) (bytes p : List ℕ) (h : Holding) → h.open_body ≡ None → h.open_run ≡ Some open_run →

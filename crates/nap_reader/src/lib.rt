@@ -8,6 +8,7 @@ mod feeding;
 mod frames;
 mod kind;
 pub mod laws;
+mod operands;
 mod reader;
 mod store;
 mod whole;

@@ -1,5 +1,5 @@
 //! Reads a stream in pieces.
-ghost use Rattle.std.specs.Prelude.{All, map, take, ◌⊎◌, ◌≡◌, ◌≢◌, ◌+◌, ◌-◌, ◌^◌, ◌<◌, ◌≤◌, ℕ, List, [], ◌∷◌, ◌++◌, None, Some, Err, true, false, length, vec_len, OnOk, IfOk, IsOk, IfErr, MatchOption, MatchResult};
+ghost use Rattle.std.specs.Prelude.{take, ◌⊎◌, ◌≡◌, ◌≢◌, ◌+◌, ◌-◌, ◌^◌, ◌<◌, ◌≤◌, ℕ, List, [], ◌∷◌, ◌++◌, None, Some, Err, true, false, length, vec_len, OnOk, IfOk, IsOk, IfErr, MatchResult};
 ghost use Rattle.std.specs.Option.{ForNone};
 ghost use Rattle.nap_list.specs.State.{start};
 ghost use Rattle.std.proofs.Props.{props};
@@ -19,6 +19,7 @@ use crate::budget::Budget;
 use crate::fault::{Fault, Refusal};
 use crate::frames::Frames;
 use crate::kind::Kind;
+use crate::operands::{operand, take_words};
 use crate::store::{Span, Store};
 use nap_codes::{Lexer, Opcode, Step};
 use nap_draw::{DrawFault, RUN_LIMIT, Work};
@@ -719,38 +720,6 @@ fn latched(
     match acted {
         Ok(()) => Ok(()),
         Err(fault) => refuse(latch, Fault::from(fault), place),
-    }
-}
-
-/// The words of the operand bytes at the front join the run, as far as it and the memory have room for them. Tells how many
-/// there are.
-fn take_words(run: &mut Vec<Word>, piece: &[u8]) -> usize
-    ensures within { result ≤ length piece.now }
-    ensures operands { All (λ b. is_operand_byte b ≡ true) (take result piece.now) }
-    ensures joined { run.new.items ≡ run.old.items ++ map (λ b. b - 64) (take result piece.now) }
-    ensures short { vec_len run.old ≤ run_limit → vec_len run.new ≤ run_limit }
-{
-    let mut count = 0;
-    for byte in piece {
-        let Some(word) = operand(*byte) else {
-            return count;
-        };
-        if run.len() >= RUN_LIMIT || run.push(word).is_err() {
-            return count;
-        }
-        count += 1;
-    }
-    count
-}
-
-/// The word that an operand byte carries.
-fn operand(byte: u8) -> Option<Word>
-    ensures { MatchOption result (is_operand_byte byte ≡ false) (λ word. (is_operand_byte byte ≡ true) × (word ≡ byte - 64)) }
-{
-    if byte >= 0x40 && byte < 0x80 {
-        Word::try_new(byte - 0x40)
-    } else {
-        None
     }
 }
 
