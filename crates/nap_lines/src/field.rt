@@ -1,256 +1,303 @@
-//! The fields of a line.
-ghost use Rattle.std.specs.Prelude.{◌≡◌, Some};
-ghost use Rattle.nap_lines.specs.Lines.{point_text, move_text, points_text, grb_text, code_text, colour_text, pen_text, texture_text, ink_text, size_text, flag_text, look_text, hand_text, fill_text, set_text, step_text, area_text, mark_text, cursor_text, mask_text};
+//! The fields of a line, each in front of what stands.
+ghost use Rattle.std.specs.Prelude.{◌≡◌, ◌+◌, ◌≤◌, [], ◌∷◌, ◌++◌, codes, decimal, length};
+ghost use Rattle.nap_lines.specs.Lines.{point_text, move_text, grb_text, colour_text, pen_text, texture_text, mask_size_text, ink_text, size_text, flag_text, flags_text, look_text, hand_text, fill_text, set_text, step_text, area_text, mark_text, cursor_text, mask_text};
 
+use crate::tail::Tail;
 use nap_codes::{CharSet, CursorKind, Mask, Size, TextStep};
-use nap_list::{Area, CharSize, Colour, Hand, Ink, Origin, Pen, Points, Preset, TextLook, Texture};
-use nap_values::{Grb, Move, Point};
-use std::fmt::{Display, Formatter, Result, Write};
+use nap_list::{Area, CharSize, Colour, Hand, Ink, Origin, Pen, Preset, TextLook, Texture};
+use nap_values::{Addr, Grb, Move, Point, Word};
 
-/// A value as a line shows it.
-#[derive(Drop)]
-pub struct Shown<'a, T>(pub &'a T);
-
-/// A code as a line shows it.
-#[derive(Clone, Copy, Drop)]
-pub struct ShownCode(pub u8);
-
-impl Display for Shown<'_, Point> {
-    ghost output = { λ s. Some (point_text s.0.now) };
-
-    fn fmt<W: Write>(&self, f: &mut Formatter<W>) -> Result {
-        write!(f, "{},{}", self.0.x(), self.0.y())
+impl Tail {
+    /// A word by its number.
+    pub(crate) fn word(&mut self, word: Word)
+        requires room { length self.old + 10 ≤ 256 }
+        ensures text { self.new ≡ decimal word ++ self.old }
+        ensures size { length self.new ≤ length self.old + 10 }
+    {
+        self.number(u32::from(word.get()));
     }
-}
 
-impl Display for Shown<'_, Move> {
-    ghost output = { λ s. Some (move_text s.0.now) };
-
-    fn fmt<W: Write>(&self, f: &mut Formatter<W>) -> Result {
-        write!(f, "{},{}", self.0.x(), self.0.y())
+    /// An address of the colour map by its number.
+    pub(crate) fn addr(&mut self, addr: Addr)
+        requires room { length self.old + 10 ≤ 256 }
+        ensures text { self.new ≡ decimal addr ++ self.old }
+        ensures size { length self.new ≤ length self.old + 10 }
+    {
+        self.number(addr.get());
     }
-}
 
-impl Display for Shown<'_, Points> {
-    ghost output = { λ s. Some (points_text s.0.now) };
-
-    fn fmt<W: Write>(&self, f: &mut Formatter<W>) -> Result {
-        for point in self.0.as_slice() {
-            write!(f, " {}", Shown(point))?;
-        }
-        Ok(())
+    /// A point.
+    pub(crate) fn point(&mut self, point: Point)
+        requires room { length self.old + 21 ≤ 256 }
+        ensures text { self.new ≡ point_text point ++ self.old }
+        ensures size { length self.new ≤ length self.old + 21 }
+    {
+        self.number(point.y());
+        self.push(",");
+        self.number(point.x());
     }
-}
 
-impl Display for Shown<'_, Grb> {
-    ghost output = { λ s. Some (grb_text s.0.now) };
-
-    fn fmt<W: Write>(&self, f: &mut Formatter<W>) -> Result {
-        write!(f, "{},{},{}", self.0.g(), self.0.r(), self.0.b())
+    /// A displacement, or a size.
+    pub(crate) fn displacement(&mut self, size: Move)
+        requires room { length self.old + 23 ≤ 256 }
+        ensures text { self.new ≡ move_text size ++ self.old }
+        ensures size { length self.new ≤ length self.old + 23 }
+    {
+        self.signed(size.y());
+        self.push(",");
+        self.signed(size.x());
     }
-}
 
-impl Display for ShownCode {
-    ghost output = { λ c. Some (code_text c.0) };
-
-    fn fmt<W: Write>(&self, f: &mut Formatter<W>) -> Result {
-        let code = self.0;
-        write!(f, "{code:02x}")
+    /// A colour's parts.
+    pub(crate) fn grb(&mut self, grb: Grb)
+        requires room { length self.old + 32 ≤ 256 }
+        ensures text { self.new ≡ grb_text grb ++ self.old }
+        ensures size { length self.new ≤ length self.old + 32 }
+    {
+        self.number(u32::from(grb.b()));
+        self.push(",");
+        self.number(u32::from(grb.r()));
+        self.push(",");
+        self.number(u32::from(grb.g()));
     }
-}
 
-impl Display for Shown<'_, Colour> {
-    ghost output = { λ s. Some (colour_text s.0.now) };
-
-    fn fmt<W: Write>(&self, f: &mut Formatter<W>) -> Result {
-        match self.0 {
-            Colour::Own(Origin::AtStart) => write!(f, "own-start"),
-            Colour::Own(Origin::AfterReset) => write!(f, "own-reset"),
-            Colour::Direct(grb) => write!(f, "direct:{}", Shown(grb)),
-            Colour::Front(addr) => write!(f, "front:{}", addr.get()),
-            Colour::Pair(front, back) => write!(f, "pair:{},{}", front.get(), back.get()),
-            Colour::ByReset(Preset::Two) => write!(f, "reset-2"),
-            Colour::ByReset(Preset::Three) => write!(f, "reset-3"),
-        }
-    }
-}
-
-impl Display for Shown<'_, Pen> {
-    ghost output = { λ s. Some (pen_text s.0.now) };
-
-    fn fmt<W: Write>(&self, f: &mut Formatter<W>) -> Result {
-        match self.0 {
-            Pen::Start => write!(f, "start"),
-            Pen::At(point) => write!(f, "{}", Shown(point)),
-            Pen::After => write!(f, "after"),
-        }
-    }
-}
-
-impl Display for Shown<'_, Texture> {
-    ghost output = { λ s. Some (texture_text s.0.now) };
-
-    fn fmt<W: Write>(&self, f: &mut Formatter<W>) -> Result {
-        let word = self.0.word.get();
-        match &self.0.mask {
-            None => write!(f, "{word}/none"),
-            Some(size) => write!(f, "{word}/{}", Shown(size)),
+    /// A colour.
+    pub(crate) fn colour(&mut self, colour: &Colour)
+        requires room { length self.old + 39 ≤ 256 }
+        ensures text { self.new ≡ colour_text colour.now ++ self.old }
+        ensures size { length self.new ≤ length self.old + 39 }
+    {
+        match colour {
+            Colour::Own(Origin::AtStart) => self.push("own-start"),
+            Colour::Own(Origin::AfterReset) => self.push("own-reset"),
+            Colour::Direct(grb) => {
+                self.grb(*grb);
+                self.push("direct:");
+            }
+            Colour::Front(addr) => {
+                self.addr(*addr);
+                self.push("front:");
+            }
+            Colour::Pair(front, back) => {
+                self.addr(*back);
+                self.push(",");
+                self.addr(*front);
+                self.push("pair:");
+            }
+            Colour::ByReset(Preset::Two) => self.push("reset-2"),
+            Colour::ByReset(Preset::Three) => self.push("reset-3"),
         }
     }
-}
 
-impl Display for Shown<'_, Ink> {
-    ghost output = { λ s. Some (ink_text s.0.now) };
-
-    fn fmt<W: Write>(&self, f: &mut Formatter<W>) -> Result {
-        let Ink {
-            pel,
-            colour,
-            texture,
-        } = self.0;
-        write!(
-            f,
-            "pel={} colour={} texture={}",
-            Shown(pel),
-            Shown(colour),
-            Shown(texture)
-        )
+    /// The colour that an entry ends with, and its name.
+    pub(crate) fn coloured(&mut self, colour: &Colour)
+        requires room { length self.old + 47 ≤ 256 }
+        ensures text { self.new ≡ codes " colour=" ++ colour_text colour.now ++ self.old }
+        ensures size { length self.new ≤ length self.old + 47 }
+    {
+        self.colour(colour);
+        self.push(" colour=");
     }
-}
 
-impl Display for Shown<'_, CharSize> {
-    ghost output = { λ s. Some (size_text s.0.now) };
+    /// A pen.
+    pub(crate) fn pen(&mut self, pen: Pen)
+        requires room { length self.old + 21 ≤ 256 }
+        ensures text { self.new ≡ pen_text pen ++ self.old }
+        ensures size { length self.new ≤ length self.old + 21 }
+    {
+        match pen {
+            Pen::Start => self.push("start"),
+            Pen::At(point) => self.point(point),
+            Pen::After => self.push("after"),
+        }
+    }
 
-    fn fmt<W: Write>(&self, f: &mut Formatter<W>) -> Result {
-        match self.0 {
-            CharSize::Named(Size::Small) => write!(f, "small"),
-            CharSize::Named(Size::Medium) => write!(f, "medium"),
-            CharSize::Named(Size::Normal) => write!(f, "normal"),
-            CharSize::Named(Size::Tall) => write!(f, "tall"),
-            CharSize::Named(Size::Double) => write!(f, "double"),
-            CharSize::Given(size) => write!(f, "{}", Shown(size)),
+    /// How lines and areas are filled in.
+    pub(crate) fn texture(&mut self, texture: Texture)
+        requires room { length self.old + 34 ≤ 256 }
+        ensures text { self.new ≡ texture_text texture ++ self.old }
+        ensures size { length self.new ≤ length self.old + 34 }
+    {
+        match texture.mask {
+            None => self.push("/none"),
+            Some(size) => {
+                self.displacement(size);
+                self.push("/");
+            }
+        }
+        self.word(texture.word);
+    }
+
+    /// What lines and areas are drawn with.
+    pub(crate) fn ink(&mut self, ink: &Ink)
+        requires room { length self.old + 117 ≤ 256 }
+        ensures text { self.new ≡ ink_text ink.now ++ self.old }
+        ensures size { length self.new ≤ length self.old + 117 }
+    {
+        self.texture(ink.texture);
+        self.push(" texture=");
+        self.coloured(&ink.colour);
+        self.displacement(ink.pel);
+        self.push("pel=");
+    }
+
+    /// The size of a character.
+    pub(crate) fn char_size(&mut self, size: &CharSize)
+        requires room { length self.old + 23 ≤ 256 }
+        ensures text { self.new ≡ size_text size.now ++ self.old }
+        ensures size { length self.new ≤ length self.old + 23 }
+    {
+        match size {
+            CharSize::Named(Size::Small) => self.push("small"),
+            CharSize::Named(Size::Medium) => self.push("medium"),
+            CharSize::Named(Size::Normal) => self.push("normal"),
+            CharSize::Named(Size::Tall) => self.push("tall"),
+            CharSize::Named(Size::Double) => self.push("double"),
+            CharSize::Given(size) => self.displacement(*size),
+        }
+    }
+
+    /// The modes of characters that are on.
+    pub(crate) fn flags(&mut self, look: &TextLook)
+        requires room { length self.old + 4 ≤ 256 }
+        ensures text { self.new ≡ flags_text look.now ++ self.old }
+        ensures size { length self.new ≡ length self.old + 4 }
+    {
+        self.push(flag(look.scroll, "s"));
+        self.push(flag(look.wrap, "w"));
+        self.push(flag(look.underline, "u"));
+        self.push(flag(look.reverse, "r"));
+    }
+
+    /// How characters look.
+    pub(crate) fn look(&mut self, look: &TextLook)
+        requires room { length self.old + 50 ≤ 256 }
+        ensures text { self.new ≡ look_text look.now ++ self.old }
+        ensures size { length self.new ≤ length self.old + 50 }
+    {
+        self.flags(look);
+        self.push("/");
+        self.char_size(&look.size);
+        self.push("/");
+        self.word(look.second);
+        self.push(",");
+        self.word(look.first);
+    }
+
+    /// What characters are drawn with.
+    pub(crate) fn hand(&mut self, hand: &Hand)
+        requires room { length self.old + 128 ≤ 256 }
+        ensures text { self.new ≡ hand_text hand.now ++ self.old }
+        ensures size { length self.new ≤ length self.old + 128 }
+    {
+        self.look(&hand.text);
+        self.push(" text=");
+        self.coloured(&hand.colour);
+        self.pen(hand.pen);
+        self.push("pen=");
+    }
+
+    /// A code set of characters.
+    pub(crate) fn char_set(&mut self, set: CharSet)
+        requires room { length self.old + 13 ≤ 256 }
+        ensures text { self.new ≡ set_text set ++ self.old }
+        ensures size { length self.new ≤ length self.old + 13 }
+    {
+        match set {
+            CharSet::Primary => self.push("primary"),
+            CharSet::Supplementary => self.push("supplementary"),
+            CharSet::Mosaic => self.push("mosaic"),
+            CharSet::Drcs => self.push("drcs"),
+        }
+    }
+
+    /// A move of the active position of text.
+    pub(crate) fn step(&mut self, step: TextStep)
+        requires room { length self.old + 9 ≤ 256 }
+        ensures text { self.new ≡ step_text step ++ self.old }
+        ensures size { length self.new ≤ length self.old + 9 }
+    {
+        match step {
+            TextStep::Apb => self.push("APB"),
+            TextStep::Apf => self.push("APF"),
+            TextStep::Apd => self.push("APD"),
+            TextStep::Apu => self.push("APU"),
+            TextStep::Apr => self.push("APR"),
+            TextStep::Aph => self.push("APH"),
+            TextStep::Aps(row, column) => {
+                self.code(column);
+                self.push(" ");
+                self.code(row);
+                self.push("APS ");
+            }
+        }
+    }
+
+    /// An area.
+    pub(crate) fn area(&mut self, area: Area)
+        requires room { length self.old + 43 ≤ 256 }
+        ensures text { self.new ≡ area_text area ++ self.old }
+        ensures size { length self.new ≤ length self.old + 43 }
+    {
+        match area {
+            Area::Whole => self.push("whole"),
+            Area::Part { from, to } => {
+                self.point(to);
+                self.push(" ");
+                self.point(from);
+            }
+        }
+    }
+
+    /// How the cursor shows.
+    pub(crate) fn cursor_kind(&mut self, kind: CursorKind)
+        requires room { length self.old + 6 ≤ 256 }
+        ensures text { self.new ≡ cursor_text kind ++ self.old }
+        ensures size { length self.new ≤ length self.old + 6 }
+    {
+        match kind {
+            CursorKind::Flash => self.push("flash"),
+            CursorKind::Steady => self.push("steady"),
+            CursorKind::Off => self.push("off"),
+        }
+    }
+
+    /// A mask by its letter.
+    pub(crate) fn mask_letter(&mut self, mask: Mask)
+        requires room { length self.old + 1 ≤ 256 }
+        ensures text { self.new ≡ mask_text mask ++ self.old }
+        ensures size { length self.new ≡ length self.old + 1 }
+    {
+        match mask {
+            Mask::A => self.push("A"),
+            Mask::B => self.push("B"),
+            Mask::C => self.push("C"),
+            Mask::D => self.push("D"),
         }
     }
 }
 
 /// The letter of a flag that is on.
 fn flag(on: bool, letter: &'static str) -> &'static str
-    ensures { result.now ≡ flag_text on letter.now }
+    requires { length letter.now ≡ 1 }
+    ensures text { result.now ≡ flag_text on letter.now }
+    ensures size { length result.now ≡ 1 }
 {
     if on { letter } else { "-" }
 }
 
-impl Display for Shown<'_, TextLook> {
-    ghost output = { λ s. Some (look_text s.0.now) };
-
-    fn fmt<W: Write>(&self, f: &mut Formatter<W>) -> Result {
-        let look = self.0;
-        write!(
-            f,
-            "{},{}/{}/{}{}{}{}",
-            look.first.get(),
-            look.second.get(),
-            Shown(&look.size),
-            flag(look.reverse, "r"),
-            flag(look.underline, "u"),
-            flag(look.wrap, "w"),
-            flag(look.scroll, "s")
-        )
-    }
-}
-
-impl Display for Shown<'_, Hand> {
-    ghost output = { λ s. Some (hand_text s.0.now) };
-
-    fn fmt<W: Write>(&self, f: &mut Formatter<W>) -> Result {
-        let Hand { pen, colour, text } = self.0;
-        write!(
-            f,
-            "pen={} colour={} text={}",
-            Shown(pen),
-            Shown(colour),
-            Shown(text)
-        )
-    }
-}
-
 /// Whether a shape is filled, as the name of its line says it.
-pub fn fill_name(filled: bool) -> &'static str
-    ensures { result.now ≡ fill_text filled }
+pub(crate) fn fill_name(filled: bool) -> &'static str
+    ensures text { result.now ≡ fill_text filled }
+    ensures size { length result.now ≤ 8 }
 {
     if filled { "FILLED" } else { "OUTLINED" }
 }
 
 /// Which end of a blinking text is marked, as the name of its line says it.
-pub fn mark_name(on: bool) -> &'static str
-    ensures { result.now ≡ mark_text on }
+pub(crate) fn mark_name(on: bool) -> &'static str
+    ensures text { result.now ≡ mark_text on }
+    ensures size { length result.now ≤ 5 }
 {
     if on { "START" } else { "STOP" }
-}
-
-impl Display for Shown<'_, CharSet> {
-    ghost output = { λ s. Some (set_text s.0.now) };
-
-    fn fmt<W: Write>(&self, f: &mut Formatter<W>) -> Result {
-        f.write_str(match self.0 {
-            CharSet::Primary => "primary",
-            CharSet::Supplementary => "supplementary",
-            CharSet::Mosaic => "mosaic",
-            CharSet::Drcs => "drcs",
-        })
-    }
-}
-
-impl Display for Shown<'_, TextStep> {
-    ghost output = { λ s. Some (step_text s.0.now) };
-
-    fn fmt<W: Write>(&self, f: &mut Formatter<W>) -> Result {
-        match self.0 {
-            TextStep::Apb => write!(f, "APB"),
-            TextStep::Apf => write!(f, "APF"),
-            TextStep::Apd => write!(f, "APD"),
-            TextStep::Apu => write!(f, "APU"),
-            TextStep::Apr => write!(f, "APR"),
-            TextStep::Aph => write!(f, "APH"),
-            TextStep::Aps(row, column) => {
-                write!(f, "APS {} {}", ShownCode(*row), ShownCode(*column))
-            }
-        }
-    }
-}
-
-impl Display for Shown<'_, Area> {
-    ghost output = { λ s. Some (area_text s.0.now) };
-
-    fn fmt<W: Write>(&self, f: &mut Formatter<W>) -> Result {
-        match self.0 {
-            Area::Whole => write!(f, "whole"),
-            Area::Part { from, to } => write!(f, "{} {}", Shown(from), Shown(to)),
-        }
-    }
-}
-
-impl Display for Shown<'_, CursorKind> {
-    ghost output = { λ s. Some (cursor_text s.0.now) };
-
-    fn fmt<W: Write>(&self, f: &mut Formatter<W>) -> Result {
-        match self.0 {
-            CursorKind::Flash => write!(f, "flash"),
-            CursorKind::Steady => write!(f, "steady"),
-            CursorKind::Off => write!(f, "off"),
-        }
-    }
-}
-
-impl Display for Shown<'_, Mask> {
-    ghost output = { λ s. Some (mask_text s.0.now) };
-
-    fn fmt<W: Write>(&self, f: &mut Formatter<W>) -> Result {
-        match self.0 {
-            Mask::A => write!(f, "A"),
-            Mask::B => write!(f, "B"),
-            Mask::C => write!(f, "C"),
-            Mask::D => write!(f, "D"),
-        }
-    }
 }

@@ -4,8 +4,8 @@
 mod field;
 mod line;
 mod line_sink;
+mod tail;
 
-pub use field::Shown;
 pub use line::line_of;
 pub use line_sink::LineSink;
 

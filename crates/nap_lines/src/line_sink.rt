@@ -3,16 +3,16 @@ ghost use Rattle.std.specs.Prelude.{◌≡◌, [], true, false};
 ghost use Rattle.nap_list.specs.State.{start};
 ghost use Rattle.nap_lines.specs.Listing.{Lists, lists_more, lists_none};
 
-use crate::field::Shown;
+use crate::line::write_line;
+use crate::tail::Tail;
 use nap_list::{Entry, Sink, SinkFault, State};
 use std::alloc::Global;
-use std::fmt::Write;
 use std::marker::Model;
 
 /// Makes a line of each entry that it takes, with its end, and keeps the lines alone.
 #[derive(Drop)]
 pub struct LineSink {
-    line: String,
+    room: Tail,
     text: Vec<u8>,
     state: State,
 }
@@ -31,7 +31,7 @@ impl LineSink {
         ensures { result ≡ record { text = []; state = start } }
     {
         LineSink {
-            line: String::new(alloc),
+            room: Tail::new(),
             text: Vec::new(alloc),
             state: State::start(),
         }
@@ -58,11 +58,7 @@ impl Sink for LineSink {
     ghost broke = { λ s d e t. ⊥ };
 
     fn put(&mut self, entry: Entry) -> Result<(), SinkFault> {
-        self.line.clear();
-        let Ok(()) = writeln!(self.line, "{}", Shown(&entry)) else {
-            return Err(SinkFault::Memory);
-        };
-        self.text.extend_from_slice(self.line.as_bytes())?;
+        write_line(&mut self.room, &mut self.text, &entry, "\n")?;
         self.state.step(&entry);
         Ok(())
     }

@@ -1,9 +1,0 @@
-use Rattle.std.proofs.Common.{arith, false}
-use Rattle.std.proofs.Output.{has_written_of_eq}
-use Rattle.std.proofs.lemmas.Fmt.{hex_byte}
-use Rattle.nap_lines.proofs.field.ShownCodeDisplay.fmt.Goals as goal
-
-pub returns-clause-writes : goal.returns-clause-writes
-returns-clause-writes g c =
-    let writes = rw (c.laid_out.ensures, c.in_radix.ensures) at c.write.ensures.writes in
-    λ plain ok. has_written_of_eq _ _ _ _ _ (hex_byte false c.args.self.now.0 (omega arith)) (writes plain ok)

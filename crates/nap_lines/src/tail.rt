@@ -1,0 +1,119 @@
+//! The end of a line, made from the back.
+ghost use Rattle.std.specs.Prelude.{◌≡◌, ◌+◌, ◌<◌, ◌≤◌, [], ◌++◌, length, decimal};
+ghost use Rattle.std.specs.Char.{digit_char};
+ghost use Rattle.std.specs.Fmt.{signed_decimal};
+ghost use Rattle.std.specs.Str.{IsUtf8};
+ghost use Rattle.nap_lines.specs.Lines.{code_text};
+
+use itoa::write_digits;
+use std::marker::Model;
+
+/// Room for a line of any entry that isn't a shape.
+const ROOM: usize = 256;
+
+/// The end of a line, as far as it is made: each part goes in front of those that stand.
+#[derive(Drop)]
+pub(crate) struct Tail {
+    bytes: [u8; ROOM],
+    at: usize,
+}
+
+impl Model for Tail {
+    ghost use Rattle.std.specs.Prelude.{ℕ, List, ◌≤◌, drop};
+    ghost use Rattle.std.specs.Str.{IsUtf8};
+
+    ghost Value = { List ℕ };
+
+    ghost view = { λ t. drop t.at t.bytes };
+
+    ghost invariant = { λ t. record { within : t.at ≤ 256; utf8 : IsUtf8 (drop t.at t.bytes) } };
+}
+
+impl Tail {
+    /// Nothing yet.
+    pub(crate) fn new() -> Tail
+        ensures { result ≡ [] }
+    {
+        Tail {
+            bytes: [0; ROOM],
+            at: ROOM,
+        }
+    }
+
+    /// Nothing again.
+    pub(crate) fn clear(&mut self)
+        ensures { self.new ≡ [] }
+    {
+        self.at = ROOM;
+    }
+
+    /// All that is made.
+    pub(crate) fn as_slice(&self) -> &[u8]
+        ensures bytes { result.now ≡ self.now }
+        ensures utf8 { IsUtf8 result.now }
+    {
+        &self.bytes[self.at..]
+    }
+
+    fn put(&mut self, bytes: &[u8])
+        requires room { length bytes.now + length self.old ≤ 256 }
+        requires utf8 { IsUtf8 bytes.now }
+        ensures text { self.new ≡ bytes.now ++ self.old }
+        ensures size { length self.new ≡ length bytes.now + length self.old }
+    {
+        let end = self.at;
+        let at = end - bytes.len();
+        self.bytes[at..end].copy_from_slice(bytes);
+        self.at = at;
+    }
+
+    /// This text in front.
+    pub(crate) fn push(&mut self, text: &str)
+        requires room { length text.now + length self.old ≤ 256 }
+        ensures text { self.new ≡ text.now ++ self.old }
+        ensures size { length self.new ≡ length text.now + length self.old }
+    {
+        self.put(text.as_bytes());
+    }
+
+    /// A number by its decimal digits.
+    pub(crate) fn number(&mut self, number: u32)
+        requires room { length self.old + 10 ≤ 256 }
+        ensures text { self.new ≡ decimal number ++ self.old }
+        ensures size { length self.new ≤ length self.old + 10 }
+    {
+        self.at = write_digits(u64::from(number), &mut self.bytes, self.at);
+    }
+
+    /// A number that may be below zero.
+    pub(crate) fn signed(&mut self, number: i32)
+        requires room { length self.old + 11 ≤ 256 }
+        ensures text { self.new ≡ signed_decimal number ++ self.old }
+        ensures size { length self.new ≤ length self.old + 11 }
+    {
+        self.number(number.unsigned_abs());
+        if number < 0 {
+            self.push("-");
+        }
+    }
+
+    /// A code by two hexadecimal digits.
+    pub(crate) fn code(&mut self, code: u8)
+        requires room { length self.old + 2 ≤ 256 }
+        ensures text { self.new ≡ code_text code ++ self.old }
+        ensures size { length self.new ≡ length self.old + 2 }
+    {
+        self.put(&[digit(code / 16), digit(code % 16)]);
+    }
+}
+
+/// A hexadecimal digit.
+fn digit(value: u8) -> u8
+    requires { value < 16 }
+    ensures { result ≡ digit_char value }
+{
+    match value {
+        0..=9 => b'0' + value,
+        _ => b'a' - 10 + value,
+    }
+}
