@@ -1,8 +1,10 @@
 pub mod CourseLemmas
 pub mod KindLemmas
 pub mod BodyLemmas
+pub mod PrefixLemmas
 pub mod OperandLemmas
 pub mod StretchLemmas
+pub mod TextLemmas
 pub mod StoreLemmas
 pub mod StreamLemmas
 pub mod FrameLemmas

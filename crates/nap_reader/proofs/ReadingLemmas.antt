@@ -39,7 +39,7 @@ pub nothing_yet : (sets : CodeSets) → codes.front sets [] ≡ codes.unfinished
 unfolding codes.front
 nothing_yet sets = refl
 
-rest_of_nothing : (rest : List Placed) → bytes_of rest ≡ [] → rest ≡ []
+pub rest_of_nothing : (rest : List Placed) → bytes_of rest ≡ [] → rest ≡ []
 rest_of_nothing [] e = refl
 rest_of_nothing (x ∷ xs) e = let bad : ⊥ = cc in absurd bad
 

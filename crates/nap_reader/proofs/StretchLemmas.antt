@@ -1,15 +1,18 @@
-use Rattle.std.proofs.Common.{ℕ, ◌+◌, ◌-◌, ◌≡◌, ◌≤◌, take, drop, List, [], ◌∷◌, ◌++◌, map, length, All, true, None, Some, sym, ap, subst, ◌∙◌, arith, append-nil, append_assoc, length-append}
+use Rattle.std.proofs.Common.{ℕ, ◌+◌, ◌-◌, ◌≡◌, ◌≤◌, take, drop, get_or, List, [], ◌∷◌, ◌++◌, map, length, All, true, None, Some, sym, ap, subst, ◌∙◌, arith, append-nil, append_assoc, length-append}
 use Rattle.std.proofs.Math.Seq.{take-add}
+use Rattle.std.proofs.lemmas.List.{get_or-drop, length-drop}
 use Rattle.std.proofs.lemmas.List.Elements.{All-head, All-tail}
 use Rattle.nap_list.specs.declared.sink.Sink.{Ghosts}
+use Rattle.nap_reader.specs.declared.fault.Refusal.{Refusal}
 use Rattle.nap_reader.specs.declared.reader.OpenRun.{OpenRun}
 use Rattle.nap_reader.specs.declared.reader.Reader.{Reader}
 use Rattle.nap_reader.specs.Stream.{Placed, placed_from, is_operand_byte, run_limit, begun}
 use Rattle.nap_reader.specs.Holding.{Holding, Continues, holding_of, frames_left}
-use Rattle.nap_reader.specs.Standing.{Stands}
+use Rattle.nap_reader.specs.Breaking.{cause_of}
+use Rattle.nap_reader.specs.Standing.{Stands, StopsAt, StopsBy, left_of}
 use Rattle.nap_reader.proofs.LeadsLemmas.{leads_more}
 use Rattle.nap_reader.proofs.ReadingLemmas.{word_joins}
-use Rattle.nap_reader.proofs.StandingLemmas.{stands_by}
+use Rattle.nap_reader.proofs.StandingLemmas.{stands_by, stands_stopped, taken_all}
 
 -- A stretch of bytes is its bytes in turn.
 
@@ -51,3 +54,30 @@ stands_behind_words {S} {g} old new open_run bytes live between opened all few l
     (subst (λ (held : Holding). Continues g s (begun new.budget (p ++ bytes)) new.sink held []) (sym holding)
     (subst (λ (t : S). Continues g s (begun new.budget (p ++ bytes)) t h' []) (sym sink)
     (subst (λ (budget : ℕ). Continues g s (begun budget (p ++ bytes)) old.sink h' []) (sym budget) on)))
+
+-- A refusal behind the first bytes of a piece is one in the piece.
+pub stops_behind : {S : Type 0} {g : Ghosts S} (old mid new : Reader S g) (piece : List ℕ) (n : ℕ) (r : Refusal) (i : ℕ) → n ≤ length piece → mid.budget ≡ old.budget →
+    mid.fed ≡ old.fed + n → ((s : S) (p : List ℕ) → Stands old s p → Stands mid s (p ++ take n piece)) → StopsAt mid new (drop n piece) r i → StopsAt old new piece r (n + i)
+stops_behind {S} {g} old mid new piece n r i within budget fed stands stops =
+    let here = λ (p : List ℕ). taken_stretch p piece n i in
+    let byte : get_or (drop n piece) i 0 ≡ get_or piece (n + i) 0 = get_or-drop n piece i 0 in
+    record {
+      within = omega (arith, stops.within, length-drop n piece, within);
+      fed = omega (arith, stops.fed, fed);
+      before = λ s p h.
+          subst (λ (budget : ℕ). (begun budget (p ++ take (n + i) piece)).refusal ≡ None) budget
+          (subst (λ (q : List ℕ). (begun mid.budget q).refusal ≡ None) (here p) (stops.before s (p ++ take n piece) (stands s p h)));
+      there = λ s p h.
+          subst (λ (budget : ℕ). StopsBy g s budget (p ++ take (n + i) piece) (get_or piece (n + i) 0) new.sink (left_of new) r (cause_of r.fault)) budget
+          (subst (λ (b : ℕ). StopsBy g s mid.budget (p ++ take (n + i) piece) b new.sink (left_of new) r (cause_of r.fault)) byte
+          (subst (λ (q : List ℕ). StopsBy g s mid.budget q (get_or (drop n piece) i 0) new.sink (left_of new) r (cause_of r.fault)) (here p)
+          (stops.there s (p ++ take n piece) (stands s p h))));
+    }
+
+-- a reader that was refused in a piece stands for the piece
+pub stands_behind_stop : {S : Type 0} {g : Ghosts S} (old new : Reader S g) (piece : List ℕ) (r : Refusal) (i : ℕ) → new.refusal ≡ Some r → new.budget ≡ old.budget →
+    StopsAt old new piece r i → (s : S) (p : List ℕ) → Stands old s p → Stands new s (p ++ piece)
+stands_behind_stop {S} {g} old new piece r i refused budget stops s p h =
+    subst (λ (q : List ℕ). Stands new s q) (taken_all p piece i stops.within)
+    (stands_stopped new r s (p ++ take i piece) (get_or piece i 0) (drop (i + 1) piece) refused
+    (subst (λ (budget : ℕ). StopsBy g s budget (p ++ take i piece) (get_or piece i 0) new.sink (left_of new) r (cause_of r.fault)) (sym budget) (stops.there s p h)))

@@ -13,4 +13,5 @@ pub mod Laws
 pub mod Carried
 pub mod Stored
 pub mod Framed
+pub mod Prefix
 pub mod Holding

@@ -1,9 +1,11 @@
 //! Why a stream is refused, and where.
 ghost use Rattle.std.specs.Prelude.{◌≡◌};
+ghost use Rattle.nap_draw.specs.Draws.{fault_of};
 ghost use Rattle.nap_reader.specs.Faults.{number_of, name_of, code_fault, draw_fault};
 
 use nap_codes::{CodeFault, Left};
 use nap_draw::DrawFault;
+use nap_list::SinkFault;
 use thiserror::Error;
 
 /// Why a stream is refused. It prints what is wrong; `name` is the word that goes with its number.
@@ -170,6 +172,14 @@ impl From<DrawFault> for Fault {
             DrawFault::Memory => Fault::Memory,
             DrawFault::Sink => Fault::Sink,
         }
+    }
+}
+
+impl From<SinkFault> for Fault {
+    ghost from_gives = { λ fault e. e ≡ draw_fault (fault_of fault) };
+
+    fn from(fault: SinkFault) -> Self {
+        Fault::from(DrawFault::from(fault))
     }
 }
 

@@ -1,12 +1,10 @@
 //! The operand bytes at the front of a piece, and the words that they carry.
-ghost use Rattle.std.specs.Prelude.{All, map, take, drop, not, ◌≡◌, ◌+◌, ◌-◌, ◌≤◌, ◌%◌, ◌++◌, true, false, length, vec_len, MatchOption};
-ghost use Rattle.std.specs.List.{prefix_len};
-ghost use Rattle.std.specs.Simd.Lanes.{mask_l};
+ghost use Rattle.std.specs.Prelude.{All, map, take, ◌≡◌, ◌-◌, ◌≤◌, ◌%◌, ◌++◌, true, false, length, vec_len, MatchOption};
 ghost use Rattle.nap_reader.specs.Stream.{is_operand_byte, run_limit};
 
+use crate::prefix::prefix_from;
 use nap_draw::RUN_LIMIT;
 use nap_values::Word;
-use std::simd::prelude::*;
 
 /// The words of the operand bytes at the front join the run, as far as it and the memory have room for them. Tells how many
 /// there are.
@@ -19,7 +17,7 @@ pub(crate) fn take_words(run: &mut Vec<Word>, piece: &[u8]) -> usize
     let room = RUN_LIMIT.saturating_sub(run.len());
     let most = piece.len().min(room);
     let front = &piece[..most];
-    let count = operands_at_front(front);
+    let count = prefix_from(front, 0x40);
     join_words(run, &front[..count])
 }
 
@@ -32,49 +30,6 @@ pub(crate) fn operand(byte: u8) -> Option<Word>
     } else {
         None
     }
-}
-
-/// How many operand bytes are at the front.
-fn operands_at_front(piece: &[u8]) -> usize
-    ensures { result ≡ prefix_len is_operand_byte piece.now }
-{
-    let mut at = 0;
-    while piece.len() - at >= 32 {
-        let others = other_bytes(u8x32::from_slice(&piece[at..]));
-        if others != 0 {
-            return at + others.trailing_zeros() as usize;
-        }
-        at += 32;
-    }
-    operands_end(piece, at)
-}
-
-/// Where the operand bytes end that are at this place and behind it, byte by byte.
-fn operands_end(piece: &[u8], from: usize) -> usize
-    requires { from ≤ length piece.now }
-    ensures { result ≡ from + prefix_len is_operand_byte (drop from piece.now) }
-{
-    let mut at = from;
-    while at < piece.len() && is_operand(piece[at]) {
-        at += 1;
-    }
-    at
-}
-
-/// A bit for each of these bytes that is no operand.
-fn other_bytes(block: u8x32) -> u64
-    ensures { result ≡ mask_l (map (λ b. not (is_operand_byte b)) block) }
-{
-    (block - u8x32::splat(0x40))
-        .simd_ge(u8x32::splat(0x40))
-        .to_bitmask()
-}
-
-/// Whether the byte is an operand.
-fn is_operand(byte: u8) -> bool
-    ensures { result ≡ is_operand_byte byte }
-{
-    byte >= 0x40 && byte < 0x80
 }
 
 /// The words of these bytes join the run, or none where memory is wanting. Tells how many joined it.

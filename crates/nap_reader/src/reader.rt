@@ -18,6 +18,7 @@ use crate::body::{OpenBody, ends_body};
 use crate::budget::Budget;
 use crate::fault::{Fault, Refusal};
 use crate::frames::Frames;
+use crate::graphic::graphic_bytes;
 use crate::kind::Kind;
 use crate::operands::{operand, take_words};
 use crate::store::{Span, Store};
@@ -76,7 +77,7 @@ impl<S: Sink> Reader<S> {
     ghost use Rattle.nap_reader.specs.Bodies.{body_of};
     ghost use Rattle.nap_reader.specs.Framed.{placed_at};
     ghost use Rattle.nap_reader.specs.Holding.{AllAt, BreaksInBody, BreaksSome, CarriesWord, Charges, ClosesBy, Continues, ContinuesPast, Drains, Ends, IsOwn, IsStill, Places, Reaches, ReachesWith, ReadsOn, RunAt, SameBodies, SameBytes, SameCounts, Shows, frames_left, held_place, holding_of};
-    ghost use Rattle.nap_reader.specs.Standing.{Answers, IsBounded, IsTaken, Stands, StopsAt, budget_of, charged_of, fed_of, left_of, refusal_of, sink_of, turns_of};
+    ghost use Rattle.nap_reader.specs.Standing.{Answers, IsBounded, IsTaken, Stands, StopsAt, TakesStretch, budget_of, charged_of, fed_of, left_of, refusal_of, sink_of, turns_of};
 
     /// A reader at the start of a stream, which puts the entries into this sink.
     pub fn new(alloc: Global, budget: Budget, sink: S) -> Reader<S>
@@ -140,35 +141,74 @@ impl<S: Sink> Reader<S> {
             self.turn(*byte, place)?;
             self.drain()?;
             at += 1;
-            at += self.stretch(&piece[at..]);
+            at += self.stretch(&piece[at..])?;
         }
         Ok(())
     }
 
-    /// Takes the bytes at the front that are operands of the open run, where there is one, and tells how many. The next
-    /// byte is one that ends the run, or one for which there is no room, and has a turn of its own.
-    fn stretch(&mut self, piece: &[u8]) -> usize
+    /// Takes the bytes at the front that are operands of the open run, or characters where no run is open, and tells how
+    /// many. The next byte is another one, or an operand for which there is no room, and has a turn of its own.
+    fn stretch(&mut self, piece: &[u8]) -> Result<usize, Refusal>
         requires live { self.old.refusal ≡ None }
         requires few { fed_of self.old + length piece.now < 2 ^ 63 }
-        ensures within { result ≤ length piece.now }
-        ensures stands { (s : S) (p : List ℕ) → Stands self.old s p → Stands self.new s (p ++ take result piece.now) }
-        ensures live { self.new.refusal ≡ None }
-        ensures sink { self.new.sink ≡ self.old.sink }
+        ensures answered { MatchResult result (λ _. self.new.refusal ≡ None) (λ r. self.new.refusal ≡ Some r) }
+        ensures takes { IfOk result (λ n. TakesStretch self.old self.new piece.now n) }
+        ensures stops { IfErr result (λ r. (i : ℕ) × StopsAt self.old self.new piece.now r i) }
+        ensures failed { IfErr result (λ r. r.fault ≡ Fault.Sink → S.failed self.new.sink ≡ true) }
+        ensures kept { IfErr result (λ r. S.failed self.old.sink ≡ false → S.failed self.new.sink ≡ true → r.fault ≡ Fault.Sink) }
         ensures budget { self.new.budget ≡ self.old.budget }
-        ensures fed { self.new.fed ≡ self.old.fed + result }
-        ensures turns { self.new.turns ≡ self.old.turns + result }
         ensures charged { self.new.charged ≡ self.old.charged }
+        ensures turned { self.old.turns ≤ self.new.turns }
     {
         if let Some(_) = self.open_body {
-            return 0;
+            return Ok(0);
         }
         let Some(_) = self.open_run else {
-            return 0;
+            return self.characters(piece);
         };
         let count = take_words(&mut self.run, piece);
         self.fed += count as u64;
         self.turns += count as u64;
-        count
+        Ok(count)
+    }
+
+    /// Takes the bytes at the front that are characters by themselves, all at once, and tells how many. A character that
+    /// the sink doesn't take is refused at its place.
+    fn characters(&mut self, piece: &[u8]) -> Result<usize, Refusal>
+        requires live { self.old.refusal ≡ None }
+        requires between { self.old.open_body ≡ None }
+        requires closed { self.old.open_run ≡ None }
+        requires few { fed_of self.old + length piece.now < 2 ^ 63 }
+        ensures answered { MatchResult result (λ _. self.new.refusal ≡ None) (λ r. self.new.refusal ≡ Some r) }
+        ensures takes { IfOk result (λ n. TakesStretch self.old self.new piece.now n) }
+        ensures stops { IfErr result (λ r. (i : ℕ) × StopsAt self.old self.new piece.now r i) }
+        ensures failed { IfErr result (λ r. r.fault ≡ Fault.Sink → S.failed self.new.sink ≡ true) }
+        ensures kept { IfErr result (λ r. S.failed self.old.sink ≡ false → S.failed self.new.sink ≡ true → r.fault ≡ Fault.Sink) }
+        ensures budget { self.new.budget ≡ self.old.budget }
+        ensures charged { self.new.charged ≡ self.old.charged }
+        ensures turned { self.old.turns ≤ self.new.turns }
+    {
+        let Some(set) = self.lexer.characters() else {
+            return Ok(0);
+        };
+        let text = graphic_bytes(piece);
+        if text.is_empty() {
+            return Ok(0);
+        }
+        match self.work.characters(set, text, &mut self.sink) {
+            Ok(()) => {
+                self.fed += text.len() as u64;
+                self.turns += text.len() as u64;
+                Ok(text.len())
+            }
+            Err(short) => {
+                let taken = short.taken as u64;
+                let place = self.fed + taken;
+                self.fed += taken + 1;
+                self.turns += taken + 1;
+                refuse(&mut self.refusal, Fault::from(short.fault), place)
+            }
+        }
     }
 
     /// Takes what the bodies have still to give that are being read.
@@ -699,7 +739,7 @@ fn present(
 }
 
 /// Refuses the stream, for good.
-fn refuse(latch: &mut Option<Refusal>, fault: Fault, place: u64) -> Result<(), Refusal>
+fn refuse<T>(latch: &mut Option<Refusal>, fault: Fault, place: u64) -> Result<T, Refusal>
     ensures latched { latch.new ≡ Some (refusal fault place) }
     ensures answer { result ≡ Err (refusal fault place) }
 {

@@ -1,15 +1,16 @@
 //! Readers whose sink fails.
-ghost use Rattle.std.specs.Prelude.{◌≡◌, ◌++◌, List, true};
+ghost use Rattle.std.specs.Prelude.{◌≡◌, ◌++◌, List, false, true};
 ghost use Rattle.std.proofs.Common.{sym, ap, ◌∙◌, append-nil, append_assoc};
 ghost use Rattle.nap_list.specs.State.{start, walk};
 ghost use Rattle.nap_list.specs.declared.entry.Entry.{Entry};
 
 use super::text::primary;
-use super::{dot, end, feed, refusal};
+use super::{dot, end, feed, refusal, single_bytes};
 use crate::{Budget, Fault, Reader, Refusal};
 use nap_list::{Entry, ListSink, Pen, Sink, SinkFault};
 use std::alloc::Global;
 use std::process::Abort;
+use std::test::Fail;
 
 // Keeps the entries until its device fails, with some puts left before it does.
 #[derive(Drop)]
@@ -187,4 +188,93 @@ fn what_puts_nothing_passes_a_sink_that_has_failed(rt: HostRuntime) {
         assert_eq!(rt; feed(&rt, &mut reader, bytes).err(), want, "of {bytes:?}");
         assert!(rt; reader.into_sink().list.into_list().is_empty());
     }
+}
+
+// Keeps the entries until it has no memory for more.
+#[derive(Drop)]
+struct Small {
+    list: ListSink,
+    left: usize,
+}
+
+impl Sink for Small {
+    ghost state = { λ s. walk start s.list };
+
+    ghost grows = { λ s. true };
+
+    ghost failed = { λ s. false };
+
+    ghost took = { λ s d t. t.list ≡ s.list ++ d };
+
+    ghost broke = { λ s d e t. ⊥ };
+
+    fn put(&mut self, entry: Entry) -> Result<(), SinkFault> {
+        if self.left == 0 {
+            return Err(SinkFault::Memory);
+        }
+        self.list.put(entry)?;
+        self.left -= 1;
+        Ok(())
+    }
+
+    ghost took_none = { λ s. sym (append-nil s.list) };
+
+    ghost took_more = { λ s t u d e a b. b ∙ (ap (λ (list : List Entry). list ++ e) a ∙ append_assoc s.list d e) };
+
+    ghost took_broke = { λ s t u d e x a b. absurd b };
+}
+
+/// The refusal of a stream that comes in these pieces, and how many of its bytes were taken.
+fn stops<S: Sink>(
+    rt: &impl Abort,
+    reader: &mut Reader<S>,
+    pieces: &[&[u8]],
+) -> (Option<Refusal>, u64, u64) {
+    for piece in pieces {
+        let _ = feed(rt, reader, piece);
+    }
+    (reader.refused(), reader.fed(), reader.turns())
+}
+
+#[test]
+#[tactic(auto, unfolding(nap_list::specs::State::walk))]
+fn a_sink_that_stops_amid_a_text_stops_at_the_character(rt: HostRuntime) -> Result<(), Fail> {
+    let alloc = rt.alloc();
+    let text = b"AB ~C\x7FDE".as_slice();
+    let mut list = Vec::new(alloc);
+    for code in text {
+        let pen = if list.is_empty() {
+            Pen::Start
+        } else {
+            Pen::After
+        };
+        list.push(primary(*code, pen))?;
+    }
+    let bytes = single_bytes(alloc, text)?;
+    for taken in 0..text.len() {
+        let count = taken as u64 + 1;
+        for pieces in [&[text][..], &bytes] {
+            let sink = Faltering {
+                list: ListSink::new(alloc),
+                left: taken,
+                failed: false,
+            };
+            let mut reader = Reader::new(alloc, Budget::usual(), sink);
+            let want = (refusal(Fault::Sink, taken as u64), count, count);
+            assert_eq!(rt; stops(&rt, &mut reader, pieces), want);
+            let kept = reader.into_sink().list.into_list();
+            assert_eq!(rt; kept.as_slice(), &list[..taken]);
+
+            let sink = Small {
+                list: ListSink::new(alloc),
+                left: taken,
+            };
+            let mut reader = Reader::new(alloc, Budget::usual(), sink);
+            let want = (refusal(Fault::Memory, taken as u64), count, count);
+            assert_eq!(rt; stops(&rt, &mut reader, pieces), want);
+            let kept = reader.into_sink().list.into_list();
+            assert_eq!(rt; kept.as_slice(), &list[..taken]);
+        }
+    }
+    Ok(())
 }

@@ -224,3 +224,42 @@ fn controls_end_a_run(rt: HostRuntime) -> Result<(), Fail> {
     row.agrees_in_every_cut(&rt, alloc)?;
     Ok(())
 }
+
+#[test]
+fn a_long_text_says_the_same_in_every_cut(rt: HostRuntime) -> Result<(), Fail> {
+    let alloc = rt.alloc();
+    let mut bytes = Vec::new(alloc);
+    let mut list = Vec::new(alloc);
+    let mut pen = Pen::Start;
+    for number in 0..100u8 {
+        let code = 0x20 + number % 0x60;
+        bytes.push(code)?;
+        list.push(primary(code, pen))?;
+        pen = Pen::After;
+    }
+    accepted(&bytes, &list).agrees_in_every_cut(&rt, alloc)?;
+    // A byte behind it that is no character.
+    bytes.push(0x80)?;
+    let row = Row {
+        bytes: &bytes,
+        list: &list,
+        refusal: refusal(Fault::EighthBit, 100),
+        fed: 101,
+    };
+    row.agrees_in_every_cut(&rt, alloc)?;
+    Ok(())
+}
+
+#[test]
+fn controls_end_a_text(rt: HostRuntime) -> Result<(), Fail> {
+    let alloc = rt.alloc();
+    let list = [
+        primary(0x41, Pen::Start),
+        primary(0x7F, Pen::After),
+        Entry::Bell,
+        primary(0x20, Pen::After),
+        primary(0x42, Pen::After),
+    ];
+    accepted(b"A\x7F\x07 B\x0E", &list).agrees_in_every_cut(&rt, alloc)?;
+    Ok(())
+}

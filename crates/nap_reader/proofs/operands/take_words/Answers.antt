@@ -8,21 +8,21 @@ use Rattle.nap_reader.proofs.operands.take_words.Goals as goal
 pub slice_bounds-join_words-end : goal.slice_bounds-join_words-end
 slice_bounds-join_words-end c =
     let front = take c.min-most.result c.args.piece.now in
-    sym (length-take-le c.operands_at_front-count.result front (omega (arith, c.operands_at_front-count.ensures, prefix_len-le-length is_operand_byte front)))
+    sym (length-take-le c.prefix_from-count.result front (omega (arith, c.prefix_from-count.ensures, prefix_len-le-length is_operand_byte front)))
 
 pub returns-clause-within : goal.returns-clause-within
 returns-clause-within c =
-    let taken = taken_of_part c.args.piece.now c.min-most.result c.operands_at_front-count.result c.join_words.result (omega (arith, c.min-most.ensures)) c.operands_at_front-count.ensures c.join_words.ensures.within in
+    let taken = taken_of_part c.args.piece.now c.min-most.result c.prefix_from-count.result c.join_words.result (omega (arith, c.min-most.ensures)) c.prefix_from-count.ensures c.join_words.ensures.within in
     omega (arith, taken.0, c.min-most.ensures)
 
 pub returns-clause-operands : goal.returns-clause-operands
 returns-clause-operands c =
-    let taken = taken_of_part c.args.piece.now c.min-most.result c.operands_at_front-count.result c.join_words.result (omega (arith, c.min-most.ensures)) c.operands_at_front-count.ensures c.join_words.ensures.within in
+    let taken = taken_of_part c.args.piece.now c.min-most.result c.prefix_from-count.result c.join_words.result (omega (arith, c.min-most.ensures)) c.prefix_from-count.ensures c.join_words.ensures.within in
     taken.2
 
 pub returns-clause-joined : goal.returns-clause-joined
 returns-clause-joined c =
-    let taken = taken_of_part c.args.piece.now c.min-most.result c.operands_at_front-count.result c.join_words.result (omega (arith, c.min-most.ensures)) c.operands_at_front-count.ensures c.join_words.ensures.within in
+    let taken = taken_of_part c.args.piece.now c.min-most.result c.prefix_from-count.result c.join_words.result (omega (arith, c.min-most.ensures)) c.prefix_from-count.ensures c.join_words.ensures.within in
     c.join_words.ensures.joined
     ∙ ap (λ (bytes : List ℕ). c.args.run.now.items ++ map (λ b. b % 64) bytes) taken.1
     ∙ ap (λ (ws : List ℕ). c.args.run.now.items ++ ws) (same_words (take c.join_words.result c.args.piece.now) taken.2)

@@ -1,51 +1,96 @@
-use Rattle.std.proofs.Common.{◌≡◌, ◌≤◌, false, ◌-◌, ◌+◌, ℕ, List, ◌++◌, None, length, ap, take, drop, get_or, subst, sym, ◌∙◌, arith}
+use Rattle.std.proofs.Common.{◌≡◌, ◌≤◌, ◌-◌, ◌+◌, ℕ, List, ◌++◌, None, length, ap, take, drop, get_or, subst, sym, ◌∙◌, arith}
 use Rattle.std.proofs.lemmas.List.{take_all, length-drop}
 use Rattle.std.proofs.lemmas.Result.{err_from_is_err_and}
 use Rattle.nap_reader.specs.declared.frames.Frame.{Frame}
 use Rattle.nap_reader.specs.Framed.{unread}
 use Rattle.nap_reader.specs.Stream.{begun}
 use Rattle.nap_reader.specs.Breaking.{cause_of}
-use Rattle.nap_reader.specs.Standing.{Answers, Stands, StopsBy, left_of}
+use Rattle.nap_reader.specs.Standing.{Answers, Stands, StopsAt, StopsBy, left_of}
 use Rattle.nap_reader.proofs.StandingLemmas.{taken_more, taken_all, one_more, through, turn_stops, drain_stops, drain_breaks, stays, stands_stopped}
 use Rattle.nap_reader.proofs.PlaceLemmas.{places_first}
-use Rattle.nap_reader.proofs.StretchLemmas.{taken_stretch}
+use Rattle.nap_reader.proofs.StretchLemmas.{taken_stretch, stops_behind, stands_behind_stop}
+use Rattle.nap_reader.proofs.reader.Reader.feed.Given.{Over}
 use Rattle.nap_reader.proofs.reader.Reader.feed.Goals as goal
+use Rattle.nap_reader.proofs.reader.Reader.feed.Goals.{In_ok-drain, In_err-at}
 
 pub returns-in-Some-clause-stands : goal.returns-in-Some-clause-stands
 returns-in-Some-clause-stands g c s p h = stays c.args.self.now c.in-Some.refusal c.in-Some.is s p c.args.piece.now h
 
-pub loop-at-preserved : goal.loop-at-preserved
-loop-at-preserved g c =
+-- the byte was taken, and what it called or showed
+taken_one : (g : Over) (c : In_ok-drain g) (s : g.row.S.Denot) (p : List ℕ) → Stands {S = g.row.S.Denot} {g = g.S.Sink} c.args.self.now s p →
+    Stands {S = g.row.S.Denot} {g = g.S.Sink} c.drain.new.self s (p ++ take (c.loop-at.at + 1) c.args.piece.now)
+taken_one g c s p h =
     let i = c.loop-at.at in
     let piece = c.args.piece.now in
     let b = get_or piece i 0 in
     let now = c.loop-at.self in
     let d = c.drain.new.self in
-    let u = c.stretch-at.new.self in
-    let rest : take (length piece - (i + 1)) (drop (i + 1) piece) ≡ drop (i + 1) piece = take_all _ (drop (i + 1) piece) (omega (arith, length-drop (i + 1) piece)) in
-    let left : c.stretch-at.result ≤ length piece - (i + 1) =
-    omega (arith, c.stretch-at.ensures.within, ap (λ (xs : List ℕ). length xs) rest, length-drop (i + 1) piece) in
+    let st = c.loop-at.invariant.stands s p h in
+    let live = c.loop-at.invariant.live in
+    subst (λ (q : List ℕ). Stands d s q) (taken_more p piece i c.loop-at-test.true)
+    (one_more now d b now.fed (c.drain.ensures.counts.budget ∙ c.turn.ensures.counts.budget) s (p ++ take i piece) (st.fed live) (st.continues live)
+    (through now c.turn.new.self d b now.fed s (st.empty live) (c.turn.ensures.reaches s) c.in_ok-turn.ensures.answered (c.drain.ensures.reaches s))
+    c.in_ok-drain.ensures.answered.0 (omega (arith, c.drain.ensures.counts.fed, c.turn.ensures.counts.fed)) (ap (unread d.store.bytes) c.in_ok-drain.ensures.answered.1))
+
+-- what is behind the byte
+rest_of : (piece : List ℕ) (i : ℕ) → take (length piece - (i + 1)) (drop (i + 1) piece) ≡ drop (i + 1) piece
+rest_of piece i = take_all _ (drop (i + 1) piece) (omega (arith, length-drop (i + 1) piece))
+
+pub loop-at-preserved : goal.loop-at-preserved
+loop-at-preserved g c =
+    let i = c.loop-at.at in
+    let piece = c.args.piece.now in
+    let d = c.drain.new.self in
+    let u = c.stretch.new.self in
+    let n = c.in_ok-at.field-0 in
+    let rest = rest_of piece i in
+    let t = c.in_ok-at.ensures.takes in
+    let left : n ≤ length piece - (i + 1) = omega (arith, t.within, ap (λ (xs : List ℕ). length xs) rest, length-drop (i + 1) piece) in
     let whole = λ (all : c.args.self.now.turns ≡ c.args.self.now.fed + c.args.self.now.charged).
     ap (λ (frames : List Frame). length (unread d.store.bytes frames)) c.in_ok-drain.ensures.answered.1 in
     record {
       within = omega (arith, c.loop-at-test.true, left);
-      live = c.stretch-at.ensures.live;
-      budget = c.stretch-at.ensures.budget ∙ c.drain.ensures.counts.budget ∙ c.turn.ensures.counts.budget ∙ c.loop-at.invariant.budget;
-      fed = omega (arith, c.stretch-at.ensures.fed, c.drain.ensures.counts.fed, c.turn.ensures.counts.fed, c.loop-at.invariant.fed);
-      turns = omega (arith, c.stretch-at.ensures.turns, c.drain.ensures.counts.turns, c.turn.ensures.counts.turns, c.loop-at.invariant.turns);
-      charged = omega (arith, c.stretch-at.ensures.charged, c.drain.ensures.counts.charged, c.turn.ensures.counts.charged, c.loop-at.invariant.charged);
-      whole = λ all. omega (arith, d.turned, whole all, c.stretch-at.ensures.fed, c.stretch-at.ensures.turns, c.stretch-at.ensures.charged);
-      clear = λ before. subst (λ (t : g.row.S.Denot). g.S.Sink.failed t ≡ false) (sym c.stretch-at.ensures.sink) (c.in_ok-drain.ensures.clear (c.in_ok-turn.ensures.clear (c.loop-at.invariant.clear before)));
+      live = c.in_ok-at.ensures.answered;
+      budget = c.stretch.ensures.budget ∙ c.drain.ensures.counts.budget ∙ c.turn.ensures.counts.budget ∙ c.loop-at.invariant.budget;
+      fed = omega (arith, t.fed, c.drain.ensures.counts.fed, c.turn.ensures.counts.fed, c.loop-at.invariant.fed);
+      turns = omega (arith, t.turns, c.drain.ensures.counts.turns, c.turn.ensures.counts.turns, c.loop-at.invariant.turns);
+      charged = omega (arith, c.stretch.ensures.charged, c.drain.ensures.counts.charged, c.turn.ensures.counts.charged, c.loop-at.invariant.charged);
+      whole = λ all. omega (arith, d.turned, whole all, t.fed, t.turns, c.stretch.ensures.charged);
+      clear = λ before. t.clear (c.in_ok-drain.ensures.clear (c.in_ok-turn.ensures.clear (c.loop-at.invariant.clear before)));
       stands = λ s p h.
-          let st = c.loop-at.invariant.stands s p h in
-          let live = c.loop-at.invariant.live in
-          let one : Stands d s (p ++ take (i + 1) piece) = subst (λ (q : List ℕ). Stands d s q) (taken_more p piece i c.loop-at-test.true)
-          (one_more now d b now.fed (c.drain.ensures.counts.budget ∙ c.turn.ensures.counts.budget) s (p ++ take i piece) (st.fed live) (st.continues live)
-          (through now c.turn.new.self d b now.fed s (st.empty live) (c.turn.ensures.reaches s) c.in_ok-turn.ensures.answered (c.drain.ensures.reaches s))
-          c.in_ok-drain.ensures.answered.0 (omega (arith, c.drain.ensures.counts.fed, c.turn.ensures.counts.fed)) (ap (unread d.store.bytes) c.in_ok-drain.ensures.answered.1)) in
-          subst (λ (q : List ℕ). Stands u s q) (taken_stretch p piece (i + 1) c.stretch-at.result)
-          (subst (λ (xs : List ℕ). Stands u s ((p ++ take (i + 1) piece) ++ take c.stretch-at.result xs)) rest (c.stretch-at.ensures.stands s (p ++ take (i + 1) piece) one));
+          subst (λ (q : List ℕ). Stands u s q) (taken_stretch p piece (i + 1) n)
+          (subst (λ (xs : List ℕ). Stands u s ((p ++ take (i + 1) piece) ++ take n xs)) rest
+          (t.stands s (p ++ take (i + 1) piece) (taken_one g (goal.at.loop-at-preserved g c).In_ok-drain s p h)));
     }
+
+-- a byte of a stretch that is refused is one of the piece
+stops_within : (g : Over) (c : In_err-at g) →
+    ((s : g.row.S.Denot) (p : List ℕ) → Stands {S = g.row.S.Denot} {g = g.S.Sink} c.args.self.now s p → Stands {S = g.row.S.Denot} {g = g.S.Sink} c.drain.new.self s (p ++ take (c.loop-at.at + 1) c.args.piece.now)) →
+    (i : ℕ) × StopsAt {S = g.row.S.Denot} {g = g.S.Sink} c.args.self.now c.stretch.new.self c.args.piece.now c.in_err-at.field-0.0 i
+stops_within g c one =
+    let i = c.loop-at.at in
+    let piece = c.args.piece.now in
+    let d = c.drain.new.self in
+    let u = c.stretch.new.self in
+    let r = c.in_err-at.field-0.0 in
+    let stops = c.in_err-at.ensures.stops in (
+      i + 1 + stops.0,
+      stops_behind c.args.self.now d u piece (i + 1) r stops.0 (omega (arith, c.loop-at-test.true))
+          (c.drain.ensures.counts.budget ∙ c.turn.ensures.counts.budget ∙ c.loop-at.invariant.budget)
+          (omega (arith, c.drain.ensures.counts.fed, c.turn.ensures.counts.fed, c.loop-at.invariant.fed)) one
+          (subst (λ (xs : List ℕ). StopsAt d u xs r stops.0) (rest_of piece i) stops.1),
+    )
+
+pub returns-in_err-at-clause-stands : goal.returns-in_err-at-clause-stands
+returns-in_err-at-clause-stands g c =
+    let stops = stops_within g (goal.at.returns-in_err-at-clause-stands g c).In_err-at (taken_one g (goal.at.returns-in_err-at-clause-stands g c).In_ok-drain) in
+    stands_behind_stop c.args.self.now c.stretch.new.self c.args.piece.now c.in_err-at.field-0.0 stops.0 c.in_err-at.ensures.answered
+    (c.stretch.ensures.budget ∙ c.drain.ensures.counts.budget ∙ c.turn.ensures.counts.budget ∙ c.loop-at.invariant.budget) stops.1
+
+pub returns-in_err-at-clause-stops : goal.returns-in_err-at-clause-stops
+returns-in_err-at-clause-stops g c =
+    let e = err_from_is_err_and c.from_residual-in_err-at.result c.from_residual-in_err-at.ensures.1 in
+    rw (e.1, e.2) (λ unrefused. stops_within g (goal.at.returns-in_err-at-clause-stops g c).In_err-at (taken_one g (goal.at.returns-in_err-at-clause-stops g c).In_ok-drain))
 
 pub returns-clause-stands : goal.returns-clause-stands
 returns-clause-stands g c s p h =

@@ -1,0 +1,318 @@
+use Rattle.std.proofs.Common.{ℕ, suc, ◌+◌, ◌-◌, ◌≡◌, ◌<◌, ◌≤◌, ◌⊎◌, List, [], ◌∷◌, ◌++◌, length, take, get_or, All, Bool, true, false, cond, Option, Some, None, refl, ap, ap₂, sym, ◌∙◌, subst, inl, inr, arith, append-nil, append_assoc, length-append}
+use Rattle.std.proofs.Math.Seq.{take-append_seam, get_or-append_seam}
+use Rattle.std.proofs.lemmas.List.{take-take, get_or-take, get_or_append_left}
+use Rattle.std.proofs.lemmas.List.Elements.{All-head, All-tail}
+use Rattle.nap_codes.specs.declared.code.Code.TheVariants as code
+use Rattle.nap_codes.specs.declared.code_set.CharSet.{CharSet}
+use Rattle.nap_codes.specs.declared.code_set.CodeSets.{CodeSets}
+use Rattle.nap_codes.specs.Front as codes
+use Rattle.nap_codes.specs.Laws.{IsGraphic}
+use Rattle.nap_codes.specs.Lexer.{LexerState, IsCharacter}
+use Rattle.nap_list.specs.declared.entry.Entry.{Entry}
+use Rattle.nap_list.specs.declared.sink.Sink.{Ghosts}
+use Rattle.nap_list.specs.declared.sink.SinkFault.{SinkFault}
+use Rattle.nap_list.specs.declared.sink.SinkFault.TheVariants as sink_faults
+use Rattle.nap_list.specs.declared.state.State.{State}
+use Rattle.nap_list.specs.Putting.{HaltsAfter}
+use Rattle.nap_list.specs.Shown.{shows_of}
+use Rattle.nap_list.specs.State.{after, walk}
+use Rattle.nap_draw.specs.Codes.{char_on, text}
+use Rattle.nap_draw.specs.Draws.{fault_of, device}
+use Rattle.nap_draw.specs.Rule.{drawn}
+use Rattle.nap_reader.specs.declared.fault.Refusal.{Refusal}
+use Rattle.nap_reader.specs.declared.reader.Reader.{Reader}
+use Rattle.nap_reader.specs.Bodies.{between}
+use Rattle.nap_reader.specs.Course.{prepend, paused, onward}
+use Rattle.nap_reader.specs.Faults.{draw_fault}
+use Rattle.nap_reader.specs.Stream.{Placed, Machine, Outcome, Unfinished, nothing, refusal, is_operand_byte, outcome_from, placed_from, begun, with_run, with_run_by}
+use Rattle.nap_reader.specs.Breaking.{cause_of, closed_by, TookPart}
+use Rattle.nap_reader.specs.Holding.{Holding, Continues, holding_of, machine_of, frames_left}
+use Rattle.nap_reader.specs.Standing.{IsBroken, StopsBy, Stands, StopsAt, TakesStretch, left_of}
+use Rattle.nap_reader.proofs.CourseLemmas.{prepend-append}
+use Rattle.nap_reader.proofs.HeldLemmas.{front_code, half_read_pauses}
+use Rattle.nap_reader.proofs.StreamLemmas.{outcome_from-front}
+use Rattle.nap_reader.proofs.LeadsLemmas.{TookMore, TookBroke, is_between, fails_part, leads_more}
+use Rattle.nap_reader.proofs.ReadingLemmas.{nothing_yet, rest_of_nothing, is_half, holds_half}
+use Rattle.nap_reader.proofs.BreakingLemmas.{brings_breaks}
+use Rattle.nap_reader.proofs.StandingLemmas.{stands_by}
+
+-- A stretch of characters is its characters in turn.
+
+-- all bytes from 20 to 7F are by themselves characters of this set
+abbrev pub AreCharacters : CodeSets → CharSet → Type 0
+AreCharacters sets set = (b : ℕ) → IsGraphic b → codes.front sets (b ∷ []) ≡ codes.whole (code.Char set b) 1 sets
+
+-- a character in this state
+abbrev pub char_in : State → CharSet → ℕ → Entry
+char_in s set b = char_on s.drawing (record { set = set; code = b })
+
+-- the machine once they were put
+abbrev pub typed : Machine → CharSet → List ℕ → Machine
+typed m set q = record m { work = (drawn m.work (text m.work.state set q)).work }
+
+text_more : (s : State) (set : CharSet) (xs ys : List ℕ) → text s set (xs ++ ys) ≡ text s set xs ++ text (walk s (text s set xs)) set ys
+unfolding text walk
+text_more s set [] ys = refl
+text_more s set (b ∷ xs) ys = ap (λ (es : List Entry). char_in s set b ∷ es) (text_more (after s (char_in s set b)) set xs ys)
+
+one_char : (s : State) (set : CharSet) (b : ℕ) → text s set (b ∷ []) ≡ char_in s set b ∷ []
+unfolding text
+one_char s set b = refl
+
+no_text : (s : State) (set : CharSet) → text s set [] ≡ []
+unfolding text
+no_text s set = refl
+
+-- what comes of them is their text
+text_comes : (m : Machine) (set : CharSet) (q : List ℕ) (n : ℕ) → m.mode ≡ between → AreCharacters m.sets set → All IsGraphic q →
+    outcome_from m (placed_from n q) ≡ prepend (text m.work.state set q) (paused (typed m set q) [] (Some nothing))
+unfolding placed_from text walk
+text_comes m set [] n mode are all =
+    outcome_from-front m [] ∙ ap (onward outcome_from m []) (half_read_pauses m [] [] mode refl (nothing_yet m.sets))
+text_comes m set (b ∷ q) n mode are all =
+    let e = char_in m.work.state set b in
+    let x : Placed = record { byte = b; place = n } in
+    let rest = placed_from (suc n) q in
+    let m' : Machine = record m { work = (drawn m.work (e ∷ [])).work } in
+    outcome_from-front m (x ∷ rest)
+    ∙ ap (onward outcome_from m (x ∷ rest)) (front_code m [] x rest [] (code.Char set b) 1 m.sets mode refl (are b (All-head IsGraphic b q all)) refl)
+    ∙ ap (prepend (e ∷ [])) (text_comes m' set q (suc n) mode are (All-tail IsGraphic b q all))
+
+all_front : (xs ys : List ℕ) → All IsGraphic (xs ++ ys) → All IsGraphic xs
+all_front xs ys all = λ i d less. subst IsGraphic (get_or_append_left xs ys d i less) (all i d (omega (arith, less, length-append xs ys)))
+
+-- no run is open
+closed_still : (o : Outcome) (word : Bool) (known : List Entry) → o.entries ≡ known → o.unfinished ≡ Some nothing → (cond word o (with_run o)).entries ≡ known
+closed_still o true known is none = is
+closed_still o false known is none = ap (λ (u : Option Unfinished). (with_run_by o u).entries) none ∙ is
+
+-- Where the putting of a text halts.
+
+-- so many characters were taken, and the next one wasn't, or broke
+abbrev pub Halted : {S : Type 0} → Ghosts S → State → CharSet → List ℕ → ℕ → S → S → SinkFault → Type 0
+Halted g s set before b t u sink_faults.Memory = g.took t (text s set before) u
+Halted g s set before b t u sink_faults.Write =
+    ((g.failed t ≡ true) × (u ≡ t) × (before ≡ [])) ⊎ g.broke t (text s set before) (char_in (walk s (text s set before)) set b) u
+
+-- the text up to where its putting halts
+pub record HaltsIn {S : Type 0} (g : Ghosts S) (s : State) (set : CharSet) (q : List ℕ) (i : ℕ) (t u : S) (fault : SinkFault) : Type 0 where
+  pub before : List ℕ
+  pub byte : ℕ
+  pub behind : List ℕ
+  pub parts : q ≡ before ++ byte ∷ behind
+  pub count : i ≡ length before
+  pub halted : Halted g s set before byte t u fault
+
+-- the first entries of a text are the text of its first bytes, and the next one is the character behind them
+pub record IsTextOf (s : State) (set : CharSet) (q : List ℕ) (es : List Entry) (e : Entry) : Type 0 where
+  pub before : List ℕ
+  pub byte : ℕ
+  pub behind : List ℕ
+  pub parts : q ≡ before ++ byte ∷ behind
+  pub front : es ≡ text s set before
+  pub next : e ≡ char_in (walk s (text s set before)) set byte
+  pub count : length es ≡ length before
+
+behind_one : (s : State) (set : CharSet) (b : ℕ) (q : List ℕ) (e : Entry) (es : List Entry) (next : Entry) → e ≡ char_in s set b →
+    IsTextOf (after s (char_in s set b)) set q es next → IsTextOf s set (b ∷ q) (e ∷ es) next
+unfolding text walk
+behind_one s set b q e es next first k = record {
+  before = b ∷ k.before;
+  byte = k.byte;
+  behind = k.behind;
+  parts = ap (λ (xs : List ℕ). b ∷ xs) k.parts;
+  front = ap₂ (λ (x : Entry) (xs : List Entry). x ∷ xs) first k.front;
+  next = k.next;
+  count = ap suc k.count;
+}
+
+text_parts : (s : State) (set : CharSet) (q : List ℕ) (front : List Entry) (next : Entry) (rest : List Entry) → text s set q ≡ front ++ next ∷ rest → IsTextOf s set q front next
+unfolding text walk
+text_parts s set [] [] next rest e = let bad : ⊥ = cc in absurd bad
+text_parts s set [] (first ∷ front) next rest e = let bad : ⊥ = cc in absurd bad
+text_parts s set (b ∷ q) [] next rest e = record { before = []; byte = b; behind = q; parts = refl; front = refl; next = cc; count = refl }
+text_parts s set (b ∷ q) (first ∷ front) next rest e = behind_one s set b q first front next (cc) (text_parts (after s (char_in s set b)) set q front next rest (cc))
+
+halts_in : {S : Type 0} (g : Ghosts S) (s : State) (set : CharSet) (q : List ℕ) (i : ℕ) (t u : S) (fault : SinkFault) → 0 < length q →
+    HaltsAfter (shows_of g) (text s set q) t u i fault → HaltsIn g s set q i t u fault
+halts_in g s set q i t u sink_faults.Memory some h =
+    let k = text_parts s set q h.front h.next h.rest h.parts in
+    record {
+      before = k.before;
+      byte = k.byte;
+      behind = k.behind;
+      parts = k.parts;
+      count = sym h.count ∙ k.count;
+      halted = subst (λ (es : List Entry). g.took t es u) k.front h.taken;
+    }
+halts_in g s set [] i t u sink_faults.Write some (inl h) = absurd (omega arith)
+halts_in g s set (b ∷ q) i t u sink_faults.Write some (inl h) = record {
+  before = [];
+  byte = b;
+  behind = q;
+  parts = refl;
+  count = h.2;
+  halted = inl (h.0, h.1, refl);
+}
+halts_in g s set q i t u sink_faults.Write some (inr h) =
+    let k = text_parts s set q h.front h.next h.rest h.parts in
+    record {
+      before = k.before;
+      byte = k.byte;
+      behind = k.behind;
+      parts = k.parts;
+      count = sym h.count ∙ k.count;
+      halted = inr (subst (λ (e : Entry). g.broke t (text s set k.before) e u) k.next (subst (λ (es : List Entry). g.broke t es h.next u) k.front h.broken));
+    }
+
+pub halts_less : {S : Type 0} (g : Ghosts S) (s : State) (set : CharSet) (q : List ℕ) (i : ℕ) (t u : S) (fault : SinkFault) → 0 < length q →
+    HaltsAfter (shows_of g) (text s set q) t u i fault → i < length q
+halts_less g s set q i t u fault some h =
+    let k = halts_in g s set q i t u fault some h in
+    let whole = ap (λ (xs : List ℕ). length xs) k.parts in
+    omega (arith, k.count, whole, length-append k.before (k.byte ∷ k.behind))
+
+-- Nothing is held back, and characters come.
+module _ {S : Type 0} (g : Ghosts S) (s : S) (budget : ℕ) (p : List ℕ) (t : S) (h : Holding) (k : Continues g s (begun budget p) t h [])
+    (no_body : h.open_body ≡ None) (closed : h.open_run ≡ None) (none : h.half ≡ []) (set : CharSet) (are : AreCharacters h.machine.sets set) where
+  comes : (q : List ℕ) → All IsGraphic q → begun budget (p ++ q) ≡ prepend (k.done ++ text h.machine.work.state set q) (paused (typed h.machine set q) [] (Some nothing))
+  unfolding leads_more
+  comes q all =
+      let empty : k.rest ≡ [] = rest_of_nothing k.rest ((is_half h k.rest no_body closed k.held).0 ∙ none) in
+      (leads_more g s budget p q t h k).leads
+      ∙ ap (λ (xs : List Placed). prepend k.done (outcome_from h.machine (xs ++ placed_from (length p) q))) empty
+      ∙ ap (prepend k.done) (text_comes h.machine set q (length p) (is_between h k.rest no_body k.held).mode are all)
+      ∙ sym (prepend-append k.done (text h.machine.work.state set q) (paused (typed h.machine set q) [] (Some nothing)))
+
+  -- all of them were taken
+  text_leads : (q : List ℕ) → All IsGraphic q → (u : S) → TookMore g → g.took t (text h.machine.work.state set q) u → (g.failed t ≡ false → g.failed u ≡ false) →
+      Continues g s (begun budget (p ++ q)) u (record h { machine = typed h.machine set q }) []
+  unfolding placed_from text walk
+  text_leads q all u more took clear =
+      let h' : Holding = record h { machine = typed h.machine set q } in
+      let held = is_between h k.rest no_body k.held in
+      record {
+        done = k.done ++ text h.machine.work.state set q;
+        taken = more s t u k.done (text h.machine.work.state set q) k.taken took;
+        clear = λ before. clear (k.clear before);
+        rest = [];
+        held = holds_half h' [] no_body held.mode held.body closed (sym none) (ap (codes.front h.machine.sets) none ∙ nothing_yet h.machine.sets);
+        leads =
+            comes q all
+            ∙ ap (prepend (k.done ++ text h.machine.work.state set q)) (sym (text_comes (typed h.machine set q) set [] 0 held.mode are (λ i d less. absurd (omega arith))));
+      }
+
+  -- the next one wasn't taken, or broke
+  text_breaks : (before : List ℕ) (b : ℕ) (behind : List ℕ) → All IsGraphic (before ++ b ∷ behind) → (u : S) (left : ℕ) (r : Refusal) → left ≡ h.machine.left → r.place ≡ length (p ++ before) →
+      TookPart g s (k.done ++ text h.machine.work.state set before) (char_in (walk h.machine.work.state (text h.machine.work.state set before)) set b ∷ []) u (cause_of r.fault) →
+      IsBroken g s budget (p ++ before) b u left r
+  text_breaks before b behind all u left r same place part =
+      let s' = h.machine.work.state in
+      let known = k.done ++ text s' set before in
+      let next = char_in (walk s' (text s' set before)) set b in
+      let past : Outcome = prepend known (paused (typed h.machine set before) [] (Some nothing)) in
+      let there : begun budget (p ++ before) ≡ past = comes before (all_front before (b ∷ behind) all) in
+      let one = all_front (before ++ b ∷ []) behind (subst (All IsGraphic) (sym (append_assoc before (b ∷ []) behind)) all) in
+      let further = ap (begun budget) (append_assoc p before (b ∷ [])) ∙ comes (before ++ b ∷ []) one in
+      let still = λ (word : Bool). closed_still past word known (append-nil known) refl in
+      record {
+        before = ap (λ (o : Outcome). o.refusal) there;
+        breaks =
+            brings_breaks g s budget (p ++ before) b u r known (sym (ap (λ (o : Outcome). (closed_by o b).entries) there ∙ still (is_operand_byte b))) place
+            (record {
+              more = next ∷ [];
+              some = λ none. let bad : ⊥ = cc in bad;
+              adds =
+                  ap (λ (o : Outcome). o.entries) further
+                  ∙ append-nil (k.done ++ text s' set (before ++ b ∷ []))
+                  ∙ ap (λ (es : List Entry). k.done ++ es) (text_more s' set before (b ∷ []) ∙ ap (λ (es : List Entry). text s' set before ++ es) (one_char (walk s' (text s' set before)) set b))
+                  ∙ sym (append_assoc k.done (text s' set before) (next ∷ []));
+              unrefused = ap (λ (o : Outcome). o.refusal) further;
+              part = part;
+            });
+        left = let is = ap (λ (o : Outcome). o.machine.left) there in omega (arith, is, same);
+        charged = let is = ap (λ (o : Outcome). o.machine.left) further in omega (arith, is, same);
+      }
+
+  text_broken : (q : List ℕ) → All IsGraphic q → (i : ℕ) (u : S) (fault : SinkFault) → TookMore g → TookBroke g →
+      (halt : HaltsIn g h.machine.work.state set q i t u fault) → (left : ℕ) → left ≡ h.machine.left → (place : ℕ) → place ≡ length p + i →
+      IsBroken g s budget (p ++ halt.before) halt.byte u left (refusal (draw_fault (fault_of fault)) place)
+  text_broken q all i u sink_faults.Memory more broken halt left same place there =
+      let before = halt.before in
+      text_breaks before halt.byte halt.behind (subst (All IsGraphic) halt.parts all) u left (refusal (draw_fault (fault_of sink_faults.Memory)) place) same (omega (arith, there, halt.count, length-append p before))
+      (inl (more s t u k.done (text h.machine.work.state set before) k.taken halt.halted))
+  text_broken q all i u sink_faults.Write more broken halt left same place there =
+      let before = halt.before in
+      text_breaks before halt.byte halt.behind (subst (All IsGraphic) halt.parts all) u left (refusal (draw_fault (fault_of sink_faults.Write)) place) same (omega (arith, there, halt.count, length-append p before))
+      (part halt.halted)
+    where
+      part : Halted g h.machine.work.state set halt.before halt.byte t u sink_faults.Write →
+          TookPart g s (k.done ++ text h.machine.work.state set halt.before) (char_in (walk h.machine.work.state (text h.machine.work.state set halt.before)) set halt.byte ∷ []) u device
+      part (inl (failed, stays, empty)) =
+          let known = k.done ++ text h.machine.work.state set halt.before in
+          let nothing_more = ap (λ (es : List Entry). k.done ++ es) (ap (text h.machine.work.state set) empty ∙ no_text h.machine.work.state set) ∙ append-nil k.done in
+          fails_part g s t u known _ (subst (λ (es : List Entry). g.took s es t) (sym nothing_more) k.taken) broken k.clear (inl (failed, stays))
+      part (inr broke) =
+          let known = k.done ++ text h.machine.work.state set halt.before in
+          let next = char_in (walk h.machine.work.state (text h.machine.work.state set halt.before)) set halt.byte in
+          inr ([], next, [], refl, subst (λ (es : List Entry). g.broke s es next u) (sym (append-nil known)) (broken s t u k.done (text h.machine.work.state set halt.before) next k.taken broke))
+
+-- The reader takes them.
+
+-- all bytes from 20 to 7F are characters of this set for the lexer
+abbrev pub AllCharacters : LexerState → CharSet → Type 0
+AllCharacters lexer set = (b : ℕ) → IsGraphic b → IsCharacter lexer b set
+
+none_half : (lexer : LexerState) (set : CharSet) → AllCharacters lexer set → lexer.half ≡ []
+none_half lexer set chars = (chars 32 (omega arith, omega arith)).0
+
+-- a reader took them
+pub text_takes : {S : Type 0} {g : Ghosts S} (old new : Reader S g) (set : CharSet) (piece q : List ℕ) → length q ≤ length piece → take (length q) piece ≡ q →
+    old.refusal ≡ None → old.open_body ≡ None → old.open_run ≡ None → AllCharacters old.lexer set → All IsGraphic q → TookMore g →
+    g.took old.sink (text old.work.state set q) new.sink → (g.failed old.sink ≡ false → g.failed new.sink ≡ false) →
+    new.refusal ≡ None → new.budget ≡ old.budget → holding_of new ≡ record (holding_of old) { machine = typed (machine_of old) set q } →
+    new.fed ≡ old.fed + length q → new.turns ≡ old.turns + length q → frames_left new ≡ frames_left old → TakesStretch old new piece (length q)
+text_takes {S} {g} old new set piece q within front live no_body closed chars all more took clear live' budget holding fed turns frames = record {
+  within = within;
+  stands = λ s p h.
+      let on = text_leads g s old.budget p old.sink (holding_of old) (h.continues live) no_body closed (none_half old.lexer set chars) set (λ b graphic. (chars b graphic).1) q all new.sink more took clear in
+      subst (λ (xs : List ℕ). Stands new s (p ++ xs)) (sym front)
+      (stands_by new s (p ++ q) live' (omega (arith, fed, h.fed live, length-append p q)) (frames ∙ h.empty live)
+      (subst (λ (held : Holding). Continues g s (begun new.budget (p ++ q)) new.sink held []) (sym holding)
+      (subst (λ (budget : ℕ). Continues g s (begun budget (p ++ q)) new.sink (record (holding_of old) { machine = typed (machine_of old) set q }) []) (sym budget) on)));
+  fed = fed;
+  turns = turns;
+  clear = clear;
+}
+
+-- one that couldn't take all of them stopped at the next one
+pub text_stops : {S : Type 0} {g : Ghosts S} (old new : Reader S g) (set : CharSet) (piece q : List ℕ) (i : ℕ) (fault : SinkFault) → length q ≤ length piece →
+    take (length q) piece ≡ q → 0 < length q → old.refusal ≡ None → old.open_body ≡ None → old.open_run ≡ None → AllCharacters old.lexer set → All IsGraphic q →
+    TookMore g → TookBroke g → HaltsAfter (shows_of g) (text old.work.state set q) old.sink new.sink i fault → new.budget ≡ old.budget → new.charged ≡ old.charged →
+    new.fed ≡ old.fed + (i + 1) → StopsAt old new piece (refusal (draw_fault (fault_of fault)) (old.fed + i)) i
+text_stops {S} {g} old new set piece q i fault within is some live no_body closed chars all more broken halts budget charged fed =
+    let less = halts_less g old.work.state set q i old.sink new.sink fault some halts in
+    let halt = halts_in g old.work.state set q i old.sink new.sink fault some halts in
+    let front : take i piece ≡ halt.before =
+    sym (take-take i (length q) piece (omega (arith, less))) ∙ ap (take i) (is ∙ halt.parts) ∙ ap (λ (j : ℕ). take j (halt.before ++ halt.byte ∷ halt.behind)) halt.count
+    ∙ take-append_seam halt.before (halt.byte ∷ halt.behind) in
+    let there : get_or piece i 0 ≡ halt.byte =
+    sym (get_or-take (length q) piece i 0 less) ∙ ap (λ (xs : List ℕ). get_or xs i 0) (is ∙ halt.parts)
+    ∙ ap (λ (j : ℕ). get_or (halt.before ++ halt.byte ∷ halt.behind) j 0) halt.count ∙ get_or-append_seam halt.before halt.byte halt.behind 0 in
+    let left : left_of new ≡ old.budget - old.charged = ap₂ (λ (a b : ℕ). a - b) budget charged in
+    let stops = λ (s : S) (p : List ℕ) (h : Stands old s p).
+    subst (λ (q : List ℕ). IsBroken g s old.budget (p ++ q) (get_or piece i 0) new.sink (left_of new) (refusal (draw_fault (fault_of fault)) (old.fed + i))) (sym front)
+    (subst (λ (b : ℕ). IsBroken g s old.budget (p ++ halt.before) b new.sink (left_of new) (refusal (draw_fault (fault_of fault)) (old.fed + i))) (sym there)
+    (text_broken g s old.budget p old.sink (holding_of old) (h.continues live) no_body closed (none_half old.lexer set chars) set (λ b graphic. (chars b graphic).1) q all i new.sink fault more broken halt
+    (left_of new) left (old.fed + i) (ap (λ (m : ℕ). m + i) (h.fed live)))) in
+    record {
+      within = omega (arith, less, within);
+      fed = fed;
+      before = λ s p h. (stops s p h).before;
+      there = λ s p h. by_fault fault s (p ++ take i piece) (get_or piece i 0) (old.fed + i) (stops s p h);
+    }
+  where
+    by_fault : (fault : SinkFault) (s : S) (p : List ℕ) (b place : ℕ) → IsBroken g s old.budget p b new.sink (left_of new) (refusal (draw_fault (fault_of fault)) place) →
+        StopsBy g s old.budget p b new.sink (left_of new) (refusal (draw_fault (fault_of fault)) place) (cause_of (draw_fault (fault_of fault)))
+    by_fault sink_faults.Memory s p b place h = h
+    by_fault sink_faults.Write s p b place h = h

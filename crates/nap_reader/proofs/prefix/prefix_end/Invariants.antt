@@ -1,0 +1,12 @@
+use Rattle.std.proofs.Common.{◌≡◌, ◌+◌, ◌-◌, ◌≤◌, length, drop}
+use Rattle.std.specs.List.{prefix_len}
+use Rattle.nap_reader.specs.Prefix.{is_from}
+use Rattle.nap_reader.proofs.prefix.prefix_end.Given as goal
+
+-- the bytes between are of the range
+abbrev pub invariant-loop-at : goal.invariant-loop-at
+invariant-loop-at l =
+    (l.from + prefix_len (is_from l.least) (drop l.from l.piece) ≡ l.at + prefix_len (is_from l.least) (drop l.at l.piece)) × (l.at ≤ length l.piece)
+
+abbrev pub decreases-loop-at : goal.decreases-loop-at
+decreases-loop-at l = length l.piece - l.at
