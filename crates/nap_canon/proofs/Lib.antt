@@ -6,6 +6,9 @@ pub mod ModeLemmas
 pub mod TextLemmas
 pub mod WriterLemmas
 pub mod SinkingLemmas
+pub mod CutLemmas
+pub mod BatchLemmas
+pub mod BatchTexts
 pub mod ConvertLemmas
 pub mod WalkLemmas
 pub mod FaultLemmas

@@ -14,3 +14,4 @@ pub mod TextParts
 pub mod SinkLaws
 pub mod Converting
 pub mod Concluding
+pub mod Batches

@@ -1,5 +1,6 @@
 //! What takes the bytes of a text.
 ghost use Rattle.std.specs.Prelude.{◌++◌, ℕ, List, [], Bool, true, false, is_err};
+ghost use Rattle.nap_canon.specs.Batches.{SentUpTo};
 
 /// Takes bytes, one piece behind another.
 pub(crate) trait ByteSink {
@@ -12,6 +13,10 @@ pub(crate) trait ByteSink {
     /// Takes all the bytes, or fails.
     fn take(&mut self, bytes: &[u8]) -> Result<(), Self::Fault>
         ensures { sent self.old bytes.now (is_err result) self.new };
+
+    /// Takes all the bytes, or fails behind so many of them.
+    fn take_counted(&mut self, bytes: &[u8]) -> Result<(), usize>
+        ensures { SentUpTo sent self.old bytes.now self.new result };
 
     /// No bytes were taken.
     ghost sent_none: { (s : Self) → sent s [] false s };

@@ -7,8 +7,12 @@ ghost use Rattle.nap_canon.specs.SinkLaws.{took_none, took_more, took_broke};
 use crate::form::Form;
 use crate::output::Output;
 use crate::writer::Writer;
-use nap_list::{Entry, Outlet, Sink, SinkFault};
+use nap_codes::CharSet;
+use nap_list::{Drawing, Entry, Hand, Outlet, Sink, SinkFault, TextFault};
+use nap_values::Point;
 use std::marker::Model;
+
+mod batch;
 
 /// Writes the canonical text of the entries that it takes to an outlet, as they come. It takes no memory.
 ///
@@ -106,6 +110,58 @@ impl<O: Outlet + Drop> Sink for CanonSink<O> {
 
     fn put(&mut self, entry: Entry) -> Result<(), SinkFault> {
         self.put_ref(&entry)
+    }
+
+    fn put_points(&mut self, points: &[Point], drawing: &Drawing) -> Result<(), SinkFault> {
+        let Some((at, others)) = points.split_first() else {
+            return Ok(());
+        };
+        let first = Entry::Point {
+            at: *at,
+            pel: drawing.pel,
+            colour: drawing.colour,
+        };
+        self.put_ref(&first)?;
+        self.points_on(others)
+    }
+
+    fn put_lines(
+        &mut self,
+        from: Point,
+        points: &[Point],
+        drawing: &Drawing,
+    ) -> Result<(), SinkFault> {
+        let Some((to, others)) = points.split_first() else {
+            return Ok(());
+        };
+        let first = Entry::Line {
+            from,
+            to: *to,
+            ink: drawing.ink(),
+        };
+        self.put_ref(&first)?;
+        self.lines_on(*to, others)
+    }
+
+    fn put_text(&mut self, set: CharSet, codes: &[u8], hand: &Hand) -> Result<(), TextFault> {
+        let Some((code, others)) = codes.split_first() else {
+            return Ok(());
+        };
+        let first = Entry::Char {
+            set,
+            code: *code,
+            hand: *hand,
+        };
+        if let Err(fault) = self.put_ref(&first) {
+            return Err(TextFault { taken: 0, fault });
+        }
+        match self.text_on(set, others) {
+            Ok(()) => Ok(()),
+            Err(taken) => Err(TextFault {
+                taken: taken + 1,
+                fault: SinkFault::Write,
+            }),
+        }
     }
 
     ghost took_none = { λ s. took_none O.Outlet s };

@@ -17,10 +17,21 @@ impl<O: Outlet + Drop> ByteSink for Output<O> {
 
     ghost sent = { λ s bytes broke t. Sends (sending O.Outlet s.outlet s.written) bytes broke (sending O.Outlet t.outlet t.written) };
 
+    #[inline]
     fn take(&mut self, bytes: &[u8]) -> Result<(), DeviceFault> {
+        match self.take_counted(bytes) {
+            Ok(()) => Ok(()),
+            Err(_) => Err(DeviceFault),
+        }
+    }
+
+    fn take_counted(&mut self, bytes: &[u8]) -> Result<(), usize> {
         let mut taken = 0;
         while taken < bytes.len() {
-            let count = self.outlet.write(&bytes[taken..])?;
+            let count = match self.outlet.write(&bytes[taken..]) {
+                Ok(count) => count,
+                Err(_) => return Err(taken),
+            };
             self.written = self.written.saturating_add(count as u64);
             taken += count;
         }

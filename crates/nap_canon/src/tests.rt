@@ -4,6 +4,7 @@ use nap_reader::{Budget, Fault, Refusal};
 use std::alloc::{AllocError, Global};
 use std::process::Abort;
 
+mod batches;
 mod canon_sink;
 mod conversion;
 mod forms;

@@ -17,6 +17,7 @@ use nap_codes::{GSet, Size};
 use nap_list::{Entry, State};
 use nap_values::{put_addr, put_grb, put_move, put_point};
 
+mod batch;
 mod spelling;
 
 mod opcodes {

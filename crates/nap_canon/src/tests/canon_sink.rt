@@ -10,14 +10,14 @@ use std::process::Abort;
 
 // Takes bytes while there is room, so many at a write, and then fails.
 #[derive(Drop)]
-struct Full {
+pub struct Full {
     kept: Vec<u8>,
     room: usize,
     most: usize,
 }
 
 impl Full {
-    fn new(alloc: Global, room: usize, most: usize) -> Full {
+    pub fn new(alloc: Global, room: usize, most: usize) -> Full {
         Full {
             kept: Vec::new(alloc),
             room,
@@ -43,14 +43,14 @@ impl Write for Full {
 
 // What is left of a stream that is read into a sink over a writer.
 #[derive(Drop)]
-struct Left {
-    refusal: Option<Refusal>,
-    failed: bool,
-    written: u64,
-    kept: Vec<u8>,
+pub struct Left {
+    pub refusal: Option<Refusal>,
+    pub failed: bool,
+    pub written: u64,
+    pub kept: Vec<u8>,
 }
 
-fn read_into(rt: &impl Abort, alloc: Global, stream: &[u8], writer: Full) -> Left {
+pub fn read_into(rt: &impl Abort, alloc: Global, stream: &[u8], writer: Full) -> Left {
     assert!(rt; stream.len() < 1 << 32);
     let sink = CanonSink::new(Target::new(writer));
     let mut reader = Reader::new(alloc, Budget::usual(), sink);

@@ -96,7 +96,7 @@ impl<T: ByteSink + Drop> Writer<T> {
     }
 
     /// The opcode of a point, a line or a rectangle with its operands.
-    fn stroke(&mut self, opcode: u8, operands: &[u8]) -> Result<(), T::Fault>
+    pub(super) fn stroke(&mut self, opcode: u8, operands: &[u8]) -> Result<(), T::Fault>
         requires few { length operands.now ≤ 16 }
         ensures sent { T.sent self.old.to (piece_bytes self.old.tail (stroke self.old.form opcode operands.now)) (is_err result) self.new.to }
         ensures tail { self.new.tail ≡ tail_behind self.old.tail (stroke self.old.form opcode operands.now) }
@@ -109,7 +109,7 @@ impl<T: ByteSink + Drop> Writer<T> {
     }
 
     /// A line, which in the second form goes on from the pen where it starts there.
-    fn line(&mut self, from: Point, to: Point) -> Result<(), T::Fault>
+    pub(super) fn line(&mut self, from: Point, to: Point) -> Result<(), T::Fault>
         ensures sent { T.sent self.old.to (piece_bytes self.old.tail (line_piece self.old.form self.old.state.drawing.pen from to)) (is_err result) self.new.to }
         ensures tail { self.new.tail ≡ tail_behind self.old.tail (line_piece self.old.form self.old.state.drawing.pen from to) }
         ensures kept { (self.new.form ≡ self.old.form) × (self.new.state ≡ self.old.state) }
@@ -142,7 +142,7 @@ impl<T: ByteSink + Drop> Writer<T> {
     }
 
     /// A character: SS2 brings G2 and SS3 brings G3 for it alone, and a DRCS is G3 for that time.
-    fn character(&mut self, set: CharSet, code: u8) -> Result<(), T::Fault>
+    pub(super) fn character(&mut self, set: CharSet, code: u8) -> Result<(), T::Fault>
         ensures sent { T.sent self.old.to (piece_bytes self.old.tail (char_piece set code)) (is_err result) self.new.to }
         ensures tail { self.new.tail ≡ tail_behind self.old.tail (char_piece set code) }
         ensures kept { (self.new.form ≡ self.old.form) × (self.new.state ≡ self.old.state) }

@@ -1,6 +1,6 @@
 use Rattle.std.proofs.Common.{◌-◌, ◌≤◌, length, take}
 use Rattle.nap_canon.specs.Sinking.{TakesAll, sending}
-use Rattle.nap_canon.proofs.output.OutputByteSink.take.Given as goal
+use Rattle.nap_canon.proofs.output.OutputByteSink.take_counted.Given as goal
 
 abbrev pub invariant-loop-taken : goal.invariant-loop-taken
 invariant-loop-taken g l = record {

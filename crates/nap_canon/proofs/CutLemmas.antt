@@ -1,0 +1,35 @@
+use Rattle.std.proofs.Common.{ℕ, ◌≡◌, ◌+◌, ◌<◌, Bool, true, false, ◌||◌, Option, Some, None, List, [], ◌∷◌, ◌++◌, length, take, drop, refl, ap, sym, subst, ◌∙◌, append-nil, arith}
+use Rattle.std.specs.Prelude.{slice_index}
+use Rattle.std.specs.Io.KnownBytes.{Appends, Keeps}
+use Rattle.std.proofs.lemmas.List.{take_more, take-append-drop}
+use Rattle.nap_list.specs.declared.device.Outlet as outlet
+use Rattle.nap_canon.specs.Batches.{CutAfter}
+use Rattle.nap_canon.specs.Sinking.{Sending, sending, TakesPart, Sends}
+use Rattle.nap_canon.specs.SinkLaws.{sends_more, sends_cut}
+
+-- Bytes that were cut.
+
+in_parts : (bytes : List ℕ) (n : ℕ) → n < length bytes → (take n bytes ++ slice_index bytes n ∷ []) ++ drop (n + 1) bytes ≡ bytes
+in_parts bytes n less = ap (λ (front : List ℕ). front ++ drop (n + 1) bytes) (sym (take_more bytes n 0 less)) ∙ take-append-drop (n + 1) bytes
+
+pub or_true : (b : Bool) → (b || true) ≡ true
+or_true true = refl
+or_true false = refl
+
+-- bytes that were kept have none behind them
+appends_none : (old new : Option (List ℕ)) → Keeps old new → Appends old new []
+appends_none None new kept = tt
+appends_none (Some xs) None kept = absurd kept
+appends_none (Some xs) (Some ys) kept = kept ∙ sym (append-nil xs)
+
+-- none of a byte was taken
+pub none_taken : {O : Type 0} (o : outlet.Ghosts O) (t u : O) (n : ℕ) (byte : ℕ) → Keeps (o.taken t) (o.taken u) → o.failed u ≡ true → TakesPart (sending o t n) (byte ∷ []) (sending o u n)
+none_taken o t u n byte kept failed = record { part = 0; less = omega arith; grows = record { taken = appends_none (o.taken t) (o.taken u) kept; count = omega arith }; failed = failed }
+
+-- a failure behind so many bytes is one amid them all
+pub cut_sends : {S : Type 0} (view : S → Sending) (s t : S) (bytes : List ℕ) (n : ℕ) → CutAfter (λ x bytes broke y. Sends (view x) bytes broke (view y)) s bytes n t →
+    Sends (view s) bytes true (view t)
+cut_sends view s t bytes n cut =
+    let behind : List ℕ = take n bytes ++ slice_index bytes n ∷ [] in
+    subst (λ (bytes : List ℕ). Sends (view s) bytes true (view t)) (in_parts bytes n cut.less)
+    (sends_cut (view s) (view t) behind (drop (n + 1) bytes) (sends_more (view s) (view cut.mid) (view t) (take n bytes) (slice_index bytes n ∷ []) true cut.front cut.next))

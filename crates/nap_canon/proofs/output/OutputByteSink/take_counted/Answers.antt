@@ -1,0 +1,35 @@
+use Rattle.std.proofs.Common.{◌≤◌, ℕ, List, arith, subst, ◌∙◌, take, drop, length, length-drop}
+use Rattle.std.specs.Prelude.{slice_index}
+use Rattle.std.specs.Io.KnownBytes.{Appends}
+use Rattle.nap_canon.specs.Sinking.{sending}
+use Rattle.nap_canon.proofs.CutLemmas.{none_taken, or_true}
+use Rattle.nap_canon.proofs.SinkingLemmas.{takes_more, rest_of}
+use Rattle.nap_canon.proofs.output.OutputByteSink.take_counted.Goals as goal
+
+pub loop-taken-preserved : goal.loop-taken-preserved
+loop-taken-preserved g c =
+    let O = g.O.Outlet in
+    let count = c.in-Ok.count in
+    let i = c.loop-taken.taken in
+    let bytes = c.args.bytes.now in
+    let few : count ≤ length (drop i bytes) = subst (λ (xs : List ℕ). count ≤ length xs) (rest_of i bytes) c.in-Ok.ensures.bound in
+    record {
+      within = omega (arith, length-drop i bytes, few);
+      sent = takes_more O (sending O c.args.self.now.outlet c.args.self.now.written) c.loop-taken.self.outlet c.write.new.self
+          c.loop-taken.self.written c.saturating_add-self.result i count bytes c.loop-taken.invariant.sent few
+          (subst (λ (xs : List ℕ). Appends (O.taken c.loop-taken.self.outlet) (O.taken c.write.new.self) (take count xs)) (rest_of i bytes) c.in-Ok.ensures.bytes)
+          c.in-Ok.ensures.failed
+          (omega arith)
+          c.saturating_add-self.ensures;
+    }
+
+pub returns-in-Err : goal.returns-in-Err
+returns-in-Err g c =
+    let at = c.loop-taken in
+    let bytes = c.args.bytes.now in
+    record {
+      less = c.loop-taken-test.true;
+      mid = at.self;
+      front = at.invariant.sent;
+      next = none_taken g.O.Outlet at.self.outlet c.write.new.self at.self.written (slice_index bytes at.taken) c.in-Err.ensures.bytes (c.in-Err.ensures.failed ∙ or_true (g.O.Outlet.failed at.self.outlet));
+    }

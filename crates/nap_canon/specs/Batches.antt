@@ -1,0 +1,62 @@
+use Rattle.std.specs.Prelude.{ℕ, ◌≡◌, ◌<◌, Bool, true, false, List, [], ◌∷◌, Result, Ok, Err, Some, length, take, slice_index}
+use Rattle.nap_values.specs.Coordinates.{Coordinates}
+use Rattle.nap_codes.specs.declared.code_set.CharSet.{CharSet}
+use Rattle.nap_list.specs.declared.attribute.Pen.{Pen}
+use Rattle.nap_list.specs.declared.device.Outlet as outlet
+use Rattle.nap_list.specs.declared.entry.Entry.{Entry}
+use Rattle.nap_list.specs.declared.entry.Entry.TheVariants as entries
+use Rattle.nap_list.specs.declared.sink.SinkFault.{SinkFault}
+use Rattle.nap_list.specs.declared.sink.SinkFault.TheVariants.{Write}
+use Rattle.nap_list.specs.declared.state.Drawing.{Drawing}
+use Rattle.nap_list.specs.declared.state.State.{State}
+use Rattle.nap_list.specs.State.{base_shown, with_pen, ink_of, hand_of}
+use Rattle.nap_list.specs.Putting.{SinkShows, shows, BreaksAfter}
+use Rattle.nap_canon.specs.Sinking.{Canonical, Took, Broke}
+
+-- Entries that a sink of canonical text puts at once.
+
+-- a canonical sink, as any sink shows
+abbrev pub canon_shows : {O : Type 0} → outlet.Ghosts O → SinkShows (Canonical O)
+canon_shows o = shows (λ s. s.state) (λ s. false) (λ s. o.failed s.outlet) (Took o) (Broke o)
+
+-- the colour stands: a direct one is that of mode 0 too
+abbrev pub ColourStands : Drawing → Type 0
+ColourStands d = base_shown d.base (Some d.colour) ≡ d.base
+
+-- the states differ in their pens alone
+abbrev pub PensApart : State → State → Type 0
+PensApart s t = (pen : Pen) × (t ≡ record s { drawing = with_pen pen s.drawing })
+
+-- a line with the values that stand
+abbrev pub line_on : Drawing → Coordinates → Coordinates → Entry
+line_on d from to = entries.Line from to (ink_of d)
+
+-- a character with the values that stand
+abbrev pub char_on : Drawing → CharSet → ℕ → Entry
+char_on d set code = entries.Char set code (hand_of d)
+
+-- an entry was put, or broke
+abbrev pub PutsNext : {O : Type 0} → outlet.Ghosts O → Canonical O → Entry → Canonical O → Result (Unit {0}) SinkFault → Type 0
+PutsNext o s e t (Ok _) = Took o s (e ∷ []) t × (o.failed t.outlet ≡ false)
+PutsNext o s e t (Err fault) = (fault ≡ Write) × (o.failed t.outlet ≡ true) × Broke o s [] e t
+
+-- all entries were put, or so many of them and the next one broke
+abbrev pub PutsSome : {O : Type 0} → outlet.Ghosts O → Canonical O → List Entry → Canonical O → Result (Unit {0}) ℕ → Type 0
+PutsSome o s list t (Ok _) = Took o s list t × (o.failed t.outlet ≡ false)
+PutsSome o s list t (Err n) = BreaksAfter (Broke o) s list n t × (o.failed t.outlet ≡ true)
+
+-- all bytes were taken, or so many of them, and none of what came next
+pub record CutAfter {S : Type 0} (sent : S → List ℕ → Bool → S → Type 0) (s : S) (bytes : List ℕ) (n : ℕ) (t : S) : Type 0 where
+  pub less : n < length bytes
+  pub mid : S
+  pub front : sent s (take n bytes) false mid
+  pub next : sent mid (slice_index bytes n ∷ []) true t
+
+abbrev pub SentUpTo : {S : Type 0} → (S → List ℕ → Bool → S → Type 0) → S → List ℕ → S → Result (Unit {0}) ℕ → Type 0
+SentUpTo sent s bytes t (Ok _) = sent s bytes false t
+SentUpTo sent s bytes t (Err n) = CutAfter sent s bytes n t
+
+-- how many were taken, of a list
+abbrev pub front_of : Result (Unit {0}) ℕ → List ℕ → List ℕ
+front_of (Ok _) list = list
+front_of (Err n) list = take n list

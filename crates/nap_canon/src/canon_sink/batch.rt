@@ -1,0 +1,126 @@
+//! Entries behind one of their like.
+ghost use Rattle.std.specs.Prelude.{◌≡◌, None, false, map};
+ghost use Rattle.nap_codes.specs.declared.code_set.CharSet.TheVariants.{Primary};
+ghost use Rattle.nap_codes.specs.declared.code_set.GSet.TheVariants.{G0};
+ghost use Rattle.nap_list.specs.declared.attribute.Pen.TheVariants.{After};
+ghost use Rattle.nap_list.specs.Putting.{Put, point_on, lines_on, text_in};
+ghost use Rattle.nap_list.specs.State.{hand_of};
+ghost use Rattle.nap_canon.specs.declared.tail.Tail.TheVariants.{Apart};
+ghost use Rattle.nap_canon.specs.Batches.{canon_shows, ColourStands, PutsNext, PutsSome, line_on, char_on};
+
+use crate::canon_sink::CanonSink;
+use nap_codes::CharSet;
+use nap_list::{Outlet, SinkFault};
+use nap_values::Point;
+
+impl<O: Outlet + Drop> CanonSink<O> {
+    /// Takes a point behind another.
+    #[inline]
+    fn next_point(&mut self, at: Point) -> Result<(), SinkFault>
+        requires works { O.failed self.old.outlet ≡ false }
+        requires last { self.old.state.last ≡ None }
+        requires colour { ColourStands self.old.state.drawing }
+        ensures { PutsNext O.Outlet self.old (point_on self.old.state.drawing at) self.new result }
+    {
+        if self.writer.next_point(at).is_err() {
+            return Err(SinkFault::Write);
+        }
+        Ok(())
+    }
+
+    /// Takes points behind another.
+    pub(super) fn points_on(&mut self, points: &[Point]) -> Result<(), SinkFault>
+        requires works { O.failed self.old.outlet ≡ false }
+        requires last { self.old.state.last ≡ None }
+        requires colour { ColourStands self.old.state.drawing }
+        ensures { Put (canon_shows O.Outlet) (map (point_on self.old.state.drawing) points.now) self.old self.new result }
+    {
+        for at in points {
+            self.next_point(*at)?;
+        }
+        Ok(())
+    }
+
+    /// Takes a line behind another.
+    #[inline]
+    fn next_line(&mut self, from: Point, to: Point) -> Result<(), SinkFault>
+        requires works { O.failed self.old.outlet ≡ false }
+        requires last { self.old.state.last ≡ None }
+        requires colour { ColourStands self.old.state.drawing }
+        ensures { PutsNext O.Outlet self.old (line_on self.old.state.drawing from to) self.new result }
+    {
+        if self.writer.next_line(from, to).is_err() {
+            return Err(SinkFault::Write);
+        }
+        Ok(())
+    }
+
+    /// Takes lines behind another, from this point on.
+    pub(super) fn lines_on(&mut self, from: Point, points: &[Point]) -> Result<(), SinkFault>
+        requires works { O.failed self.old.outlet ≡ false }
+        requires last { self.old.state.last ≡ None }
+        requires colour { ColourStands self.old.state.drawing }
+        ensures { Put (canon_shows O.Outlet) (lines_on self.old.state.drawing from points.now) self.old self.new result }
+    {
+        let mut from = from;
+        for to in points {
+            self.next_line(from, *to)?;
+            from = *to;
+        }
+        Ok(())
+    }
+
+    /// Takes a character behind another.
+    fn next_character(&mut self, set: CharSet, code: u8) -> Result<(), SinkFault>
+        requires works { O.failed self.old.outlet ≡ false }
+        requires colour { ColourStands self.old.state.drawing }
+        ensures { PutsNext O.Outlet self.old (char_on self.old.state.drawing set code) self.new result }
+    {
+        if self.writer.next_character(set, code).is_err() {
+            return Err(SinkFault::Write);
+        }
+        Ok(())
+    }
+
+    /// Takes characters of any set behind another, one by one.
+    fn characters_on(&mut self, set: CharSet, codes: &[u8]) -> Result<(), usize>
+        requires works { O.failed self.old.outlet ≡ false }
+        requires pen { self.old.state.drawing.pen ≡ After }
+        requires colour { ColourStands self.old.state.drawing }
+        ensures { PutsSome O.Outlet self.old (text_in set (hand_of self.old.state.drawing) codes.now) self.new result }
+    {
+        let mut taken = 0;
+        for code in codes {
+            match self.next_character(set, *code) {
+                Ok(()) => taken += 1,
+                Err(_) => return Err(taken),
+            }
+        }
+        Ok(())
+    }
+
+    /// Takes primary characters behind another, at once.
+    fn codes_on(&mut self, codes: &[u8]) -> Result<(), usize>
+        requires works { O.failed self.old.outlet ≡ false }
+        requires tail { self.old.tail ≡ Apart G0 }
+        requires pen { self.old.state.drawing.pen ≡ After }
+        requires colour { ColourStands self.old.state.drawing }
+        ensures { PutsSome O.Outlet self.old (text_in Primary (hand_of self.old.state.drawing) codes.now) self.new result }
+    {
+        self.writer.next_codes(codes)
+    }
+
+    /// Takes characters behind another. An error tells how many of them it took.
+    pub(super) fn text_on(&mut self, set: CharSet, codes: &[u8]) -> Result<(), usize>
+        requires works { O.failed self.old.outlet ≡ false }
+        requires tail { set ≡ Primary → self.old.tail ≡ Apart G0 }
+        requires pen { self.old.state.drawing.pen ≡ After }
+        requires colour { ColourStands self.old.state.drawing }
+        ensures { PutsSome O.Outlet self.old (text_in set (hand_of self.old.state.drawing) codes.now) self.new result }
+    {
+        match set {
+            CharSet::Primary => self.codes_on(codes),
+            _ => self.characters_on(set, codes),
+        }
+    }
+}
