@@ -1,8 +1,6 @@
 //! Points, lines and texts that are put at once, with the bytes that they have one by one.
 use super::canon_sink::{Full, read_into};
-use crate::{CanonSink, canon};
-use nap_codes::CharSet;
-use nap_list::{Drawing, Sink, SinkFault, Target, TextFault};
+use crate::canon;
 use nap_reader::{Budget, Fault, Refusal, read_all};
 use std::alloc::{AllocError, Global};
 use std::process::Abort;
@@ -57,10 +55,13 @@ fn a_batch_breaks_where_its_outlet_does(rt: HostRuntime) -> Result<(), Fail> {
 }
 
 // The refusal is where the first character is of which a byte is wanting.
-fn stops(rt: &impl Abort, alloc: Global, stream: &[u8], room: usize, place: u64) {
+fn stops(rt: &impl Abort, alloc: Global, stream: &[u8], room: usize, place: usize) {
     let left = read_into(rt, alloc, stream, Full::new(alloc, room, 3));
-    let fault = Fault::Sink;
-    assert_eq!(rt; left.refusal, Some(Refusal { fault, place }));
+    let want = Refusal {
+        fault: Fault::Sink,
+        place: place as u64,
+    };
+    assert_eq!(rt; left.refusal, Some(want));
 }
 
 #[test]
@@ -68,36 +69,13 @@ fn a_text_stops_at_the_character_that_breaks(rt: HostRuntime) {
     let alloc = rt.alloc();
     // The header, SI, and a byte a character.
     for room in 0..10 {
-        stops(&rt, alloc, b"ABCDEF", room, (room as u64).max(4) - 4);
+        stops(&rt, alloc, b"ABCDEF", room, room.max(4) - 4);
     }
-}
-
-// A text of a sink over so much room, and how many of its characters were taken.
-fn taken(rt: &impl Abort, alloc: Global, set: CharSet, room: usize) -> usize {
-    let mut sink = CanonSink::new(Target::new(Full::new(alloc, room, 3)));
-    let hand = Drawing::start().hand();
-    match sink.put_text(set, b"ABCDE", &hand) {
-        Ok(()) => 5,
-        Err(TextFault { taken, fault }) => {
-            assert_eq!(rt; fault, SinkFault::Write);
-            taken
-        }
+    // The header, and two bytes or eight a character.
+    for room in 0..13 {
+        stops(&rt, alloc, b"\x1B(}ABCDE", room, 3 + (room.max(3) - 3) / 2);
     }
-}
-
-#[test]
-fn a_text_tells_how_many_characters_were_taken(rt: HostRuntime) {
-    let alloc = rt.alloc();
-    for room in 0..10 {
-        let count = taken(&rt, alloc, CharSet::Primary, room);
-        assert_eq!(rt; count, room.max(4) - 4);
-    }
-    for room in 0..14 {
-        let count = taken(&rt, alloc, CharSet::Mosaic, room);
-        assert_eq!(rt; count, (room.max(3) - 3) / 2);
-    }
-    for room in 0..44 {
-        let count = taken(&rt, alloc, CharSet::Drcs, room);
-        assert_eq!(rt; count, (room.max(3) - 3) / 8);
+    for room in 0..43 {
+        stops(&rt, alloc, b"\x1B({ABCDE", room, 3 + (room.max(3) - 3) / 8);
     }
 }

@@ -251,7 +251,7 @@ fn a_sink_that_stops_amid_a_text_stops_at_the_character(rt: HostRuntime) -> Resu
         list.push(primary(*code, pen))?;
     }
     let bytes = single_bytes(alloc, text)?;
-    for taken in 0..text.len() {
+    for taken in 0..list.len() {
         let count = taken as u64 + 1;
         for pieces in [&[text][..], &bytes] {
             let sink = Faltering {
