@@ -9,6 +9,8 @@ pub mod SinkingLemmas
 pub mod CutLemmas
 pub mod BatchLemmas
 pub mod BatchTexts
+pub mod BatchRuns
+pub mod BatchParts
 pub mod ConvertLemmas
 pub mod WalkLemmas
 pub mod FaultLemmas

@@ -1,7 +1,9 @@
-use Rattle.std.specs.Prelude.{ℕ, ◌≡◌, ◌<◌, Bool, true, false, List, [], ◌∷◌, Result, Ok, Err, Some, length, take, slice_index}
+use Rattle.std.specs.Prelude.{ℕ, ◌≡◌, ◌<◌, ◌*◌, ◌/◌, ◌++◌, Bool, true, false, List, [], ◌∷◌, Result, Ok, Err, Some, length, take, slice_index}
 use Rattle.nap_values.specs.Coordinates.{Coordinates}
+use Rattle.nap_values.specs.Spellings.{point_bytes}
 use Rattle.nap_codes.specs.declared.code_set.CharSet.{CharSet}
 use Rattle.nap_list.specs.declared.attribute.Pen.{Pen}
+use Rattle.nap_list.specs.declared.attribute.Pen.TheVariants.{At}
 use Rattle.nap_list.specs.declared.device.Outlet as outlet
 use Rattle.nap_list.specs.declared.entry.Entry.{Entry}
 use Rattle.nap_list.specs.declared.entry.Entry.TheVariants as entries
@@ -9,9 +11,14 @@ use Rattle.nap_list.specs.declared.sink.SinkFault.{SinkFault}
 use Rattle.nap_list.specs.declared.sink.SinkFault.TheVariants.{Write}
 use Rattle.nap_list.specs.declared.state.Drawing.{Drawing}
 use Rattle.nap_list.specs.declared.state.State.{State}
-use Rattle.nap_list.specs.State.{base_shown, with_pen, ink_of, hand_of}
+use Rattle.nap_list.specs.State.{after, base_shown, with_pen, ink_of, hand_of}
 use Rattle.nap_list.specs.Putting.{SinkShows, shows, BreaksAfter}
+use Rattle.nap_canon.specs.declared.form.Form.{Form}
+use Rattle.nap_canon.specs.declared.form.Form.TheVariants.{Two}
+use Rattle.nap_canon.specs.declared.tail.Tail.{Tail}
 use Rattle.nap_canon.specs.Sinking.{Canonical, Took, Broke}
+use Rattle.nap_canon.specs.Spelling.{group}
+use Rattle.nap_canon.specs.Text.{is_joined, entry_pieces}
 
 -- Entries that a sink of canonical text puts at once.
 
@@ -60,3 +67,33 @@ SentUpTo sent s bytes t (Err n) = CutAfter sent s bytes n t
 abbrev pub front_of : Result (Unit {0}) ℕ → List ℕ → List ℕ
 front_of (Ok _) list = list
 front_of (Err n) list = take n list
+
+-- the operands of points, one behind another
+unfoldable pub points_bytes : List Coordinates → List ℕ
+points_bytes [] = []
+points_bytes (p ∷ ps) = point_bytes p ++ points_bytes ps
+
+-- the state with the pen at this point
+abbrev pub pen_at : Coordinates → State → State
+pen_at p s = record s { drawing = with_pen (At p) s.drawing }
+
+-- the state with the pen at the last of these points
+unfoldable pub landed : State → List Coordinates → State
+landed s [] = s
+landed s (p ∷ ps) = landed (pen_at p s) ps
+
+-- the points of which all bytes were taken
+abbrev pub whole_points : Result (Unit {0}) ℕ → List Coordinates → List Coordinates
+whole_points (Ok _) points = points
+whole_points (Err n) points = take (n / 8) points
+
+-- so many points join the run that stands last
+abbrev pub PointsJoin : Form → Tail → ℕ → ℕ → Type 0
+PointsJoin form tail byte count = (form ≡ Two) × (is_joined tail byte (8 * count) ≡ true)
+
+-- each entry is a point behind this opcode, where the pen is then
+unfoldable pub ArePoints : ℕ → State → List Coordinates → List Entry → Type 0
+ArePoints byte s [] [] = Unit {0}
+ArePoints byte s (p ∷ ps) (e ∷ es) = (entry_pieces Two s e ≡ group byte (point_bytes p) ∷ []) × (after s e ≡ pen_at p s) × ArePoints byte (pen_at p s) ps es
+ArePoints byte s [] (e ∷ es) = ⊥
+ArePoints byte s (p ∷ ps) [] = ⊥

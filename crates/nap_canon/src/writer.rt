@@ -18,9 +18,10 @@ use nap_list::{Entry, State};
 use nap_values::{put_addr, put_grb, put_move, put_point};
 
 mod batch;
+mod joining;
 mod spelling;
 
-mod opcodes {
+pub(crate) mod opcodes {
     pub(crate) const RESET: u8 = 0x20;
 
     pub(crate) const DOMAIN: u8 = 0x21;

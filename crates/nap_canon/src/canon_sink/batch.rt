@@ -1,17 +1,22 @@
 //! Entries behind one of their like.
-ghost use Rattle.std.specs.Prelude.{◌≡◌, None, false, map};
+ghost use Rattle.std.specs.Prelude.{◌≡◌, ◌≤◌, List, None, false, true, length, map};
 ghost use Rattle.nap_codes.specs.declared.code_set.CharSet.TheVariants.{Primary};
 ghost use Rattle.nap_codes.specs.declared.code_set.GSet.TheVariants.{G0};
 ghost use Rattle.nap_list.specs.declared.attribute.Pen.TheVariants.{After};
+ghost use Rattle.nap_list.specs.declared.entry.Entry.{Entry};
 ghost use Rattle.nap_list.specs.Putting.{Put, point_on, lines_on, text_in};
 ghost use Rattle.nap_list.specs.State.{hand_of};
 ghost use Rattle.nap_canon.specs.declared.tail.Tail.TheVariants.{Apart};
-ghost use Rattle.nap_canon.specs.Batches.{canon_shows, ColourStands, PutsNext, PutsSome, line_on, char_on};
+ghost use Rattle.nap_canon.specs.Batches.{canon_shows, ColourStands, PutsNext, PutsSome, PointsJoin, ArePoints, line_on, char_on};
 
 use crate::canon_sink::CanonSink;
+use crate::writer::opcodes;
 use nap_codes::CharSet;
 use nap_list::{Outlet, SinkFault};
 use nap_values::Point;
+
+/// So many points are taken at once.
+const MOST: usize = 32;
 
 impl<O: Outlet + Drop> CanonSink<O> {
     /// Takes a point behind another.
@@ -28,8 +33,30 @@ impl<O: Outlet + Drop> CanonSink<O> {
         Ok(())
     }
 
-    /// Takes points behind another.
-    pub(super) fn points_on(&mut self, points: &[Point]) -> Result<(), SinkFault>
+    /// Whether so many points join the run that stands last.
+    #[inline]
+    fn joins(&self, opcode: u8, count: usize) -> bool
+        requires few { count ≤ 32 }
+        ensures { result ≡ true → PointsJoin self.now.form self.now.tail opcode count }
+    {
+        self.writer.joins(opcode, count)
+    }
+
+    /// Takes entries that are points behind this opcode, and join the run that stands last.
+    fn joined(&mut self, opcode: u8, points: &[Point]) -> Result<(), SinkFault>
+        requires works { O.failed self.old.outlet ≡ false }
+        requires few { length points.now ≤ 32 }
+        requires joins { PointsJoin self.old.form self.old.tail opcode (length points.now) }
+        ensures { (list : List Entry) → ArePoints opcode self.old.state points.now list → Put (canon_shows O.Outlet) list self.old self.new result }
+    {
+        if self.writer.next_points(opcode, points).is_err() {
+            return Err(SinkFault::Write);
+        }
+        Ok(())
+    }
+
+    /// Takes points behind another, one by one.
+    fn points_in_turn(&mut self, points: &[Point]) -> Result<(), SinkFault>
         requires works { O.failed self.old.outlet ≡ false }
         requires last { self.old.state.last ≡ None }
         requires colour { ColourStands self.old.state.drawing }
@@ -37,6 +64,33 @@ impl<O: Outlet + Drop> CanonSink<O> {
     {
         for at in points {
             self.next_point(*at)?;
+        }
+        Ok(())
+    }
+
+    /// Takes points behind another, at once where they join the run that stands last.
+    fn some_points(&mut self, points: &[Point]) -> Result<(), SinkFault>
+        requires works { O.failed self.old.outlet ≡ false }
+        requires last { self.old.state.last ≡ None }
+        requires colour { ColourStands self.old.state.drawing }
+        requires few { length points.now ≤ 32 }
+        ensures { Put (canon_shows O.Outlet) (map (point_on self.old.state.drawing) points.now) self.old self.new result }
+    {
+        if self.joins(opcodes::POINT_ABS, points.len()) {
+            return self.joined(opcodes::POINT_ABS, points);
+        }
+        self.points_in_turn(points)
+    }
+
+    /// Takes points behind another.
+    pub(super) fn points_on(&mut self, points: &[Point]) -> Result<(), SinkFault>
+        requires works { O.failed self.old.outlet ≡ false }
+        requires last { self.old.state.last ≡ None }
+        requires colour { ColourStands self.old.state.drawing }
+        ensures { Put (canon_shows O.Outlet) (map (point_on self.old.state.drawing) points.now) self.old self.new result }
+    {
+        for chunk in points.chunks(MOST) {
+            self.some_points(chunk)?;
         }
         Ok(())
     }

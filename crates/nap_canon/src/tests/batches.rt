@@ -54,6 +54,66 @@ fn a_batch_breaks_where_its_outlet_does(rt: HostRuntime) -> Result<(), Fail> {
     Ok(())
 }
 
+/// A stream of points behind this opcode.
+fn many(alloc: Global, opcode: u8, count: u8) -> Result<Vec<u8>, AllocError> {
+    let mut stream = Vec::new(alloc);
+    stream.extend_from_slice(&[0x0E, opcode])?;
+    for n in 0..count {
+        stream.extend_from_slice(&[0x40 + n % 4, 0x40 + n % 64, 0x40 + n / 4])?;
+    }
+    Ok(stream)
+}
+
+#[test]
+fn a_long_batch_has_the_bytes_of_its_entries(rt: HostRuntime) -> Result<(), Fail> {
+    let alloc = rt.alloc();
+    // POINT and LINE, both absolute.
+    for opcode in [0x26, 0x28] {
+        for count in [32, 33, 34, 65, 66, 200] {
+            let stream = many(alloc, opcode, count)?;
+            let want = in_turn(alloc, stream.as_slice())?;
+            let left = read_into(&rt, alloc, stream.as_slice(), Full::new(alloc, 4096, 100));
+            assert_eq!(rt; left.refusal, None);
+            assert_eq!(rt; left.kept.as_slice(), want.as_slice());
+        }
+    }
+    Ok(())
+}
+
+#[test]
+fn a_long_batch_breaks_where_its_outlet_does(rt: HostRuntime) -> Result<(), Fail> {
+    let alloc = rt.alloc();
+    for opcode in [0x26, 0x28] {
+        let stream = many(alloc, opcode, 70)?;
+        let want = in_turn(alloc, stream.as_slice())?;
+        for room in 0..want.len() {
+            let left = read_into(&rt, alloc, stream.as_slice(), Full::new(alloc, room, 100));
+            assert_eq!(rt; left.kept.as_slice(), &want.as_slice()[..room]);
+            assert_eq!(rt; (left.failed, left.written), (true, room as u64));
+        }
+    }
+    Ok(())
+}
+
+#[test]
+fn a_batch_goes_on_behind_the_longest_run(rt: HostRuntime) -> Result<(), Fail> {
+    let alloc = rt.alloc();
+    // The header, an opcode for each run, and the points; the first line has both its points.
+    for (opcode, size) in [(0x26, 3 + 2 + 2100 * 8), (0x28, 3 + 3 + 2101 * 8)] {
+        let mut stream = Vec::new(alloc);
+        stream.extend_from_slice(&[0x0E, opcode])?;
+        for n in 0..2100_u64 {
+            stream.extend_from_slice(&[0x40, 0x40 + (n % 64) as u8, 0x40 + (n / 64) as u8])?;
+        }
+        let want = in_turn(alloc, stream.as_slice())?;
+        let left = read_into(&rt, alloc, stream.as_slice(), Full::new(alloc, 32768, 4096));
+        assert_eq!(rt; left.refusal, None);
+        assert_eq!(rt; left.kept.as_slice(), want.as_slice());
+        assert_eq!(rt; want.len(), size);
+    }
+    Ok(())
+}
+
 // The refusal is where the first character is of which a byte is wanting.
 fn stops(rt: &impl Abort, alloc: Global, stream: &[u8], room: usize, place: usize) {
     let left = read_into(rt, alloc, stream, Full::new(alloc, room, 3));

@@ -1,11 +1,15 @@
-use Rattle.std.proofs.Common.{◌≡◌, false, map, drop}
+use Rattle.std.proofs.Common.{◌≡◌, false, map}
+use Rattle.std.specs.Slice.Iter.{chunks_rest, chunks_size}
 use Rattle.nap_list.specs.Putting.{Putting, point_on}
 use Rattle.nap_canon.specs.Batches.{canon_shows, PensApart}
 use Rattle.nap_canon.proofs.canon_sink.CanonSink.points_on.Given as goal
 
-abbrev pub invariant-loop-at : goal.invariant-loop-at
-invariant-loop-at g l = record {
-  putting : Putting (canon_shows g.O.Outlet) l.fn.self l.self (map (point_on l.fn.self.state.drawing) l.points) (map (point_on l.fn.self.state.drawing) (drop l.at-index l.points));
+abbrev pub invariant-loop-chunk : goal.invariant-loop-chunk
+invariant-loop-chunk g l = record {
+  can : (goal.iterator-loop-chunk g).can_next l.chunk-iterator;
+  finite : (goal.iterator-loop-chunk g).is_finite l.chunk-iterator;
+  size : chunks_size l.chunk-iterator ≡ 32;
+  putting : Putting (canon_shows g.O.Outlet) l.fn.self l.self (map (point_on l.fn.self.state.drawing) l.points) (map (point_on l.fn.self.state.drawing) (chunks_rest l.chunk-iterator));
   works : g.O.Outlet.failed l.self.outlet ≡ false;
   apart : PensApart l.fn.self.state l.self.state;
 }
