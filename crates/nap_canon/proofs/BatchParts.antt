@@ -5,13 +5,15 @@ use Rattle.nap_list.specs.declared.device.Outlet as outlet
 use Rattle.nap_list.specs.declared.entry.Entry.{Entry}
 use Rattle.nap_list.specs.declared.sink.SinkFault.{SinkFault}
 use Rattle.nap_list.specs.declared.sink.SinkFault.TheVariants as faults
+use Rattle.nap_list.specs.declared.state.Drawing.{Drawing}
 use Rattle.nap_list.specs.declared.state.State.{State}
-use Rattle.nap_list.specs.State.{after, walk}
-use Rattle.nap_list.specs.Putting.{Put, Putting, Breaks, point_on}
-use Rattle.nap_canon.specs.Batches.{canon_shows, ColourStands, PensApart}
+use Rattle.nap_list.specs.State.{after, walk, ink_of}
+use Rattle.nap_list.specs.Putting.{Put, Putting, Breaks, point_on, lines_on}
+use Rattle.nap_canon.specs.Batches.{canon_shows, ColourStands, PensApart, last_of, line_on}
 use Rattle.nap_canon.specs.Sinking.{Canonical, Took, Broke}
 use Rattle.nap_canon.specs.SinkLaws.{took_more, took_broke}
-use Rattle.nap_canon.proofs.BatchLemmas.{point_values_stay, point_apart}
+use Rattle.nap_canon.proofs.BatchLemmas.{point_values_stay, point_apart, line_values_stay, line_apart}
+use Rattle.nap_canon.proofs.BatchRuns.{lines_like_ink}
 
 -- A list that is put part by part.
 
@@ -64,3 +66,33 @@ points_apart s t [] apart on last = apart
 points_apart s t (p ∷ ps) apart on last =
     points_apart s (after t (point_on s.drawing p)) ps
     (subst (λ (e : Entry). PensApart s (after t e)) (point_values_stay s t p apart) (point_apart s t p apart on last)) on last
+
+-- lines with the values that stand
+
+pub lines_stay : (s t : State) (from : Coordinates) (ps : List Coordinates) → PensApart s t → lines_on t.drawing from ps ≡ lines_on s.drawing from ps
+lines_stay s t from ps apart = lines_like_ink t.drawing s.drawing from ps (ap (λ (u : State). ink_of u.drawing) apart.1)
+
+pub lines_apart : (s t : State) (from : Coordinates) (ps : List Coordinates) → PensApart s t → ColourStands s.drawing → s.last ≡ None → PensApart s (walk t (lines_on s.drawing from ps))
+unfolding walk lines_on
+lines_apart s t from [] apart on last = apart
+lines_apart s t from (p ∷ ps) apart on last =
+    lines_apart s (after t (line_on s.drawing from p)) p ps
+    (subst (λ (e : Entry). PensApart s (after t e)) (line_values_stay s t from p apart) (line_apart s t from p apart on last)) on last
+
+-- behind one line
+pub line_next : (s t : State) (from to : Coordinates) → t ≡ walk s (line_on s.drawing from to ∷ []) → ColourStands s.drawing → s.last ≡ None → PensApart s t
+unfolding walk
+line_next s t from to is on last = subst (λ (u : State). PensApart s u) (sym is) (line_apart s s from to (s.drawing.pen, refl) on last)
+
+pub lines_parts : (d : Drawing) (from : Coordinates) (ps qs : List Coordinates) → lines_on d from (ps ++ qs) ≡ lines_on d from ps ++ lines_on d (last_of from ps) qs
+unfolding lines_on last_of
+lines_parts d from [] qs = refl
+lines_parts d from (p ∷ ps) qs = ap (λ (list : List Entry). line_on d from p ∷ list) (lines_parts d p ps qs)
+
+pub last_is : (from : Coordinates) (ps front : List Coordinates) (last : Coordinates) → ps ≡ front ++ last ∷ [] → last ≡ last_of from ps
+unfolding last_of
+last_is from ps front last is = sym (ap (last_of from) is ∙ along from front)
+  where
+    along : (from : Coordinates) (front : List Coordinates) → last_of from (front ++ last ∷ []) ≡ last
+    along from [] = refl
+    along from (p ∷ ps) = along p ps

@@ -16,7 +16,7 @@ use Rattle.nap_list.specs.declared.entry.Entry.TheVariants as entries
 use Rattle.nap_list.specs.declared.sink.SinkFault.TheVariants as faults
 use Rattle.nap_list.specs.declared.state.Drawing.{Drawing}
 use Rattle.nap_list.specs.declared.state.State.{State}
-use Rattle.nap_list.specs.State.{after, walk, ink_of}
+use Rattle.nap_list.specs.State.{walk, ink_of}
 use Rattle.nap_list.specs.Putting.{Put, point_on, lines_on}
 use Rattle.nap_reader.specs.Stream.{run_limit}
 use Rattle.nap_canon.specs.declared.form.Form.{Form}

@@ -82,6 +82,11 @@ unfoldable pub landed : State → List Coordinates → State
 landed s [] = s
 landed s (p ∷ ps) = landed (pen_at p s) ps
 
+-- the last of these points, or this one where there is none
+unfoldable pub last_of : Coordinates → List Coordinates → Coordinates
+last_of p [] = p
+last_of p (q ∷ qs) = last_of q qs
+
 -- the points of which all bytes were taken
 abbrev pub whole_points : Result (Unit {0}) ℕ → List Coordinates → List Coordinates
 whole_points (Ok _) points = points

@@ -2,12 +2,12 @@
 ghost use Rattle.std.specs.Prelude.{◌≡◌, ◌≤◌, List, None, false, true, length, map};
 ghost use Rattle.nap_codes.specs.declared.code_set.CharSet.TheVariants.{Primary};
 ghost use Rattle.nap_codes.specs.declared.code_set.GSet.TheVariants.{G0};
-ghost use Rattle.nap_list.specs.declared.attribute.Pen.TheVariants.{After};
+ghost use Rattle.nap_list.specs.declared.attribute.Pen.TheVariants.{After, At};
 ghost use Rattle.nap_list.specs.declared.entry.Entry.{Entry};
 ghost use Rattle.nap_list.specs.Putting.{Put, point_on, lines_on, text_in};
 ghost use Rattle.nap_list.specs.State.{hand_of};
 ghost use Rattle.nap_canon.specs.declared.tail.Tail.TheVariants.{Apart};
-ghost use Rattle.nap_canon.specs.Batches.{canon_shows, ColourStands, PutsNext, PutsSome, PointsJoin, ArePoints, line_on, char_on};
+ghost use Rattle.nap_canon.specs.Batches.{canon_shows, ColourStands, PutsNext, PutsSome, PointsJoin, ArePoints, last_of, line_on, char_on};
 
 use crate::canon_sink::CanonSink;
 use crate::writer::opcodes;
@@ -17,6 +17,17 @@ use nap_values::Point;
 
 /// So many points are taken at once.
 const MOST: usize = 32;
+
+/// The last of these points, or this one where there is none.
+#[inline]
+fn last_of(from: Point, points: &[Point]) -> Point
+    ensures { result ≡ last_of from points.now }
+{
+    match points.split_last() {
+        Some((last, _)) => *last,
+        None => from,
+    }
+}
 
 impl<O: Outlet + Drop> CanonSink<O> {
     /// Takes a point behind another.
@@ -109,8 +120,17 @@ impl<O: Outlet + Drop> CanonSink<O> {
         Ok(())
     }
 
-    /// Takes lines behind another, from this point on.
-    pub(super) fn lines_on(&mut self, from: Point, points: &[Point]) -> Result<(), SinkFault>
+    /// Whether so many lines on from this point join the run that stands last.
+    #[inline]
+    fn goes_on(&self, from: Point, count: usize) -> bool
+        requires few { count ≤ 32 }
+        ensures { result ≡ true → PointsJoin self.now.form self.now.tail 0x28 count × (self.now.state.drawing.pen ≡ At from) }
+    {
+        self.writer.goes_on(from, count)
+    }
+
+    /// Takes lines behind another, from this point on, one by one.
+    fn lines_in_turn(&mut self, from: Point, points: &[Point]) -> Result<(), SinkFault>
         requires works { O.failed self.old.outlet ≡ false }
         requires last { self.old.state.last ≡ None }
         requires colour { ColourStands self.old.state.drawing }
@@ -120,6 +140,54 @@ impl<O: Outlet + Drop> CanonSink<O> {
         for to in points {
             self.next_line(from, *to)?;
             from = *to;
+        }
+        Ok(())
+    }
+
+    /// Takes lines behind another, from this point on, at once where they join the run that stands last.
+    fn joining_lines(&mut self, from: Point, points: &[Point]) -> Result<(), SinkFault>
+        requires works { O.failed self.old.outlet ≡ false }
+        requires last { self.old.state.last ≡ None }
+        requires colour { ColourStands self.old.state.drawing }
+        requires few { length points.now ≤ 32 }
+        ensures { Put (canon_shows O.Outlet) (lines_on self.old.state.drawing from points.now) self.old self.new result }
+    {
+        if self.goes_on(from, points.len()) {
+            return self.joined(opcodes::LINE_ABS, points);
+        }
+        self.lines_in_turn(from, points)
+    }
+
+    /// Takes lines behind another, from this point on. The first of them opens a run, where they don't join the one that
+    /// stands last.
+    fn some_lines(&mut self, from: Point, points: &[Point]) -> Result<(), SinkFault>
+        requires works { O.failed self.old.outlet ≡ false }
+        requires last { self.old.state.last ≡ None }
+        requires colour { ColourStands self.old.state.drawing }
+        requires few { length points.now ≤ 32 }
+        ensures { Put (canon_shows O.Outlet) (lines_on self.old.state.drawing from points.now) self.old self.new result }
+    {
+        if self.goes_on(from, points.len()) {
+            return self.joined(opcodes::LINE_ABS, points);
+        }
+        let Some((to, others)) = points.split_first() else {
+            return Ok(());
+        };
+        self.next_line(from, *to)?;
+        self.joining_lines(*to, others)
+    }
+
+    /// Takes lines behind another, from this point on.
+    pub(super) fn lines_on(&mut self, from: Point, points: &[Point]) -> Result<(), SinkFault>
+        requires works { O.failed self.old.outlet ≡ false }
+        requires last { self.old.state.last ≡ None }
+        requires colour { ColourStands self.old.state.drawing }
+        ensures { Put (canon_shows O.Outlet) (lines_on self.old.state.drawing from points.now) self.old self.new result }
+    {
+        let mut from = from;
+        for chunk in points.chunks(MOST) {
+            self.some_lines(from, chunk)?;
+            from = last_of(from, chunk);
         }
         Ok(())
     }

@@ -1,12 +1,13 @@
 //! Points that join the run that stands last, all at once.
 ghost use Rattle.std.specs.Prelude.{◌≡◌, ◌≤◌, ◌*◌, length, true, OnOk};
+ghost use Rattle.nap_list.specs.declared.attribute.Pen.TheVariants.{At};
 ghost use Rattle.nap_canon.specs.declared.tail.Tail.TheVariants.{InRun};
 ghost use Rattle.nap_canon.specs.Batches.{SentUpTo, PointsJoin, points_bytes, landed, whole_points};
 ghost use Rattle.nap_canon.specs.Text.{is_joined, run_behind};
 
 use crate::byte_sink::ByteSink;
 use crate::form::Form;
-use crate::writer::Writer;
+use crate::writer::{Writer, opcodes};
 use arrayvec::ArrayVec;
 use nap_list::Pen;
 use nap_values::{Point, put_point};
@@ -36,6 +37,15 @@ impl<T: ByteSink + Drop> Writer<T> {
         ensures { result ≡ true → PointsJoin self.now.form self.now.tail opcode count }
     {
         self.form == Form::Two && self.tail.joins(opcode, 8 * count)
+    }
+
+    /// Whether so many lines on from this point join the run that stands last.
+    #[inline]
+    pub(crate) fn goes_on(&self, from: Point, count: usize) -> bool
+        requires few { count ≤ 32 }
+        ensures { result ≡ true → PointsJoin self.now.form self.now.tail 0x28 count × (self.now.state.drawing.pen ≡ At from) }
+    {
+        self.state.drawing.pen == Pen::At(from) && self.joins(opcodes::LINE_ABS, count)
     }
 
     /// Moves the pen to the last of these points.
