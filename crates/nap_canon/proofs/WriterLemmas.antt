@@ -1,8 +1,9 @@
 use Rattle.std.proofs.Common.{if◌then◌else◌, Result, Ok, Err, OnOk, Bool, true, false, refl, subst, ℕ, suc, ◌+◌, ◌≡◌, ◌<◌, List, [], ◌∷◌, ◌++◌, length, map, take, drop, get_or, ap, sym, ◌∙◌, append_assoc, append-nil, arith}
 use Rattle.std.proofs.lemmas.List.{take_more, map-append, take-append-drop}
 use Rattle.std.proofs.Math.Seq.{drop-cons}
-use Rattle.nap_values.specs.Coordinates.{Coordinates, displacement_to}
-use Rattle.nap_values.specs.Spellings.{move_bytes, point_bytes}
+use Rattle.nap_values.specs.Coordinates.{Coordinates, Displacement, displacement_to}
+use Rattle.nap_values.specs.Digits.{digits_of}
+use Rattle.nap_values.specs.Spellings.{move_bytes, point_bytes, words_of_pairs}
 use Rattle.nap_canon.specs.declared.tail.Tail.{Tail}
 use Rattle.nap_canon.specs.declared.form.Form.{Form}
 use Rattle.nap_canon.specs.declared.command.Command.{Command}
@@ -10,6 +11,7 @@ use Rattle.nap_list.specs.declared.entry.Entry.{Entry}
 use Rattle.nap_list.specs.declared.state.State.{State}
 use Rattle.nap_list.specs.Entry.{held}
 use Rattle.nap_list.specs.State.{taking}
+use Rattle.nap_canon.specs.Batches.{last_of}
 use Rattle.nap_canon.specs.Bring.{bring}
 use Rattle.nap_canon.specs.Spelling.{Piece, command_piece, onward_bytes, shape, shape_bytes, spelled}
 use Rattle.nap_canon.specs.Text.{gl_of, to_opcodes, piece_bytes, tail_behind, written, tail_after, entry_pieces}
@@ -30,6 +32,30 @@ onward_more now next piece whole from to others i within is step spelled so_far 
     ap (λ (bs : List ℕ). bs ++ onward_bytes to (drop (i + 1) others)) (step ∙ ap (λ (bs : List ℕ). now ++ bs) spelled)
     ∙ append_assoc now bytes (onward_bytes to (drop (i + 1) others))
     ∙ ap (λ (qs : List Coordinates). now ++ onward_bytes from qs) (sym left)
+    ∙ so_far
+
+pub move_size : (m : Displacement) → length (move_bytes m) ≡ 8
+unfolding move_bytes words_of_pairs digits_of
+move_size m = refl
+
+-- displacements in two parts
+onward_parts : (from : Coordinates) (ps qs : List Coordinates) → onward_bytes from (ps ++ qs) ≡ onward_bytes from ps ++ onward_bytes (last_of from ps) qs
+unfolding onward_bytes last_of
+onward_parts from [] qs = refl
+onward_parts from (p ∷ ps) qs =
+    let step : List ℕ = move_bytes (displacement_to from p) in
+    ap (λ (bs : List ℕ). step ++ bs) (onward_parts p ps qs)
+    ∙ sym (append_assoc step (onward_bytes p ps) (onward_bytes (last_of p ps) qs))
+
+-- one part more of them
+pub onward_part : (now piece whole : List ℕ) (from to : Coordinates) (left part rest : List Coordinates) → left ≡ part ++ rest → piece ≡ onward_bytes from part → to ≡ last_of from part →
+    now ++ onward_bytes from left ≡ whole → (now ++ piece) ++ onward_bytes to rest ≡ whole
+onward_part now piece whole from to left part rest parts spelled last so_far =
+    ap (λ (bs : List ℕ). (now ++ bs) ++ onward_bytes to rest) spelled
+    ∙ ap (λ (p : Coordinates). (now ++ onward_bytes from part) ++ onward_bytes p rest) last
+    ∙ append_assoc now (onward_bytes from part) (onward_bytes (last_of from part) rest)
+    ∙ ap (λ (bs : List ℕ). now ++ bs) (sym (onward_parts from part rest))
+    ∙ ap (λ (ps : List Coordinates). now ++ onward_bytes from ps) (sym parts)
     ∙ so_far
 
 -- a shape: its opcode with the first point, and the displacements to the others

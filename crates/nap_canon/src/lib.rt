@@ -7,6 +7,7 @@ mod command;
 mod conversion;
 mod fault;
 mod form;
+mod gathered;
 pub mod laws;
 mod output;
 mod piece;

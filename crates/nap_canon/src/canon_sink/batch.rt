@@ -7,27 +7,14 @@ ghost use Rattle.nap_list.specs.declared.entry.Entry.{Entry};
 ghost use Rattle.nap_list.specs.Putting.{Put, point_on, lines_on, text_in};
 ghost use Rattle.nap_list.specs.State.{hand_of};
 ghost use Rattle.nap_canon.specs.declared.tail.Tail.TheVariants.{Apart};
-ghost use Rattle.nap_canon.specs.Batches.{canon_shows, ColourStands, PutsNext, PutsSome, PointsJoin, ArePoints, last_of, line_on, char_on};
+ghost use Rattle.nap_canon.specs.Batches.{canon_shows, ColourStands, PutsNext, PutsSome, PointsJoin, ArePoints, line_on, char_on};
 
 use crate::canon_sink::CanonSink;
+use crate::gathered::{MOST, last_of};
 use crate::writer::opcodes;
 use nap_codes::CharSet;
 use nap_list::{Outlet, SinkFault};
 use nap_values::Point;
-
-/// So many points are taken at once.
-const MOST: usize = 32;
-
-/// The last of these points, or this one where there is none.
-#[inline]
-fn last_of(from: Point, points: &[Point]) -> Point
-    ensures { result ≡ last_of from points.now }
-{
-    match points.split_last() {
-        Some((last, _)) => *last,
-        None => from,
-    }
-}
 
 impl<O: Outlet + Drop> CanonSink<O> {
     /// Takes a point behind another.

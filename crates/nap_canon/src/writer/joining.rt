@@ -7,27 +7,10 @@ ghost use Rattle.nap_canon.specs.Text.{is_joined, run_behind};
 
 use crate::byte_sink::ByteSink;
 use crate::form::Form;
+use crate::gathered::operands;
 use crate::writer::{Writer, opcodes};
-use arrayvec::ArrayVec;
 use nap_list::Pen;
-use nap_values::{Point, put_point};
-
-/// The bytes of 32 points.
-const ROOM: usize = 256;
-
-/// The operands of points, one behind another.
-#[inline]
-fn operands(points: &[Point]) -> ArrayVec<u8, ROOM>
-    requires few { length points.now ≤ 32 }
-    ensures bytes { result.items ≡ points_bytes points.now }
-    ensures size { length result.items ≡ 8 * length points.now }
-{
-    let mut bytes = ArrayVec::new();
-    for point in points {
-        bytes.try_extend_from_slice(&put_point(*point)).unwrap();
-    }
-    bytes
-}
+use nap_values::Point;
 
 impl<T: ByteSink + Drop> Writer<T> {
     /// Whether so many points join the run that stands last.

@@ -10,6 +10,7 @@ ghost use Rattle.nap_canon.specs.Text.{gl_of, piece_bytes, written, tail_behind,
 use crate::byte_sink::ByteSink;
 use crate::command::Commands;
 use crate::form::Form;
+use crate::gathered::{MOST, displacements, last_of};
 use crate::piece::Piece;
 use crate::tail::Tail;
 use crate::writer::{LENGTHS, Writer, opcodes};
@@ -55,9 +56,9 @@ impl<T: ByteSink + Drop> Writer<T> {
         ensures kept { (self.new.form ≡ self.old.form) × (self.new.state ≡ self.old.state) }
     {
         let mut from = first;
-        for to in others {
-            self.to.take(&put_move(from.to(*to)))?;
-            from = *to;
+        for chunk in others.chunks(MOST) {
+            self.to.take(displacements(from, chunk).as_slice())?;
+            from = last_of(from, chunk);
         }
         Ok(())
     }

@@ -1,49 +1,65 @@
-use Rattle.std.proofs.Common.{◌++◌, subst, ℕ, [], List, ◌≡◌, ◌∙◌, ap, sym, refl, false, append-nil, arith}
+use Rattle.std.proofs.Common.{◌++◌, subst, ℕ, [], List, ◌≡◌, ◌∙◌, ap, sym, refl, false, append-nil, arith, rules}
+use Rattle.std.specs.Slice.Iter.{chunks_rest, chunks_size}
 use Rattle.std.proofs.lemmas.Result.{err_from_is_err_and}
-use Rattle.std.proofs.Math.ListN.{drop_of_length-le}
 use Rattle.nap_values.specs.Coordinates.{Coordinates}
-use Rattle.nap_values.specs.Spellings.{move_bytes}
+use Rattle.nap_canon.specs.Batches.{last_of}
 use Rattle.nap_canon.specs.Spelling.{onward_bytes}
-use Rattle.nap_canon.proofs.WriterLemmas.{onward_more, sent_second}
+use Rattle.nap_canon.proofs.BatchLemmas.{no_items}
+use Rattle.nap_canon.proofs.WriterLemmas.{onward_part, sent_second}
 use Rattle.nap_canon.proofs.writer.Writer.onward.Goals as goal
 
-pub loop-to-init : goal.loop-to-init
-loop-to-init g c = record { sent = ([], g.met.T.ByteSink.sent_none c.args.self.now.to, refl); tail = refl; kept = (refl, refl) }
-
-pub loop-to-preserved : goal.loop-to-preserved
-loop-to-preserved g c =
-    let so_far = c.loop-to.invariant.sent in
-    let piece = c.deref.result.now in
-    let next = so_far.0 ++ piece in
+pub loop-chunk-init : goal.loop-chunk-init
+loop-chunk-init g c =
+    let size : chunks_size c.into_iter-chunk-iterator.result ≡ 32 = search rules in
+    let all : chunks_rest c.into_iter-chunk-iterator.result ≡ c.args.others.now = search rules in
     record {
+      can = omega arith;
+      finite = tt;
+      size = size;
+      sent = ([], g.met.T.ByteSink.sent_none c.args.self.now.to, ap (onward_bytes c.args.first) all);
+      tail = refl;
+      kept = (refl, refl);
+    }
+
+pub loop-chunk-preserved : goal.loop-chunk-preserved
+loop-chunk-preserved g c =
+    let inv = c.loop-chunk.invariant in
+    let so_far = inv.sent in
+    let steps = c.in-Some.ensures.steps in
+    let piece = c.as_slice.result.now in
+    record {
+      can = omega (arith, steps.0, inv.can);
+      finite = tt;
+      size = steps.0 ∙ inv.size;
       sent = (
-        next,
-        g.met.T.ByteSink.sent_more c.args.self.now.to c.loop-to.self.to c.take.new.self so_far.0 piece false so_far.1 c.in_ok-take.ensures,
-        onward_more so_far.0 next piece (onward_bytes c.args.first c.args.others.now) c.loop-to.from c.to-item.result c.args.others.now c.loop-to.to-index
-            c.loop-to-test.true c.to-item.is refl (c.deref.ensures.0 ∙ c.put_move.ensures ∙ ap move_bytes c.to.ensures) so_far.2,
+        so_far.0 ++ piece,
+        g.met.T.ByteSink.sent_more c.args.self.now.to c.loop-chunk.self.to c.take.new.self so_far.0 piece false so_far.1 c.in_ok-take.ensures,
+        onward_part so_far.0 piece (onward_bytes c.args.first c.args.others.now) c.loop-chunk.from c.last_of-from.result _ c.in-Some.chunk.now (chunks_rest c.next.new.self)
+            steps.1.0 (c.as_slice.ensures.value ∙ c.displacements.ensures) c.last_of-from.ensures so_far.2,
       );
-      tail = c.loop-to.invariant.tail;
-      kept = c.loop-to.invariant.kept;
+      tail = inv.tail;
+      kept = inv.kept;
     }
 
 pub returns-in_err-take-clause-sent : goal.returns-in_err-take-clause-sent
 returns-in_err-take-clause-sent g c =
-    let so_far = c.loop-to.invariant.sent in
-    let piece = c.deref.result.now in
+    let so_far = c.loop-chunk.invariant.sent in
+    let piece = c.as_slice.result.now in
     let whole = onward_bytes c.args.first c.args.others.now in
+    let from = c.loop-chunk.from in
+    let part = c.in-Some.chunk.now in
     let failure = err_from_is_err_and c.from_residual.result c.from_residual.ensures.1 in
-    rw failure.1 (sent_second g.T.ByteSink.sent g.met.T.ByteSink.sent_more g.met.T.ByteSink.sent_cut c.args.self.now.to c.loop-to.self.to c.take.new.self so_far.0 piece _ whole
-    (onward_more so_far.0 (so_far.0 ++ piece) piece whole c.loop-to.from c.to-item.result c.args.others.now c.loop-to.to-index
-    c.loop-to-test.true c.to-item.is refl (c.deref.ensures.0 ∙ c.put_move.ensures ∙ ap move_bytes c.to.ensures) so_far.2)
+    rw failure.1 (sent_second g.T.ByteSink.sent g.met.T.ByteSink.sent_more g.met.T.ByteSink.sent_cut c.args.self.now.to c.loop-chunk.self.to c.take.new.self so_far.0 piece _ whole
+    (onward_part so_far.0 piece whole from (last_of from part) _ part (chunks_rest c.next.new.self) c.in-Some.ensures.steps.1.0 (c.as_slice.ensures.value ∙ c.displacements.ensures) refl so_far.2)
     so_far.1 c.in_err-take.ensures)
 
 pub returns-clause-sent : goal.returns-clause-sent
 unfolding onward_bytes
 returns-clause-sent g c =
-    let so_far = c.loop-to.invariant.sent in
-    let none = drop_of_length-le c.args.others.now {i = c.loop-to.to-index} (omega (arith, c.loop-to-test.false)) in
+    let so_far = c.loop-chunk.invariant.sent in
+    let none = no_items _ c.in-None.ensures.steps.1.0 in
     let all : so_far.0 ≡ onward_bytes c.args.first c.args.others.now =
     sym (append-nil so_far.0)
-    ∙ ap (λ (qs : List Coordinates). so_far.0 ++ onward_bytes c.loop-to.from qs) (sym none)
+    ∙ ap (λ (qs : List Coordinates). so_far.0 ++ onward_bytes c.loop-chunk.from qs) (sym none)
     ∙ so_far.2 in
-    subst (λ (bytes : List ℕ). g.T.ByteSink.sent c.args.self.now.to bytes false c.loop-to.self.to) all so_far.1
+    subst (λ (bytes : List ℕ). g.T.ByteSink.sent c.args.self.now.to bytes false c.loop-chunk.self.to) all so_far.1

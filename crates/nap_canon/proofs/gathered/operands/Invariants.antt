@@ -1,6 +1,6 @@
 use Rattle.std.proofs.Common.{◌≡◌, ◌*◌, length, take}
 use Rattle.nap_canon.specs.Batches.{points_bytes}
-use Rattle.nap_canon.proofs.writer.joining.operands.Given as goal
+use Rattle.nap_canon.proofs.gathered.operands.Given as goal
 
 -- the points so far
 abbrev pub invariant-loop-point : goal.invariant-loop-point

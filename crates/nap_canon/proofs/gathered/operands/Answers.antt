@@ -2,7 +2,7 @@ use Rattle.std.proofs.Common.{◌≡◌, ◌++◌, ℕ, List, arith, ◌∙◌, 
 use Rattle.nap_canon.specs.Batches.{points_bytes}
 use Rattle.nap_values.specs.Spellings.{point_bytes}
 use Rattle.nap_canon.proofs.BatchRuns.{point_size, points_more, points_all}
-use Rattle.nap_canon.proofs.writer.joining.operands.Goals as goal
+use Rattle.nap_canon.proofs.gathered.operands.Goals as goal
 
 pub loop-point-init : goal.loop-point-init
 unfolding points_bytes

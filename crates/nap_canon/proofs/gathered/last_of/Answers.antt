@@ -2,7 +2,7 @@ use Rattle.std.proofs.Common.{sym, ap}
 use Rattle.nap_canon.specs.Batches.{last_of}
 use Rattle.nap_canon.proofs.BatchLemmas.{no_items}
 use Rattle.nap_canon.proofs.BatchParts.{last_is}
-use Rattle.nap_canon.proofs.canon_sink.batch.last_of.Goals as goal
+use Rattle.nap_canon.proofs.gathered.last_of.Goals as goal
 
 pub returns-in-Some : goal.returns-in-Some
 returns-in-Some c = last_is c.args.from c.args.points.now c.in-Some.field-0-1.now c.in-Some.last.now c.in-Some.ensures.cases.0
