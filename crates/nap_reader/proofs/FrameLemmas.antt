@@ -1,9 +1,10 @@
-use Rattle.std.proofs.Common.{ℕ, suc, ◌+◌, ◌-◌, ◌≡◌, ◌<◌, ◌≤◌, List, [], ◌∷◌, ◌++◌, length, take, drop, get_or, Some, refl, sym, ◌∙◌, ap, arith, append_assoc, append-nil, length-append, length-take, length-drop}
-use Rattle.std.proofs.lemmas.List.{drop_more}
+use Rattle.std.proofs.Common.{ℕ, suc, ◌+◌, ◌-◌, ◌≡◌, ◌<◌, ◌≤◌, List, [], ◌∷◌, ◌++◌, length, take, drop, get_or, Some, refl, sym, ◌∙◌, ap, ap₂, subst, arith, append_assoc, append-nil, length-append, length-take, length-drop}
+use Rattle.std.proofs.Math.Seq.{get_or-append_seam, take-add}
+use Rattle.std.proofs.lemmas.List.{drop-drop, drop_more, map-append, length-take-le, take-append-drop, take-take, take_all}
 use Rattle.std.proofs.lemmas.List.Elements.{All-head, All-tail, All-pop}
 use Rattle.nap_reader.specs.declared.frames.Frame.{Frame}
 use Rattle.nap_reader.specs.Stored.{part, StoreState}
-use Rattle.nap_reader.specs.Framed.{placed_at, frame_bytes, unread, IsFrame, FramesIn}
+use Rattle.nap_reader.specs.Framed.{placed_at, frame_bytes, unread, GivesFrom, Innermost, IsFrame, FramesIn}
 use Rattle.nap_reader.specs.Stream.{Placed, all_at}
 use Rattle.nap_reader.proofs.StoreLemmas.{part-grown}
 use Rattle.nap_reader.proofs.StreamLemmas.{length-all_at}
@@ -42,6 +43,54 @@ gives-last bytes frames next end place h within last =
     unread-push bytes frames (record { next = next; end = end; place = place })
     ∙ ap (λ (xs : List ℕ). all_at place xs ++ unread bytes frames)
     (part-next bytes next end h within ∙ ap (λ (xs : List ℕ). get_or bytes next 0 ∷ xs) (part-empty bytes (next + 1) end last))
+
+-- the first bytes of a part, and the others
+part-split : (bytes : List ℕ) (next end count : ℕ) → count ≤ end - next → part bytes next end ≡ take count (part bytes next end) ++ part bytes (next + count) end
+part-split bytes next end count less =
+    let all : end - next ≡ count + (end - (next + count)) = omega (arith, less) in
+    let first : take count (part bytes next end) ≡ take count (drop next bytes) = take-take count (end - next) (drop next bytes) less in
+    ap (λ (n : ℕ). take n (drop next bytes)) all
+    ∙ take-add count (end - (next + count)) (drop next bytes)
+    ∙ ap₂ (λ (xs ys : List ℕ). xs ++ take (end - (next + count)) ys) (sym first) (drop-drop count next bytes)
+
+-- the innermost body gives so many bytes, and more
+pub gives-some : (bytes : List ℕ) (frames : List Frame) (next end place count : ℕ) → count ≤ end - next →
+    unread bytes (frames ++ record { next = next; end = end; place = place } ∷ [])
+    ≡ all_at place (take count (part bytes next end)) ++ unread bytes (frames ++ record { next = next + count; end = end; place = place } ∷ [])
+gives-some bytes frames next end place count less =
+    let front = take count (part bytes next end) in
+    let rest = part bytes (next + count) end in
+    unread-push bytes frames (record { next = next; end = end; place = place })
+    ∙ ap (λ (xs : List ℕ). all_at place xs ++ unread bytes frames) (part-split bytes next end count less)
+    ∙ ap (λ (xs : List Placed). xs ++ unread bytes frames) (map-append (λ (b : ℕ). placed_at b place) front rest)
+    ∙ append_assoc (all_at place front) (all_at place rest) (unread bytes frames)
+    ∙ ap (λ (xs : List Placed). all_at place front ++ xs) (sym (unread-push bytes frames (record { next = next + count; end = end; place = place })))
+
+-- it gives all that it has
+pub gives-all : (bytes : List ℕ) (frames : List Frame) (next end place count : ℕ) → end ≤ length bytes → end - next ≤ count →
+    unread bytes (frames ++ record { next = next; end = end; place = place } ∷ []) ≡ all_at place (take count (part bytes next end)) ++ unread bytes frames
+gives-all bytes frames next end place count within all =
+    unread-push bytes frames (record { next = next; end = end; place = place })
+    ∙ ap (λ (xs : List ℕ). all_at place xs ++ unread bytes frames)
+    (sym (take_all count (part bytes next end) (omega (arith, all, within, length-take (end - next) (drop next bytes), length-drop next bytes))))
+
+-- there is one innermost body
+pub same-frame : (frames before before' : List Frame) (frame frame' : Frame) → frames ≡ before ++ frame ∷ [] → frames ≡ before' ++ frame' ∷ [] → frame ≡ frame'
+same-frame frames before before' frame frame' is is' =
+    let e = ap (λ (xs : List Frame). length xs) (sym is ∙ is') in
+    let same : length before ≡ length before' = omega (arith, e, length-append before (frame ∷ []), length-append before' (frame' ∷ [])) in
+    sym (get_or-append_seam before frame [] frame)
+    ∙ ap (λ (xs : List Frame). get_or xs (length before) frame) (sym is ∙ is')
+    ∙ ap (λ (i : ℕ). get_or (before' ++ frame' ∷ []) i frame) same
+    ∙ get_or-append_seam before' frame' [] frame
+
+-- what it gives is the front of what it has
+pub same-front : (bytes : List ℕ) (frames before : List Frame) (frame : Frame) (text : List ℕ) (place count : ℕ) → frames ≡ before ++ frame ∷ [] → Innermost bytes frames text place →
+    all_at frame.place (take count (part bytes frame.next frame.end)) ≡ all_at place (take count text)
+same-front bytes frames before frame text place count is inner =
+    let same = same-frame frames before inner.before frame inner.frame is inner.last in
+    ap (λ (f : Frame). all_at f.place (take count (part bytes f.next f.end))) same
+    ∙ ap₂ (λ (n : ℕ) (xs : List ℕ). all_at n (take count xs)) (sym inner.place_is) (sym inner.text_is)
 
 -- what is unread stays where the store grows
 pub unread-grown : (bytes more : List ℕ) (frames : List Frame) → FramesIn (length bytes) frames → unread (bytes ++ more) frames ≡ unread bytes frames
@@ -87,3 +136,28 @@ pub frames-store : (old new : StoreState) (more : List ℕ) (frames : List Frame
     FramesIn (length new.bytes) frames
 frames-store old new more frames e h =
     frames-within (length old.bytes) (length new.bytes) frames (omega (arith, ap length e, length-append old.bytes more)) h
+
+-- what the innermost body gives comes first, in two parts
+pub innermost-first : (bytes : List ℕ) (frames : List Frame) (text : List ℕ) (place n : ℕ) (inner : Innermost bytes frames text place) →
+    unread bytes frames ≡ all_at place (take n text) ++ (all_at place (drop n text) ++ unread bytes inner.before)
+innermost-first bytes frames text place n inner =
+    ap (unread bytes) inner.last
+    ∙ unread-push bytes inner.before inner.frame
+    ∙ ap₂ (λ (m : ℕ) (xs : List ℕ). all_at m xs ++ unread bytes inner.before) (sym inner.place_is) (sym inner.text_is)
+    ∙ ap (λ (xs : List ℕ). all_at place xs ++ unread bytes inner.before) (sym (take-append-drop n text))
+    ∙ ap (λ (xs : List Placed). xs ++ unread bytes inner.before) (map-append (λ (b : ℕ). placed_at b place) (take n text) (drop n text))
+    ∙ append_assoc (all_at place (take n text)) (all_at place (drop n text)) (unread bytes inner.before)
+
+-- so many bytes were taken of the innermost body
+pub skipped : (bytes seen taken : List ℕ) (old new : List Frame) (text : List ℕ) (place n : ℕ) → seen ≡ bytes → taken ≡ bytes → Innermost seen old text place → n ≤ length text →
+    ((text : List ℕ) (place : ℕ) → Innermost taken old text place → n ≤ length text → GivesFrom taken old place text n new) → unread bytes old ≡ all_at place (take n text) ++ unread bytes new
+skipped bytes seen taken old new text place n is is' inner few given =
+    subst (λ (bs : List ℕ). unread bs old ≡ all_at place (take n text) ++ unread bs new) is'
+    (given text place (subst (λ (bs : List ℕ). Innermost bs old text place) (is ∙ sym is') inner) few)
+
+pub skipped_count : (bytes : List ℕ) (old new : List Frame) (text : List ℕ) (place n : ℕ) → n ≤ length text → unread bytes old ≡ all_at place (take n text) ++ unread bytes new →
+    length (unread bytes old) ≡ n + length (unread bytes new)
+skipped_count bytes old new text place n few is =
+    ap (λ (xs : List Placed). length xs) is
+    ∙ length-append (all_at place (take n text)) (unread bytes new)
+    ∙ ap (λ (k : ℕ). k + length (unread bytes new)) (length-all_at place (take n text) ∙ length-take-le n text few)

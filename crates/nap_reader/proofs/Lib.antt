@@ -1,6 +1,7 @@
 pub mod CourseLemmas
 pub mod KindLemmas
 pub mod BodyLemmas
+mod BodyStretchLemmas
 pub mod PrefixLemmas
 pub mod OperandLemmas
 pub mod StretchLemmas

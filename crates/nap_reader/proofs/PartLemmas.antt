@@ -16,6 +16,14 @@ use Rattle.nap_reader.proofs.StreamLemmas.{outcome_from-append}
 
 -- What a sink has of what comes, where reading breaks.
 
+-- a sink that has failed, and whose failures stay, had failed before
+pub was_failed : {S : Type 0} (g : Ghosts S) (s t : S) → (g.failed s ≡ false → g.failed t ≡ false) → g.failed t ≡ true → g.failed s ≡ true
+was_failed {S} g s t clear set = at (g.failed s) refl
+  where
+    at : (b : Bool) → g.failed s ≡ b → g.failed s ≡ true
+    at true is = is
+    at false is = let k = clear is in cc
+
 -- fewer entries are said to be known
 pub breaks_longer : {S : Type 0} (g : Ghosts S) (s : S) (known es : List Entry) (o : Outcome) (t : S) (cause : Cause) →
     BreaksFrom g s (known ++ es) o t cause → BreaksFrom g s known o t cause
@@ -76,14 +84,10 @@ breaks_behind {S} g s t u known o whole cause more broken taken clear is h = rec
     takes : TakesPart g t [] h.more u → TakesPart g s known h.more u
     takes (first, rest, parts, took) = (first, rest, parts, more s t u known first taken took)
 
-    was_set : g.failed t ≡ true → (b : Bool) → g.failed s ≡ b → g.failed s ≡ true
-    was_set set true is = is
-    was_set set false is = let k = clear is in cc
-
     at : (cause : Cause) → TookFront g t [] h.more u cause → TookFront g s known h.more u cause
     at stream part = part
     at memory part = takes part
-    at device (inl (set, part)) = inl (was_set set (g.failed s) refl, takes part)
+    at device (inl (set, part)) = inl (was_failed g s t clear set, takes part)
     at device (inr (first, next, rest, parts, broke)) = inr (first, next, rest, parts, broken s t u known first next taken broke)
 
 -- the entries of a list come first of those of a longer one
@@ -131,11 +135,7 @@ rule_breaks {S} g s o t u h pending k m place ys by acts more broken fault cause
         }
     at device broke (drawn, is, inl (set, same)) =
         let b = behind drawn is in
-        record { more = o.entries; adds = refl; part = inl (was_set set (g.failed s) refl, stands same (drawn.entries ++ b.0) b.1) }
-      where
-        was_set : g.failed t ≡ true → (b : Bool) → g.failed s ≡ b → g.failed s ≡ true
-        was_set set true is = is
-        was_set set false is = let c = k.clear is in cc
+        record { more = o.entries; adds = refl; part = inl (was_failed g s t k.clear set, stands same (drawn.entries ++ b.0) b.1) }
     at device broke (drawn, is, inr (first, next, rest, parts, broke')) =
         let b = behind drawn is in
         record {

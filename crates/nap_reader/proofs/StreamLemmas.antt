@@ -236,6 +236,15 @@ pub bytes_of-append : (xs ys : List Placed) → bytes_of (xs ++ ys) ≡ bytes_of
 bytes_of-append [] ys = refl
 bytes_of-append (x ∷ xs) ys = ap (λ (bs : List ℕ). x.byte ∷ bs) (bytes_of-append xs ys)
 
+pub bytes_of-placed : (n : ℕ) (bytes : List ℕ) → bytes_of (placed_from n bytes) ≡ bytes
+unfolding placed_from
+bytes_of-placed n [] = refl
+bytes_of-placed n (b ∷ bytes) = ap (λ (bs : List ℕ). b ∷ bs) (bytes_of-placed (suc n) bytes)
+
+pub bytes_of-all_at : (place : ℕ) (bytes : List ℕ) → bytes_of (all_at place bytes) ≡ bytes
+bytes_of-all_at place [] = refl
+bytes_of-all_at place (b ∷ bytes) = ap (λ (bs : List ℕ). b ∷ bs) (bytes_of-all_at place bytes)
+
 pub words_of-append : (xs ys : List Placed) → words_of (xs ++ ys) ≡ words_of xs ++ words_of ys
 words_of-append [] ys = refl
 words_of-append (x ∷ xs) ys = ap (λ (ws : List ℕ). (x.byte - 64) ∷ ws) (words_of-append xs ys)

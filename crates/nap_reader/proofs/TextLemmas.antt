@@ -24,13 +24,14 @@ use Rattle.nap_reader.specs.declared.reader.Reader.{Reader}
 use Rattle.nap_reader.specs.Bodies.{between}
 use Rattle.nap_reader.specs.Course.{prepend, paused, onward}
 use Rattle.nap_reader.specs.Faults.{draw_fault}
-use Rattle.nap_reader.specs.Stream.{Placed, Machine, Outcome, Unfinished, nothing, refusal, is_operand_byte, outcome_from, placed_from, begun, with_run, with_run_by}
-use Rattle.nap_reader.specs.Breaking.{cause_of, closed_by, TookPart}
+use Rattle.nap_reader.specs.Stream.{Placed, Machine, Outcome, Unfinished, bytes_of, nothing, refusal, is_operand_byte, outcome_from, placed_from, begun, with_run, with_run_by}
+use Rattle.nap_reader.specs.Breaking.{cause_of, closed_by, BreaksFrom, TookFront, TookPart}
 use Rattle.nap_reader.specs.Holding.{Holding, Continues, holding_of, machine_of, frames_left}
 use Rattle.nap_reader.specs.Standing.{IsBroken, StopsBy, Stands, StopsAt, TakesStretch, left_of}
 use Rattle.nap_reader.proofs.CourseLemmas.{prepend-append}
 use Rattle.nap_reader.proofs.HeldLemmas.{front_code, half_read_pauses}
-use Rattle.nap_reader.proofs.StreamLemmas.{outcome_from-front}
+use Rattle.nap_reader.proofs.StreamLemmas.{bytes_of-placed, outcome_from-front}
+use Rattle.nap_reader.proofs.PartLemmas.{was_failed}
 use Rattle.nap_reader.proofs.LeadsLemmas.{TookMore, TookBroke, is_between, fails_part, leads_more}
 use Rattle.nap_reader.proofs.ReadingLemmas.{nothing_yet, rest_of_nothing, is_half, holds_half}
 use Rattle.nap_reader.proofs.BreakingLemmas.{brings_breaks}
@@ -63,20 +64,31 @@ no_text : (s : State) (set : CharSet) → text s set [] ≡ []
 unfolding text
 no_text s set = refl
 
--- what comes of them is their text
-text_comes : (m : Machine) (set : CharSet) (q : List ℕ) (n : ℕ) → m.mode ≡ between → AreCharacters m.sets set → All IsGraphic q →
-    outcome_from m (placed_from n q) ≡ prepend (text m.work.state set q) (paused (typed m set q) [] (Some nothing))
-unfolding placed_from text walk
-text_comes m set [] n mode are all =
-    outcome_from-front m [] ∙ ap (onward outcome_from m []) (half_read_pauses m [] [] mode refl (nothing_yet m.sets))
-text_comes m set (b ∷ q) n mode are all =
+-- what comes of them is their text, and then what comes of the machine that they leave
+text_acts : (m : Machine) (set : CharSet) (xs pending : List Placed) → m.mode ≡ between → AreCharacters m.sets set → All IsGraphic (bytes_of xs) →
+    outcome_from m (xs ++ pending) ≡ prepend (text m.work.state set (bytes_of xs)) (outcome_from (typed m set (bytes_of xs)) pending)
+unfolding text walk
+text_acts m set [] pending mode are all = refl
+text_acts m set (x ∷ xs) pending mode are all =
+    let b = x.byte in
     let e = char_in m.work.state set b in
-    let x : Placed = record { byte = b; place = n } in
-    let rest = placed_from (suc n) q in
+    let rest = xs ++ pending in
     let m' : Machine = record m { work = (drawn m.work (e ∷ [])).work } in
     outcome_from-front m (x ∷ rest)
-    ∙ ap (onward outcome_from m (x ∷ rest)) (front_code m [] x rest [] (code.Char set b) 1 m.sets mode refl (are b (All-head IsGraphic b q all)) refl)
-    ∙ ap (prepend (e ∷ [])) (text_comes m' set q (suc n) mode are (All-tail IsGraphic b q all))
+    ∙ ap (onward outcome_from m (x ∷ rest)) (front_code m [] x rest [] (code.Char set b) 1 m.sets mode refl (are b (All-head IsGraphic b (bytes_of xs) all)) refl)
+    ∙ ap (prepend (e ∷ [])) (text_acts m' set xs pending mode are (All-tail IsGraphic b (bytes_of xs) all))
+
+-- what comes of them alone
+text_comes : (m : Machine) (set : CharSet) (q : List ℕ) (n : ℕ) → m.mode ≡ between → AreCharacters m.sets set → All IsGraphic q →
+    outcome_from m (placed_from n q) ≡ prepend (text m.work.state set q) (paused (typed m set q) [] (Some nothing))
+text_comes m set q n mode are all =
+    let xs = placed_from n q in
+    let same : bytes_of xs ≡ q = bytes_of-placed n q in
+    let m' = typed m set q in
+    ap (outcome_from m) (sym (append-nil xs))
+    ∙ text_acts m set xs [] mode are (subst (All IsGraphic) (sym same) all)
+    ∙ ap (λ (bs : List ℕ). prepend (text m.work.state set bs) (outcome_from (typed m set bs) [])) same
+    ∙ ap (prepend (text m.work.state set q)) (outcome_from-front m' [] ∙ ap (onward outcome_from m' []) (half_read_pauses m' [] [] mode refl (nothing_yet m'.sets)))
 
 all_front : (xs ys : List ℕ) → All IsGraphic (xs ++ ys) → All IsGraphic xs
 all_front xs ys all = λ i d less. subst IsGraphic (get_or_append_left xs ys d i less) (all i d (omega (arith, less, length-append xs ys)))
@@ -133,7 +145,7 @@ text_parts s set [] (first ∷ front) next rest e = let bad : ⊥ = cc in absurd
 text_parts s set (b ∷ q) [] next rest e = record { before = []; byte = b; behind = q; parts = refl; front = refl; next = cc; count = refl }
 text_parts s set (b ∷ q) (first ∷ front) next rest e = behind_one s set b q first front next (cc) (text_parts (after s (char_in s set b)) set q front next rest (cc))
 
-halts_in : {S : Type 0} (g : Ghosts S) (s : State) (set : CharSet) (q : List ℕ) (i : ℕ) (t u : S) (fault : SinkFault) → 0 < length q →
+pub halts_in : {S : Type 0} (g : Ghosts S) (s : State) (set : CharSet) (q : List ℕ) (i : ℕ) (t u : S) (fault : SinkFault) → 0 < length q →
     HaltsAfter (shows_of g) (text s set q) t u i fault → HaltsIn g s set q i t u fault
 halts_in g s set q i t u sink_faults.Memory some h =
     let k = text_parts s set q h.front h.next h.rest h.parts in
@@ -172,6 +184,73 @@ halts_less g s set q i t u fault some h =
     let whole = ap (λ (xs : List ℕ). length xs) k.parts in
     omega (arith, k.count, whole, length-append k.before (k.byte ∷ k.behind))
 
+-- Nothing is held back, and characters pend before other bytes.
+module _ {S : Type 0} (g : Ghosts S) (s : S) (o : Outcome) (t : S) (h : Holding) (xs pending : List Placed) (k : Continues g s o t h (xs ++ pending))
+    (no_body : h.open_body ≡ None) (closed : h.open_run ≡ None) (none : h.half ≡ []) (set : CharSet) (are : AreCharacters h.machine.sets set) (all : All IsGraphic (bytes_of xs)) where
+  acts : o ≡ prepend (k.done ++ text h.machine.work.state set (bytes_of xs)) (outcome_from (typed h.machine set (bytes_of xs)) pending)
+  acts =
+      let empty : k.rest ≡ [] = rest_of_nothing k.rest ((is_half h k.rest no_body closed k.held).0 ∙ none) in
+      k.leads
+      ∙ ap (λ (ys : List Placed). prepend k.done (outcome_from h.machine (ys ++ (xs ++ pending)))) empty
+      ∙ ap (prepend k.done) (text_acts h.machine set xs pending (is_between h k.rest no_body k.held).mode are all)
+      ∙ sym (prepend-append k.done (text h.machine.work.state set (bytes_of xs)) (outcome_from (typed h.machine set (bytes_of xs)) pending))
+
+  -- all of them were taken
+  pub text_passes : (u : S) → TookMore g → g.took t (text h.machine.work.state set (bytes_of xs)) u → (g.failed t ≡ false → g.failed u ≡ false) →
+      Continues g s o u (record h { machine = typed h.machine set (bytes_of xs) }) pending
+  text_passes u more took clear =
+      let h' : Holding = record h { machine = typed h.machine set (bytes_of xs) } in
+      let held = is_between h k.rest no_body k.held in
+      record {
+        done = k.done ++ text h.machine.work.state set (bytes_of xs);
+        taken = more s t u k.done (text h.machine.work.state set (bytes_of xs)) k.taken took;
+        clear = λ before. clear (k.clear before);
+        rest = [];
+        held = holds_half h' [] no_body held.mode held.body closed (sym none) (ap (codes.front h.machine.sets) none ∙ nothing_yet h.machine.sets);
+        leads = acts;
+      }
+
+  -- one of them wasn't taken, or broke
+  pub text_breaks_off : (i : ℕ) (u : S) (fault : SinkFault) → TookMore g → TookBroke g → HaltsIn g h.machine.work.state set (bytes_of xs) i t u fault →
+      BreaksFrom g s [] o u (cause_of (draw_fault (fault_of fault)))
+  unfolding text
+  text_breaks_off i u fault more broken halt = record { more = o.entries; adds = refl; part = at fault halt.halted }
+    where
+      state : State
+      state = h.machine.work.state
+
+      first : List Entry
+      first = k.done ++ text state set halt.before
+
+      next : Entry
+      next = char_in (walk state (text state set halt.before)) set halt.byte
+
+      rest : List Entry
+      rest = text (after (walk state (text state set halt.before)) next) set halt.behind ++ (outcome_from (typed h.machine set (bytes_of xs)) pending).entries
+
+      parts : o.entries ≡ first ++ next ∷ rest
+      parts =
+          let behind = (outcome_from (typed h.machine set (bytes_of xs)) pending).entries in
+          ap (λ (o : Outcome). o.entries) acts
+          ∙ ap (λ (es : List Entry). (k.done ++ es) ++ behind) (ap (text state set) halt.parts ∙ text_more state set halt.before (halt.byte ∷ halt.behind))
+          ∙ ap (λ (es : List Entry). es ++ behind) (sym (append_assoc k.done (text state set halt.before) (text (walk state (text state set halt.before)) set (halt.byte ∷ halt.behind))))
+          ∙ append_assoc first (text (walk state (text state set halt.before)) set (halt.byte ∷ halt.behind)) behind
+
+      at : (fault : SinkFault) → Halted g state set halt.before halt.byte t u fault → TookFront g s [] o.entries u (cause_of (draw_fault (fault_of fault)))
+      at sink_faults.Memory took = (first, next ∷ rest, parts, more s t u k.done (text state set halt.before) k.taken took)
+      at sink_faults.Write (inl (failed, stays, empty)) =
+          let none : text state set halt.before ≡ [] = ap (text state set) empty ∙ no_text state set in
+          inl (
+            was_failed g s t k.clear failed,
+            (
+              first,
+              next ∷ rest,
+              parts,
+              subst (λ (es : List Entry). g.took s es u) (sym (ap (λ (es : List Entry). k.done ++ es) none ∙ append-nil k.done)) (subst (g.took s k.done) (sym stays) k.taken),
+            ),
+          )
+      at sink_faults.Write (inr broke) = inr (first, next, rest, parts, broken s t u k.done (text state set halt.before) next k.taken broke)
+
 -- Nothing is held back, and characters come.
 module _ {S : Type 0} (g : Ghosts S) (s : S) (budget : ℕ) (p : List ℕ) (t : S) (h : Holding) (k : Continues g s (begun budget p) t h [])
     (no_body : h.open_body ≡ None) (closed : h.open_run ≡ None) (none : h.half ≡ []) (set : CharSet) (are : AreCharacters h.machine.sets set) where
@@ -187,20 +266,13 @@ module _ {S : Type 0} (g : Ghosts S) (s : S) (budget : ℕ) (p : List ℕ) (t : 
   -- all of them were taken
   text_leads : (q : List ℕ) → All IsGraphic q → (u : S) → TookMore g → g.took t (text h.machine.work.state set q) u → (g.failed t ≡ false → g.failed u ≡ false) →
       Continues g s (begun budget (p ++ q)) u (record h { machine = typed h.machine set q }) []
-  unfolding placed_from text walk
   text_leads q all u more took clear =
-      let h' : Holding = record h { machine = typed h.machine set q } in
-      let held = is_between h k.rest no_body k.held in
-      record {
-        done = k.done ++ text h.machine.work.state set q;
-        taken = more s t u k.done (text h.machine.work.state set q) k.taken took;
-        clear = λ before. clear (k.clear before);
-        rest = [];
-        held = holds_half h' [] no_body held.mode held.body closed (sym none) (ap (codes.front h.machine.sets) none ∙ nothing_yet h.machine.sets);
-        leads =
-            comes q all
-            ∙ ap (prepend (k.done ++ text h.machine.work.state set q)) (sym (text_comes (typed h.machine set q) set [] 0 held.mode are (λ i d less. absurd (omega arith))));
-      }
+      let xs = placed_from (length p) q in
+      let same : bytes_of xs ≡ q = bytes_of-placed (length p) q in
+      let come : Continues g s (begun budget (p ++ q)) t h (xs ++ []) = subst (Continues g s (begun budget (p ++ q)) t h) (sym (append-nil xs)) (leads_more g s budget p q t h k) in
+      subst (λ (bs : List ℕ). Continues g s (begun budget (p ++ q)) u (record h { machine = typed h.machine set bs }) []) same
+      (text_passes g s (begun budget (p ++ q)) t h xs [] come no_body closed none set are (subst (All IsGraphic) (sym same) all) u more
+      (subst (λ (bs : List ℕ). g.took t (text h.machine.work.state set bs) u) (sym same) took) clear)
 
   -- the next one wasn't taken, or broke
   text_breaks : (before : List ℕ) (b : ℕ) (behind : List ℕ) → All IsGraphic (before ++ b ∷ behind) → (u : S) (left : ℕ) (r : Refusal) → left ≡ h.machine.left → r.place ≡ length (p ++ before) →
@@ -263,7 +335,7 @@ module _ {S : Type 0} (g : Ghosts S) (s : S) (budget : ℕ) (p : List ℕ) (t : 
 abbrev pub AllCharacters : LexerState → CharSet → Type 0
 AllCharacters lexer set = (b : ℕ) → IsGraphic b → IsCharacter lexer b set
 
-none_half : (lexer : LexerState) (set : CharSet) → AllCharacters lexer set → lexer.half ≡ []
+pub none_half : (lexer : LexerState) (set : CharSet) → AllCharacters lexer set → lexer.half ≡ []
 none_half lexer set chars = (chars 32 (omega arith, omega arith)).0
 
 -- a reader took them

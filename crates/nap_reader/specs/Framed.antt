@@ -1,4 +1,4 @@
-use Rattle.std.specs.Prelude.{◌<◌, ◌≤◌, ◌++◌, ℕ, List, [], ◌∷◌, All}
+use Rattle.std.specs.Prelude.{◌≡◌, ◌<◌, ◌≤◌, ◌++◌, ℕ, List, [], ◌∷◌, All, take}
 use Rattle.nap_reader.specs.declared.frames.Frame.{Frame}
 use Rattle.nap_reader.specs.Stored.{part}
 use Rattle.nap_reader.specs.Stream.{Placed, all_at}
@@ -24,3 +24,15 @@ IsFrame n frame = (frame.next < frame.end) × (frame.end ≤ n)
 
 abbrev pub FramesIn : ℕ → List Frame → Type 0
 FramesIn n frames = All (IsFrame n) frames
+
+-- these bytes at this place are what the innermost body has still to give
+pub record Innermost (bytes : List ℕ) (frames : List Frame) (text : List ℕ) (place : ℕ) : Type 0 where
+  pub before : List Frame
+  pub frame : Frame
+  pub last : frames ≡ before ++ frame ∷ []
+  pub text_is : text ≡ part bytes frame.next frame.end
+  pub place_is : place ≡ frame.place
+
+-- so many bytes at the front of the text were given, each at this place
+abbrev pub GivesFrom : List ℕ → List Frame → ℕ → List ℕ → ℕ → List Frame → Type 0
+GivesFrom bytes old place text count new = unread bytes old ≡ all_at place (take count text) ++ unread bytes new

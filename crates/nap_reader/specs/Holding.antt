@@ -242,6 +242,27 @@ pub record Drains {S : Type 0} {g : Ghosts S} (old new : Reader S g) : Type 0 wh
   pub turns : old.turns ≤ new.turns
   pub charged : old.charged ≤ new.charged
 
+-- what the bodies have still to give is at this place
+abbrev pub AllAt : {S : Type 0} {g : Ghosts S} → ℕ → Reader S g → Type 0
+AllAt n reader = All (λ (x : Placed). x.place ≡ n) (frames_left reader)
+
+-- Bytes at the front of what the bodies have still to give were taken, each in its turn.
+pub record TakesFront {S : Type 0} {g : Ghosts S} (old new : Reader S g) : Type 0 where
+  pub leads : (s : S) (o : Outcome) (inputs : List Placed) →
+      Continues g s o old.sink (holding_of old) (frames_left old ++ inputs) → Continues g s o new.sink (holding_of new) (frames_left new ++ inputs)
+  pub places : (n : ℕ) → AllAt n old → AllAt n new
+  pub open_run : new.open_run ≡ old.open_run
+  pub clear : g.failed old.sink ≡ false → g.failed new.sink ≡ false
+  pub to_come : to_come new ≤ to_come old
+
+-- One of them broke.
+pub record StopsInFront {S : Type 0} {g : Ghosts S} (old new : Reader S g) (r : Refusal) : Type 0 where
+  pub cause : cause_of r.fault ≢ stream
+  pub breaks : (s : S) (o : Outcome) (inputs : List Placed) →
+      Continues g s o old.sink (holding_of old) (frames_left old ++ inputs) → BreaksFrom g s [] o new.sink (cause_of r.fault)
+  pub some : 0 < length (frames_left old)
+  pub place : (n : ℕ) → AllAt n old → r.place ≡ n
+
 -- what is kept of bodies stays
 pub record SameBodies {S : Type 0} {g : Ghosts S} (old new : Reader S g) : Type 0 where
   pub store : new.store ≡ old.store
@@ -270,10 +291,6 @@ Shows old new bytes place = ShowsBy old new bytes place new.refusal
 abbrev pub held_place : Option OpenRun → Option ℕ
 held_place None = None
 held_place (Some open_run) = Some open_run.place
-
--- what the bodies have still to give is at this place
-abbrev pub AllAt : {S : Type 0} {g : Ghosts S} → ℕ → Reader S g → Type 0
-AllAt n reader = All (λ (x : Placed). x.place ≡ n) (frames_left reader)
 
 -- the open run is, where there is one
 abbrev pub RunAt : ℕ → Option OpenRun → Type 0

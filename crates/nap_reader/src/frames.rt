@@ -1,6 +1,6 @@
 //! The bodies that are being read.
-ghost use Rattle.std.specs.Prelude.{◌≡◌, ◌<◌, [], ◌∷◌, ◌++◌, length, MatchOption, OnOk, OnErr};
-ghost use Rattle.nap_reader.specs.Framed.{FramesIn, unread, placed_at};
+ghost use Rattle.std.specs.Prelude.{ℕ, List, ◌≡◌, ◌<◌, ◌≤◌, ◌+◌, [], ◌∷◌, ◌++◌, length, MatchOption, IfSome, OnOk, OnErr};
+ghost use Rattle.nap_reader.specs.Framed.{FramesIn, GivesFrom, Innermost, unread, placed_at};
 
 use crate::store::Span;
 use smallvec::SmallVec;
@@ -64,5 +64,36 @@ impl Frames {
             });
         }
         Some((byte, frame.place))
+    }
+
+    /// The bytes that the innermost body has still to give, with their place.
+    pub(crate) fn innermost<'a>(&self, bytes: &'a [u8]) -> Option<(&'a [u8], u64)>
+        requires { FramesIn (length bytes.now) self.now.stack.items }
+        ensures { IfSome result (λ x. Innermost bytes.now self.now.stack.items x.0.now x.1) }
+    {
+        let frame = self.stack.last()?;
+        Some((&bytes[frame.next..frame.end], frame.place))
+    }
+
+    /// Takes this many bytes of the innermost body, which has as many.
+    pub(crate) fn skip(&mut self, bytes: &[u8], count: usize)
+        requires { FramesIn (length bytes.now) self.old.stack.items }
+        ensures given { (text : List ℕ) (place : ℕ) → Innermost bytes.now self.old.stack.items text place → count ≤ length text →
+            GivesFrom bytes.now self.old.stack.items place text count self.new.stack.items }
+        ensures within { FramesIn (length bytes.now) self.new.stack.items }
+    {
+        if self.stack.len() == 0 {
+            return;
+        }
+        let Some(frame) = self.stack.pop() else {
+            return;
+        };
+        if count < frame.end - frame.next {
+            self.stack.push_reserved(Frame {
+                next: frame.next + count,
+                end: frame.end,
+                place: frame.place,
+            });
+        }
     }
 }

@@ -37,18 +37,17 @@ fn join_words(run: &mut Vec<Word>, bytes: &[u8]) -> usize
     ensures within { result ≤ length bytes.now }
     ensures joined { run.new.items ≡ run.old.items ++ map (λ b. b % 64) (take result bytes.now) }
 {
-    let Ok(()) = run.reserve(bytes.len()) else {
+    let before = run.len();
+    let Ok(()) = run.extend(bytes.iter().map(word_of)) else {
+        run.truncate(before);
         return 0;
     };
-    for byte in bytes {
-        run.push_reserved(word_of(*byte));
-    }
     bytes.len()
 }
 
 /// The word of the byte's low six bits.
-fn word_of(byte: u8) -> Word
-    ensures { result ≡ byte % 64 }
+fn word_of(byte: &u8) -> Word
+    ensures { result ≡ byte.now % 64 }
 {
-    Word::try_new(byte % 0x40).unwrap_or(Word::ZERO)
+    Word::try_new(*byte % 0x40).unwrap_or(Word::ZERO)
 }
