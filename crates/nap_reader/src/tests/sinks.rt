@@ -8,7 +8,7 @@ use super::text::primary;
 use super::{dot, end, feed, refusal, single_bytes};
 use crate::{Budget, Fault, Reader, Refusal};
 use nap_list::{Entry, ListSink, Pen, Sink, SinkFault};
-use std::alloc::Global;
+use std::alloc::{AllocError, Global};
 use std::process::Abort;
 use std::test::Fail;
 
@@ -236,11 +236,8 @@ fn stops<S: Sink>(
     (reader.refused(), reader.fed(), reader.turns())
 }
 
-#[test]
-#[tactic(auto, unfolding(nap_list::specs::State::walk))]
-fn a_sink_that_stops_amid_a_text_stops_at_the_character(rt: HostRuntime) -> Result<(), Fail> {
-    let alloc = rt.alloc();
-    let text = b"AB ~C\x7FDE".as_slice();
+/// The characters of a text at the start.
+fn characters(alloc: Global, text: &[u8]) -> Result<Vec<Entry>, AllocError> {
     let mut list = Vec::new(alloc);
     for code in text {
         let pen = if list.is_empty() {
@@ -250,6 +247,15 @@ fn a_sink_that_stops_amid_a_text_stops_at_the_character(rt: HostRuntime) -> Resu
         };
         list.push(primary(*code, pen))?;
     }
+    Ok(list)
+}
+
+#[test]
+#[tactic(auto, unfolding(nap_list::specs::State::walk))]
+fn a_sink_that_stops_amid_a_text_stops_at_the_character(rt: HostRuntime) -> Result<(), Fail> {
+    let alloc = rt.alloc();
+    let text = b"AB ~C\x7FDE".as_slice();
+    let list = characters(alloc, text)?;
     let bytes = single_bytes(alloc, text)?;
     for taken in 0..list.len() {
         let count = taken as u64 + 1;
@@ -271,6 +277,33 @@ fn a_sink_that_stops_amid_a_text_stops_at_the_character(rt: HostRuntime) -> Resu
             };
             let mut reader = Reader::new(alloc, Budget::usual(), sink);
             let want = (refusal(Fault::Memory, taken as u64), count, count);
+            assert_eq!(rt; stops(&rt, &mut reader, pieces), want);
+            let kept = reader.into_sink().list.into_list();
+            assert_eq!(rt; kept.as_slice(), &list[..taken]);
+        }
+    }
+    Ok(())
+}
+
+#[test]
+#[tactic(auto, unfolding(nap_list::specs::State::walk))]
+fn a_sink_that_stops_amid_the_text_of_a_body_stops_at_the_call(
+    rt: HostRuntime,
+) -> Result<(), Fail> {
+    let alloc = rt.alloc();
+    let page = b"\x1B\x2B\x7A\x1B\x40\x41AB ~C\x7FDE\x1B\x45\x1D\x41".as_slice();
+    let list = characters(alloc, b"AB ~C\x7FDE")?;
+    let bytes = single_bytes(alloc, page)?;
+    for taken in 0..list.len() {
+        let turns = 18 + taken as u64 + 1;
+        for pieces in [&[page][..], &bytes] {
+            let sink = Faltering {
+                list: ListSink::new(alloc),
+                left: taken,
+                failed: false,
+            };
+            let mut reader = Reader::new(alloc, Budget::usual(), sink);
+            let want = (refusal(Fault::Sink, 17), 18, turns);
             assert_eq!(rt; stops(&rt, &mut reader, pieces), want);
             let kept = reader.into_sink().list.into_list();
             assert_eq!(rt; kept.as_slice(), &list[..taken]);
