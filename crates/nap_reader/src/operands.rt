@@ -32,8 +32,37 @@ pub(crate) fn operand(byte: u8) -> Option<Word>
     }
 }
 
+/// From so many words on they join the run as a block.
+const BLOCK: usize = 32;
+
 /// The words of these bytes join the run, or none where memory is wanting. Tells how many joined it.
 fn join_words(run: &mut Vec<Word>, bytes: &[u8]) -> usize
+    ensures within { result ≤ length bytes.now }
+    ensures joined { run.new.items ≡ run.old.items ++ map (λ b. b % 64) (take result bytes.now) }
+{
+    if bytes.len() < BLOCK {
+        join_each(run, bytes)
+    } else {
+        join_block(run, bytes)
+    }
+}
+
+/// The same, word by word, which is quick for few of them.
+fn join_each(run: &mut Vec<Word>, bytes: &[u8]) -> usize
+    ensures within { result ≤ length bytes.now }
+    ensures joined { run.new.items ≡ run.old.items ++ map (λ b. b % 64) (take result bytes.now) }
+{
+    let Ok(()) = run.reserve(bytes.len()) else {
+        return 0;
+    };
+    for byte in bytes {
+        run.push_reserved(word_of(byte));
+    }
+    bytes.len()
+}
+
+/// The same, as a block.
+fn join_block(run: &mut Vec<Word>, bytes: &[u8]) -> usize
     ensures within { result ≤ length bytes.now }
     ensures joined { run.new.items ≡ run.old.items ++ map (λ b. b % 64) (take result bytes.now) }
 {
