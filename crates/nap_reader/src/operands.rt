@@ -8,6 +8,7 @@ use nap_values::Word;
 
 /// The words of the operand bytes at the front join the run, as far as it and the memory have room for them. Tells how many
 /// there are.
+#[inline]
 pub(crate) fn take_words(run: &mut Vec<Word>, piece: &[u8]) -> usize
     ensures within { result ≤ length piece.now }
     ensures operands { All (λ b. is_operand_byte b ≡ true) (take result piece.now) }

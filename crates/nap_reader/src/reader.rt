@@ -18,15 +18,16 @@ use crate::body::{OpenBody, ends_body};
 use crate::budget::Budget;
 use crate::fault::{Fault, Refusal};
 use crate::frames::Frames;
-use crate::graphic::graphic_bytes;
 use crate::kind::Kind;
-use crate::operands::{operand, take_words};
+use crate::operands::operand;
 use crate::store::{Span, Store};
 use nap_codes::{Lexer, Opcode, Step};
 use nap_draw::{DrawFault, RUN_LIMIT, Work};
 use nap_list::Sink;
 use nap_values::{Point, Word};
 use std::alloc::Global;
+
+mod stretches;
 
 /// An opcode whose operands are still coming.
 #[derive(Clone, Copy, Drop)]
@@ -76,8 +77,8 @@ impl<S: Sink> Reader<S> {
     ghost use Rattle.nap_reader.specs.Bodies as bodies;
     ghost use Rattle.nap_reader.specs.Bodies.{body_of};
     ghost use Rattle.nap_reader.specs.Framed.{placed_at};
-    ghost use Rattle.nap_reader.specs.Holding.{AllAt, BreaksInBody, BreaksSome, CarriesWord, Charges, ClosesBy, Continues, ContinuesPast, Drains, Ends, IsOwn, IsStill, Places, Reaches, ReachesWith, ReadsOn, RunAt, SameBodies, SameBytes, SameCounts, Shows, StopsInFront, TakesFront, frames_left, held_place, holding_of};
-    ghost use Rattle.nap_reader.specs.Standing.{Answers, IsBounded, IsTaken, Stands, StopsAt, TakesStretch, budget_of, charged_of, fed_of, left_of, refusal_of, sink_of, turns_of};
+    ghost use Rattle.nap_reader.specs.Holding.{AllAt, BreaksInBody, BreaksSome, CarriesWord, Charges, ClosesBy, Continues, ContinuesPast, Drains, Ends, IsOwn, IsStill, Places, Reaches, ReachesWith, ReadsOn, RunAt, SameBodies, SameBytes, SameCounts, Shows, frames_left, held_place, holding_of};
+    ghost use Rattle.nap_reader.specs.Standing.{Answers, IsBounded, IsTaken, Stands, StopsAt, budget_of, charged_of, fed_of, left_of, refusal_of, sink_of, turns_of};
 
     /// A reader at the start of a stream, which puts the entries into this sink.
     pub fn new(alloc: Global, budget: Budget, sink: S) -> Reader<S>
@@ -146,71 +147,6 @@ impl<S: Sink> Reader<S> {
         Ok(())
     }
 
-    /// Takes the bytes at the front that are operands of the open run, or characters where no run is open, and tells how
-    /// many. The next byte is another one, or an operand for which there is no room, and has a turn of its own.
-    fn stretch(&mut self, piece: &[u8]) -> Result<usize, Refusal>
-        requires live { self.old.refusal ≡ None }
-        requires few { fed_of self.old + length piece.now < 2 ^ 63 }
-        ensures answered { MatchResult result (λ _. self.new.refusal ≡ None) (λ r. self.new.refusal ≡ Some r) }
-        ensures takes { IfOk result (λ n. TakesStretch self.old self.new piece.now n) }
-        ensures stops { IfErr result (λ r. (i : ℕ) × StopsAt self.old self.new piece.now r i) }
-        ensures failed { IfErr result (λ r. r.fault ≡ Fault.Sink → S.failed self.new.sink ≡ true) }
-        ensures kept { IfErr result (λ r. S.failed self.old.sink ≡ false → S.failed self.new.sink ≡ true → r.fault ≡ Fault.Sink) }
-        ensures budget { self.new.budget ≡ self.old.budget }
-        ensures charged { self.new.charged ≡ self.old.charged }
-        ensures turned { self.old.turns ≤ self.new.turns }
-    {
-        if let Some(_) = self.open_body {
-            return Ok(0);
-        }
-        let Some(_) = self.open_run else {
-            return self.characters(piece);
-        };
-        let count = take_words(&mut self.run, piece);
-        self.fed += count as u64;
-        self.turns += count as u64;
-        Ok(count)
-    }
-
-    /// Takes the bytes at the front that are characters by themselves, all at once, and tells how many. A character that
-    /// the sink doesn't take is refused at its place.
-    fn characters(&mut self, piece: &[u8]) -> Result<usize, Refusal>
-        requires live { self.old.refusal ≡ None }
-        requires between { self.old.open_body ≡ None }
-        requires closed { self.old.open_run ≡ None }
-        requires few { fed_of self.old + length piece.now < 2 ^ 63 }
-        ensures answered { MatchResult result (λ _. self.new.refusal ≡ None) (λ r. self.new.refusal ≡ Some r) }
-        ensures takes { IfOk result (λ n. TakesStretch self.old self.new piece.now n) }
-        ensures stops { IfErr result (λ r. (i : ℕ) × StopsAt self.old self.new piece.now r i) }
-        ensures failed { IfErr result (λ r. r.fault ≡ Fault.Sink → S.failed self.new.sink ≡ true) }
-        ensures kept { IfErr result (λ r. S.failed self.old.sink ≡ false → S.failed self.new.sink ≡ true → r.fault ≡ Fault.Sink) }
-        ensures budget { self.new.budget ≡ self.old.budget }
-        ensures charged { self.new.charged ≡ self.old.charged }
-        ensures turned { self.old.turns ≤ self.new.turns }
-    {
-        let Some(set) = self.lexer.characters() else {
-            return Ok(0);
-        };
-        let text = graphic_bytes(piece);
-        if text.is_empty() {
-            return Ok(0);
-        }
-        match self.work.characters(set, text, &mut self.sink) {
-            Ok(()) => {
-                self.fed += text.len() as u64;
-                self.turns += text.len() as u64;
-                Ok(text.len())
-            }
-            Err(short) => {
-                let taken = short.taken as u64;
-                let place = self.fed + taken;
-                self.fed += taken + 1;
-                self.turns += taken + 1;
-                refuse(&mut self.refusal, Fault::from(short.fault), place)
-            }
-        }
-    }
-
     /// Takes what the bodies have still to give that are being read.
     fn drain(&mut self) -> Result<(), Refusal>
         requires live { self.old.refusal ≡ None }
@@ -235,75 +171,6 @@ impl<S: Sink> Reader<S> {
             self.stretch_of_body()?;
         }
         Ok(())
-    }
-
-    /// Takes the bytes at the front of the innermost body that are operands of the open run, or characters where no run is
-    /// open. The next byte has a turn of its own.
-    fn stretch_of_body(&mut self) -> Result<(), Refusal>
-        requires live { self.old.refusal ≡ None }
-        requires few { fed_of self.old < 2 ^ 63 }
-        ensures answered { MatchResult result (λ _. self.new.refusal ≡ None) (λ r. self.new.refusal ≡ Some r) }
-        ensures takes { OnOk result (TakesFront self.old self.new) }
-        ensures stops { IfErr result (λ r. StopsInFront self.old self.new r) }
-        ensures failed { IfErr result (λ r. r.fault ≡ Fault.Sink → S.failed self.new.sink ≡ true) }
-        ensures kept { IfErr result (λ r. S.failed self.old.sink ≡ false → S.failed self.new.sink ≡ true → r.fault ≡ Fault.Sink) }
-        ensures counts { Drains self.old self.new }
-        ensures charged { self.new.charged ≡ self.old.charged }
-    {
-        if let Some(_) = self.open_body {
-            return Ok(());
-        }
-        let Some(_) = self.open_run else {
-            return self.characters_of_body();
-        };
-        let Some((bytes, _)) = self.frames.innermost(self.store.bytes()) else {
-            return Ok(());
-        };
-        let count = take_words(&mut self.run, bytes);
-        self.frames.skip(self.store.bytes(), count);
-        self.turns += count as u64;
-        Ok(())
-    }
-
-    /// Takes the bytes at the front of the innermost body that are characters by themselves, all at once. A character that
-    /// the sink doesn't take is refused at the place of the body.
-    fn characters_of_body(&mut self) -> Result<(), Refusal>
-        requires live { self.old.refusal ≡ None }
-        requires between { self.old.open_body ≡ None }
-        requires closed { self.old.open_run ≡ None }
-        requires few { fed_of self.old < 2 ^ 63 }
-        ensures answered { MatchResult result (λ _. self.new.refusal ≡ None) (λ r. self.new.refusal ≡ Some r) }
-        ensures takes { OnOk result (TakesFront self.old self.new) }
-        ensures stops { IfErr result (λ r. StopsInFront self.old self.new r) }
-        ensures failed { IfErr result (λ r. r.fault ≡ Fault.Sink → S.failed self.new.sink ≡ true) }
-        ensures kept { IfErr result (λ r. S.failed self.old.sink ≡ false → S.failed self.new.sink ≡ true → r.fault ≡ Fault.Sink) }
-        ensures counts { Drains self.old self.new }
-        ensures charged { self.new.charged ≡ self.old.charged }
-    {
-        let Some(set) = self.lexer.characters() else {
-            return Ok(());
-        };
-        let Some((bytes, place)) = self.frames.innermost(self.store.bytes()) else {
-            return Ok(());
-        };
-        let text = graphic_bytes(bytes);
-        if text.is_empty() {
-            return Ok(());
-        }
-        match self.work.characters(set, text, &mut self.sink) {
-            Ok(()) => {
-                let count = text.len();
-                self.frames.skip(self.store.bytes(), count);
-                self.turns += count as u64;
-                Ok(())
-            }
-            Err(short) => {
-                let count = short.taken + 1;
-                self.frames.skip(self.store.bytes(), count);
-                self.turns += count as u64;
-                refuse(&mut self.refusal, Fault::from(short.fault), place)
-            }
-        }
     }
 
     /// Takes one byte, which has this place.
