@@ -1,8 +1,8 @@
 //! The state that a list of entries leaves.
-ghost use Rattle.std.specs.Prelude.{◌≡◌, ◌↔◌, IsTrue};
+ghost use Rattle.std.specs.Prelude.{◌≡◌, ◌↔◌, IsTrue, Some};
 ghost use Rattle.nap_list.specs.Entry.{held, ink_values, hand_values, colour_alone};
 ghost use Rattle.nap_list.specs.Agreement.{Stands};
-ghost use Rattle.nap_list.specs.State.{start_texture, start_text, start_drawing, start, corner, PenFits, ColourFits, TextureFits, HeldFits, Comes, Fits, taking, with_pen, ink_of, hand_of, saved_values, reset, drawn, definition_after, last_after, known_after, after};
+ghost use Rattle.nap_list.specs.State.{start_texture, start_text, start_drawing, start, corner, PenFits, ColourFits, TextureFits, HeldFits, Comes, Fits, taking, with_pen, ink_of, hand_of, saved_values, reset, drawn, definition_after, last_after, known_after, after, base_shown};
 
 use crate::attribute::{
     Base, CharSize, Colour, Hand, Held, Ink, Origin, Pen, Preset, TextLook, Texture,
@@ -114,6 +114,18 @@ impl TextLook {
     }
 }
 
+impl Base {
+    /// The colour of mode 0 once this colour is taken, which is of mode 0 where it is direct.
+    fn behind(self, colour: &Colour) -> Base
+        ensures { result ≡ base_shown self (Some colour.now) }
+    {
+        match colour {
+            Colour::Direct(grb) => Base::Direct(*grb),
+            _ => self,
+        }
+    }
+}
+
 impl Drawing {
     /// The values before any entry.
     pub fn start() -> Drawing
@@ -186,23 +198,6 @@ impl Drawing {
         self.pen_fits(held.pen) && self.colour_fits(held.colour) && self.texture_fits(held.texture)
     }
 
-    /// Takes the values that an entry holds.
-    fn take(&mut self, held: &Held)
-        ensures { self.new ≡ taking self.old held.now }
-    {
-        *self = Drawing {
-            pen: held.pen.unwrap_or(self.pen),
-            pel: held.pel.unwrap_or(self.pel),
-            base: match held.colour {
-                Some(Colour::Direct(grb)) => Base::Direct(grb),
-                _ => self.base,
-            },
-            colour: held.colour.unwrap_or(self.colour),
-            texture: held.texture.unwrap_or(self.texture),
-            text: held.text.unwrap_or(self.text),
-        };
-    }
-
     /// Whether a colour stands, which is the colour of mode 0 where it is direct.
     fn colour_stands(&self, colour: Colour) -> bool
         ensures { IsTrue result ↔ Stands (colour_alone colour) self.now }
@@ -254,12 +249,58 @@ impl Drawing {
         }
     }
 
-    /// Takes the values that an entry holds, where they don't all stand.
+    fn take_colour(&mut self, colour: &Colour)
+        ensures { self.new ≡ taking self.old (colour_alone colour.now) }
+    {
+        self.base = self.base.behind(colour);
+        self.colour = *colour;
+    }
+
+    fn take_ink(&mut self, ink: &Ink)
+        ensures { self.new ≡ taking self.old (ink_values ink.now) }
+    {
+        self.pel = ink.pel;
+        self.texture = ink.texture;
+        self.take_colour(&ink.colour);
+    }
+
+    fn take_hand(&mut self, hand: &Hand)
+        ensures { self.new ≡ taking self.old (hand_values hand.now) }
+    {
+        self.pen = hand.pen;
+        self.text = hand.text;
+        self.take_colour(&hand.colour);
+    }
+
+    /// Takes the values that an entry holds.
     fn show(&mut self, entry: &Entry)
         ensures { self.new ≡ taking self.old (held entry.now) }
     {
-        if !self.stands(entry) {
-            self.take(&entry.held());
+        match entry {
+            Entry::Point { pel, colour, .. } => {
+                self.pel = *pel;
+                self.take_colour(colour);
+            }
+            Entry::Line { ink, .. }
+            | Entry::Arc { ink, .. }
+            | Entry::Rect { ink, .. }
+            | Entry::Poly { ink, .. } => self.take_ink(ink),
+            Entry::Char { hand, .. } | Entry::TextMove { hand, .. } | Entry::ToEol { hand } => {
+                self.take_hand(hand);
+            }
+            Entry::Blink { colour, .. }
+            | Entry::BlinkEnd { colour }
+            | Entry::BlinkMark { colour, .. } => self.take_colour(colour),
+            Entry::Field { pen, .. } | Entry::Reset { pen, .. } | Entry::Clear { pen } => {
+                self.pen = *pen;
+            }
+            Entry::Map { .. }
+            | Entry::Wait(_)
+            | Entry::Bell
+            | Entry::Cursor(_)
+            | Entry::GlyphStart(_)
+            | Entry::MaskStart(_)
+            | Entry::DefEnd => {}
         }
     }
 
