@@ -10,6 +10,8 @@ pub mod SpelledIsFront
 pub mod SpellingLaws
 pub mod CodeRanges
 pub mod CharacterLemmas
-pub mod LexedLemmas
+pub mod OpcodeLemmas
+pub mod ControlLemmas
+mod LexedLemmas
 pub mod Rows
 pub mod PublicLaws

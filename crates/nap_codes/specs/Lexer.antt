@@ -1,9 +1,15 @@
-use Rattle.std.specs.Prelude.{ℕ, ◌≡◌, List, [], ◌∷◌, ◌++◌, length}
+use Rattle.std.specs.Prelude.{ℕ, ◌≡◌, ◌⊎◌, List, [], ◌∷◌, ◌++◌, length, Some, None}
 use Rattle.nap_codes.specs.declared.code.Code.TheVariants as codes
 use Rattle.nap_codes.specs.declared.code.Step.{Step}
 use Rattle.nap_codes.specs.declared.code.Step.TheVariants as steps
 use Rattle.nap_codes.specs.declared.code_set.CharSet.{CharSet}
+use Rattle.nap_codes.specs.declared.code_set.CodeSet.TheVariants.{Pdi}
 use Rattle.nap_codes.specs.declared.code_set.CodeSets.{CodeSets}
+use Rattle.nap_codes.specs.declared.control.Row.TheVariants.{Whole}
+use Rattle.nap_codes.specs.declared.control.TextStep.{TextStep}
+use Rattle.nap_codes.specs.declared.opcode.Opcode.{Opcode}
+use Rattle.nap_codes.specs.CodeSets.{set_at}
+use Rattle.nap_codes.specs.Tables.{row_of, control0_rows, opcode_rows, left_out_opcode}
 use Rattle.nap_codes.specs.Front.{Front, unfinished, whole, refused, front}
 
 -- what a lexer stands for: its code sets, and the bytes of the code that is half read
@@ -28,3 +34,17 @@ Steps old byte step new = StepsBy (front old.sets (old.half ++ byte ∷ [])) old
 -- the code sets.
 abbrev pub IsCharacter : LexerState → ℕ → CharSet → Type 0
 IsCharacter lexer byte set = (lexer.half ≡ []) × (front lexer.sets (byte ∷ []) ≡ whole (codes.Char set byte) 1 lexer.sets)
+
+-- The byte is by itself this opcode: no code is half read, the PDI set is in GL, and the tables have the opcode for the byte
+-- and don't leave it out.
+abbrev pub IsOpcode : LexerState → ℕ → Opcode → Type 0
+IsOpcode lexer byte op =
+    (lexer.half ≡ []) × (set_at lexer.sets lexer.sets.gl ≡ Pdi) × (row_of opcode_rows byte ≡ Some op) × (left_out_opcode op ≡ None)
+
+-- The byte is by itself this move of the active position: no code is half read, and the C0 set has the move for the byte.
+abbrev pub IsFormatEffector : LexerState → ℕ → TextStep → Type 0
+IsFormatEffector lexer byte step = (lexer.half ≡ []) × (row_of control0_rows byte ≡ Some (Whole (codes.Step step)))
+
+-- The byte is by itself SO or SI: no code is half read.
+abbrev pub IsShift : LexerState → ℕ → Type 0
+IsShift lexer byte = (lexer.half ≡ []) × ((byte ≡ 0x0E) ⊎ (byte ≡ 0x0F))

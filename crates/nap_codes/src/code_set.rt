@@ -79,15 +79,12 @@ impl CodeSets {
     }
 
     /// The set that stands at this place.
+    #[inline]
     pub fn at(self, place: GSet) -> CodeSet
         ensures { result ≡ set_at self place }
     {
-        match place {
-            GSet::G0 => self.g0,
-            GSet::G1 => self.g1,
-            GSet::G2 => self.g2,
-            GSet::G3 => self.g3,
-        }
+        let sets = [self.g0, self.g1, self.g2, self.g3];
+        sets[place as usize]
     }
 
     /// The code sets with this place in GL.

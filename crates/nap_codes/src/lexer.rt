@@ -1,16 +1,17 @@
 //! The lexer, which cuts a stream into codes.
 
-ghost use Rattle.std.specs.Prelude.{ℕ, ◌≡◌, ◌↔◌, ◌≤◌, ◌<◌, [], ◌∷◌, Some, IsTrue};
+ghost use Rattle.std.specs.Prelude.{ℕ, ◌≡◌, ◌↔◌, ◌≤◌, ◌<◌, [], ◌∷◌, Some, IfSome, IsTrue};
 ghost use Rattle.nap_codes.specs.CodeSets.{set_at, start_sets};
-ghost use Rattle.nap_codes.specs.Front.{argument_front, column_front, fault_of, final_front, front, gl_front, plain_code, single_shift_front, unfinished};
+ghost use Rattle.nap_codes.specs.Front.{argument_front, column_front, fault_of, final_front, front, gl_front, plain_code, single_shift_front, unfinished, whole};
 ghost use Rattle.nap_codes.specs.Half.{Ends, half_after, IsHalf, TurnsTo};
 ghost use Rattle.nap_codes.specs.Laws.{IsGraphic};
-ghost use Rattle.nap_codes.specs.Lexer.{IsCharacter, Steps};
+ghost use Rattle.nap_codes.specs.Lexer.{IsCharacter, IsFormatEffector, IsOpcode, IsShift, Steps};
+ghost use Rattle.nap_codes.specs.declared.code.Code.TheVariants as codes;
 
 use crate::code::{Code, CodeFault, Step};
 use crate::code_set::{CharSet, CodeSet, CodeSets, GSet, designate};
 use crate::control::{Argument, Row, TextStep, control0, control1};
-use crate::opcode::opcode_of;
+use crate::opcode::{Opcode, opcode_of};
 use nap_values::Word;
 use std::marker::Model;
 
@@ -117,6 +118,56 @@ impl Lexer {
             return None;
         }
         self.sets.at(self.sets.gl).characters()
+    }
+
+    /// The opcode that the byte is by itself, where it is one that isn't left out: no code is half read, and the PDI set is
+    /// in GL.
+    #[inline]
+    pub fn opcode(&self, byte: u8) -> Option<Opcode>
+        ensures is { (op : Opcode) → (result ≡ Some op) ↔ IsOpcode self.now byte op }
+        ensures front { IfSome result (λ op. front self.now.sets (byte ∷ []) ≡ whole (codes.Op op) 1 self.now.sets) }
+    {
+        if byte < 0x20 || byte >= 0x40 {
+            return None;
+        }
+        if !self.at_rest() || self.sets.at(self.sets.gl) != CodeSet::Pdi {
+            return None;
+        }
+        let op = opcode_of(byte)?;
+        match op.left_out() {
+            None => Some(op),
+            Some(_) => None,
+        }
+    }
+
+    /// The move of the active position that the byte is by itself, where it is one (format effectors of the C0 set): no code
+    /// is half read. APS, which has two further bytes, is none.
+    #[inline]
+    pub fn format_effector(&self, byte: u8) -> Option<TextStep>
+        ensures is { (step : TextStep) → (result ≡ Some step) ↔ IsFormatEffector self.now byte step }
+        ensures front { IfSome result (λ step. front self.now.sets (byte ∷ []) ≡ whole (codes.Step step) 1 self.now.sets) }
+    {
+        match control0(byte) {
+            Some(Row::Whole(Code::Step(step))) if self.at_rest() => Some(step),
+            _ => None,
+        }
+    }
+
+    /// Whether the byte is SO or SI by itself: no code is half read.
+    #[inline]
+    pub fn is_shift(&self, byte: u8) -> bool
+        ensures { IsTrue result ↔ IsShift self.now byte }
+    {
+        self.at_rest() && (byte == 0x0E || byte == 0x0F)
+    }
+
+    /// Takes SO or SI, as `step` takes it.
+    #[inline]
+    pub fn shift(&mut self, byte: u8)
+        requires { IsShift self.old byte }
+        ensures { Steps self.old byte (Step.Code codes.Shifted) self.new }
+    {
+        self.sets = self.sets.after_control0(byte);
     }
 
     /// Takes the next byte. After a fault the lexer is as it was.

@@ -1,6 +1,7 @@
 use Rattle.std.proofs.Common.{ℕ, ◌≡◌, ◌≢◌, ◌<◌, ◌≤◌, List, [], ◌∷◌, ◌++◌, length, Bool, false, Option, Some, None, Result, Ok, Err, OnOk, IfOk, IfErr, refl, ap, sym, ◌∙◌, subst, inl, inr, ltb, arith, append-nil}
 use Rattle.std.specs.Prelude.{IsOk, IsErrOf}
 use Rattle.std.proofs.lemmas.Bool.{cond-false, le-ltb}
+use Rattle.nap_codes.specs.declared.code.Code.{Code}
 use Rattle.nap_codes.specs.declared.code.Code.TheVariants as code
 use Rattle.nap_codes.specs.declared.code_set.CharSet.{CharSet}
 use Rattle.nap_codes.specs.Front as codes
@@ -29,13 +30,17 @@ use Rattle.nap_reader.proofs.StreamLemmas.{outcome_from-front, outcome_from-left
 
 -- A character or a control acts.
 
--- a character is the code at the front of what is half read, and its byte
+-- a byte that is a code by itself is the code at the front of what is half read, which is nothing, and the byte
+pub alone_front : (lexer : LexerState) (byte : ℕ) (c : Code) → lexer.half ≡ [] → codes.front lexer.sets (byte ∷ []) ≡ codes.whole c 1 lexer.sets →
+    (codes.front lexer.sets (lexer.half ++ byte ∷ []) ≡ codes.whole c 1 lexer.sets) × (1 ≡ length (lexer.half ++ byte ∷ []))
+alone_front lexer byte c none front = (
+  ap (λ (half : List ℕ). codes.front lexer.sets (half ++ byte ∷ [])) none ∙ front,
+  sym (ap (λ (half : List ℕ). length (half ++ byte ∷ [])) none),
+)
+
 pub character_front : (lexer : LexerState) (byte : ℕ) (set : CharSet) → IsCharacter lexer byte set →
     (codes.front lexer.sets (lexer.half ++ byte ∷ []) ≡ codes.whole (code.Char set byte) 1 lexer.sets) × (1 ≡ length (lexer.half ++ byte ∷ []))
-character_front lexer byte set k = (
-  ap (λ (half : List ℕ). codes.front lexer.sets (half ++ byte ∷ [])) k.0 ∙ k.1,
-  sym (ap (λ (half : List ℕ). length (half ++ byte ∷ [])) k.0),
-)
+character_front lexer byte set k = alone_front lexer byte (code.Char set byte) k.0 k.1
 
 -- nothing comes of nothing
 nothing_comes : (m : Machine) → (u : Unfinished) × (outcome_from m [] ≡ paused m [] (Some u))

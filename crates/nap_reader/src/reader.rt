@@ -21,7 +21,7 @@ use crate::frames::Frames;
 use crate::kind::Kind;
 use crate::operands::operand;
 use crate::store::{Span, Store};
-use nap_codes::{Lexer, Opcode, Step};
+use nap_codes::{Code, Lexer, Opcode, Step};
 use nap_draw::{DrawFault, RUN_LIMIT, Work};
 use nap_list::Sink;
 use nap_values::{Point, Word};
@@ -174,6 +174,7 @@ impl<S: Sink> Reader<S> {
     }
 
     /// Takes one byte, which has this place.
+    #[inline(always)]
     fn turn(&mut self, byte: u8, place: u64) -> Result<(), Refusal>
         requires { self.old.refusal ≡ None }
         ensures answered { MatchResult result (λ _. self.new.refusal ≡ None) (λ r. self.new.refusal ≡ Some r) }
@@ -270,7 +271,8 @@ impl<S: Sink> Reader<S> {
         }
     }
 
-    /// Takes a byte where no run is open, and no body.
+    /// Takes a byte where no run is open, and no body. Most codes are one byte, which needs no step of the lexer.
+    #[inline(always)]
     fn lex(&mut self, byte: u8, place: u64) -> Result<(), Refusal>
         requires live { self.old.refusal ≡ None }
         requires between { self.old.open_body ≡ None }
@@ -292,6 +294,41 @@ impl<S: Sink> Reader<S> {
             let put = self.work.text(set, byte, &mut self.sink);
             return latched(&mut self.refusal, put, place);
         }
+        if let Some(op) = self.lexer.opcode(byte) {
+            self.open_run = Some(OpenRun { op, place });
+            self.run.clear();
+            return Ok(());
+        }
+        if let Some(step) = self.lexer.format_effector(byte) {
+            let moved = self.work.control(&Code::Step(step), &mut self.sink);
+            return latched(&mut self.refusal, moved, place);
+        }
+        if self.lexer.is_shift(byte) {
+            self.lexer.shift(byte);
+            return Ok(());
+        }
+        self.read_code(byte, place)
+    }
+
+    /// Takes a byte of any code, where no run is open, and no body.
+    #[inline(never)]
+    fn read_code(&mut self, byte: u8, place: u64) -> Result<(), Refusal>
+        requires live { self.old.refusal ≡ None }
+        requires between { self.old.open_body ≡ None }
+        requires closed { self.old.open_run ≡ None }
+        ensures answered { MatchResult result (λ _. self.new.refusal ≡ None) (λ r. self.new.refusal ≡ Some r) }
+        ensures reaches { (s : S) (o : Outcome) (inputs : List Placed) →
+            Continues S.Sink s o self.old.sink (holding_of self.old) (placed_at byte place ∷ frames_left self.old ++ inputs) → ReachesWith self.new s o inputs }
+        ensures breaks { IfErr result (λ r. cause_of r.fault ≢ stream → (s : S) (known : List Entry) (o : Outcome) →
+            ContinuesPast S.Sink s known o self.old.sink (holding_of self.old) (record { byte = byte; place = place } ∷ []) →
+            (r.place ≡ place) × BreaksSome S.Sink s known o self.new.sink (holding_of self.old) (cause_of r.fault)) }
+        ensures failed { IfErr result (λ r. r.fault ≡ Fault.Sink → S.failed self.new.sink ≡ true) }
+        ensures kept { IfErr result (λ r. S.failed self.old.sink ≡ false → S.failed self.new.sink ≡ true → r.fault ≡ Fault.Sink) }
+        ensures clear { OnOk result (S.failed self.old.sink ≡ false → S.failed self.new.sink ≡ false) }
+        ensures counts { Charges self.old self.new }
+        ensures uncharged { IfErr result (λ _. self.new.charged ≡ self.old.charged) }
+        ensures placed { OnOk result (Places self.old self.new place) }
+    {
         let code = match self.lexer.step(byte) {
             Step::More => return Ok(()),
             Step::Fault(fault) => return refuse(&mut self.refusal, Fault::from(fault), place),
@@ -323,6 +360,7 @@ impl<S: Sink> Reader<S> {
     }
 
     /// Takes a byte of the open body.
+    #[inline(never)]
     fn read_body(&mut self, body: OpenBody, byte: u8, place: u64) -> Result<(), Refusal>
         requires live { self.old.refusal ≡ None }
         requires opened { self.old.open_body ≡ Some body }

@@ -1,0 +1,38 @@
+use Rattle.std.proofs.Common.{ℕ, ◌≡◌, ◌≢◌, [], ◌∷◌, Some, refl, sym, ap, ◌∙◌, ◌⊎◌, inl, inr}
+use Rattle.std.proofs.lemmas.Bool.{ne_eqb}
+use Rattle.nap_codes.specs.declared.code.Code.TheVariants as codes
+use Rattle.nap_codes.specs.declared.code.Step.TheVariants as steps
+use Rattle.nap_codes.specs.declared.code_set.CodeSets.{CodeSets}
+use Rattle.nap_codes.specs.declared.control.Row.TheVariants.{Whole}
+use Rattle.nap_codes.specs.declared.control.TextStep.{TextStep}
+use Rattle.nap_codes.specs.CodeSets.{after_control0}
+use Rattle.nap_codes.specs.Front.{whole, control0_front, front}
+use Rattle.nap_codes.specs.Lexer.{LexerState, Steps}
+use Rattle.nap_codes.specs.Tables.{row_of, control0_rows}
+use Rattle.nap_codes.proofs.TableLemmas.{shift_out_row, shift_in_row}
+
+-- Controls of the C0 set that are whole codes by themselves.
+
+-- a move of the active position is no shift
+no_shift : (byte at : ℕ) (step : TextStep) → row_of control0_rows at ≡ Some (Whole codes.Shifted) → row_of control0_rows byte ≡ Some (Whole (codes.Step step)) → byte ≢ at
+no_shift byte at step shifts is same =
+    let both : Some (Whole codes.Shifted) ≡ Some (Whole (codes.Step step)) = sym shifts ∙ ap (row_of control0_rows) (sym same) ∙ is in cc
+
+-- a move stands at the front as that move, and leaves the code sets
+pub format_effector_alone : (sets : CodeSets) (byte : ℕ) (step : TextStep) → row_of control0_rows byte ≡ Some (Whole (codes.Step step)) →
+    front sets (byte ∷ []) ≡ whole (codes.Step step) 1 sets
+unfolding front control0_front after_control0
+format_effector_alone sets byte step is =
+    rw (is, ne_eqb byte 0x0E (no_shift byte 0x0E step shift_out_row is), ne_eqb byte 0x0F (no_shift byte 0x0F step shift_in_row is)) refl
+
+-- SO or SI stands at the front as a shift
+shift_front : (sets : CodeSets) (byte : ℕ) → (byte ≡ 0x0E) ⊎ (byte ≡ 0x0F) → front sets (byte ∷ []) ≡ whole codes.Shifted 1 (after_control0 sets byte)
+unfolding front control0_front
+shift_front sets byte (inl is) = rw (is, shift_out_row) refl
+shift_front sets byte (inr is) = rw (is, shift_in_row) refl
+
+-- SO and SI are taken as a step takes them
+pub shift_steps : (old new : LexerState) (byte : ℕ) → old.half ≡ [] → (byte ≡ 0x0E) ⊎ (byte ≡ 0x0F) → new ≡ record { sets = after_control0 old.sets byte; half = [] } →
+    Steps old byte (steps.Code codes.Shifted) new
+shift_steps old new byte rests is same =
+    rw (rests, shift_front old.sets byte is) (refl, refl, same)
