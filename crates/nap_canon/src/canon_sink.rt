@@ -152,6 +152,9 @@ impl<O: Outlet + Drop> Sink for CanonSink<O> {
             code: *code,
             hand: *hand,
         };
+        if self.types_on(&first) {
+            return self.type_on(set, codes);
+        }
         if let Err(fault) = self.put_ref(&first) {
             return Err(TextFault { taken: 0, fault });
         }

@@ -4,7 +4,9 @@ ghost use Rattle.nap_codes.specs.declared.code_set.CharSet.TheVariants.{Primary}
 ghost use Rattle.nap_codes.specs.declared.code_set.GSet.TheVariants.{G0};
 ghost use Rattle.nap_list.specs.declared.attribute.Pen.TheVariants.{After, At};
 ghost use Rattle.nap_list.specs.declared.entry.Entry.{Entry};
-ghost use Rattle.nap_list.specs.Putting.{Put, point_on, lines_on, text_in};
+ghost use Rattle.nap_list.specs.Agreement.{Stands};
+ghost use Rattle.nap_list.specs.Entry.{held};
+ghost use Rattle.nap_list.specs.Putting.{Put, PutUpTo, point_on, lines_on, text_in};
 ghost use Rattle.nap_list.specs.State.{hand_of};
 ghost use Rattle.nap_canon.specs.declared.tail.Tail.TheVariants.{Apart};
 ghost use Rattle.nap_canon.specs.Batches.{canon_shows, ColourStands, PutsNext, PutsSome, PointsJoin, ArePoints, line_on, char_on};
@@ -13,7 +15,7 @@ use crate::canon_sink::CanonSink;
 use crate::gathered::{MOST, last_of};
 use crate::writer::opcodes;
 use nap_codes::CharSet;
-use nap_list::{Outlet, SinkFault};
+use nap_list::{Entry, Outlet, SinkFault, TextFault};
 use nap_values::Point;
 
 impl<O: Outlet + Drop> CanonSink<O> {
@@ -230,6 +232,31 @@ impl<O: Outlet + Drop> CanonSink<O> {
         match set {
             CharSet::Primary => self.codes_on(codes),
             _ => self.characters_on(set, codes),
+        }
+    }
+
+    /// Whether a character goes on in the text that stands last.
+    pub(super) fn types_on(&self, character: &Entry) -> bool
+        ensures { result ≡ true → (O.failed self.now.outlet ≡ false) × (self.now.tail ≡ Apart G0) × (self.now.state.drawing.pen ≡ After)
+            × Stands (held character.now) self.now.state.drawing }
+    {
+        !self.failed() && self.writer.types_on(character)
+    }
+
+    /// Takes characters that go on in the text that stands last.
+    pub(super) fn type_on(&mut self, set: CharSet, codes: &[u8]) -> Result<(), TextFault>
+        requires works { O.failed self.old.outlet ≡ false }
+        requires tail { self.old.tail ≡ Apart G0 }
+        requires pen { self.old.state.drawing.pen ≡ After }
+        requires colour { ColourStands self.old.state.drawing }
+        ensures { PutUpTo (canon_shows O.Outlet) (text_in set (hand_of self.old.state.drawing) codes.now) self.old self.new result }
+    {
+        match self.text_on(set, codes) {
+            Ok(()) => Ok(()),
+            Err(taken) => Err(TextFault {
+                taken,
+                fault: SinkFault::Write,
+            }),
         }
     }
 }

@@ -1,8 +1,10 @@
 //! Entries behind one of their like, whose values stand. They need no bring.
-ghost use Rattle.std.specs.Prelude.{◌≡◌, None, is_err, OnOk, OnErr};
+ghost use Rattle.std.specs.Prelude.{◌≡◌, None, true, is_err, OnOk, OnErr};
 ghost use Rattle.nap_codes.specs.declared.code_set.CharSet.TheVariants.{Primary};
 ghost use Rattle.nap_codes.specs.declared.code_set.GSet.TheVariants.{G0};
 ghost use Rattle.nap_list.specs.declared.attribute.Pen.TheVariants.{After};
+ghost use Rattle.nap_list.specs.Agreement.{Stands};
+ghost use Rattle.nap_list.specs.Entry.{held};
 ghost use Rattle.nap_list.specs.State.{after, walk, hand_of};
 ghost use Rattle.nap_list.specs.Putting.{point_on, text_in};
 ghost use Rattle.nap_canon.specs.declared.tail.Tail.TheVariants.{Apart};
@@ -10,9 +12,10 @@ ghost use Rattle.nap_canon.specs.Batches.{ColourStands, SentUpTo, line_on, char_
 ghost use Rattle.nap_canon.specs.Text.{written, tail_after, entry_pieces};
 
 use crate::byte_sink::ByteSink;
+use crate::tail::Tail;
 use crate::writer::{Writer, opcodes};
-use nap_codes::CharSet;
-use nap_list::{LastChar, Pen};
+use nap_codes::{CharSet, GSet};
+use nap_list::{Entry, LastChar, Pen};
 use nap_values::{Point, put_point};
 
 impl<T: ByteSink + Drop> Writer<T> {
@@ -46,6 +49,14 @@ impl<T: ByteSink + Drop> Writer<T> {
         self.line(from, to)?;
         self.state.drawing.pen = Pen::At(to);
         Ok(())
+    }
+
+    /// Whether a character goes on in the text that stands last: its values stand, and the primary characters are in GL.
+    pub(crate) fn types_on(&self, character: &Entry) -> bool
+        ensures { result ≡ true → (self.now.tail ≡ Apart G0) × (self.now.state.drawing.pen ≡ After) × Stands (held character.now) self.now.state.drawing }
+    {
+        let drawing = &self.state.drawing;
+        self.tail == Tail::Apart(GSet::G0) && drawing.pen == Pen::After && drawing.stands(character)
     }
 
     /// Writes a character behind another.
