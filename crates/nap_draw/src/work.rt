@@ -126,6 +126,7 @@ impl Work {
     }
 
     /// Puts one entry that holds the values that stand.
+    #[inline(always)]
     pub(crate) fn put<S: Sink>(&self, entry: Entry, sink: &mut S) -> Result<(), SinkFault>
         requires agrees { StatesAgree self.now.state (S.state sink.old) }
         requires follows { MayFollow self.now.state entry }
@@ -135,6 +136,7 @@ impl Work {
     }
 
     /// Puts one entry that holds the values that stand, and leaves them but for the pen.
+    #[inline(always)]
     pub(crate) fn single<S: Sink>(
         &mut self,
         entry: Entry,

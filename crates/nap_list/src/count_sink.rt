@@ -36,6 +36,7 @@ impl CountSink {
     }
 
     /// Goes on by as many entries, of which the last leaves what all of them leave.
+    #[inline(always)]
     fn advance(&mut self, entries: usize, last: &Entry) -> Result<(), SinkFault>
         requires { Fits self.old.state last.now }
         ensures { MatchResult result (λ _. self.new ≡ record { count = self.old.count + entries; state = after self.old.state last.now }) (λ fault. (fault ≡ SinkFault.Memory) × (self.new ≡ self.old)) }
@@ -61,6 +62,7 @@ impl Sink for CountSink {
 
     ghost broke = { λ s d e t. ⊥ };
 
+    #[inline(always)]
     fn put(&mut self, entry: Entry) -> Result<(), SinkFault> {
         self.advance(1, &entry)
     }

@@ -116,6 +116,7 @@ impl TextLook {
 
 impl Base {
     /// The colour of mode 0 once this colour is taken, which is of mode 0 where it is direct.
+    #[inline(always)]
     fn behind(self, colour: &Colour) -> Base
         ensures { result ≡ base_shown self (Some colour.now) }
     {
@@ -249,6 +250,7 @@ impl Drawing {
         }
     }
 
+    #[inline(always)]
     fn take_colour(&mut self, colour: &Colour)
         ensures { self.new ≡ taking self.old (colour_alone colour.now) }
     {
@@ -256,6 +258,7 @@ impl Drawing {
         self.colour = *colour;
     }
 
+    #[inline(always)]
     fn take_ink(&mut self, ink: &Ink)
         ensures { self.new ≡ taking self.old (ink_values ink.now) }
     {
@@ -264,6 +267,7 @@ impl Drawing {
         self.take_colour(&ink.colour);
     }
 
+    #[inline(always)]
     fn take_hand(&mut self, hand: &Hand)
         ensures { self.new ≡ taking self.old (hand_values hand.now) }
     {
@@ -273,6 +277,7 @@ impl Drawing {
     }
 
     /// Takes the values that an entry holds.
+    #[inline(always)]
     fn show(&mut self, entry: &Entry)
         ensures { self.new ≡ taking self.old (held entry.now) }
     {
@@ -418,6 +423,7 @@ impl State {
     }
 
     /// The effect of the entry on the values and on the definition that is open.
+    #[inline(always)]
     fn act(&mut self, entry: &Entry)
         ensures drawing { self.new.drawing ≡ drawn self.old.definition self.old.drawing entry.now }
         ensures definition { self.new.definition ≡ definition_after self.old.definition self.old.drawing entry.now }
@@ -457,6 +463,7 @@ impl State {
     }
 
     /// What an entry does to the colours of the map that are known.
+    #[inline(always)]
     fn learn(&mut self, entry: &Entry)
         ensures { self.new ≡ record self.old { known = known_after self.old.known entry.now } }
     {
@@ -468,6 +475,7 @@ impl State {
     }
 
     /// Goes on to the state that an entry leaves that fits.
+    #[inline(always)]
     pub fn step(&mut self, entry: &Entry)
         requires { Fits self.old entry.now }
         ensures { self.new ≡ after self.old entry.now }
@@ -489,6 +497,7 @@ impl State {
     }
 }
 
+#[inline(always)]
 fn last_char(entry: &Entry) -> Option<LastChar>
     ensures { result ≡ last_after entry.now }
 {
