@@ -13,15 +13,14 @@ taken_operands bytes n few = λ k d within.
     ap is_operand_byte (get_or-take n bytes k d k_few) ∙ prefix_len_passes is_operand_byte bytes k d (omega (arith, k_few, few))
 
 -- what is at the front of a part of a piece is at the front of the piece
-pub taken_of_part : (piece : List ℕ) (most n taken : ℕ) → most ≤ length piece → n ≡ prefix_len is_operand_byte (take most piece) → taken ≤ length (take n (take most piece)) →
-    (taken ≤ most) × (take taken (take n (take most piece)) ≡ take taken piece) × All (λ b. is_operand_byte b ≡ true) (take taken piece)
+pub taken_of_part : (piece : List ℕ) (most n taken : ℕ) → most ≤ length piece → n ≡ prefix_len is_operand_byte (take most piece) → taken ≤ n →
+    (taken ≤ most) × (take taken (take most piece) ≡ take taken piece) × All (λ b. is_operand_byte b ≡ true) (take taken piece)
 taken_of_part piece most n taken within counted few =
     let front = take most piece in
     let n_within : n ≤ length front = omega (arith, counted, prefix_len-le-length is_operand_byte front) in
-    let fewer : taken ≤ n = omega (arith, few, length-take-le n front n_within) in
-    let least : taken ≤ most = omega (arith, fewer, n_within, length-take-le most piece within) in
+    let least : taken ≤ most = omega (arith, few, n_within, length-take-le most piece within) in
     let same : take taken front ≡ take taken piece = take-take taken most piece least in
-    (least, take-take taken n front fewer ∙ same, subst (All (λ b. is_operand_byte b ≡ true)) same (taken_operands front taken (omega (arith, fewer, counted))))
+    (least, same, subst (All (λ b. is_operand_byte b ≡ true)) same (taken_operands front taken (omega (arith, few, counted))))
 
 same_word : (b : ℕ) → is_operand_byte b ≡ true → b % 64 ≡ b - 64
 same_word b is =

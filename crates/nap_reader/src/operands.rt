@@ -19,7 +19,7 @@ pub(crate) fn take_words(run: &mut Vec<Word>, piece: &[u8]) -> usize
     let most = piece.len().min(room);
     let front = &piece[..most];
     let count = prefix_from(front, 0x40);
-    join_words(run, &front[..count])
+    join_words(run, front, count)
 }
 
 /// The word that an operand byte carries.
@@ -33,22 +33,56 @@ pub(crate) fn operand(byte: u8) -> Option<Word>
     }
 }
 
-/// From so many words on they join the run as a block.
+/// So many words join the run as vector code, with those that go again at once.
 const BLOCK: usize = 32;
 
-/// The words of these bytes join the run, or none where memory is wanting. Tells how many joined it.
-fn join_words(run: &mut Vec<Word>, bytes: &[u8]) -> usize
-    ensures within { result ≤ length bytes.now }
+/// The words of so many bytes at the front join the run, or none where memory is wanting. Tells how many joined it.
+#[inline]
+fn join_words(run: &mut Vec<Word>, bytes: &[u8], count: usize) -> usize
+    requires { count ≤ length bytes.now }
+    ensures within { result ≤ count }
     ensures joined { run.new.items ≡ run.old.items ++ map (λ b. b % 64) (take result bytes.now) }
 {
-    if bytes.len() < BLOCK {
-        join_each(run, bytes)
-    } else {
-        join_block(run, bytes)
+    if count >= BLOCK {
+        return join_all(run, &bytes[..count]);
     }
+    if bytes.len() >= BLOCK {
+        return join_front(run, &bytes[..BLOCK], count);
+    }
+    join_each(run, &bytes[..count])
 }
 
-/// The same, word by word, which is quick for few of them.
+/// Of the words of a block the first ones join the run, so many of them.
+#[inline]
+fn join_front(run: &mut Vec<Word>, block: &[u8], count: usize) -> usize
+    requires whole { length block.now ≡ 32 }
+    requires within { count ≤ 32 }
+    ensures within { result ≤ count }
+    ensures joined { run.new.items ≡ run.old.items ++ map (λ b. b % 64) (take result block.now) }
+{
+    let before = run.len();
+    let words = words_of(block);
+    let Ok(()) = run.extend_from_slice(&words) else {
+        return 0;
+    };
+    run.truncate(before + count);
+    count
+}
+
+/// The words of a block.
+#[inline]
+fn words_of(block: &[u8]) -> [Word; BLOCK]
+    requires { length block.now ≡ 32 }
+    ensures { result ≡ map (λ b. b % 64) block.now }
+{
+    let mut words = [Word::ZERO; BLOCK];
+    for at in 0..BLOCK {
+        words[at] = word_of(&block[at]);
+    }
+    words
+}
+
+/// The words of bytes join the run, one by one.
 fn join_each(run: &mut Vec<Word>, bytes: &[u8]) -> usize
     ensures within { result ≤ length bytes.now }
     ensures joined { run.new.items ≡ run.old.items ++ map (λ b. b % 64) (take result bytes.now) }
@@ -62,8 +96,8 @@ fn join_each(run: &mut Vec<Word>, bytes: &[u8]) -> usize
     bytes.len()
 }
 
-/// The same, as a block.
-fn join_block(run: &mut Vec<Word>, bytes: &[u8]) -> usize
+/// The same, as vector code.
+fn join_all(run: &mut Vec<Word>, bytes: &[u8]) -> usize
     ensures within { result ≤ length bytes.now }
     ensures joined { run.new.items ≡ run.old.items ++ map (λ b. b % 64) (take result bytes.now) }
 {

@@ -1,14 +1,13 @@
-use Rattle.std.proofs.Common.{◌%◌, ◌++◌, ℕ, List, map, take, ap, ◌∙◌, sym, arith}
-use Rattle.std.proofs.lemmas.List.{length-take-le}
+use Rattle.std.proofs.Common.{◌%◌, ◌++◌, ℕ, List, map, take, ap, ◌∙◌, arith}
 use Rattle.std.proofs.lemmas.List.Sums.{prefix_len-le-length}
 use Rattle.nap_reader.specs.Stream.{is_operand_byte}
 use Rattle.nap_reader.proofs.OperandLemmas.{taken_of_part, same_words}
 use Rattle.nap_reader.proofs.operands.take_words.Goals as goal
 
-pub slice_bounds-join_words-end : goal.slice_bounds-join_words-end
-slice_bounds-join_words-end c =
+pub join_words-requires : goal.join_words-requires
+join_words-requires c =
     let front = take c.min-most.result c.args.piece.now in
-    sym (length-take-le c.prefix_from-count.result front (omega (arith, c.prefix_from-count.ensures, prefix_len-le-length is_operand_byte front)))
+    omega (arith, c.prefix_from-count.ensures, prefix_len-le-length is_operand_byte front)
 
 pub returns-clause-within : goal.returns-clause-within
 returns-clause-within c =

@@ -4,7 +4,7 @@ use Rattle.std.proofs.lemmas.Iterator.{YieldsList-from_map, YieldsList-from_slic
 use Rattle.std.proofs.lemmas.Iterator.Consumers.{YieldsList-at}
 use Rattle.std.proofs.lemmas.Result.{IfOk-at_ok, on_ok_weaker}
 use Rattle.std.proofs.lemmas.Iterator.Adapters.{items_from_extend}
-use Rattle.nap_reader.proofs.operands.join_block.Goals as goal
+use Rattle.nap_reader.proofs.operands.join_all.Goals as goal
 
 pub returns-clause-joined : goal.returns-clause-joined
 returns-clause-joined c =
