@@ -1,3 +1,4 @@
+pub mod Batches
 pub mod Lines
 pub mod Listing
 pub mod Parts

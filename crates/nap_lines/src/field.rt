@@ -1,6 +1,7 @@
 //! The fields of a line, each in front of what stands.
 ghost use Rattle.std.specs.Prelude.{◌≡◌, ◌+◌, ◌≤◌, [], ◌∷◌, ◌++◌, codes, decimal, length};
 ghost use Rattle.nap_lines.specs.Lines.{point_text, move_text, grb_text, colour_text, pen_text, texture_text, mask_size_text, ink_text, size_text, flag_text, flags_text, look_text, hand_text, fill_text, set_text, step_text, area_text, mark_text, cursor_text, mask_text};
+ghost use Rattle.nap_lines.specs.Batches.{written_text};
 
 use crate::tail::Tail;
 use nap_codes::{CharSet, CursorKind, Mask, Size, TextStep};
@@ -184,15 +185,24 @@ impl Tail {
         self.word(look.first);
     }
 
+    /// What characters are drawn with, but for their pen.
+    pub(crate) fn written(&mut self, hand: &Hand)
+        requires room { length self.old + 103 ≤ 256 }
+        ensures text { self.new ≡ written_text hand.now ++ self.old }
+        ensures size { length self.new ≤ length self.old + 103 }
+    {
+        self.look(&hand.text);
+        self.push(" text=");
+        self.coloured(&hand.colour);
+    }
+
     /// What characters are drawn with.
     pub(crate) fn hand(&mut self, hand: &Hand)
         requires room { length self.old + 128 ≤ 256 }
         ensures text { self.new ≡ hand_text hand.now ++ self.old }
         ensures size { length self.new ≤ length self.old + 128 }
     {
-        self.look(&hand.text);
-        self.push(" text=");
-        self.coloured(&hand.colour);
+        self.written(hand);
         self.pen(hand.pen);
         self.push("pen=");
     }

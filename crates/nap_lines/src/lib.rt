@@ -1,6 +1,7 @@
 //! The line of each entry of a display list, as `list` prints it.
 #![tactic(auto)]
 
+mod batch;
 mod field;
 mod line;
 mod line_sink;

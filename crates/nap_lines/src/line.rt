@@ -16,15 +16,12 @@ impl Tail {
         requires { length self.old ≤ 1 }
         ensures { self.new ≡ line (Entry.Point at pel colour.now) ++ self.old }
     {
-        self.coloured(colour);
-        self.displacement(pel);
-        self.push(" pel=");
-        self.point(at);
-        self.push("POINT ");
+        self.dot_end(pel, colour);
+        self.dot_front(at);
     }
 
     // What a line, a rectangle or a shape is drawn with.
-    fn inked(&mut self, ink: &Ink)
+    pub(crate) fn inked(&mut self, ink: &Ink)
         requires { length self.old ≤ 1 }
         ensures text { self.new ≡ codes " " ++ ink_text ink.now ++ self.old }
         ensures size { length self.new ≤ length self.old + 118 }
@@ -38,10 +35,7 @@ impl Tail {
         ensures { self.new ≡ line (Entry.Line from to ink.now) ++ self.old }
     {
         self.inked(ink);
-        self.point(to);
-        self.push(" ");
-        self.point(from);
-        self.push("LINE ");
+        self.line_front(from, to);
     }
 
     fn rect(&mut self, filled: bool, from: Point, to: Point, ink: &Ink)
@@ -63,10 +57,7 @@ impl Tail {
     {
         self.hand(hand);
         self.push(" ");
-        self.code(code);
-        self.push(" ");
-        self.char_set(set);
-        self.push("CHAR ");
+        self.letter_front(set, code);
     }
 
     fn text_move(&mut self, step: TextStep, hand: &Hand)

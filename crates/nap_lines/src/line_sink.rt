@@ -5,9 +5,13 @@ ghost use Rattle.nap_lines.specs.Listing.{Lists, lists_more, lists_none};
 
 use crate::line::write_line;
 use crate::tail::Tail;
-use nap_list::{Entry, Sink, SinkFault, State};
+use nap_codes::CharSet;
+use nap_list::{Drawing, Entry, Hand, Sink, SinkFault, State, TextFault};
+use nap_values::Point;
 use std::alloc::Global;
 use std::marker::Model;
+
+mod batch;
 
 /// Makes a line of each entry that it takes, with its end, and keeps the lines alone.
 #[derive(Drop)]
@@ -60,6 +64,36 @@ impl Sink for LineSink {
     fn put(&mut self, entry: Entry) -> Result<(), SinkFault> {
         write_line(&mut self.room, &mut self.text, &entry, "\n")?;
         self.state.step(&entry);
+        Ok(())
+    }
+
+    fn put_points(&mut self, points: &[Point], drawing: &Drawing) -> Result<(), SinkFault> {
+        if self.take_points(points, drawing) < points.len() {
+            return Err(SinkFault::Memory);
+        }
+        Ok(())
+    }
+
+    fn put_lines(
+        &mut self,
+        from: Point,
+        points: &[Point],
+        drawing: &Drawing,
+    ) -> Result<(), SinkFault> {
+        if self.take_lines(from, points, drawing) < points.len() {
+            return Err(SinkFault::Memory);
+        }
+        Ok(())
+    }
+
+    fn put_text(&mut self, set: CharSet, codes: &[u8], hand: &Hand) -> Result<(), TextFault> {
+        let taken = self.take_text(set, codes, hand);
+        if taken < codes.len() {
+            return Err(TextFault {
+                taken,
+                fault: SinkFault::Memory,
+            });
+        }
         Ok(())
     }
 

@@ -1,5 +1,5 @@
 //! The end of a line, made from the back.
-ghost use Rattle.std.specs.Prelude.{◌≡◌, ◌+◌, ◌<◌, ◌≤◌, [], ◌++◌, length, decimal};
+ghost use Rattle.std.specs.Prelude.{◌≡◌, ◌+◌, ◌<◌, ◌≤◌, [], ◌++◌, ◌-◌, drop, length, decimal};
 ghost use Rattle.std.specs.Char.{digit_char};
 ghost use Rattle.std.specs.Fmt.{signed_decimal};
 ghost use Rattle.std.specs.Str.{IsUtf8};
@@ -53,6 +53,23 @@ impl Tail {
         ensures utf8 { IsUtf8 result.now }
     {
         &self.bytes[self.at..]
+    }
+
+    /// How many bytes are made.
+    pub(crate) fn len(&self) -> usize
+        ensures count { result ≡ length self.now }
+        ensures utf8 { IsUtf8 self.now }
+    {
+        ROOM - self.at
+    }
+
+    /// The last bytes alone, so many of them.
+    pub(crate) fn keep(&mut self, count: usize)
+        requires within { count ≤ length self.old }
+        requires utf8 { IsUtf8 (drop (length self.old - count) self.old) }
+        ensures { self.new ≡ drop (length self.old - count) self.old }
+    {
+        self.at += self.len() - count;
     }
 
     fn put(&mut self, bytes: &[u8])

@@ -1,0 +1,223 @@
+use Rattle.std.proofs.Common.{ℕ, zero, suc, ◌≡◌, if◌then◌else◌, is_ok, is_err, ◌-◌, ◌+◌, ◌<◌, ◌≤◌, List, [], ◌∷◌, ◌++◌, Bool, true, false, Result, Ok, Err, codes, flat_map, map, length, take, drop, get_or, add-one, refl, ap, sym, subst, ◌∙◌, append-nil, append_assoc, length-append, arith}
+use Rattle.std.proofs.lemmas.List.{take-append-drop, take-map, take_all, take_more, length-take-le}
+use Rattle.std.proofs.lemmas.List.Concat.{flat_map-append}
+use Rattle.std.proofs.Math.Seq.{drop-append_seam}
+use Rattle.nap_values.specs.Coordinates.{Coordinates}
+use Rattle.nap_codes.specs.declared.code_set.CharSet.{CharSet}
+use Rattle.nap_list.specs.declared.attribute.Hand.{Hand}
+use Rattle.nap_list.specs.declared.attribute.Ink.{Ink}
+use Rattle.nap_list.specs.declared.attribute.Pen.TheVariants.{After}
+use Rattle.nap_list.specs.declared.entry.Entry.{Entry}
+use Rattle.nap_list.specs.declared.entry.Entry.TheVariants as entries
+use Rattle.nap_list.specs.declared.sink.SinkFault.TheVariants.{Memory}
+use Rattle.nap_list.specs.declared.state.Drawing.{Drawing}
+use Rattle.nap_list.specs.declared.state.State.{State}
+use Rattle.nap_list.specs.State.{AllFit, walk, ink_of}
+use Rattle.nap_list.proofs.PublicLaws.{fits_join}
+use Rattle.nap_list.specs.Putting.{SinkShows, shows, Put, PutUpTo, StopsAfter, point_on, lines_on, text_in}
+use Rattle.nap_lines.specs.Lines.{line, ink_text, pen_text, move_text, colour_text, look_text}
+use Rattle.nap_lines.specs.Listing.{Listed, Lists, lines}
+use Rattle.nap_lines.specs.Batches.{point_front, point_end, line_front, char_front, written_text, lines_with, Goes}
+
+-- The lines of a batch.
+
+-- the end of a line stays where its front is taken off
+pub kept : (room front end : List ℕ) (n : ℕ) → room ≡ front ++ end → n ≡ length end → drop (length room - n) room ≡ end
+kept room front end n is size =
+    let at : length room - n ≡ length front = omega (arith, ap length is, length-append front end) in
+    rw (at, is) (drop-append_seam front end)
+
+-- one line more was written
+
+pub appended : {T E : Type 0} (r : Result T E) (failed : Bool) (now old bytes : List ℕ) → now ≡ (if is_ok r then old ++ bytes else old) → failed ≡ is_err r → failed ≡ false →
+    now ≡ old ++ bytes
+appended (Ok _) failed now old bytes is was works = is
+appended (Err _) failed now old bytes is was works = let bad : ⊥ = cc in absurd bad
+
+pub unchanged : {T E : Type 0} (r : Result T E) (failed : Bool) (now old bytes : List ℕ) → now ≡ (if is_ok r then old ++ bytes else old) → failed ≡ is_err r → failed ≡ true → now ≡ old
+unchanged (Ok _) failed now old bytes is was works = let bad : ⊥ = cc in absurd bad
+unchanged (Err _) failed now old bytes is was works = is
+
+pub one_more : {A : Type 0} (f : A → List ℕ) (xs : List A) (i : ℕ) (x d : A) → i < length xs → x ≡ get_or xs i d → flat_map f (take (i + 1) xs) ≡ flat_map f (take i xs) ++ f x
+one_more {A} f xs i x d less is =
+    ap (flat_map f) (take_more xs i d less)
+    ∙ flat_map-append f (take i xs) (get_or xs i d ∷ [])
+    ∙ ap (λ (bytes : List ℕ). flat_map f (take i xs) ++ bytes) (append-nil (f (get_or xs i d)) ∙ ap f (sym is))
+
+pub text_goes : (first now next before after bytes : List ℕ) → now ≡ first ++ before → next ≡ now ++ bytes → after ≡ before ++ bytes → next ≡ first ++ after
+text_goes first now next before after bytes is more goes =
+    more ∙ ap (λ (list : List ℕ). list ++ bytes) is ∙ append_assoc first before bytes ∙ ap (λ (list : List ℕ). first ++ list) (sym goes)
+
+-- lines on from point to point
+
+pub goes_first : (end : List ℕ) (from : Coordinates) → Goes end from [] from
+unfolding lines_with
+goes_first end from rest = refl
+
+pub goes_line : (end : List ℕ) (from at to : Coordinates) (points : List Coordinates) (i : ℕ) → i < length points → to ≡ get_or points i to → Goes end from (take i points) at →
+    lines_with end from (take (i + 1) points) ≡ lines_with end from (take i points) ++ (line_front at to ++ end)
+unfolding lines_with
+goes_line end from at to points i less is goes =
+    let more : take (i + 1) points ≡ take i points ++ to ∷ [] = take_more points i to less ∙ ap (λ (p : Coordinates). take i points ++ p ∷ []) (sym is) in
+    ap (lines_with end from) more ∙ goes (to ∷ []) ∙ ap (λ (bytes : List ℕ). lines_with end from (take i points) ++ bytes) (append-nil (line_front at to ++ end))
+
+pub goes_on : (end : List ℕ) (from at to : Coordinates) (points : List Coordinates) (i : ℕ) → i < length points → to ≡ get_or points i to → Goes end from (take i points) at →
+    Goes end from (take (i + 1) points) to
+unfolding lines_with
+goes_on end from at to points i less is goes rest =
+    let more : take (i + 1) points ≡ take i points ++ to ∷ [] = take_more points i to less ∙ ap (λ (p : Coordinates). take i points ++ p ∷ []) (sym is) in
+    let here = lines_with end from (take i points) in
+    ap (λ (done : List Coordinates). lines_with end from (done ++ rest)) more
+    ∙ ap (lines_with end from) (append_assoc (take i points) (to ∷ []) rest)
+    ∙ goes (to ∷ rest)
+    ∙ sym (append_assoc here (line_front at to ++ end) (lines_with end to rest))
+    ∙ ap (λ (bytes : List ℕ). bytes ++ lines_with end to rest) (sym (goes_line end from at to points i less is goes))
+
+-- lines of points, lines and characters, with their fronts and ends
+
+dot_line : (d : Drawing) (at : Coordinates) → point_front at ++ (point_end d.pel d.colour ++ 10 ∷ []) ≡ line (point_on d at) ++ 10 ∷ []
+dot_line d at = parts (point_front at) (codes " pel=") (move_text d.pel) (codes " colour=") (colour_text d.colour) (10 ∷ [])
+  where
+    parts : (f a m b c n : List ℕ) → f ++ (a ++ m ++ b ++ c ++ n) ≡ f ++ a ++ m ++ b ++ c ++ n
+    parts f a m b c n = simp append_assoc
+
+line_line : (ink : Ink) (from to : Coordinates) → line_front from to ++ (codes " " ++ ink_text ink ++ 10 ∷ []) ≡ line (entries.Line from to ink) ++ 10 ∷ []
+line_line ink from to = parts (line_front from to) (codes " ") (ink_text ink) (10 ∷ [])
+  where
+    parts : (f a i n : List ℕ) → f ++ (a ++ i ++ n) ≡ f ++ a ++ i ++ n
+    parts f a i n = simp append_assoc
+
+pub letter_line : (set : CharSet) (hand : Hand) (code : ℕ) →
+    char_front set code ++ (codes " pen=" ++ (pen_text hand.pen ++ (written_text hand ++ 10 ∷ []))) ≡ line (entries.Char set code hand) ++ 10 ∷ []
+letter_line set hand code = parts (char_front set code) (codes " ") (codes "pen=") (pen_text hand.pen) (codes " colour=") (colour_text hand.colour) (codes " text=") (look_text hand.text) (10 ∷ [])
+  where
+    parts : (f a b p c k t l n : List ℕ) → f ++ ((a ++ b) ++ (p ++ (c ++ k ++ t ++ l ++ n))) ≡ f ++ a ++ (b ++ p ++ c ++ k ++ t ++ l) ++ n
+    parts f a b p c k t l n = simp append_assoc
+
+pub dots_are_lines : (d : Drawing) (points : List Coordinates) →
+    flat_map (λ at. point_front at ++ (point_end d.pel d.colour ++ 10 ∷ [])) points ≡ lines (map (point_on d) points)
+dots_are_lines d [] = refl
+dots_are_lines d (p ∷ ps) =
+    ap (λ (bytes : List ℕ). bytes ++ flat_map (λ at. point_front at ++ (point_end d.pel d.colour ++ 10 ∷ [])) ps) (dot_line d p)
+    ∙ ap (λ (bytes : List ℕ). (line (point_on d p) ++ 10 ∷ []) ++ bytes) (dots_are_lines d ps)
+
+pub lines_are_lines : (d : Drawing) (from : Coordinates) (points : List Coordinates) →
+    lines_with (codes " " ++ ink_text (ink_of d) ++ 10 ∷ []) from points ≡ lines (lines_on d from points)
+unfolding lines_with lines_on
+lines_are_lines d from [] = refl
+lines_are_lines d from (p ∷ ps) =
+    let end : List ℕ = codes " " ++ ink_text (ink_of d) ++ 10 ∷ [] in
+    ap (λ (bytes : List ℕ). bytes ++ lines_with end p ps) (line_line (ink_of d) from p)
+    ∙ ap (λ (bytes : List ℕ). (line (entries.Line from p (ink_of d)) ++ 10 ∷ []) ++ bytes) (lines_are_lines d p ps)
+
+pub letters_are_lines : (set : CharSet) (hand : Hand) (cs : List ℕ) →
+    flat_map (λ code. char_front set code ++ (codes " pen=after" ++ (written_text hand ++ 10 ∷ []))) cs ≡ lines (text_in set (record hand { pen = After }) cs)
+unfolding text_in
+letters_are_lines set hand [] = refl
+letters_are_lines set hand (c ∷ cs) =
+    ap (λ (bytes : List ℕ). bytes ++ flat_map (λ code. char_front set code ++ (codes " pen=after" ++ (written_text hand ++ 10 ∷ []))) cs) (letter_line set (record hand { pen = After }) c)
+    ∙ ap (λ (bytes : List ℕ). (line (entries.Char set c (record hand { pen = After })) ++ 10 ∷ []) ++ bytes) (letters_are_lines set hand cs)
+
+-- a front of a batch
+
+pub front_of_lines : (d : Drawing) (n : ℕ) (from : Coordinates) (points : List Coordinates) → take n (lines_on d from points) ≡ lines_on d from (take n points)
+unfolding lines_on
+front_of_lines d zero from points = refl
+front_of_lines d (suc n) from [] = refl
+front_of_lines d (suc n) from (p ∷ ps) = ap (λ (list : List Entry). entries.Line from p (ink_of d) ∷ list) (front_of_lines d n p ps)
+
+pub front_of_text : (set : CharSet) (hand : Hand) (n : ℕ) (cs : List ℕ) → take n (text_in set hand cs) ≡ text_in set hand (take n cs)
+unfolding text_in
+front_of_text set hand zero cs = refl
+front_of_text set hand (suc n) [] = refl
+front_of_text set hand (suc n) (c ∷ cs) = ap (λ (list : List Entry). entries.Char set c hand ∷ list) (front_of_text set (record hand { pen = After }) n cs)
+
+pub front_fits : (s t : Listed) (list : List Entry) (n : ℕ) → s ≡ t → AllFit t.state list → AllFit s.state (take n list)
+front_fits s t list n same fit =
+    let parts = sym (take-append-drop n list) in
+    ((fits_join s.state (take n list) (drop n list)).0 (subst (AllFit s.state) parts (subst (λ (v : Listed). AllFit v.state list) (sym same) fit))).0
+
+pub none_leave : {A : Type 0} (s : State) (f : List A → List Entry) (xs : List A) → f [] ≡ [] → length xs ≡ 0 → s ≡ walk s (f xs)
+unfolding walk
+none_leave s f [] none size = ap (walk s) (sym none)
+none_leave s f (x ∷ xs) none size = absurd (omega arith)
+
+-- What a sink has taken, by what it wrote and by where it stands.
+
+-- a room with the end of a line, behind which nothing stood
+pub ended : (room pushed cleared end : List ℕ) → room ≡ end ++ pushed → pushed ≡ codes "\n" ++ cleared → cleared ≡ [] → room ≡ end ++ 10 ∷ []
+ended room pushed cleared end is push clear = is ∙ ap (λ (bytes : List ℕ). end ++ bytes) (push ∙ ap (λ (bytes : List ℕ). codes "\n" ++ bytes) clear)
+
+module _ (s t : Listed) (n : ℕ) where
+  pub points_taken : (d : Drawing) (points : List Coordinates) (room : List ℕ) → room ≡ point_end d.pel d.colour ++ 10 ∷ [] →
+      t.text ≡ s.text ++ flat_map (λ at. point_front at ++ room) (take n points) → t.state ≡ walk s.state (map (point_on d) (take n points)) → Lists s (take n (map (point_on d) points)) t
+  points_taken d points room is text state =
+      let front = sym (take-map (point_on d) n points) in
+      let bytes =
+      text
+      ∙ ap (λ (end : List ℕ). s.text ++ flat_map (λ at. point_front at ++ end) (take n points)) is
+      ∙ ap (λ (bytes : List ℕ). s.text ++ bytes) (dots_are_lines d (take n points)) in
+      subst (λ (list : List Entry). Lists s list t) front (record { text = bytes; state = state })
+
+  pub lines_taken : (d : Drawing) (from : Coordinates) (points : List Coordinates) (room : List ℕ) → room ≡ codes " " ++ ink_text (ink_of d) ++ 10 ∷ [] →
+      t.text ≡ s.text ++ lines_with room from (take n points) → t.state ≡ walk s.state (lines_on d from (take n points)) → Lists s (take n (lines_on d from points)) t
+  lines_taken d from points room is text state =
+      let front = sym (front_of_lines d n from points) in
+      let bytes =
+      text
+      ∙ ap (λ (end : List ℕ). s.text ++ lines_with end from (take n points)) is
+      ∙ ap (λ (bytes : List ℕ). s.text ++ bytes) (lines_are_lines d from (take n points)) in
+      subst (λ (list : List Entry). Lists s list t) front (record { text = bytes; state = state })
+
+  pub text_taken : (set : CharSet) (hand : Hand) (cs : List ℕ) → t.text ≡ s.text ++ lines (take n (text_in set hand cs)) →
+      t.state ≡ walk s.state (text_in set hand (take n cs)) → Lists s (take n (text_in set hand cs)) t
+  text_taken set hand cs text state = record { text = text; state = state ∙ ap (walk s.state) (sym (front_of_text set hand n cs)) }
+
+-- the lines of a text, of which the first has a pen of its own
+pub text_written : (set : CharSet) (hand : Hand) (all others : List ℕ) (first n : ℕ) (old mid new bytes room : List ℕ) → all ≡ first ∷ others → mid ≡ old ++ bytes →
+    bytes ≡ char_front set first ++ (codes " pen=" ++ (pen_text hand.pen ++ (written_text hand ++ 10 ∷ []))) → room ≡ codes " pen=after" ++ (written_text hand ++ 10 ∷ []) →
+    new ≡ mid ++ flat_map (λ code. char_front set code ++ room) (take n others) → new ≡ old ++ lines (take (n + 1) (text_in set hand all))
+unfolding text_in
+text_written set hand all others first n old mid new bytes room is one front end more =
+    let further : Hand = record hand { pen = After } in
+    let rest : List ℕ = lines (take n (text_in set further others)) in
+    let begun = entries.Char set first hand in
+    let written : flat_map (λ code. char_front set code ++ room) (take n others) ≡ rest =
+    ap (λ (end : List ℕ). flat_map (λ code. char_front set code ++ end) (take n others)) end
+    ∙ letters_are_lines set hand (take n others)
+    ∙ ap lines (sym (front_of_text set further n others)) in
+    let taken : take (n + 1) (text_in set hand all) ≡ begun ∷ take n (text_in set further others) = rw (is, add-one) refl in
+    more
+    ∙ ap (λ (bytes : List ℕ). mid ++ bytes) written
+    ∙ ap (λ (bytes : List ℕ). bytes ++ rest) (one ∙ ap (λ (bytes : List ℕ). old ++ bytes) (front ∙ letter_line set hand first))
+    ∙ append_assoc old (line begun ++ 10 ∷ []) rest
+    ∙ ap (λ (list : List Entry). old ++ lines list) (sym taken)
+
+-- What a sink of lines answers, which took so many entries of a batch.
+
+abbrev pub lines_shows : SinkShows Listed
+lines_shows = shows (λ s. s.state) (λ s. true) (λ s. false) Lists (λ s d e t. ⊥)
+
+pub all_listed : (s t : Listed) (list : List Entry) (n : ℕ) → length list ≤ n → Lists s (take n list) t → Put {A = Unit {0}} lines_shows list s t (Ok tt)
+all_listed s t list n most took =
+    let all : Lists s list t = subst (λ (l : List Entry). Lists s l t) (take_all n list most) took in
+    (all, all.state, λ _. refl)
+
+pub some_listed : (s t : Listed) (list : List Entry) (n : ℕ) → n < length list → Lists s (take n list) t → StopsAfter Lists s list n t
+some_listed s t list n less took = by (drop n list) (sym (take-append-drop n list))
+  where
+    size : length (take n list) ≡ n
+    size = length-take-le n list (omega arith)
+
+    by : (rest : List Entry) → list ≡ take n list ++ rest → StopsAfter Lists s list n t
+    by [] is = absurd (omega (arith, size, ap length is, length-append (take n list) []))
+    by (x ∷ rest) is = record { front = take n list; next = x; rest = rest; parts = is; count = size; taken = took }
+
+pub batch_put : (s t : Listed) (list : List Entry) (n : ℕ) → n < length list → Lists s (take n list) t → Put {A = Unit {0}} lines_shows list s t (Err Memory)
+batch_put s t list n less took =
+    let stop = some_listed s t list n less took in
+    ((stop.front, stop.next, stop.rest, stop.parts, stop.taken), λ write. let bad : ⊥ = cc in absurd bad, λ _. record { grows = refl; same = λ failed. let bad : ⊥ = cc in absurd bad })
+
+pub batch_put_up_to : (s t : Listed) (list : List Entry) (n : ℕ) → n < length list → Lists s (take n list) t → PutUpTo lines_shows list s t (Err (record { taken = n; fault = Memory }))
+batch_put_up_to s t list n less took =
+    (some_listed s t list n less took, λ write. let bad : ⊥ = cc in absurd bad, λ _. record { grows = refl; same = λ failed. let bad : ⊥ = cc in absurd bad })

@@ -1,0 +1,40 @@
+use Rattle.std.proofs.Common.{ℕ, ◌+◌, List, [], ◌++◌, refl, sym, append-nil, length, take, ap, ◌∙◌, arith, length-append}
+use Rattle.nap_lines.specs.Batches.{line_front, lines_with}
+use Rattle.nap_lines.proofs.BatchLemmas.{appended, kept, text_goes, goes_first, goes_line, goes_on}
+use Rattle.nap_lines.proofs.batch.write_lines.Goals as goal
+
+pub loop-to-init : goal.loop-to-init
+unfolding lines_with
+loop-to-init c = record { front = []; room = refl; written = refl; text = sym (append-nil c.args.text.now.items); goes = goes_first c.args.room.now c.args.from }
+
+pub keep-requires-clause-within : goal.keep-requires-clause-within
+keep-requires-clause-within c =
+    let front = c.loop-to.invariant.front in
+    omega (arith, ap length c.loop-to.invariant.room, length-append front c.args.room.now, c.len-end.ensures.count)
+
+pub keep-requires-clause-utf8 : goal.keep-requires-clause-utf8
+keep-requires-clause-utf8 c =
+    rw (kept c.loop-to.room c.loop-to.invariant.front c.args.room.now c.len-end.result c.loop-to.invariant.room c.len-end.ensures.count) c.len-end.ensures.utf8
+
+pub loop-to-preserved : goal.loop-to-preserved
+loop-to-preserved c =
+    let invariant = c.loop-to.invariant in
+    let end = c.args.room.now in
+    let at = c.loop-to.from in
+    let to = c.to-item.result in
+    let i = c.loop-to.to-index in
+    let points = c.args.points.now in
+    let room = c.line_front.ensures ∙ ap (λ (bytes : List ℕ). line_front at to ++ bytes) (c.keep.ensures ∙ kept c.loop-to.room invariant.front end c.len-end.result invariant.room c.len-end.ensures.count) in
+    let line = c.as_slice.ensures.bytes ∙ room in
+    record {
+      front = line_front at to;
+      room = room;
+      written = ap (λ n. n + 1) invariant.written;
+      text =
+          text_goes c.args.text.now.items c.loop-to.text.items c.extend_from_slice.new.self.items (lines_with end c.args.from (take i points))
+          (lines_with end c.args.from (take (i + 1) points)) (line_front at to ++ end) invariant.text
+          (appended c.extend_from_slice.result c.is_err.result c.extend_from_slice.new.self.items c.loop-to.text.items c.as_slice.result.now c.extend_from_slice.ensures.items c.is_err.ensures.value c.if-is_err.false
+          ∙ ap (λ (bytes : List ℕ). c.loop-to.text.items ++ bytes) line)
+          (goes_line end c.args.from at to points i (omega arith) c.to-item.is invariant.goes);
+      goes = goes_on end c.args.from at to points i (omega arith) c.to-item.is invariant.goes;
+    }

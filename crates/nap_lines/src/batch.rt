@@ -1,0 +1,122 @@
+//! Lines of like entries, which share their ends.
+ghost use Rattle.std.specs.Prelude.{◌≡◌, ◌+◌, ◌≤◌, ◌++◌, flat_map, length, take};
+ghost use Rattle.nap_lines.specs.Batches.{point_front, point_end, line_front, char_front, lines_with};
+
+use crate::tail::Tail;
+use nap_codes::CharSet;
+use nap_list::Colour;
+use nap_values::{Move, Point};
+
+impl Tail {
+    /// The end of a point's line.
+    pub(crate) fn dot_end(&mut self, pel: Move, colour: &Colour)
+        requires room { length self.old ≤ 1 }
+        ensures text { self.new ≡ point_end pel colour.now ++ self.old }
+        ensures size { length self.new ≤ length self.old + 75 }
+    {
+        self.coloured(colour);
+        self.displacement(pel);
+        self.push(" pel=");
+    }
+
+    /// The front of a point's line.
+    pub(crate) fn dot_front(&mut self, at: Point)
+        requires room { length self.old + 27 ≤ 256 }
+        ensures { self.new ≡ point_front at ++ self.old }
+    {
+        self.point(at);
+        self.push("POINT ");
+    }
+
+    /// The front of a line's line.
+    pub(crate) fn line_front(&mut self, from: Point, to: Point)
+        requires room { length self.old + 48 ≤ 256 }
+        ensures { self.new ≡ line_front from to ++ self.old }
+    {
+        self.point(to);
+        self.push(" ");
+        self.point(from);
+        self.push("LINE ");
+    }
+
+    /// The front of a character's line.
+    pub(crate) fn letter_front(&mut self, set: CharSet, code: u8)
+        requires room { length self.old + 21 ≤ 256 }
+        ensures { self.new ≡ char_front set code ++ self.old }
+    {
+        self.code(code);
+        self.push(" ");
+        self.char_set(set);
+        self.push("CHAR ");
+    }
+}
+
+/// Writes a line for each point, which ends as the room holds it, and answers how many it wrote: not all of them where
+/// memory is wanting.
+pub(crate) fn write_dots(room: &mut Tail, text: &mut Vec<u8>, points: &[Point]) -> usize
+    requires room { length room.old + 27 ≤ 256 }
+    ensures count { result ≤ length points.now }
+    ensures text { text.new.items ≡ text.old.items ++ flat_map (λ at. point_front at ++ room.old) (take result points.now) }
+{
+    let end = room.len();
+    let mut written = 0;
+    for at in points {
+        room.keep(end);
+        room.dot_front(*at);
+        if text.extend_from_slice(room.as_slice()).is_err() {
+            return written;
+        }
+        written += 1;
+    }
+    written
+}
+
+/// Writes a line from this point to the first, and on from each to the next, as `write_dots` does.
+pub(crate) fn write_lines(
+    room: &mut Tail,
+    text: &mut Vec<u8>,
+    from: Point,
+    points: &[Point],
+) -> usize
+    requires room { length room.old + 48 ≤ 256 }
+    ensures count { result ≤ length points.now }
+    ensures text { text.new.items ≡ text.old.items ++ lines_with room.old from (take result points.now) }
+{
+    let end = room.len();
+    let mut from = from;
+    let mut written = 0;
+    for to in points {
+        room.keep(end);
+        room.line_front(from, *to);
+        if text.extend_from_slice(room.as_slice()).is_err() {
+            return written;
+        }
+        from = *to;
+        written += 1;
+    }
+    written
+}
+
+/// Writes a line for each character, as `write_dots` does.
+pub(crate) fn write_letters(
+    room: &mut Tail,
+    text: &mut Vec<u8>,
+    set: CharSet,
+    codes: &[u8],
+) -> usize
+    requires room { length room.old + 21 ≤ 256 }
+    ensures count { result ≤ length codes.now }
+    ensures text { text.new.items ≡ text.old.items ++ flat_map (λ code. char_front set code ++ room.old) (take result codes.now) }
+{
+    let end = room.len();
+    let mut written = 0;
+    for code in codes {
+        room.keep(end);
+        room.letter_front(set, *code);
+        if text.extend_from_slice(room.as_slice()).is_err() {
+            return written;
+        }
+        written += 1;
+    }
+    written
+}
