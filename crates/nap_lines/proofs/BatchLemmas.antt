@@ -1,9 +1,11 @@
-use Rattle.std.proofs.Common.{ℕ, zero, suc, ◌≡◌, if◌then◌else◌, is_ok, is_err, ◌-◌, ◌+◌, ◌<◌, ◌≤◌, List, [], ◌∷◌, ◌++◌, Bool, true, false, Result, Ok, Err, codes, flat_map, map, length, take, drop, get_or, add-one, refl, ap, sym, subst, ◌∙◌, append-nil, append_assoc, length-append, arith}
+use Rattle.std.proofs.Common.{rules, ℕ, zero, suc, ◌≡◌, if◌then◌else◌, is_ok, is_err, ◌-◌, ◌+◌, ◌<◌, ◌≤◌, List, [], ◌∷◌, ◌++◌, Bool, true, false, Result, Ok, Err, codes, flat_map, map, length, take, drop, get_or, add-one, refl, ap, sym, subst, ◌∙◌, append-nil, append_assoc, length-append, arith}
 use Rattle.std.proofs.lemmas.List.{take-append-drop, take-map, take_all, take_more, length-take-le}
 use Rattle.std.proofs.lemmas.List.Concat.{flat_map-append}
-use Rattle.std.proofs.Math.Seq.{drop-append_seam}
+use Rattle.std.proofs.Math.Seq.{drop-append_seam, take-append_seam}
+use Rattle.std.specs.Str.{IsUtf8}
 use Rattle.nap_values.specs.Coordinates.{Coordinates}
 use Rattle.nap_codes.specs.declared.code_set.CharSet.{CharSet}
+use Rattle.nap_codes.specs.declared.code_set.CharSet.TheVariants as sets
 use Rattle.nap_list.specs.declared.attribute.Hand.{Hand}
 use Rattle.nap_list.specs.declared.attribute.Ink.{Ink}
 use Rattle.nap_list.specs.declared.attribute.Pen.TheVariants.{After}
@@ -15,7 +17,7 @@ use Rattle.nap_list.specs.declared.state.State.{State}
 use Rattle.nap_list.specs.State.{AllFit, walk, ink_of}
 use Rattle.nap_list.proofs.PublicLaws.{fits_join}
 use Rattle.nap_list.specs.Putting.{SinkShows, shows, Put, PutUpTo, StopsAfter, point_on, lines_on, text_in}
-use Rattle.nap_lines.specs.Lines.{line, ink_text, pen_text, move_text, colour_text, look_text}
+use Rattle.nap_lines.specs.Lines.{line, ink_text, pen_text, move_text, colour_text, look_text, set_text}
 use Rattle.nap_lines.specs.Listing.{Listed, Lists, lines}
 use Rattle.nap_lines.specs.Batches.{point_front, point_end, line_front, char_front, written_text, lines_with, Goes}
 
@@ -26,6 +28,24 @@ pub kept : (room front end : List ℕ) (n : ℕ) → room ≡ front ++ end → n
 kept room front end n is size =
     let at : length room - n ≡ length front = omega (arith, ap length is, length-append front end) in
     rw (at, is) (drop-append_seam front end)
+
+-- what stands before a code and behind it
+pub around : (front two end room : List ℕ) (place : ℕ) → room ≡ (front ++ two) ++ end → length two ≡ 2 → place ≡ length front → (take place room ≡ front) × (drop (place + 2) room ≡ end)
+around front two end room place is size at = (
+  rw (at, is, append_assoc) (take-append_seam front (two ++ end)),
+  let behind : place + 2 ≡ length (front ++ two) = omega (arith, length-append front two) in
+      rw (behind, is) (drop-append_seam (front ++ two) end),
+)
+
+-- the line of a character as far as its set
+abbrev pub char_start : CharSet → List ℕ
+char_start set = codes "CHAR " ++ set_text set ++ codes " "
+
+pub start_utf8 : (set : CharSet) → IsUtf8 (char_start set)
+start_utf8 sets.Primary = search rules
+start_utf8 sets.Supplementary = search rules
+start_utf8 sets.Mosaic = search rules
+start_utf8 sets.Drcs = search rules
 
 -- one line more was written
 

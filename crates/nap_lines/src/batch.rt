@@ -109,10 +109,12 @@ pub(crate) fn write_letters(
     ensures text { text.new.items ≡ text.old.items ++ flat_map (λ code. char_front set code ++ room.old) (take result codes.now) }
 {
     let end = room.len();
+    // The digits stand for those of any code.
+    room.letter_front(set, 0);
+    let place = room.len() - end - 2;
     let mut written = 0;
     for code in codes {
-        room.keep(end);
-        room.letter_front(set, *code);
+        room.recode(place, *code);
         if text.extend_from_slice(room.as_slice()).is_err() {
             return written;
         }

@@ -1,5 +1,5 @@
 //! The end of a line, made from the back.
-ghost use Rattle.std.specs.Prelude.{◌≡◌, ◌+◌, ◌<◌, ◌≤◌, [], ◌++◌, ◌-◌, drop, length, decimal};
+ghost use Rattle.std.specs.Prelude.{◌≡◌, ◌+◌, ◌<◌, ◌≤◌, [], ◌++◌, ◌-◌, drop, length, take, decimal};
 ghost use Rattle.std.specs.Char.{digit_char};
 ghost use Rattle.std.specs.Fmt.{signed_decimal};
 ghost use Rattle.std.specs.Str.{IsUtf8};
@@ -112,6 +112,17 @@ impl Tail {
         if number < 0 {
             self.push("-");
         }
+    }
+
+    /// A code by two hexadecimal digits, in place of the two bytes that stand there.
+    pub(crate) fn recode(&mut self, place: usize, code: u8)
+        requires within { place + 2 ≤ length self.old }
+        requires front { IsUtf8 (take place self.old) }
+        requires rest { IsUtf8 (drop (place + 2) self.old) }
+        ensures { self.new ≡ take place self.old ++ (code_text code ++ drop (place + 2) self.old) }
+    {
+        let at = self.at + place;
+        self.bytes[at..at + 2].copy_from_slice(&[digit(code / 16), digit(code % 16)]);
     }
 
     /// A code by two hexadecimal digits.

@@ -1,31 +1,80 @@
-use Rattle.std.proofs.Common.{ℕ, ◌+◌, List, ◌++◌, flat_map, length, take, get_or, refl, ap, ◌∙◌, arith, length-append}
+use Rattle.std.proofs.Common.{ℕ, ◌≡◌, ◌+◌, ◌-◌, List, ◌++◌, codes, flat_map, length, take, drop, get_or, refl, sym, ap, ◌∙◌, arith, append-nil, append_assoc, length-append}
+use Rattle.nap_codes.specs.declared.code_set.CharSet.{CharSet}
+use Rattle.nap_lines.specs.Lines.{set_text, code_text}
 use Rattle.nap_lines.specs.Batches.{char_front}
-use Rattle.nap_lines.proofs.BatchLemmas.{appended, kept, one_more, text_goes}
+use Rattle.nap_lines.proofs.BatchLemmas.{appended, around, char_start, start_utf8, one_more, text_goes}
 use Rattle.nap_lines.proofs.batch.write_letters.Goals as goal
 
-pub keep-requires-clause-within : goal.keep-requires-clause-within
-keep-requires-clause-within c =
-    let front = c.loop-code.invariant.front in
-    omega (arith, ap length c.loop-code.invariant.room, length-append front c.args.room.now, c.len-end.ensures.count)
+-- the digits stand behind the name of the set
+placed : (start two end room : List ℕ) (all rest place : ℕ) → room ≡ (start ++ two) ++ end → length two ≡ 2 → all ≡ length room → rest ≡ length end → place ≡ all - rest - 2 → place ≡ length start
+placed start two end room all rest place is size count ends at = omega (arith, ap length is, length-append (start ++ two) end, length-append start two)
 
-pub keep-requires-clause-utf8 : goal.keep-requires-clause-utf8
-keep-requires-clause-utf8 c =
-    rw (kept c.loop-code.room c.loop-code.invariant.front c.args.room.now c.len-end.result c.loop-code.invariant.room c.len-end.ensures.count) c.len-end.ensures.utf8
+pub loop-code-init : goal.loop-code-init
+loop-code-init c = record { last = 0; room = c.letter_front.ensures; written = refl; text = sym (append-nil c.args.text.now.items) }
+
+pub overflow_sub-place : goal.overflow_sub-place
+overflow_sub-place c =
+    let front = char_front c.args.set 0 in
+    omega (arith, ap length c.letter_front.ensures, length-append front c.args.room.now)
+
+pub overflow_sub-place-2 : goal.overflow_sub-place-2
+overflow_sub-place-2 c =
+    let start = char_start c.args.set in
+    omega (arith, ap length c.letter_front.ensures, length-append (start ++ code_text 0) c.args.room.now, length-append start (code_text 0))
+
+pub recode-requires-clause-within : goal.recode-requires-clause-within
+recode-requires-clause-within c =
+    let start = char_start c.args.set in
+    let last = c.loop-code.invariant.last in
+    let end = c.args.room.now in
+    let at = placed start (code_text 0) end c.letter_front.new.self c.len.result c.len-end.result (c.len.result - c.len-end.result - 2) c.letter_front.ensures refl c.len.ensures.count c.len-end.ensures.count refl in
+    omega (arith, at, ap length c.loop-code.invariant.room, length-append (start ++ code_text last) end, length-append start (code_text last))
+
+pub recode-requires-clause-front : goal.recode-requires-clause-front
+recode-requires-clause-front c =
+    let start = char_start c.args.set in
+    let last = c.loop-code.invariant.last in
+    let end = c.args.room.now in
+    let place = c.len.result - c.len-end.result - 2 in
+    let at = placed start (code_text 0) end c.letter_front.new.self c.len.result c.len-end.result place c.letter_front.ensures refl c.len.ensures.count c.len-end.ensures.count refl in
+    let parts = around start (code_text last) end c.loop-code.room place c.loop-code.invariant.room refl at in
+    rw (parts.0) (start_utf8 c.args.set)
+
+pub recode-requires-clause-rest : goal.recode-requires-clause-rest
+recode-requires-clause-rest c =
+    let start = char_start c.args.set in
+    let last = c.loop-code.invariant.last in
+    let end = c.args.room.now in
+    let place = c.len.result - c.len-end.result - 2 in
+    let at = placed start (code_text 0) end c.letter_front.new.self c.len.result c.len-end.result place c.letter_front.ensures refl c.len.ensures.count c.len-end.ensures.count refl in
+    let parts = around start (code_text last) end c.loop-code.room place c.loop-code.invariant.room refl at in
+    rw (parts.1) c.len-end.ensures.utf8
 
 pub loop-code-preserved : goal.loop-code-preserved
 loop-code-preserved c =
     let invariant = c.loop-code.invariant in
+    let start = char_start c.args.set in
     let end = c.args.room.now in
     let code = get_or c.args.codes.now c.loop-code.code-index 0 in
-    let room = c.letter_front.ensures ∙ ap (λ (bytes : List ℕ). char_front c.args.set code ++ bytes) (c.keep.ensures ∙ kept c.loop-code.room invariant.front end c.len-end.result invariant.room c.len-end.ensures.count) in
+    let place = c.len.result - c.len-end.result - 2 in
+    let at = placed start (code_text 0) end c.letter_front.new.self c.len.result c.len-end.result place c.letter_front.ensures refl c.len.ensures.count c.len-end.ensures.count refl in
+    let parts = around start (code_text invariant.last) end c.loop-code.room place invariant.room refl at in
+    let room : c.recode.new.self ≡ char_front c.args.set code ++ end =
+    c.recode.ensures
+    ∙ ap (λ (front : List ℕ). front ++ (code_text code ++ drop (place + 2) c.loop-code.room)) parts.0
+    ∙ ap (λ (rest : List ℕ). start ++ (code_text code ++ rest)) parts.1
+    ∙ sym (append_assoc start (code_text code) end) in
     let line = c.as_slice.ensures.bytes ∙ room in
     let f = λ (code : ℕ). char_front c.args.set code ++ end in
     record {
-      front = char_front c.args.set code;
+      last = code;
       room = room;
       written = ap (λ n. n + 1) invariant.written;
       text =
-          text_goes c.args.text.now.items c.loop-code.text.items c.extend_from_slice.new.self.items (flat_map f (take c.loop-code.code-index c.args.codes.now)) (flat_map f (take (c.loop-code.code-index + 1) c.args.codes.now)) (f code) invariant.text
-          (appended c.extend_from_slice.result c.is_err.result c.extend_from_slice.new.self.items c.loop-code.text.items c.as_slice.result.now c.extend_from_slice.ensures.items c.is_err.ensures.value c.if-is_err.false ∙ ap (λ (bytes : List ℕ). c.loop-code.text.items ++ bytes) line)
+          text_goes c.args.text.now.items c.loop-code.text.items c.extend_from_slice.new.self.items (flat_map f (take c.loop-code.code-index c.args.codes.now))
+          (flat_map f (take (c.loop-code.code-index + 1) c.args.codes.now)) (f code) invariant.text
+          (appended c.extend_from_slice.result c.is_err.result c.extend_from_slice.new.self.items c.loop-code.text.items c.as_slice.result.now c.extend_from_slice.ensures.items c.is_err.ensures.value
+          c.if-is_err.false
+          ∙ ap (λ (bytes : List ℕ). c.loop-code.text.items ++ bytes) line)
           (one_more f c.args.codes.now c.loop-code.code-index code 0 (omega arith) refl);
     }
