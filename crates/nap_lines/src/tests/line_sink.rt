@@ -22,13 +22,39 @@ fn square(side: u32) -> Point {
 }
 
 #[test]
-fn points_have_lines_of_their_own(rt: HostRuntime) -> Result<(), Fail> {
+fn points_have_their_own_places(rt: HostRuntime) -> Result<(), Fail> {
     let mut sink = LineSink::new(rt.alloc());
     let points = [square(4_194_304), square(2_097_152)];
-    sink.put_points(points.as_slice(), &Drawing::start())?;
+    sink.put_points(&points, &Drawing::start())?;
     let want = b"\
         POINT 4194304,4194304 pel=0,0 colour=own-start\n\
         POINT 2097152,2097152 pel=0,0 colour=own-start\n";
+    assert_eq!(rt; sink.into_text().as_slice(), want.as_slice());
+    Ok(())
+}
+
+#[test]
+fn each_line_starts_where_the_last_one_ends(rt: HostRuntime) -> Result<(), Fail> {
+    let mut sink = LineSink::new(rt.alloc());
+    let points = [square(2_097_152), Point::ORIGIN];
+    sink.put_lines(square(4_194_304), &points, &Drawing::start())?;
+    let want = b"\
+        LINE 4194304,4194304 2097152,2097152 pel=0,0 colour=own-start texture=0/none\n\
+        LINE 2097152,2097152 0,0 pel=0,0 colour=own-start texture=0/none\n";
+    assert_eq!(rt; sink.into_text().as_slice(), want.as_slice());
+    Ok(())
+}
+
+#[test]
+fn the_first_character_alone_has_the_pen_of_its_hand(rt: HostRuntime) -> Result<(), Fail> {
+    let mut sink = LineSink::new(rt.alloc());
+    let hand = Drawing::start().hand();
+    let taken = sink.put_text(CharSet::Primary, b"AB~", &hand);
+    assert!(rt; taken.is_ok());
+    let want = b"\
+        CHAR primary 41 pen=start colour=own-start text=0,0/normal/----\n\
+        CHAR primary 42 pen=after colour=own-start text=0,0/normal/----\n\
+        CHAR primary 7e pen=after colour=own-start text=0,0/normal/----\n";
     assert_eq!(rt; sink.into_text().as_slice(), want.as_slice());
     Ok(())
 }

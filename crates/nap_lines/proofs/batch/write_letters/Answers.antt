@@ -1,6 +1,5 @@
-use Rattle.std.proofs.Common.{ℕ, ◌≡◌, ◌+◌, ◌-◌, List, ◌++◌, codes, flat_map, length, take, drop, get_or, refl, sym, ap, ◌∙◌, arith, append-nil, append_assoc, length-append}
-use Rattle.nap_codes.specs.declared.code_set.CharSet.{CharSet}
-use Rattle.nap_lines.specs.Lines.{set_text, code_text}
+use Rattle.std.proofs.Common.{ℕ, ◌≡◌, ◌+◌, ◌-◌, List, ◌++◌, flat_map, length, take, drop, get_or, refl, sym, ap, ◌∙◌, arith, append-nil, append_assoc, length-append}
+use Rattle.nap_lines.specs.Lines.{code_text}
 use Rattle.nap_lines.specs.Batches.{char_front}
 use Rattle.nap_lines.proofs.BatchLemmas.{appended, around, char_start, start_utf8, one_more, text_goes}
 use Rattle.nap_lines.proofs.batch.write_letters.Goals as goal
