@@ -120,11 +120,11 @@ fn refuses(
 
 /// The point this many quarters to the right and up.
 fn at(x: u8, y: u8) -> Point {
-    Point::try_new(u32::from(x) * 2_097_152, u32::from(y) * 2_097_152).unwrap_or(Point::ORIGIN)
+    Point::try_new(u32::from(x) * 2_097_152, u32::from(y) * 2_097_152).unwrap_or(Point::origin())
 }
 
 fn size(side: i32) -> Move {
-    Move::try_new(side, side).unwrap_or(Move::ZERO)
+    Move::try_new(side, side).unwrap_or(Move::zero())
 }
 
 fn word(number: u8) -> Word {
@@ -142,7 +142,7 @@ fn pair() -> Colour {
 
 fn ink() -> Ink {
     Ink {
-        pel: Move::ZERO,
+        pel: Move::zero(),
         colour: AT_START,
         texture: Texture {
             word: Word::ZERO,
@@ -154,7 +154,7 @@ fn ink() -> Ink {
 fn point(at: Point, colour: Colour) -> Entry {
     Entry::Point {
         at,
-        pel: Move::ZERO,
+        pel: Move::zero(),
         colour,
     }
 }

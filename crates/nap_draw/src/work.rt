@@ -101,7 +101,7 @@ impl Work {
     {
         match self.state.drawing.pen {
             Pen::At(point) => Ok(point),
-            Pen::Start => Ok(Point::ORIGIN),
+            Pen::Start => Ok(Point::origin()),
             Pen::After => Err(DrawFault::PenUnknown),
         }
     }

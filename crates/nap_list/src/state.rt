@@ -134,7 +134,7 @@ impl Drawing {
     {
         Drawing {
             pen: Pen::Start,
-            pel: Move::ZERO,
+            pel: Move::zero(),
             base: Base::Own(Origin::AtStart),
             colour: Colour::Own(Origin::AtStart),
             texture: Texture::start(),
@@ -317,7 +317,7 @@ impl Drawing {
         let code = first / 2 % 4;
         *self = Drawing {
             pen: Pen::After,
-            pel: if first % 2 == 1 { Move::ZERO } else { self.pel },
+            pel: if first % 2 == 1 { Move::zero() } else { self.pel },
             base: if code == 1 {
                 Base::Own(Origin::AfterReset)
             } else {

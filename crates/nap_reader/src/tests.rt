@@ -22,13 +22,13 @@ mod text;
 const AT_START: Colour = Colour::Own(Origin::AtStart);
 
 fn point(x: u32, y: u32) -> Point {
-    Point::try_new(x, y).unwrap_or(Point::ORIGIN)
+    Point::try_new(x, y).unwrap_or(Point::origin())
 }
 
 fn dot(x: u32, y: u32) -> Entry {
     Entry::Point {
         at: point(x, y),
-        pel: Move::ZERO,
+        pel: Move::zero(),
         colour: AT_START,
     }
 }
@@ -40,7 +40,7 @@ fn ink() -> Ink {
         mask: None,
     };
     Ink {
-        pel: Move::ZERO,
+        pel: Move::zero(),
         colour: AT_START,
         texture,
     }
@@ -204,7 +204,7 @@ fn streams_say_the_same_in_every_cut(rt: HostRuntime) -> Result<(), Fail> {
     let alloc = rt.alloc();
     let middle = &[dot(4_194_304, 4_194_304)][..];
     let moved = &[dot(6_291_456, 6_291_456)][..];
-    let diagonal = &[line(Point::ORIGIN, point(4_194_304, 4_194_304))][..];
+    let diagonal = &[line(Point::origin(), point(4_194_304, 4_194_304))][..];
     let rows: [(&[u8], &[Entry], u64); 8] = [
         (b"", &[], 0),
         (b"\x0E!_", &[], 3),
@@ -237,7 +237,7 @@ fn address(number: u32) -> Addr
 fn middle_in(colour: Colour) -> Entry {
     Entry::Point {
         at: point(4_194_304, 4_194_304),
-        pel: Move::ZERO,
+        pel: Move::zero(),
         colour,
     }
 }
@@ -300,7 +300,7 @@ fn the_longest_polygon(rt: HostRuntime) -> Result<(), Fail> {
     }
     let mut points = Points::new(alloc);
     for _ in 0..2_001 {
-        points.push(Point::ORIGIN)?;
+        points.push(Point::origin())?;
     }
     let polygon = Entry::Poly {
         filled: false,

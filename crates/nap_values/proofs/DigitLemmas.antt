@@ -4,7 +4,7 @@ use Rattle.std.proofs.lemmas.Nat.{div-add-mod', mod_below, div_below, div-mul-ad
 use Rattle.std.proofs.lemmas.List.Elements.{All-nil, All-cons, All-head, All-tail}
 use Rattle.nap_values.specs.Digits.{value_of, digits_of}
 
-pow_pos : (base places : ℕ) → 0 < base → 0 < base ^ places
+pub pow_pos : (base places : ℕ) → 0 < base → 0 < base ^ places
 pow_pos base places pos = one-le-pow places base pos
 
 pub length-digits_of : (base places n : ℕ) → length (digits_of base places n) ≡ places

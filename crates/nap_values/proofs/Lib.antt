@@ -2,6 +2,14 @@ pub mod LoopLemmas
 pub mod DigitLemmas
 pub mod SpellingLemmas
 pub mod SpreadLemmas
-pub mod PairLemmas
+pub mod ByteLemmas
 pub mod CoordinateLemmas
 pub mod PublicLaws
+mod MaskLemmas
+mod SumLemmas
+mod PackedLemmas
+mod MotionLemmas
+mod SignLemmas
+mod GatherLemmas
+mod InsideLemmas
+mod RunLemmas

@@ -6,10 +6,11 @@ use Rattle.nap_values.specs.Coordinates.{Displacement, point_at, moved, displace
 use Rattle.nap_values.specs.Colours.{Components}
 use Rattle.nap_values.specs.TwosComplement.{bits_of}
 use Rattle.nap_values.specs.Operands.{x_digit, y_digit, g_digit, r_digit, b_digit, multi_of, single_of, colour_of}
-use Rattle.nap_values.specs.Spellings.{bytes_of, words_of_pairs, words_of_triples, move_bytes, point_bytes, addr_bytes, grb_bytes}
+use Rattle.nap_values.specs.Spellings.{bytes_of, words_of_triples, move_bytes, point_bytes, addr_bytes, grb_bytes}
 use Rattle.nap_values.specs.Laws.{IsWord, IsOnlySpelling, MovesSpellOnce, PointsSpellOnce, AddressesSpellOnce, ColoursSpellOnce, MissingWordsAreZero, ValuesAreInRange, DisplacementsLeadThere, DisplacementsAreUnique, PointsAreInside}
 use Rattle.nap_values.proofs.DigitLemmas.{value_of-digits_of, digits_of-value_of, value_of-below, length-digits_of, digits_of-below, value_of-append-zeros}
-use Rattle.nap_values.proofs.SpellingLemmas.{words_of-bytes_of, bytes_of-operand_bytes, length-words_of_pairs, words_of_pairs-words, x_digits-words_of_pairs, y_digits-words_of_pairs, words_of_pairs-digits, x_digits-below, y_digits-below, length-words_of_triples, words_of_triples-words, digits-words_of_triples, words_of_triples-digits, g_digits-below, r_digits-below, b_digits-below}
+use Rattle.nap_values.proofs.SpellingLemmas.{words_of-bytes_of, bytes_of-operand_bytes, length-words_of_triples, words_of_triples-words, digits-words_of_triples, words_of_triples-digits, g_digits-below, r_digits-below, b_digits-below}
+use Rattle.nap_values.proofs.PackedLemmas.{pair_words, length-pair_words, pair_words-words, x_value-pair_words, y_value-pair_words, pair_words-values, x_value-below, y_value-below}
 use Rattle.nap_values.proofs.CoordinateLemmas.{bits_of-signed_of, signed_of-bits_of, bits_of-below, signed_of-low, signed_of-high, point_with-in_square, point_with-back}
 
 -- what the words say of the bytes that carry them
@@ -27,45 +28,6 @@ spelling_of_words read size value words size_is all is only = record {
 -- displacements with the same parts
 displacement_parts : (m k : Displacement) → m.x ≡ k.x → m.y ≡ k.y → m ≡ k
 displacement_parts m k same_x same_y = rw (same_x, same_y) refl
-
--- the words that hold two numbers of 24 bits
-abbrev pair_words : ℕ → ℕ → List ℕ
-pair_words x y = words_of_pairs (digits_of 8 8 x) (digits_of 8 8 y)
-
-module _ (x y : ℕ) (x_fits : x < 16777216) (y_fits : y < 16777216) where
-  same_length : length (digits_of 8 8 x) ≡ length (digits_of 8 8 y)
-  same_length = length-digits_of 8 8 x ∙ sym (length-digits_of 8 8 y)
-
-  length-pair_words : length (pair_words x y) ≡ 8
-  length-pair_words = length-words_of_pairs (digits_of 8 8 x) (digits_of 8 8 y) same_length ∙ length-digits_of 8 8 x
-
-  pair_words-words : All IsWord (pair_words x y)
-  pair_words-words =
-      words_of_pairs-words (digits_of 8 8 x) (digits_of 8 8 y) (digits_of-below 8 8 x (omega arith) x_fits) (digits_of-below 8 8 y (omega arith) y_fits)
-
-  x_value-pair_words : value_of 8 8 (map x_digit (pair_words x y)) ≡ x
-  x_value-pair_words =
-      ap (value_of 8 8) (x_digits-words_of_pairs (digits_of 8 8 x) (digits_of 8 8 y) same_length (digits_of-below 8 8 y (omega arith) y_fits))
-      ∙ value_of-digits_of 8 8 x (omega arith) x_fits
-
-  y_value-pair_words : value_of 8 8 (map y_digit (pair_words x y)) ≡ y
-  y_value-pair_words =
-      ap (value_of 8 8) (y_digits-words_of_pairs (digits_of 8 8 x) (digits_of 8 8 y) same_length (digits_of-below 8 8 y (omega arith) y_fits))
-      ∙ value_of-digits_of 8 8 y (omega arith) y_fits
-
--- eight words are those of their two numbers
-pair_words-values : (words : List ℕ) → All IsWord words → length words ≡ 8 →
-    words ≡ pair_words (value_of 8 8 (map x_digit words)) (value_of 8 8 (map y_digit words))
-pair_words-values words all size =
-    let xs = digits_of-value_of 8 8 (map x_digit words) (omega arith) (x_digits-below words all) (length-map words x_digit ∙ size) in
-    let ys = digits_of-value_of 8 8 (map y_digit words) (omega arith) (y_digits-below words all) (length-map words y_digit ∙ size) in
-    rw (xs, ys) (sym (words_of_pairs-digits words))
-
-x_value-below : (words : List ℕ) → All IsWord words → value_of 8 8 (map x_digit words) < 16777216
-x_value-below words all = value_of-below 8 8 (map x_digit words) (omega arith) (x_digits-below words all)
-
-y_value-below : (words : List ℕ) → All IsWord words → value_of 8 8 (map y_digit words) < 16777216
-y_value-below words all = value_of-below 8 8 (map y_digit words) (omega arith) (y_digits-below words all)
 
 pub moves_spell_once : MovesSpellOnce
 unfolding multi_of move_bytes

@@ -6,3 +6,4 @@ pub mod Domains
 pub mod Operands
 pub mod Spellings
 pub mod Laws
+pub mod Packed

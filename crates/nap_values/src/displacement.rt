@@ -2,37 +2,84 @@
 
 ghost use Rattle.std.specs.Prelude.{◌≡◌, ◌≤ℤ◌, ◌<ℤ◌, ◌↔◌, pos, negsuc, IsSome, IfSome};
 
+use crate::packed::{pack, x_bits, y_bits};
 use crate::point::Point;
+use crate::twos_complement::{bits, signed};
+use std::fmt;
 use std::marker::Model;
 
 /// A displacement or a size in units of 2^-23, each part from -8,388,608 to 8,388,607.
-#[derive(Clone, Copy, PartialEq, Eq, Debug, Drop)]
+///
+/// It is kept as it is spelled, as eight words.
+#[derive(Clone, Copy, Drop)]
 pub struct Move {
-    x: i32,
-    y: i32,
+    words: u64,
 }
 
 impl Model for Move {
-    ghost use Rattle.std.specs.Prelude.{◌≤ℤ◌, ◌<ℤ◌, pos, negsuc};
+    ghost use Rattle.std.specs.Prelude.{◌≡◌};
     ghost use Rattle.nap_values.specs.Coordinates.{Displacement};
+    ghost use Rattle.nap_values.specs.TwosComplement.{signed_of, bits_of};
+    ghost use Rattle.nap_values.specs.Packed.{HoldsWords, x_in, y_in, packed};
 
     ghost Value = { Displacement };
 
-    ghost view = { λ m. record { x = m.x; y = m.y } };
+    ghost view = { λ m. record { x = signed_of (x_in m.words); y = signed_of (y_in m.words) } };
 
-    ghost invariant = { λ m. (negsuc 8388607 ≤ℤ m.x) × (m.x <ℤ pos 8388608) × (negsuc 8388607 ≤ℤ m.y) × (m.y <ℤ pos 8388608) };
+    ghost invariant = { λ m. HoldsWords m.words × (packed (bits_of (signed_of (x_in m.words))) (bits_of (signed_of (y_in m.words))) ≡ m.words) };
 
-    ghost inverse = { λ v. record { x = v.x; y = v.y } };
+    ghost inverse = { λ v. record { words = packed (bits_of v.x) (bits_of v.y) } };
+
+    ghost inverse_ok = { λ m kept i. record { words = kept.1 i } };
+}
+
+impl PartialEq for Move {
+    ghost use Rattle.std.specs.Ordering.{int_eq, on, eq_of_both};
+    ghost use Rattle.std.proofs.Common.{rules};
+    ghost use Rattle.std.specs.Cmp.Rules.{comparing};
+
+    ghost eq = { eq_of_both (on (λ m. m.x) int_eq) (on (λ m. m.y) int_eq) };
+
+    ghost laws = { Prim.search (comparing, rules) };
+
+    #[inline]
+    fn eq(&self, other: &Move) -> bool {
+        self.words == other.words
+    }
+}
+
+impl Eq for Move {
+    ghost use Rattle.std.proofs.Common.{rules};
+    ghost use Rattle.std.specs.Cmp.Rules.{comparing};
+
+    ghost laws = { Prim.search (comparing, rules) };
+}
+
+impl fmt::Debug for Move {
+    fn fmt<W: fmt::Write>(&self, f: &mut fmt::Formatter<W>) -> fmt::Result {
+        f.debug_struct("Move")
+            .field("x", &self.x())
+            .field("y", &self.y())
+            .finish()
+    }
 }
 
 impl Move {
     ghost use Rattle.nap_values.specs.Coordinates.{point_at};
-
-    /// No displacement.
-    pub const ZERO: Move = Move { x: 0, y: 0 };
+    ghost use Rattle.nap_values.specs.Operands.{multi_of};
+    ghost use Rattle.nap_values.specs.Packed.{HoldsWords, words_in, x_in, y_in};
+    ghost use Rattle.nap_values.specs.TwosComplement.{signed_of};
 
     /// Each part is below this, and none is below its negative.
     pub const LIMIT: i32 = 8_388_608;
+
+    /// No displacement.
+    #[inline]
+    pub fn zero() -> Move
+        ensures { result ≡ record { x = pos 0; y = pos 0 } }
+    {
+        Move { words: 0 }
+    }
 
     /// The displacement with these parts, None where one is below -8,388,608 or above 8,388,607.
     pub fn try_new(x: i32, y: i32) -> Option<Move>
@@ -41,22 +88,31 @@ impl Move {
     {
         let range = -Self::LIMIT..Self::LIMIT;
         if range.contains(&x) && range.contains(&y) {
-            Some(Move { x, y })
+            Some(Move {
+                words: pack(bits(x), bits(y)),
+            })
         } else {
             None
         }
     }
 
-    /// The displacement with these parts.
+    /// The displacement that these eight words spell.
     #[inline]
-    pub(crate) fn new(x: i32, y: i32) -> Move
-        requires left { negsuc 8388607 ≤ℤ x }
-        requires right { x <ℤ pos 8388608 }
-        requires down { negsuc 8388607 ≤ℤ y }
-        requires up { y <ℤ pos 8388608 }
-        ensures { result ≡ record { x = x; y = y } }
+    pub(crate) fn spelled(words: u64) -> Move
+        requires { HoldsWords words }
+        ensures { result ≡ multi_of (words_in words) }
     {
-        Move { x, y }
+        Move { words }
+    }
+
+    /// The eight words that spell it.
+    #[inline]
+    pub(crate) fn words(self) -> u64
+        ensures words { HoldsWords result }
+        ensures x { signed_of (x_in result) ≡ self.x }
+        ensures y { signed_of (y_in result) ≡ self.y }
+    {
+        self.words
     }
 
     /// The part from left to right.
@@ -66,7 +122,7 @@ impl Move {
         ensures low { negsuc 8388607 ≤ℤ result }
         ensures high { result <ℤ pos 8388608 }
     {
-        self.x
+        signed(x_bits(self.words))
     }
 
     /// The part from the bottom up.
@@ -76,15 +132,14 @@ impl Move {
         ensures low { negsuc 8388607 ≤ℤ result }
         ensures high { result <ℤ pos 8388608 }
     {
-        self.y
+        signed(y_bits(self.words))
     }
 
     /// The point this far from the origin, None outside the square.
-    #[tactic(auto, unfolding(crate::specs::Coordinates::point_at))]
     #[inline]
     pub fn point(self) -> Option<Point>
         ensures { result ≡ point_at self }
     {
-        Point::inside(self.x, self.y)
+        Point::spelled(self.words())
     }
 }

@@ -6,6 +6,7 @@ mod displacement;
 mod domain;
 pub mod laws;
 mod operand;
+mod packed;
 mod point;
 mod spelling;
 mod twos_complement;

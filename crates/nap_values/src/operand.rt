@@ -5,8 +5,10 @@ ghost use Rattle.nap_values.specs.Operands.{multi_of, single_of, colour_of};
 
 use crate::colours::{Addr, Grb};
 use crate::displacement::Move;
-use crate::twos_complement::{MODULUS, signed, signed_nine};
 use crate::word::Word;
+
+/// What the first of eight words weighs, where each has a byte.
+const FIRST: u64 = 0x0100_0000_0000_0000;
 
 /// The displacement that a multi-value operand of this size spells. Words that the run lacks are zero (PDI operands).
 #[inline]
@@ -19,16 +21,24 @@ pub fn multi(run: &[Word], size: u8) -> Move
     if let [first, second, third] = run {
         return three(*first, *second, *third);
     }
-    let mut x: u32 = 0;
-    let mut y: u32 = 0;
-    let mut unit = MODULUS;
+    several(run, size)
+}
+
+/// The displacement that any number of words spell. It is a call of its own, so that loops over three have room for theirs.
+#[inline(never)]
+fn several(run: &[Word], size: u8) -> Move
+    requires some { 0 < length run.now }
+    requires most { length run.now ≤ size }
+    requires places { size ≤ 8 }
+    ensures { result ≡ multi_of run.now }
+{
+    let mut words: u64 = 0;
+    let mut unit = FIRST;
     for word in run {
-        unit /= 8;
-        let bits = u32::from(word.get());
-        x += bits / 8 * unit;
-        y += bits % 8 * unit;
+        words += u64::from(word.get()) * unit;
+        unit /= 256;
     }
-    Move::new(signed(x), signed(y))
+    Move::spelled(words)
 }
 
 /// The displacement that three words spell, the most common size.
@@ -36,12 +46,10 @@ pub fn multi(run: &[Word], size: u8) -> Move
 fn three(first: Word, second: Word, third: Word) -> Move
     ensures { result ≡ multi_of (first ∷ second ∷ third ∷ []) }
 {
-    let first = u32::from(first.get());
-    let second = u32::from(second.get());
-    let third = u32::from(third.get());
-    let x = first / 8 * 64 + second / 8 * 8 + third / 8;
-    let y = first % 8 * 64 + second % 8 * 8 + third % 8;
-    Move::new(signed_nine(x), signed_nine(y))
+    let first = u64::from(first.get());
+    let second = u64::from(second.get());
+    let third = u64::from(third.get());
+    Move::spelled(first * FIRST + second * (FIRST / 256) + third * (FIRST / 65_536))
 }
 
 /// The address that a single-value operand of this size spells. Words that the run lacks are zero (PDI operands).

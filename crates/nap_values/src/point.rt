@@ -1,38 +1,83 @@
 //! Points of the unit square.
 
-ghost use Rattle.std.specs.Prelude.{◌≡◌, ◌<◌, ◌↔◌, IsSome, IfSome};
+ghost use Rattle.std.specs.Prelude.{◌≡◌, ◌+◌, ◌<◌, ◌↔◌, IsSome, IfSome};
 
 use crate::displacement::Move;
+use crate::packed::{difference, is_inside, pack, sum, x_bits, y_bits};
+use std::fmt;
 use std::marker::Model;
 
 /// A point of the unit square: its coordinates in units of 2^-23, each from 0 to 8,388,607.
-#[derive(Clone, Copy, PartialEq, Eq, Debug, Drop)]
+///
+/// It is kept as it is spelled, as eight words.
+#[derive(Clone, Copy, Drop)]
 pub struct Point {
-    x: u32,
-    y: u32,
+    words: u64,
 }
 
 impl Model for Point {
-    ghost use Rattle.std.specs.Prelude.{◌<◌};
+    ghost use Rattle.std.specs.Prelude.{◌≡◌, ◌<◌};
     ghost use Rattle.nap_values.specs.Coordinates.{Coordinates};
+    ghost use Rattle.nap_values.specs.Packed.{HoldsWords, x_in, y_in, packed};
 
     ghost Value = { Coordinates };
 
-    ghost view = { λ p. record { x = p.x; y = p.y } };
+    ghost view = { λ p. record { x = x_in p.words; y = y_in p.words } };
 
-    ghost invariant = { λ p. (p.x < 8388608) × (p.y < 8388608) };
+    ghost invariant = { λ p. HoldsWords p.words × (packed (x_in p.words) (y_in p.words) ≡ p.words) × (x_in p.words < 8388608) × (y_in p.words < 8388608) };
 
-    ghost inverse = { λ v. record { x = v.x; y = v.y } };
+    ghost inverse = { λ v. record { words = packed v.x v.y } };
+
+    ghost inverse_ok = { λ p kept i. record { words = kept.1 i } };
+}
+
+impl PartialEq for Point {
+    ghost use Rattle.std.specs.Prelude.{◌==◌};
+    ghost use Rattle.std.specs.Ordering.{on, eq_of_both};
+    ghost use Rattle.std.proofs.Common.{rules};
+    ghost use Rattle.std.specs.Cmp.Rules.{comparing};
+
+    ghost eq = { eq_of_both (on (λ p. p.x) ◌==◌) (on (λ p. p.y) ◌==◌) };
+
+    ghost laws = { Prim.search (comparing, rules) };
+
+    #[inline]
+    fn eq(&self, other: &Point) -> bool {
+        self.words == other.words
+    }
+}
+
+impl Eq for Point {
+    ghost use Rattle.std.proofs.Common.{rules};
+    ghost use Rattle.std.specs.Cmp.Rules.{comparing};
+
+    ghost laws = { Prim.search (comparing, rules) };
+}
+
+impl fmt::Debug for Point {
+    fn fmt<W: fmt::Write>(&self, f: &mut fmt::Formatter<W>) -> fmt::Result {
+        f.debug_struct("Point")
+            .field("x", &self.x())
+            .field("y", &self.y())
+            .finish()
+    }
 }
 
 impl Point {
-    ghost use Rattle.nap_values.specs.Coordinates.{point_with, moved, displacement_to};
-
-    /// The lower left corner of the square.
-    pub const ORIGIN: Point = Point { x: 0, y: 0 };
+    ghost use Rattle.nap_values.specs.Coordinates.{point_at, moved, displacement_to};
+    ghost use Rattle.nap_values.specs.Operands.{multi_of};
+    ghost use Rattle.nap_values.specs.Packed.{HoldsWords, words_in, x_in, y_in};
 
     /// Each coordinate is below this.
     pub const LIMIT: u32 = 8_388_608;
+
+    /// The lower left corner of the square.
+    #[inline]
+    pub fn origin() -> Point
+        ensures { result ≡ record { x = 0; y = 0 } }
+    {
+        Point { words: 0 }
+    }
 
     /// The point with these coordinates, None where one is above 8,388,607.
     #[inline]
@@ -41,26 +86,35 @@ impl Point {
         ensures value { IfSome result (λ p. p ≡ record { x = x; y = y }) }
     {
         if x < Self::LIMIT && y < Self::LIMIT {
-            Some(Point { x, y })
+            Some(Point { words: pack(x, y) })
         } else {
             None
         }
     }
 
-    /// The point with these coordinates, None outside the square.
+    /// The point that these eight words spell, None outside the square.
     #[inline]
-    pub(crate) fn inside(x: i32, y: i32) -> Option<Point>
-        ensures { result ≡ point_with x y }
+    pub(crate) fn spelled(words: u64) -> Option<Point>
+        requires { HoldsWords words }
+        ensures { result ≡ point_at (multi_of (words_in words)) }
     {
-        let side = 0..Self::LIMIT as i32;
-        if side.contains(&x) && side.contains(&y) {
-            Some(Point {
-                x: x as u32,
-                y: y as u32,
-            })
+        if is_inside(words) {
+            Some(Point { words })
         } else {
             None
         }
+    }
+
+    /// The eight words that spell it.
+    #[inline]
+    pub(crate) fn words(self) -> u64
+        ensures words { HoldsWords result }
+        ensures x { x_in result ≡ self.x }
+        ensures y { y_in result ≡ self.y }
+        ensures x_below { x_in result < 8388608 }
+        ensures y_below { y_in result < 8388608 }
+    {
+        self.words
     }
 
     /// The coordinate from left to right.
@@ -69,7 +123,7 @@ impl Point {
         ensures value { result ≡ self.x }
         ensures below { result < 8388608 }
     {
-        self.x
+        x_bits(self.words)
     }
 
     /// The coordinate from the bottom up.
@@ -78,28 +132,22 @@ impl Point {
         ensures value { result ≡ self.y }
         ensures below { result < 8388608 }
     {
-        self.y
+        y_bits(self.words)
     }
 
     /// The point this far away, None outside the square.
-    #[tactic(auto, unfolding(crate::specs::Coordinates::moved))]
     #[inline]
     pub fn by(self, step: Move) -> Option<Point>
         ensures { result ≡ moved self step }
     {
-        let x = self.x as i32 + step.x();
-        let y = self.y as i32 + step.y();
-        Point::inside(x, y)
+        Point::spelled(sum(self.words(), step.words()))
     }
 
     /// How far it is from here to the other point.
-    #[tactic(auto, unfolding(crate::specs::Coordinates::displacement_to))]
+    #[inline]
     pub fn to(self, other: Point) -> Move
         ensures { result ≡ displacement_to self other }
     {
-        Move::new(
-            other.x as i32 - self.x as i32,
-            other.y as i32 - self.y as i32,
-        )
+        Move::spelled(difference(other.words(), self.words()))
     }
 }

@@ -10,11 +10,11 @@ fn word(byte: u8) -> Word {
 }
 
 fn shift(x: i32, y: i32) -> Move {
-    Move::try_new(x, y).unwrap_or(Move::ZERO)
+    Move::try_new(x, y).unwrap_or(Move::zero())
 }
 
 fn point(x: u32, y: u32) -> Point {
-    Point::try_new(x, y).unwrap_or(Point::ORIGIN)
+    Point::try_new(x, y).unwrap_or(Point::origin())
 }
 
 #[test]

@@ -1,9 +1,9 @@
 //! Numbers of 24 bits, the highest of which is their sign.
-ghost use Rattle.std.specs.Prelude.{◌≡◌, ◌*◌, ◌<◌, ◌≤ℤ◌, ◌<ℤ◌, pos, negsuc};
+ghost use Rattle.std.specs.Prelude.{◌≡◌, ◌<◌, ◌≤ℤ◌, ◌<ℤ◌, pos, negsuc};
 ghost use Rattle.nap_values.specs.TwosComplement.{signed_of, bits_of};
 
 /// All bits of a number are below this.
-pub(crate) const MODULUS: u32 = 16_777_216;
+const MODULUS: u32 = 16_777_216;
 
 /// Bits from here on have the sign.
 const SIGN: u32 = 8_388_608;
@@ -21,16 +21,8 @@ pub(crate) fn signed(bits: u32) -> i32
     }
 }
 
-/// The number that has these as its nine highest bits, and no others.
-#[inline]
-pub(crate) fn signed_nine(bits: u32) -> i32
-    requires { bits < 512 }
-    ensures { result ≡ signed_of (bits * 32768) }
-{
-    (bits * 8_388_608).cast_signed() >> 8
-}
-
 /// The bits that stand for this number.
+#[inline]
 pub(crate) fn bits(number: i32) -> u32
     requires low { negsuc 8388607 ≤ℤ number }
     requires high { number <ℤ pos 8388608 }

@@ -15,7 +15,7 @@ fn points_lines_and_circles(rt: HostRuntime) -> Result<(), Fail> {
             b"\x0E!_&R@@@@@@@".as_slice(),
         ),
         (
-            canon(alloc, &[line(Point::ORIGIN, middle(), ink())])?,
+            canon(alloc, &[line(Point::origin(), middle(), ink())])?,
             b"\x0E!_*@@@@@@@@R@@@@@@@",
         ),
         (
@@ -56,7 +56,7 @@ fn glyphs_and_colours(rt: HostRuntime) -> Result<(), Fail> {
                     map(1_048_576),
                     point(
                         middle(),
-                        Move::ZERO,
+                        Move::zero(),
                         Colour::Pair(address(1_048_576), address(2_097_152)),
                     ),
                 ],
@@ -308,7 +308,7 @@ fn fields_resets_and_clears(rt: HostRuntime) -> Result<(), Fail> {
             canon(
                 alloc,
                 &[
-                    part(quarter(), Point::ORIGIN, Pen::At(middle())),
+                    part(quarter(), Point::origin(), Pen::At(middle())),
                     whole(Pen::After),
                 ],
             )?,
@@ -607,7 +607,7 @@ fn the_longest_polygon(rt: HostRuntime) -> Result<(), Fail> {
     let mut points = Points::new(alloc);
     let mut want = Vec::from_slice(alloc, b"\x0E!_6")?;
     for _ in 0..SHAPE_POINTS {
-        points.push(Point::ORIGIN)?;
+        points.push(Point::origin())?;
         want.extend_from_slice(b"@@@@@@@@")?;
     }
     let polygon = Entry::Poly {

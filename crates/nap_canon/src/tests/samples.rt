@@ -9,7 +9,7 @@ pub const AT_START: Colour = Colour::Own(Origin::AtStart);
 pub const AFTER_RESET: Colour = Colour::Own(Origin::AfterReset);
 
 pub fn at(x: u32, y: u32) -> Point {
-    Point::try_new(x, y).unwrap_or(Point::ORIGIN)
+    Point::try_new(x, y).unwrap_or(Point::origin())
 }
 
 pub fn middle() -> Point {
@@ -21,7 +21,7 @@ pub fn quarter() -> Point {
 }
 
 fn corners() -> [Point; 4] {
-    [Point::ORIGIN, at(8_388_607, 8_388_607), quarter(), at(1, 0)]
+    [Point::origin(), at(8_388_607, 8_388_607), quarter(), at(1, 0)]
 }
 
 fn through(alloc: Global, list: &[Point]) -> Result<Points, AllocError> {
@@ -33,7 +33,7 @@ fn through(alloc: Global, list: &[Point]) -> Result<Points, AllocError> {
 }
 
 pub fn size(x: i32, y: i32) -> Move {
-    Move::try_new(x, y).unwrap_or(Move::ZERO)
+    Move::try_new(x, y).unwrap_or(Move::zero())
 }
 
 pub fn word(number: u8) -> Word {
@@ -59,7 +59,7 @@ pub fn pair() -> Colour {
 /// The values of the start.
 pub fn ink() -> Ink {
     Ink {
-        pel: Move::ZERO,
+        pel: Move::zero(),
         colour: AT_START,
         texture: Texture {
             word: Word::ZERO,
@@ -147,7 +147,7 @@ pub fn named(size: Size) -> TextLook {
 }
 
 pub fn dot(at: Point) -> Entry {
-    point(at, Move::ZERO, AT_START)
+    point(at, Move::zero(), AT_START)
 }
 
 pub fn point(at: Point, pel: Move, colour: Colour) -> Entry {
@@ -230,7 +230,7 @@ pub fn circle(alloc: Global) -> Result<Entry, AllocError> {
         filled: false,
         points: through(
             alloc,
-            &[Point::ORIGIN, at(2_097_152, 2_097_152), Point::ORIGIN],
+            &[Point::origin(), at(2_097_152, 2_097_152), Point::origin()],
         )?,
         ink: ink(),
     })

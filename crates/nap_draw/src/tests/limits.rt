@@ -20,7 +20,7 @@ fn units(alloc: Global, count: usize) -> Result<Vec<u8>, AllocError> {
 fn diagonal(alloc: Global, from: u32, to: u32) -> Result<Points, AllocError> {
     let mut points = Points::new(alloc);
     for side in from..=to {
-        points.push(Point::try_new(side, side).unwrap_or(Point::ORIGIN))?;
+        points.push(Point::try_new(side, side).unwrap_or(Point::origin()))?;
     }
     Ok(points)
 }

@@ -18,7 +18,7 @@ fn each_entry_has_its_line_behind_those_before(rt: HostRuntime) -> Result<(), Fa
 }
 
 fn square(side: u32) -> Point {
-    Point::try_new(side, side).unwrap_or(Point::ORIGIN)
+    Point::try_new(side, side).unwrap_or(Point::origin())
 }
 
 #[test]
@@ -36,7 +36,7 @@ fn points_have_their_own_places(rt: HostRuntime) -> Result<(), Fail> {
 #[test]
 fn each_line_starts_where_the_last_one_ends(rt: HostRuntime) -> Result<(), Fail> {
     let mut sink = LineSink::new(rt.alloc());
-    let points = [square(2_097_152), Point::ORIGIN];
+    let points = [square(2_097_152), Point::origin()];
     sink.put_lines(square(4_194_304), &points, &Drawing::start())?;
     let want = b"\
         LINE 4194304,4194304 2097152,2097152 pel=0,0 colour=own-start texture=0/none\n\

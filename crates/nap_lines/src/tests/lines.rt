@@ -11,11 +11,11 @@ use std::test::Fail;
 const AT_START: Colour = Colour::Own(Origin::AtStart);
 
 fn point(x: u32, y: u32) -> Point {
-    Point::try_new(x, y).unwrap_or(Point::ORIGIN)
+    Point::try_new(x, y).unwrap_or(Point::origin())
 }
 
 fn size(x: i32, y: i32) -> Move {
-    Move::try_new(x, y).unwrap_or(Move::ZERO)
+    Move::try_new(x, y).unwrap_or(Move::zero())
 }
 
 fn word(number: u8) -> Word {
@@ -44,7 +44,7 @@ fn side() -> Pen {
 
 fn part() -> Area {
     Area::Part {
-        from: Point::ORIGIN,
+        from: Point::origin(),
         to: point(2_621_440, 2_621_440),
     }
 }
@@ -52,7 +52,7 @@ fn part() -> Area {
 // Each attribute as at the start.
 fn plain_ink() -> Ink {
     Ink {
-        pel: Move::ZERO,
+        pel: Move::zero(),
         colour: AT_START,
         texture: Texture {
             word: Word::ZERO,
@@ -142,7 +142,7 @@ fn poly(filled: bool, points: Points, ink: Ink) -> Entry {
 fn rect(filled: bool, ink: Ink) -> Entry {
     Entry::Rect {
         filled,
-        from: Point::ORIGIN,
+        from: Point::origin(),
         to: middle(),
         ink,
     }
@@ -150,7 +150,7 @@ fn rect(filled: bool, ink: Ink) -> Entry {
 
 fn three(alloc: Global) -> Result<Points, AllocError> {
     let mut points = Points::new(alloc);
-    points.push(Point::ORIGIN)?;
+    points.push(Point::origin())?;
     points.push(point(2_097_152, 2_097_152))?;
     points.push(middle())?;
     Ok(points)
@@ -233,10 +233,10 @@ fn points_in_each_colour(rt: HostRuntime) -> Result<(), Fail> {
             "POINT 4194304,4194304 pel=0,0 colour=reset-3",
         ),
     ] {
-        let entry = dot(middle(), Move::ZERO, colour);
+        let entry = dot(middle(), Move::zero(), colour);
         assert_eq!(rt; line_of(alloc, &entry)?.as_str(), want);
     }
-    let entry = dot(Point::ORIGIN, size(16_384, -32_768), AT_START);
+    let entry = dot(Point::origin(), size(16_384, -32_768), AT_START);
     assert_eq!(rt;
         line_of(alloc, &entry)?.as_str(),
         "POINT 0,0 pel=16384,-32768 colour=own-start"
@@ -249,11 +249,11 @@ fn lines_and_rectangles(rt: HostRuntime) -> Result<(), Fail> {
     let alloc = rt.alloc();
     for (entry, want) in [
         (
-            line(Point::ORIGIN, middle(), plain_ink()),
+            line(Point::origin(), middle(), plain_ink()),
             "LINE 0,0 4194304,4194304 pel=0,0 colour=own-start texture=0/none",
         ),
         (
-            line(middle(), Point::ORIGIN, full_ink()),
+            line(middle(), Point::origin(), full_ink()),
             "LINE 4194304,4194304 0,0 pel=16384,-32768 colour=pair:1048576,4718592 texture=37/-2097152,-2097152",
         ),
         (

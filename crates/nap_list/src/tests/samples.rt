@@ -31,7 +31,7 @@ pub fn address(number: u32) -> Addr {
 }
 
 pub fn size(x: i32, y: i32) -> Move {
-    Move::try_new(x, y).unwrap_or(Move::ZERO)
+    Move::try_new(x, y).unwrap_or(Move::zero())
 }
 
 pub fn blue() -> Grb {
@@ -47,7 +47,7 @@ pub fn plain_texture(mask: Option<Move>) -> Texture {
 
 fn ink(colour: Colour, mask: Option<Move>) -> Ink {
     Ink {
-        pel: Move::ZERO,
+        pel: Move::zero(),
         colour,
         texture: plain_texture(mask),
     }
@@ -90,7 +90,7 @@ pub fn to_eol() -> Entry {
 pub fn dot(colour: Colour) -> Entry {
     Entry::Point {
         at: middle(),
-        pel: Move::ZERO,
+        pel: Move::zero(),
         colour,
     }
 }
@@ -107,7 +107,7 @@ pub fn masked() -> Entry {
     Entry::Line {
         from: quarter(),
         to: middle(),
-        ink: ink(AT_START, Some(Move::ZERO)),
+        ink: ink(AT_START, Some(Move::zero())),
     }
 }
 

@@ -165,7 +165,7 @@ fn only_moved() -> Drawing {
 #[test]
 fn a_reset_puts_back_what_its_bits_name(rt: HostRuntime) {
     let pel = Drawing {
-        pel: Move::ZERO,
+        pel: Move::zero(),
         ..only_moved()
     };
     let text = Drawing {

@@ -25,7 +25,7 @@ fn a_definition_starts_its_own_pen_and_leaves_that_before(rt: HostRuntime) -> Re
     accepted(stream, &list).agrees_in_every_cut(&rt, alloc)?;
     let list = [
         Entry::GlyphStart(0x41),
-        line(Point::ORIGIN, point(2_097_152, 2_097_152)),
+        line(Point::origin(), point(2_097_152, 2_097_152)),
         Entry::DefEnd,
         line(right, point(4_194_304, 4_194_304)),
     ];

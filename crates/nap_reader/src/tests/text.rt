@@ -211,7 +211,7 @@ fn what_adds_nothing_leaves_the_last_character(rt: HostRuntime) -> Result<(), Fa
 #[test]
 fn controls_end_a_run(rt: HostRuntime) -> Result<(), Fail> {
     let alloc = rt.alloc();
-    let diagonal = line(Point::ORIGIN, point(4_194_304, 4_194_304));
+    let diagonal = line(Point::origin(), point(4_194_304, 4_194_304));
     let list = [diagonal, Entry::Bell];
     accepted(b"\x0E)R@@\x07", &list).agrees_in_every_cut(&rt, alloc)?;
     // Behind a fill the run doesn't go on.

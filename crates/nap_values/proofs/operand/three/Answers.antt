@@ -1,16 +1,25 @@
-use Rattle.std.proofs.Common.{rules, ◌≡◌, ℕ, ◌+◌, ◌*◌, ◌/◌, ◌%◌, [], ◌∷◌, arith}
-use Rattle.nap_values.specs.Digits.{value_of}
+use Rattle.std.proofs.Common.{rules, ◌≡◌, ◌<◌, ◌∙◌, [], ◌∷◌, ap, arith, subst, sym}
 use Rattle.nap_values.specs.Operands.{multi_of}
+use Rattle.nap_values.specs.Packed.{HoldsWords, words_in}
+use Rattle.nap_values.proofs.RunLemmas.{three_words, three-words, run_holds, run_spells}
 use Rattle.nap_values.proofs.operand.three.Goals as goal
 
--- the value of three digits in the first of eight places
-three_places : (a b c : ℕ) → (a * 64 + b * 8 + c) * 32768 ≡ value_of 8 8 (a ∷ b ∷ c ∷ [])
-unfolding value_of
-three_places a b c = omega arith
+pub spelled-requires : goal.spelled-requires
+spelled-requires c =
+    let first : c.from-first.result < 64 = search rules in
+    let second : c.from-second.result < 64 = search rules in
+    let third : c.from-third.result < 64 = search rules in
+    subst HoldsWords (sym (three_words c.from-first.result c.from-second.result c.from-third.result))
+    (run_holds _ (three-words c.from-first.result c.from-second.result c.from-third.result first second third) (omega arith))
 
 pub returns : goal.returns
-unfolding multi_of
 returns c =
-    let x = three_places (c.args.first / 8) (c.args.second / 8) (c.args.third / 8) in
-    let y = three_places (c.args.first % 8) (c.args.second % 8) (c.args.third % 8) in
-    rw (c.new.ensures, ← x, ← y) (search rules)
+    let first : c.from-first.result < 64 = search rules in
+    let second : c.from-second.result < 64 = search rules in
+    let third : c.from-third.result < 64 = search rules in
+    let words = c.from-first.result ∷ c.from-second.result ∷ c.from-third.result ∷ [] in
+    let same : words ≡ c.args.first ∷ c.args.second ∷ c.args.third ∷ [] = search rules in
+    c.spelled.ensures
+    ∙ ap (λ n. multi_of (words_in n)) (three_words c.from-first.result c.from-second.result c.from-third.result)
+    ∙ run_spells words (three-words c.from-first.result c.from-second.result c.from-third.result first second third) (omega arith)
+    ∙ ap multi_of same

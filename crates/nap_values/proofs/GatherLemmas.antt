@@ -1,0 +1,128 @@
+use Rattle.std.proofs.Common.{◌≡◌, ℕ, ◌+◌, ◌-◌, ◌*◌, ◌/◌, ◌%◌, ◌^◌, ◌<◌, [], ◌∷◌, map, All, refl, sym, ap, ◌∙◌, arith, bit_and}
+use Rattle.std.proofs.lemmas.List.Elements.{All-nil, All-cons, All-head}
+use Rattle.nap_values.specs.Digits.{value_of, digits_of}
+use Rattle.nap_values.proofs.DigitLemmas.{value_of-digits_of, value_of-below, digits_of-value_of}
+use Rattle.nap_values.proofs.MaskLemmas.{masked}
+
+-- the lower half of each of four digits
+lower_of_four : (a b c d : ℕ) → a < 65536 → b < 65536 → c < 65536 → d < 65536 →
+    bit_and (((a * 65536 + b) * 65536 + c) * 65536 + d) 0x00FF_00FF_00FF_00FF
+    ≡ ((a % 256 * 65536 + b % 256) * 65536 + c % 256) * 65536 + d % 256
+unfolding value_of
+lower_of_four a b c d a_fits b_fits c_fits d_fits =
+    let digits = a ∷ b ∷ c ∷ d ∷ [] in
+    let fit : All (λ k. k < 65536) digits =
+    All-cons (λ k. k < 65536) a (b ∷ c ∷ d ∷ []) a_fits (All-cons (λ k. k < 65536) b (c ∷ d ∷ []) b_fits
+    (All-cons (λ k. k < 65536) c (d ∷ []) c_fits (All-cons (λ k. k < 65536) d [] d_fits (All-nil (λ k. k < 65536))))) in
+    let whole : ((a * 65536 + b) * 65536 + c) * 65536 + d ≡ value_of 65536 4 digits = omega arith in
+    let lower : value_of 65536 4 (map (λ k. (k / 1 % 256) * 1) digits) ≡ ((a % 256 * 65536 + b % 256) * 65536 + c % 256) * 65536 + d % 256 = omega arith in
+    ap (λ n. bit_and n 0x00FF_00FF_00FF_00FF) whole
+    ∙ masked 16 8 0 (omega arith) 4 (value_of 65536 4 digits)
+    ∙ ap (λ ds. value_of 65536 4 (map (λ k. (k / 1 % 256) * 1) ds)) (digits_of-value_of 65536 4 digits (omega arith) fit refl)
+    ∙ lower
+
+-- the lower half of each of two digits
+lower_of_two : (a b : ℕ) → a < 4294967296 → b < 4294967296 →
+    bit_and (a * 4294967296 + b) 0x0000_FFFF_0000_FFFF ≡ a % 65536 * 4294967296 + b % 65536
+unfolding value_of
+lower_of_two a b a_fits b_fits =
+    let digits = a ∷ b ∷ [] in
+    let fit : All (λ k. k < 4294967296) digits =
+    All-cons (λ k. k < 4294967296) a (b ∷ []) a_fits (All-cons (λ k. k < 4294967296) b [] b_fits (All-nil (λ k. k < 4294967296))) in
+    let whole : a * 4294967296 + b ≡ value_of 4294967296 2 digits = omega arith in
+    let lower : value_of 4294967296 2 (map (λ k. (k / 1 % 65536) * 1) digits) ≡ a % 65536 * 4294967296 + b % 65536 = omega arith in
+    ap (λ n. bit_and n 0x0000_FFFF_0000_FFFF) whole
+    ∙ masked 32 16 0 (omega arith) 2 (value_of 4294967296 2 digits)
+    ∙ ap (λ ds. value_of 4294967296 2 (map (λ k. (k / 1 % 65536) * 1) ds)) (digits_of-value_of 4294967296 2 digits (omega arith) fit refl)
+    ∙ lower
+
+-- Eight digits in base 8, a byte for each, are made into four numbers of 6 bits, two of 12 bits and one of 24 bits.
+module _ (a b c d e f g h : ℕ) (a_fits : a < 8) (b_fits : b < 8) (c_fits : c < 8) (d_fits : d < 8)
+    (e_fits : e < 8) (f_fits : f < 8) (g_fits : g < 8) (h_fits : h < 8) where
+  abbrev bytes : ℕ
+  bytes = value_of 256 8 (a ∷ b ∷ c ∷ d ∷ e ∷ f ∷ g ∷ h ∷ [])
+
+  abbrev upper_bytes : ℕ
+  upper_bytes = ((a * 65536 + c) * 65536 + e) * 65536 + g
+
+  abbrev pairs : ℕ
+  pairs = (((a * 8 + b) * 65536 + (c * 8 + d)) * 65536 + (e * 8 + f)) * 65536 + (g * 8 + h)
+
+  abbrev upper_pairs : ℕ
+  upper_pairs = (a * 8 + b) * 4294967296 + (e * 8 + f)
+
+  abbrev quads : ℕ
+  quads = ((a * 8 + b) * 64 + (c * 8 + d)) * 4294967296 + ((e * 8 + f) * 64 + (g * 8 + h))
+
+  upper_bytes_are : bit_and (bytes / 256) 0x00FF_00FF_00FF_00FF ≡ upper_bytes
+  unfolding value_of
+  upper_bytes_are =
+      let moved : bytes / 256 ≡ ((a * 65536 + (b * 256 + c)) * 65536 + (d * 256 + e)) * 65536 + (f * 256 + g) = omega arith in
+      ap (λ n. bit_and n 0x00FF_00FF_00FF_00FF) moved
+      ∙ lower_of_four a (b * 256 + c) (d * 256 + e) (f * 256 + g) (omega arith) (omega arith) (omega arith) (omega arith)
+      ∙ omega arith
+
+  bytes_split : bytes ≡ upper_bytes * 248 + pairs
+  unfolding value_of
+  bytes_split = omega arith
+
+  upper_pairs_are : bit_and (pairs / 65536) 0x0000_FFFF_0000_FFFF ≡ upper_pairs
+  upper_pairs_are =
+      let moved : pairs / 65536 ≡ (a * 8 + b) * 4294967296 + ((c * 8 + d) * 65536 + (e * 8 + f)) = omega arith in
+      ap (λ n. bit_and n 0x0000_FFFF_0000_FFFF) moved
+      ∙ lower_of_two (a * 8 + b) ((c * 8 + d) * 65536 + (e * 8 + f)) (omega arith) (omega arith)
+      ∙ omega arith
+
+  pairs_split : pairs ≡ upper_pairs * 65472 + quads
+  pairs_split = omega arith
+
+  quads_split : quads ≡ quads / 4294967296 * 4294963200 + value_of 8 8 (a ∷ b ∷ c ∷ d ∷ e ∷ f ∷ g ∷ h ∷ [])
+  unfolding value_of
+  quads_split = omega arith
+
+abbrev pub pairs_of : ℕ → ℕ
+pairs_of n = n - bit_and (n / 256) 0x00FF_00FF_00FF_00FF * 248
+
+abbrev pub quads_of : ℕ → ℕ
+quads_of n = n - bit_and (n / 65536) 0x0000_FFFF_0000_FFFF * 65472
+
+-- what the three steps leave of eight digits in base 8
+gathered-digits : (a b c d e f g h : ℕ) → a < 8 → b < 8 → c < 8 → d < 8 → e < 8 → f < 8 → g < 8 → h < 8 →
+    let n = value_of 256 8 (a ∷ b ∷ c ∷ d ∷ e ∷ f ∷ g ∷ h ∷ []) in
+    quads_of (pairs_of n) - quads_of (pairs_of n) / 4294967296 * 4294963200 ≡ value_of 8 8 (a ∷ b ∷ c ∷ d ∷ e ∷ f ∷ g ∷ h ∷ [])
+gathered-digits a b c d e f g h a_fits b_fits c_fits d_fits e_fits f_fits g_fits h_fits =
+    let n = value_of 256 8 (a ∷ b ∷ c ∷ d ∷ e ∷ f ∷ g ∷ h ∷ []) in
+    let two = pairs a b c d e f g h a_fits b_fits c_fits d_fits e_fits f_fits g_fits h_fits in
+    let four = quads a b c d e f g h a_fits b_fits c_fits d_fits e_fits f_fits g_fits h_fits in
+    let is_two : pairs_of n ≡ two = omega (
+      arith,
+      upper_bytes_are a b c d e f g h a_fits b_fits c_fits d_fits e_fits f_fits g_fits h_fits,
+      bytes_split a b c d e f g h a_fits b_fits c_fits d_fits e_fits f_fits g_fits h_fits,
+    ) in
+    let is_four : quads_of (pairs_of n) ≡ four =
+    ap quads_of is_two
+    ∙ omega (
+      arith,
+      upper_pairs_are a b c d e f g h a_fits b_fits c_fits d_fits e_fits f_fits g_fits h_fits,
+      pairs_split a b c d e f g h a_fits b_fits c_fits d_fits e_fits f_fits g_fits h_fits,
+    ) in
+    ap (λ m. m - m / 4294967296 * 4294963200) is_four
+    ∙ omega (arith, quads_split a b c d e f g h a_fits b_fits c_fits d_fits e_fits f_fits g_fits h_fits)
+
+-- the three steps gather the digits of a number
+module _ (n : ℕ) (fit : All (λ d. d < 8) (digits_of 256 8 n)) where
+  fits : n < 256 ^ 8
+  unfolding digits_of
+  fits =
+      let top : n / 256 ^ 7 < 8 = All-head (λ d. d < 8) (n / 256 ^ 7) (digits_of 256 7 (n % 256 ^ 7)) fit in
+      omega (arith, top)
+
+  pub gathers : quads_of (pairs_of n) - quads_of (pairs_of n) / 4294967296 * 4294963200 ≡ value_of 8 8 (digits_of 256 8 n)
+  unfolding digits_of
+  gathers =
+      ap (λ m. quads_of (pairs_of m) - quads_of (pairs_of m) / 4294967296 * 4294963200) (sym (value_of-digits_of 256 8 n (omega arith) fits))
+      ∙ gathered-digits _ _ _ _ _ _ _ _ (fit 0 0 (omega arith)) (fit 1 0 (omega arith)) (fit 2 0 (omega arith)) (fit 3 0 (omega arith))
+      (fit 4 0 (omega arith)) (fit 5 0 (omega arith)) (fit 6 0 (omega arith)) (fit 7 0 (omega arith))
+
+  pub gathers-below : quads_of (pairs_of n) - quads_of (pairs_of n) / 4294967296 * 4294963200 < 4294967296
+  gathers-below = omega (arith, gathers, value_of-below 8 8 (digits_of 256 8 n) (omega arith) fit)

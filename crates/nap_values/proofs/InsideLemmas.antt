@@ -1,0 +1,32 @@
+use Rattle.std.proofs.Common.{◌≡◌, ℕ, ◌+◌, ◌-◌, ◌%◌, ◌<◌, arith, Some, None, pos, ◌+ℤ◌, ◌-ℤ◌}
+use Rattle.std.proofs.lemmas.Bool.Decides.{nat_tests}
+use Rattle.std.proofs.lemmas.Int.{ints}
+use Rattle.nap_values.specs.Coordinates.{point_with, point_at}
+use Rattle.nap_values.specs.TwosComplement.{signed_of}
+use Rattle.nap_values.specs.Operands.{multi_of}
+use Rattle.nap_values.specs.Packed.{words_in, HoldsWords, x_in, y_in}
+use Rattle.nap_values.proofs.PackedLemmas.{x_in-below, y_in-below}
+
+-- the point with the coordinates that two numbers of 24 bits stand for
+inside-signed : (x y : ℕ) → x < 8388608 → y < 8388608 → point_with (signed_of x) (signed_of y) ≡ Some (record { x = x; y = y })
+inside-signed x y x_below y_below = grind (arith, nat_tests)
+
+outside-signed : (x y : ℕ) → x < 16777216 → y < 16777216 → (x < 8388608 → y < 8388608 → ⊥) → point_with (signed_of x) (signed_of y) ≡ None
+outside-signed x y x_fits y_fits outside = grind (arith, nat_tests)
+
+pub spelled_inside : (n : ℕ) → x_in n < 8388608 → y_in n < 8388608 → point_at (multi_of (words_in n)) ≡ Some (record { x = x_in n; y = y_in n })
+unfolding point_at multi_of x_in y_in
+spelled_inside n x_below y_below = inside-signed (x_in n) (y_in n) x_below y_below
+
+pub spelled_outside : (n : ℕ) → HoldsWords n → (x_in n < 8388608 → y_in n < 8388608 → ⊥) → point_at (multi_of (words_in n)) ≡ None
+unfolding point_at multi_of x_in y_in
+spelled_outside n words outside = outside-signed (x_in n) (y_in n) (x_in-below n words) (y_in-below n words) outside
+
+-- where 24 bits of the sums are below 2^23, they are the coordinates of a point, and else there is none
+pub sum_leads : (a b m n : ℕ) → a < 8388608 → b < 8388608 → m < 16777216 → n < 16777216 →
+    point_with (signed_of ((a + m) % 16777216)) (signed_of ((b + n) % 16777216)) ≡ point_with (pos a +ℤ signed_of m) (pos b +ℤ signed_of n)
+sum_leads a b m n a_below b_below m_fits n_fits = grind (arith, nat_tests, ints)
+
+-- the difference of two numbers below 2^23, of which 24 bits are kept, stands for the way between them
+pub way_is : (a b : ℕ) → a < 8388608 → b < 8388608 → signed_of ((b + (16777216 - a)) % 16777216) ≡ pos b -ℤ pos a
+way_is a b a_below b_below = grind (arith, nat_tests, ints)

@@ -1,0 +1,157 @@
+use Rattle.std.proofs.Common.{◌≡◌, subst, ℕ, suc, zero, ◌+◌, ◌*◌, ◌/◌, ◌%◌, ◌^◌, ◌<◌, List, [], ◌∷◌, map, length, All, refl, sym, ap, ◌∙◌, arith, bit_and}
+use Rattle.std.proofs.lemmas.Nat.{and_shr}
+use Rattle.std.proofs.lemmas.List.{length-map}
+use Rattle.std.proofs.lemmas.List.Elements.{All-head, All-weaker}
+use Rattle.nap_values.specs.Digits.{value_of, digits_of}
+use Rattle.nap_values.specs.Operands.{x_digit, y_digit}
+use Rattle.nap_values.specs.Spellings.{words_of_pairs}
+use Rattle.nap_values.specs.Laws.{IsWord}
+use Rattle.nap_values.specs.TwosComplement.{signed_of, bits_of}
+use Rattle.nap_values.specs.Packed.{words_in, HoldsWords, x_in, y_in, packed}
+use Rattle.nap_values.proofs.DigitLemmas.{value_of-digits_of, digits_of-value_of, value_of-below, length-digits_of, digits_of-below}
+use Rattle.nap_values.proofs.SpellingLemmas.{length-words_of_pairs, words_of_pairs-words, x_digits-words_of_pairs, y_digits-words_of_pairs, words_of_pairs-digits, x_digits-below, y_digits-below}
+use Rattle.nap_values.proofs.CoordinateLemmas.{bits_of-signed_of}
+use Rattle.nap_values.proofs.MaskLemmas.{masked, value_of-scaled}
+
+-- the words that hold two numbers of 24 bits
+abbrev pub pair_words : ℕ → ℕ → List ℕ
+pair_words x y = words_of_pairs (digits_of 8 8 x) (digits_of 8 8 y)
+
+module _ (x y : ℕ) (x_fits : x < 16777216) (y_fits : y < 16777216) where
+  same_length : length (digits_of 8 8 x) ≡ length (digits_of 8 8 y)
+  same_length = length-digits_of 8 8 x ∙ sym (length-digits_of 8 8 y)
+
+  pub length-pair_words : length (pair_words x y) ≡ 8
+  length-pair_words = length-words_of_pairs (digits_of 8 8 x) (digits_of 8 8 y) same_length ∙ length-digits_of 8 8 x
+
+  pub pair_words-words : All IsWord (pair_words x y)
+  pair_words-words =
+      words_of_pairs-words (digits_of 8 8 x) (digits_of 8 8 y) (digits_of-below 8 8 x (omega arith) x_fits) (digits_of-below 8 8 y (omega arith) y_fits)
+
+  pub x_value-pair_words : value_of 8 8 (map x_digit (pair_words x y)) ≡ x
+  x_value-pair_words =
+      ap (value_of 8 8) (x_digits-words_of_pairs (digits_of 8 8 x) (digits_of 8 8 y) same_length (digits_of-below 8 8 y (omega arith) y_fits))
+      ∙ value_of-digits_of 8 8 x (omega arith) x_fits
+
+  pub y_value-pair_words : value_of 8 8 (map y_digit (pair_words x y)) ≡ y
+  y_value-pair_words =
+      ap (value_of 8 8) (y_digits-words_of_pairs (digits_of 8 8 x) (digits_of 8 8 y) same_length (digits_of-below 8 8 y (omega arith) y_fits))
+      ∙ value_of-digits_of 8 8 y (omega arith) y_fits
+
+  pub words_in-packed : words_in (packed x y) ≡ pair_words x y
+  unfolding words_in packed
+  words_in-packed =
+      digits_of-value_of 256 8 (pair_words x y) (omega arith)
+      (All-weaker IsWord (λ word. word < 256) (λ word fits. omega arith) (pair_words x y) pair_words-words) length-pair_words
+
+  pub packed-words : HoldsWords (packed x y)
+  packed-words = rw words_in-packed pair_words-words
+
+  pub x_in-packed : x_in (packed x y) ≡ x
+  unfolding x_in
+  x_in-packed = rw words_in-packed x_value-pair_words
+
+  pub y_in-packed : y_in (packed x y) ≡ y
+  unfolding y_in
+  y_in-packed = rw words_in-packed y_value-pair_words
+
+-- eight words are those of their two numbers
+pub pair_words-values : (words : List ℕ) → All IsWord words → length words ≡ 8 →
+    words ≡ pair_words (value_of 8 8 (map x_digit words)) (value_of 8 8 (map y_digit words))
+pair_words-values words all size =
+    let xs = digits_of-value_of 8 8 (map x_digit words) (omega arith) (x_digits-below words all) (length-map words x_digit ∙ size) in
+    let ys = digits_of-value_of 8 8 (map y_digit words) (omega arith) (y_digits-below words all) (length-map words y_digit ∙ size) in
+    rw (xs, ys) (sym (words_of_pairs-digits words))
+
+pub x_value-below : (words : List ℕ) → All IsWord words → value_of 8 8 (map x_digit words) < 16777216
+x_value-below words all = value_of-below 8 8 (map x_digit words) (omega arith) (x_digits-below words all)
+
+pub y_value-below : (words : List ℕ) → All IsWord words → value_of 8 8 (map y_digit words) < 16777216
+y_value-below words all = value_of-below 8 8 (map y_digit words) (omega arith) (y_digits-below words all)
+
+-- words of two digits side by side have the value of both
+value_of-words_of_pairs : (places : ℕ) (xs ys : List ℕ) → length xs ≡ places → length ys ≡ places →
+    value_of 256 places (words_of_pairs xs ys) ≡ value_of 256 places xs * 8 + value_of 256 places ys
+unfolding value_of words_of_pairs
+value_of-words_of_pairs zero [] [] len_x len_y = refl
+value_of-words_of_pairs (suc places) (x ∷ xs) (y ∷ ys) len_x len_y =
+    let rest = value_of-words_of_pairs places xs ys (omega arith) (omega arith) in
+    omega (arith, rest)
+value_of-words_of_pairs _ xs ys len_x len_y = absurd (omega arith)
+
+-- a number's digits in base 8, in a byte each
+pub packed-parts : (x y : ℕ) → packed x y ≡ value_of 256 8 (digits_of 8 8 x) * 8 + value_of 256 8 (digits_of 8 8 y)
+unfolding packed
+packed-parts x y = value_of-words_of_pairs 8 (digits_of 8 8 x) (digits_of 8 8 y) (length-digits_of 8 8 x) (length-digits_of 8 8 y)
+
+-- a number that holds words
+module _ (n : ℕ) (words : HoldsWords n) where
+  pub length-words_in : length (words_in n) ≡ 8
+  unfolding words_in
+  length-words_in = length-digits_of 256 8 n
+
+  pub holding_fits : n < 4611686018427387904
+  unfolding words_in digits_of
+  holding_fits =
+      let top : n / 256 ^ 7 < 64 = All-head IsWord (n / 256 ^ 7) (digits_of 256 7 (n % 256 ^ 7)) words in
+      omega (arith, top)
+
+  pub x_in-below : x_in n < 16777216
+  unfolding x_in
+  x_in-below = x_value-below (words_in n) words
+
+  pub y_in-below : y_in n < 16777216
+  unfolding y_in
+  y_in-below = y_value-below (words_in n) words
+
+  pub packed-in : packed (x_in n) (y_in n) ≡ n
+  unfolding packed x_in y_in words_in
+  packed-in =
+      ap (value_of 256 8) (sym (pair_words-values (words_in n) words length-words_in))
+      ∙ value_of-digits_of 256 8 n (omega arith) (omega (arith, holding_fits))
+
+  -- the digits of x, and those of y, by themselves
+  pub x_masked : bit_and n 0x3838_3838_3838_3838 ≡ value_of 256 8 (map x_digit (words_in n)) * 8
+  unfolding words_in value_of
+  x_masked =
+      masked 8 3 3 (omega arith) 8 n
+      ∙ value_of-scaled 256 8 8 (λ d. (d / 8 % 8) * 8) x_digit (words_in n)
+      (All-weaker IsWord (λ d. (d / 8 % 8) * 8 ≡ x_digit d * 8) (λ d fits. omega arith) (words_in n) words)
+
+  pub y_masked : bit_and n 0x0707_0707_0707_0707 ≡ value_of 256 8 (map y_digit (words_in n))
+  unfolding words_in value_of
+  y_masked =
+      masked 8 3 0 (omega arith) 8 n
+      ∙ value_of-scaled 256 8 1 (λ d. (d / 1 % 8) * 1) y_digit (words_in n)
+      (All-weaker IsWord (λ d. (d / 1 % 8) * 1 ≡ y_digit d * 1) (λ d fits. omega arith) (words_in n) words)
+      ∙ omega arith
+
+  -- moved down, the digits of x stand where those of y did
+  pub x_moved : bit_and (n / 8) 0x0707_0707_0707_0707 ≡ value_of 256 8 (map x_digit (words_in n))
+  x_moved =
+      let down : bit_and n 0x3838_3838_3838_3838 / 8 ≡ bit_and (n / 8) 0x0707_0707_0707_0707 = and_shr n 0x3838_3838_3838_3838 3 in
+      omega (arith, down, x_masked)
+
+  digits_are : (digit : ℕ → ℕ) → All (λ d. d < 8) (map digit (words_in n)) → digits_of 256 8 (value_of 256 8 (map digit (words_in n))) ≡ map digit (words_in n)
+  digits_are digit fit =
+      digits_of-value_of 256 8 (map digit (words_in n)) (omega arith)
+      (All-weaker (λ d. d < 8) (λ d. d < 256) (λ d fits. omega arith) (map digit (words_in n)) fit)
+      (length-map (words_in n) digit ∙ length-words_in)
+
+  pub x_digits_are : digits_of 256 8 (bit_and (n / 8) 0x0707_0707_0707_0707) ≡ map x_digit (words_in n)
+  x_digits_are = ap (digits_of 256 8) x_moved ∙ digits_are x_digit (x_digits-below (words_in n) words)
+
+  pub y_digits_are : digits_of 256 8 (bit_and n 0x0707_0707_0707_0707) ≡ map y_digit (words_in n)
+  y_digits_are = ap (digits_of 256 8) y_masked ∙ digits_are y_digit (y_digits-below (words_in n) words)
+
+-- a displacement's words are those of its parts
+pub move_words : (n : ℕ) → HoldsWords n → packed (bits_of (signed_of (x_in n))) (bits_of (signed_of (y_in n))) ≡ n
+move_words n words = rw (bits_of-signed_of (x_in n) (x_in-below n words), bits_of-signed_of (y_in n) (y_in-below n words)) (packed-in n words)
+
+packed_zeros : packed 0 0 ≡ 0
+unfolding packed value_of digits_of words_of_pairs
+packed_zeros = refl
+
+-- zero holds eight words of no bits
+pub zero_words : HoldsWords 0
+zero_words = subst HoldsWords packed_zeros (packed-words 0 0 (omega arith) (omega arith))

@@ -1,0 +1,51 @@
+use Rattle.std.proofs.Common.{◌≡◌, ℕ, suc, zero, ◌+◌, ◌-◌, ◌*◌, ◌<◌, ◌≤◌, List, [], ◌∷◌, ◌++◌, length, replicate, All, sym, ap, ◌∙◌, arith, length-append, get_or, take, subst, add-one}
+use Rattle.std.proofs.Math.Seq.{take-suc}
+use Rattle.std.proofs.lemmas.List.{length-replicate}
+use Rattle.std.proofs.lemmas.List.Elements.{All-nil, All-cons, All-append, All-weaker}
+use Rattle.nap_values.specs.Digits.{value_of, digits_of}
+use Rattle.nap_values.specs.Operands.{multi_of}
+use Rattle.nap_values.specs.Laws.{IsWord}
+use Rattle.nap_values.specs.Packed.{words_in, HoldsWords}
+use Rattle.nap_values.proofs.DigitLemmas.{digits_of-value_of, value_of-append-zeros}
+use Rattle.nap_values.proofs.PublicLaws.{missing_words_are_zero}
+
+zeros-words : (n : ℕ) → All IsWord (replicate n 0)
+zeros-words zero = All-nil IsWord
+zeros-words (suc n) = All-cons IsWord 0 (replicate n 0) (omega arith) (zeros-words n)
+
+-- words at the front of a number
+module _ (words : List ℕ) (all : All IsWord words) (few : length words ≤ 8) where
+  abbrev missing : ℕ
+  missing = 8 - length words
+
+  whole_words : All IsWord (words ++ replicate missing 0)
+  whole_words = All-append IsWord words (replicate missing 0) all (zeros-words missing)
+
+  words_in_run : words_in (value_of 256 8 words) ≡ words ++ replicate missing 0
+  unfolding words_in
+  words_in_run =
+      ap (digits_of 256 8) (sym (value_of-append-zeros 256 8 words missing))
+      ∙ digits_of-value_of 256 8 (words ++ replicate missing 0) (omega arith)
+      (All-weaker IsWord (λ word. word < 256) (λ word fits. omega arith) (words ++ replicate missing 0) whole_words)
+      (length-append words (replicate missing 0) ∙ ap (λ n. length words + n) (length-replicate missing 0) ∙ omega arith)
+
+  pub run_holds : HoldsWords (value_of 256 8 words)
+  run_holds = rw words_in_run whole_words
+
+  pub run_spells : multi_of (words_in (value_of 256 8 words)) ≡ multi_of words
+  run_spells = ap multi_of words_in_run ∙ (missing_words_are_zero words missing).0
+
+-- the number that three words are at the front of
+pub three_words : (a b c : ℕ) → a * 72057594037927936 + b * 281474976710656 + c * 1099511627776 ≡ value_of 256 8 (a ∷ b ∷ c ∷ [])
+unfolding value_of
+three_words a b c = omega arith
+
+pub three-words : (a b c : ℕ) → a < 64 → b < 64 → c < 64 → All IsWord (a ∷ b ∷ c ∷ [])
+three-words a b c a_fits b_fits c_fits =
+    All-cons IsWord a (b ∷ c ∷ []) a_fits (All-cons IsWord b (c ∷ []) b_fits (All-cons IsWord c [] c_fits (All-nil IsWord)))
+
+-- a word more in front
+pub more_words : (run : List ℕ) (i word : ℕ) → i < length run → word ≡ get_or run i 0 → word < 64 → All IsWord (take i run) → All IsWord (take (i + 1) run)
+more_words run i word inside is fits all =
+    rw (add-one, take-suc run i 0 inside)
+    (All-append IsWord (take i run) (get_or run i 0 ∷ []) all (All-cons IsWord (get_or run i 0) [] (subst IsWord is fits) (All-nil IsWord)))

@@ -1,0 +1,12 @@
+use Rattle.std.proofs.Common.{refl}
+use Rattle.nap_values.specs.Digits.{value_of, digits_of}
+use Rattle.nap_values.specs.Packed.{words_in, x_in, y_in}
+use Rattle.nap_values.proofs.PackedLemmas.{zero_words, move_words}
+use Rattle.nap_values.proofs.displacement.Move.zero.Goals as goal
+
+pub invariant_of-result : goal.invariant_of-result
+invariant_of-result c = (zero_words, move_words 0 zero_words)
+
+pub returns : goal.returns
+unfolding value_of digits_of words_in x_in y_in
+returns c = refl

@@ -1,0 +1,10 @@
+use Rattle.std.proofs.Common.{◌∙◌, ap}
+use Rattle.nap_values.specs.Spellings.{bytes_of, move_bytes}
+use Rattle.nap_values.proofs.ByteLemmas.{words_of_move}
+use Rattle.nap_values.proofs.spelling.put_move.Goals as goal
+
+pub returns : goal.returns
+unfolding move_bytes
+returns c =
+    c.carried.ensures
+    ∙ ap bytes_of (words_of_move c.words.result c.words.ensures.words _ _ c.words.ensures.x c.words.ensures.y)
