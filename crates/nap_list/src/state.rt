@@ -317,7 +317,11 @@ impl Drawing {
         let code = first / 2 % 4;
         *self = Drawing {
             pen: Pen::After,
-            pel: if first % 2 == 1 { Move::zero() } else { self.pel },
+            pel: if first % 2 == 1 {
+                Move::zero()
+            } else {
+                self.pel
+            },
             base: if code == 1 {
                 Base::Own(Origin::AfterReset)
             } else {

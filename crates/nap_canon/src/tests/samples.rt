@@ -21,7 +21,12 @@ pub fn quarter() -> Point {
 }
 
 fn corners() -> [Point; 4] {
-    [Point::origin(), at(8_388_607, 8_388_607), quarter(), at(1, 0)]
+    [
+        Point::origin(),
+        at(8_388_607, 8_388_607),
+        quarter(),
+        at(1, 0),
+    ]
 }
 
 fn through(alloc: Global, list: &[Point]) -> Result<Points, AllocError> {
