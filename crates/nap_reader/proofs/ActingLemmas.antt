@@ -1,5 +1,5 @@
 use Rattle.std.proofs.Common.{ℕ, ◌≡◌, ◌≢◌, ◌<◌, ◌≤◌, List, [], ◌∷◌, ◌++◌, length, Bool, false, Option, Some, None, Result, Ok, Err, OnOk, IfOk, IfErr, refl, ap, sym, ◌∙◌, subst, inl, inr, ltb, arith, append-nil}
-use Rattle.std.specs.Prelude.{IsOk, IsErrOf}
+use Rattle.std.specs.Prelude.{IfSome, IsErr, IsOk, IsErrOf}
 use Rattle.std.proofs.lemmas.Bool.{cond-false, le-ltb}
 use Rattle.nap_codes.specs.declared.code.Code.{Code}
 use Rattle.nap_codes.specs.declared.code.Code.TheVariants as code
@@ -25,7 +25,7 @@ use Rattle.nap_reader.specs.Breaking.{cause_of, BreaksFrom, TakesPart, TookFront
 use Rattle.nap_reader.specs.Holding.{Holding, IsHeld, Continues, ContinuesPast, BreaksPast, BreaksNext, BreaksInBody, BreaksSome, ReachesBy}
 use Rattle.nap_reader.proofs.HeldLemmas.{half_read_pauses}
 use Rattle.nap_reader.proofs.LeadsLemmas.{TookMore, TookBroke, by_front, leads_on, leads_to_fault, wants_part, fails_part}
-use Rattle.nap_reader.proofs.ReadingLemmas.{nothing_yet, reaches, reaches_refusal}
+use Rattle.nap_reader.proofs.ReadingLemmas.{if_err_by, nothing_yet, reaches, reaches_refusal}
 use Rattle.nap_reader.proofs.StreamLemmas.{outcome_from-front, outcome_from-left}
 
 -- A character or a control acts.
@@ -101,11 +101,11 @@ module _ {S : Type 0} (g : Ghosts S) (s : S) (known : List Entry) (o : Outcome) 
   code_breaks u more broken _ drew wants gives broke = absurd (broke refl)
 
 -- the answer of a code that acts by a rule, and what is latched by it
-module _ {S A B : Type 0} (g : Ghosts S) (clears : A → Bool) (t u : S) (h : Holding) (x : Placed) (m : Machine) (by : Result Drawn DrawFault)
-    (v : Work) (answer : Result A DrawFault) (result : Result B Refusal) (latch old : Option Refusal)
+module _ {S A B E : Type 0} (g : Ghosts S) (clears : A → Bool) (t u : S) (h : Holding) (x : Placed) (m : Machine) (by : Result Drawn DrawFault)
+    (v : Work) (answer : Result A DrawFault) (result : Result B E) (latch old : Option Refusal)
     (did : Acts g clears by h.machine.work v t u answer)
     (ok : IfOk answer (λ _. IsOk result × (latch ≡ old)))
-    (err : IfErr answer (λ fault. (latch ≡ Some (refusal (draw_fault fault) x.place)) × (result ≡ Err (refusal (draw_fault fault) x.place)))) where
+    (err : IfErr answer (λ fault. (latch ≡ Some (refusal (draw_fault fault) x.place)) × (IsErr result))) where
   pub acted_reaches : TookMore g → old ≡ None → OnOk answer (g.failed t ≡ false → g.failed u ≡ false) → (s : S) (o : Outcome) (pending : List Placed) (h' : Holding) →
       (k : Continues g s o t h (x ∷ pending)) → front h.machine (k.rest ++ x ∷ pending) ≡ drawn_front m x.place pending by →
       ((a : A) → h'.machine ≡ after_drawing m (record { entries = []; work = v; clears = clears a })) → h'.machine.left ≡ h.machine.left → IsHeld [] h' →
@@ -113,7 +113,7 @@ module _ {S A B : Type 0} (g : Ghosts S) (clears : A → Bool) (t u : S) (h : Ho
   acted_reaches law live clear s o pending h' k acting same left held = at answer did ok err clear
     where
       at : (a : Result A DrawFault) → Acts g clears by h.machine.work v t u a → IfOk a (λ _. IsOk result × (latch ≡ old)) →
-          IfErr a (λ fault. (latch ≡ Some (refusal (draw_fault fault) x.place)) × (result ≡ Err (refusal (draw_fault fault) x.place))) →
+          IfErr a (λ fault. (latch ≡ Some (refusal (draw_fault fault) x.place)) × (IsErr result)) →
           OnOk a (g.failed t ≡ false → g.failed u ≡ false) → ReachesBy g s o u h' pending latch
       at (Ok a) did ok err clear =
           reaches g s o u h' pending latch (ok.1 ∙ live)
@@ -126,26 +126,27 @@ module _ {S A B : Type 0} (g : Ghosts S) (clears : A → Bool) (t u : S) (h : Ho
   pub acted_breaks : TookMore g → TookBroke g → (IsErrOf answer draw_faults.Memory → WantsBy g by t u) →
       (IsErrOf answer draw_faults.Sink → GivesSome by) →
       ((s : S) (o : Outcome) → (k : Continues g s o t h (x ∷ [])) → front h.machine (k.rest ++ x ∷ []) ≡ drawn_front m x.place [] by) →
-      IfErr result (λ r. cause_of r.fault ≢ stream → (s : S) (known : List Entry) (o : Outcome) → ContinuesPast g s known o t h (x ∷ []) →
-      (r.place ≡ x.place) × BreaksSome g s known o u h (cause_of r.fault))
+      IfErr result (λ _. IfSome latch (λ r. cause_of r.fault ≢ stream → (s : S) (known : List Entry) (o : Outcome) → ContinuesPast g s known o t h (x ∷ []) →
+      (r.place ≡ x.place) × BreaksSome g s known o u h (cause_of r.fault)))
   acted_breaks more broken wants gives acting = at answer refl did ok err
     where
-      unrefused : (P : Refusal → Type 0) (r : Result B Refusal) → IsOk r → IfErr r P
+      unrefused : (P : E → Type 0) (r : Result B E) → IsOk r → IfErr r P
       unrefused P (Ok b) done = tt
       unrefused P (Err r) done = let bad : ⊥ = cc in absurd bad
 
       at : (a : Result A DrawFault) → answer ≡ a → Acts g clears by h.machine.work v t u a → IfOk a (λ _. IsOk result × (latch ≡ old)) →
-          IfErr a (λ fault. (latch ≡ Some (refusal (draw_fault fault) x.place)) × (result ≡ Err (refusal (draw_fault fault) x.place))) →
-          IfErr result (λ r. cause_of r.fault ≢ stream → (s : S) (known : List Entry) (o : Outcome) → ContinuesPast g s known o t h (x ∷ []) →
-          (r.place ≡ x.place) × BreaksSome g s known o u h (cause_of r.fault))
+          IfErr a (λ fault. (latch ≡ Some (refusal (draw_fault fault) x.place)) × (IsErr result)) →
+          IfErr result (λ _. IfSome latch (λ r. cause_of r.fault ≢ stream → (s : S) (known : List Entry) (o : Outcome) → ContinuesPast g s known o t h (x ∷ []) →
+          (r.place ≡ x.place) × BreaksSome g s known o u h (cause_of r.fault)))
       at (Ok a) same did ok err = unrefused _ result ok.0
       at (Err fault) same did ok err =
-          rw err.1
+          if_err_by result (λ e is.
+          rw err.0
           (λ broke s known o k. (
             refl,
             inl (code_breaks g s known o t h x k m by (acting s o k.continues) u more broken fault did.1
                 (λ memory. wants (same ∙ ap Err memory)) (λ device. gives (same ∙ ap Err device)) broke),
-          ))
+          )))
 
 -- A body could be charged, and couldn't be read for want of memory.
 pub call_breaks : {S : Type 0} (g : Ghosts S) (s : S) (known : List Entry) (o : Outcome) (t : S) (h : Holding) (x : Placed) (k : ContinuesPast g s known o t h (x ∷ []))

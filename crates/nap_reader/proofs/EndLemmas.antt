@@ -170,6 +170,15 @@ ended_taken g s budget p t h u answer fed live k all taken =
     subst (λ (o : Outcome). IsTaken g s o u answer)
     (ap (λ (n : ℕ). with_code (with_run (begun budget p)) n (with_run (begun budget p)).unfinished) all ∙ sym (means_settled budget p live k.refusal)) taken
 
+-- where the opcode is refused that acts at the end, the stream is
+pub refused_at_end : {S : Type 0} (g : Ghosts S) (s : S) (budget : ℕ) (p : List ℕ) (u : S) (r : Refusal) → cause_of r.fault ≡ stream →
+    (begun budget p).refusal ≡ None → ClosesInto g s budget p u r (cause_of r.fault) → IsTaken g s (means budget p) u (Some r)
+refused_at_end g s budget p u r own live closed =
+    let at : ClosesInto g s budget p u r stream = subst (ClosesInto g s budget p u r) own closed in
+    let is : means budget p ≡ with_run (begun budget p) =
+    ap (ended_by (begun budget p) (length p)) live ∙ ap (model.with_end (with_run (begun budget p)) (length p)) at.0 in
+    subst (λ (o : Outcome). IsTaken g s o u (Some r)) (sym is) at
+
 -- an open body is refused at the end
 pub body_ended : {S : Type 0} (g : Ghosts S) (s : S) (budget : ℕ) (p : List ℕ) (t : S) (h : Holding) (body : OpenBody) (fed : ℕ) →
     Continues g s (begun budget p) t h [] → h.open_body ≡ Some body → fed ≡ length p → IsTaken g s (means budget p) t (Some (refusal faults.Unended fed))

@@ -1,4 +1,5 @@
 use Rattle.std.proofs.Common.{ℕ, ◌≡◌, ◌<◌, ◌⊎◌, ◌++◌, List, [], All, length, Option, Some, None, Result, MatchResult, OnOk, refl, inl, inr, ap, sym, ◌∙◌, subst, arith}
+use Rattle.std.specs.Prelude.{IsSome}
 use Rattle.std.proofs.lemmas.List.Elements.{All-append, All-map, All-nil}
 use Rattle.nap_list.specs.declared.sink.Sink.{Ghosts}
 use Rattle.nap_reader.specs.declared.fault.Refusal.{Refusal}
@@ -27,11 +28,11 @@ shown_places old new place bytes frames none = record {
   run = inl (subst (RunAt place) (sym none) tt);
 }
 
-pub shows_places : {S E : Type 0} {g : Ghosts S} (old new : Reader S g) (result : Result E Refusal) (bytes : List ℕ) (place : ℕ) →
-    MatchResult result (λ _. new.refusal ≡ None) (λ r. new.refusal ≡ Some r) → Shows old new bytes place → old.open_run ≡ None → OnOk result (Places old new place)
+pub shows_places : {S A E : Type 0} {g : Ghosts S} (old new : Reader S g) (result : Result A E) (bytes : List ℕ) (place : ℕ) →
+    MatchResult result (λ _. new.refusal ≡ None) (λ _. IsSome new.refusal) → Shows old new bytes place → old.open_run ≡ None → OnOk result (Places old new place)
 shows_places old new result bytes place answered shows none =
     on_ok_by result (λ a is.
-    let live = matched_ok (λ _. new.refusal ≡ None) (λ r. new.refusal ≡ Some r) result a is answered in
+    let live = matched_ok (λ _. new.refusal ≡ None) (λ _. IsSome new.refusal) result a is answered in
     let shown = subst (ShowsBy old new bytes place) live shows in
     shown_places old new place bytes shown.1.frames (ap (λ h. h.open_run) shown.1.holding ∙ none))
 

@@ -1,4 +1,6 @@
 use Rattle.std.proofs.Common.{ℕ, ◌-◌, ◌≡◌, ◌<◌, ◌≤◌, List, [], ◌∷◌, ◌++◌, length, Bool, true, false, Option, Some, None, Result, Ok, Err, OnOk, IfErr, MatchResult, refl, ap, sym, ◌∙◌, subst, arith, append_assoc, length-append}
+use Rattle.std.specs.Prelude.{IfSome, IsSome}
+use Rattle.std.proofs.lemmas.Option.{IfSome_then}
 use Rattle.nap_codes.specs.declared.code.Code.{Code}
 use Rattle.nap_codes.specs.declared.code.Code.TheVariants as code
 use Rattle.nap_codes.specs.declared.code.CodeFault.{CodeFault}
@@ -68,6 +70,25 @@ pub if_err_map : {A E : Type 0} {P Q : E → Type 0} (r : Result A E) → ((e : 
 if_err_map (Ok x) f h = tt
 if_err_map (Err e) f h = f e h
 
+-- what is said of the refusal that is latched, where the answer says that there is one
+pub latched_map : {A E F : Type 0} {P Q : F → Type 0} (r : Result A E) (latch : Option F) → ((f : F) → P f → Q f) → IfErr r (λ _. IfSome latch P) →
+    IfErr r (λ _. IfSome latch Q)
+latched_map r latch f h = if_err_map r (λ e h. IfSome_then latch h f) h
+
+pub if_some_by : {A : Type 0} {P : A → Type 0} (o : Option A) → ((a : A) → o ≡ Some a → P a) → IfSome o P
+if_some_by None f = tt
+if_some_by (Some a) f = f a refl
+
+pub if_some_at : {A : Type 0} (P : A → Type 0) (o : Option A) (a : A) → o ≡ Some a → IfSome o P → P a
+if_some_at {A} P o a is h = subst (λ (o : Option A). IfSome o P) is h
+
+pub if_some_is : {A : Type 0} (P : A → Type 0) (o : Option A) (a : A) → o ≡ Some a → P a → IfSome o P
+if_some_is {A} P o a is h = subst (λ (o : Option A). IfSome o P) (sym is) h
+
+pub some_of : {A : Type 0} (o : Option A) → IsSome o → (a : A) × (o ≡ Some a)
+some_of None is = let bad : ⊥ = cc in absurd bad
+some_of (Some a) is = (a, refl)
+
 pub on_ok_by : {A E P : Type 0} (r : Result A E) → ((a : A) → r ≡ Ok a → P) → OnOk r P
 on_ok_by (Ok a) f = f a refl
 on_ok_by (Err e) f = tt
@@ -136,21 +157,21 @@ module _ {S : Type 0} (g : Ghosts S) (s : S) (o : Outcome) (t : S) (h : Holding)
       leads_to_fault g s o t h (x ∷ pending) k u h.machine open_run.place (x ∷ pending) _ (over other _ refl) fault drew own
 
 -- what is shown comes next, or there was no memory for it
-pub presented : {A S : Type 0} (g : Ghosts S) (s : S) (o : Outcome) (t : S) (held : ℕ → Holding) (count counted : ℕ) (came pending : List Placed) (place : ℕ)
-    (latch latched : Option Refusal) (result : Result A Refusal) → latch ≡ None → OnOk result ((counted ≡ count) × (latched ≡ latch) × (pending ≡ came)) →
-    IfErr result (λ r. (r ≡ refusal faults.Memory place) × (latched ≡ Some r)) → Continues g s o t (held count) came → ReachesBy g s o t (held counted) pending latched
+pub presented : {A E S : Type 0} (g : Ghosts S) (s : S) (o : Outcome) (t : S) (held : ℕ → Holding) (count counted : ℕ) (came pending : List Placed) (place : ℕ)
+    (latch latched : Option Refusal) (result : Result A E) → latch ≡ None → OnOk result ((counted ≡ count) × (latched ≡ latch) × (pending ≡ came)) →
+    IfErr result (λ _. latched ≡ Some (refusal faults.Memory place)) → Continues g s o t (held count) came → ReachesBy g s o t (held counted) pending latched
 presented g s o t held count counted came pending place latch latched (Ok x) live shown wants k =
     reaches g s o t (held counted) pending latched (shown.1 ∙ live)
     (subst (λ (n : ℕ). Continues g s o t (held n) pending) (sym shown.0) (subst (Continues g s o t (held count)) (sym shown.2) k))
 presented g s o t held count counted came pending place latch latched (Err r) live shown wants k =
-    reaches_refusal g s o t (held counted) pending latched r wants.1
-    (λ own. let bad = sym own ∙ ap (λ (r : Refusal). cause_of r.fault) wants.0 in cc)
+    reaches_refusal g s o t (held counted) pending latched _ wants
+    (λ own. let bad = sym own in cc)
 
 -- where nothing was refused, this was done
-pub unrefused : {A P : Type 0} (result : Result A Refusal) (place : ℕ) (latch : Option Refusal) → OnOk result P →
-    IfErr result (λ r. (r ≡ refusal faults.Memory place) × (latch ≡ Some r)) → latch ≡ None → P
+pub unrefused : {A E P : Type 0} (result : Result A E) (place : ℕ) (latch : Option Refusal) → OnOk result P →
+    IfErr result (λ _. latch ≡ Some (refusal faults.Memory place)) → latch ≡ None → P
 unrefused (Ok x) place latch h wants none = h
-unrefused (Err r) place latch h wants none = let bad : Some r ≡ None = sym wants.1 ∙ none in cc
+unrefused (Err r) place latch h wants none = let bad : Some (refusal faults.Memory place) ≡ None = sym wants ∙ none in cc
 
 -- bytes come next, or they can't be charged
 pub shows_reach : {S : Type 0} {g : Ghosts S} (old new : Reader S g) (bytes : List ℕ) (place : ℕ) → Shows old new bytes place → new.sink ≡ old.sink →

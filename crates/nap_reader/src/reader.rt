@@ -1,5 +1,5 @@
 //! Reads a stream in pieces.
-ghost use Rattle.std.specs.Prelude.{take, ◌⊎◌, ◌≡◌, ◌≢◌, ◌+◌, ◌-◌, ◌^◌, ◌<◌, ◌≤◌, ℕ, List, [], ◌∷◌, ◌++◌, None, Some, Err, true, false, length, vec_len, OnOk, IfOk, IsOk, IfErr, MatchResult};
+ghost use Rattle.std.specs.Prelude.{take, ◌⊎◌, ◌≡◌, ◌≢◌, ◌+◌, ◌-◌, ◌^◌, ◌<◌, ◌≤◌, ℕ, List, [], ◌∷◌, ◌++◌, None, Some, Err, true, false, length, vec_len, OnOk, IfOk, IsOk, IfSome, IfErr, IsSome, IsErr, IsErrAnd, MatchResult};
 ghost use Rattle.std.specs.Option.{ForNone};
 ghost use Rattle.nap_list.specs.State.{start};
 ghost use Rattle.std.proofs.Props.{props};
@@ -28,6 +28,10 @@ use nap_values::{Point, Word};
 use std::alloc::Global;
 
 mod stretches;
+
+/// The stream was refused, and its refusal is kept.
+#[derive(Clone, Copy, Drop)]
+struct Refused;
 
 /// An opcode whose operands are still coming.
 #[derive(Clone, Copy, Drop)]
@@ -133,6 +137,27 @@ impl<S: Sink> Reader<S> {
         if let Some(refusal) = self.refusal {
             return Err(refusal);
         }
+        let Err(Refused) = self.take(piece) else {
+            return Ok(());
+        };
+        self.told()
+    }
+
+    /// Takes the next piece where nothing is refused yet.
+    fn take(&mut self, piece: &[u8]) -> Result<(), Refused>
+        requires live { self.old.refusal ≡ None }
+        requires few { fed_of self.old + length piece.now < 2 ^ 63 }
+        ensures answered { MatchResult result (λ _. self.new.refusal ≡ None) (λ _. IsSome self.new.refusal) }
+        ensures stands { (s : S) (p : List ℕ) → Stands self.old s p → Stands self.new s (p ++ piece.now) }
+        ensures budget { self.new.budget ≡ self.old.budget }
+        ensures failed { IfErr result (λ _. IfSome self.new.refusal (λ r. r.fault ≡ Fault.Sink → S.failed self.new.sink ≡ true)) }
+        ensures kept { IfErr result (λ _. IfSome self.new.refusal (λ r. r.fault ≢ Fault.Sink → S.failed self.old.sink ≡ false → S.failed self.new.sink ≡ false)) }
+        ensures clear { OnOk result (S.failed self.old.sink ≡ false → S.failed self.new.sink ≡ false) }
+        ensures fed { OnOk result (self.new.fed ≡ self.old.fed + length piece.now) }
+        ensures stops { IfErr result (λ _. IfSome self.new.refusal (λ r. (i : ℕ) × StopsAt self.old self.new piece.now r i)) }
+        ensures turns { OnOk result (self.old.turns ≡ self.old.fed + self.old.charged → self.new.turns ≡ self.new.fed + self.new.charged) }
+        ensures more_turns { self.old.turns ≤ self.new.turns }
+    {
         let mut at = 0;
         while at < piece.len() {
             let byte = &piece[at];
@@ -147,19 +172,30 @@ impl<S: Sink> Reader<S> {
         Ok(())
     }
 
+    /// The refusal of the stream, where it is refused.
+    fn told(&self) -> Result<(), Refusal>
+        requires { IsSome self.now.refusal }
+        ensures { IsErrAnd result (λ r. self.now.refusal ≡ Some r) }
+    {
+        match self.refusal {
+            Some(refusal) => Err(refusal),
+            None => Ok(()),
+        }
+    }
+
     /// Takes what the bodies have still to give that are being read.
-    fn drain(&mut self) -> Result<(), Refusal>
+    fn drain(&mut self) -> Result<(), Refused>
         requires live { self.old.refusal ≡ None }
         requires few { fed_of self.old < 2 ^ 63 }
-        ensures answered { MatchResult result (λ _. (self.new.refusal ≡ None) × (self.new.frames.stack.items ≡ [])) (λ r. self.new.refusal ≡ Some r) }
+        ensures answered { MatchResult result (λ _. (self.new.refusal ≡ None) × (self.new.frames.stack.items ≡ [])) (λ _. IsSome self.new.refusal) }
         ensures reaches { (s : S) (o : Outcome) (inputs : List Placed) →
             Continues S.Sink s o self.old.sink (holding_of self.old) (frames_left self.old ++ inputs) → ReachesWith self.new s o inputs }
-        ensures amid { IfErr result (λ r. cause_of r.fault ≢ stream → (s : S) (o : Outcome) (inputs : List Placed) →
+        ensures amid { IfErr result (λ _. IfSome self.new.refusal (λ r. cause_of r.fault ≢ stream → (s : S) (o : Outcome) (inputs : List Placed) →
             Continues S.Sink s o self.old.sink (holding_of self.old) (frames_left self.old ++ inputs) →
-            BreaksFrom S.Sink s [] o self.new.sink (cause_of r.fault) × ((n : ℕ) → AllAt n self.old → RunAt n self.old.open_run → r.place ≡ n)) }
+            BreaksFrom S.Sink s [] o self.new.sink (cause_of r.fault) × ((n : ℕ) → AllAt n self.old → RunAt n self.old.open_run → r.place ≡ n))) }
         ensures some { IfErr result (λ _. 0 < length (frames_left self.old)) }
-        ensures failed { IfErr result (λ r. r.fault ≡ Fault.Sink → S.failed self.new.sink ≡ true) }
-        ensures kept { IfErr result (λ r. S.failed self.old.sink ≡ false → S.failed self.new.sink ≡ true → r.fault ≡ Fault.Sink) }
+        ensures failed { IfErr result (λ _. IfSome self.new.refusal (λ r. r.fault ≡ Fault.Sink → S.failed self.new.sink ≡ true)) }
+        ensures kept { IfErr result (λ _. IfSome self.new.refusal (λ r. S.failed self.old.sink ≡ false → S.failed self.new.sink ≡ true → r.fault ≡ Fault.Sink)) }
         ensures clear { OnOk result (S.failed self.old.sink ≡ false → S.failed self.new.sink ≡ false) }
         ensures counts { Drains self.old self.new }
         ensures left { IfErr result (λ _. (s : S) (o : Outcome) (inputs : List Placed) →
@@ -175,20 +211,20 @@ impl<S: Sink> Reader<S> {
 
     /// Takes one byte, which has this place.
     #[inline(always)]
-    fn turn(&mut self, byte: u8, place: u64) -> Result<(), Refusal>
+    fn turn(&mut self, byte: u8, place: u64) -> Result<(), Refused>
         requires { self.old.refusal ≡ None }
-        ensures answered { MatchResult result (λ _. self.new.refusal ≡ None) (λ r. self.new.refusal ≡ Some r) }
+        ensures answered { MatchResult result (λ _. self.new.refusal ≡ None) (λ _. IsSome self.new.refusal) }
         ensures reaches { (s : S) (o : Outcome) (inputs : List Placed) →
             Continues S.Sink s o self.old.sink (holding_of self.old) (placed_at byte place ∷ frames_left self.old ++ inputs) → ReachesWith self.new s o inputs }
-        ensures breaks { IfErr result (λ r. cause_of r.fault ≢ stream → (s : S) (p : List ℕ) →
+        ensures breaks { IfErr result (λ _. IfSome self.new.refusal (λ r. cause_of r.fault ≢ stream → (s : S) (p : List ℕ) →
             Continues S.Sink s (begun (budget_of self.old) p) self.old.sink (holding_of self.old) [] → place ≡ length p →
-            BreaksAt S.Sink s (budget_of self.old) p byte self.new.sink r) }
-        ensures amid { IfErr result (λ r. cause_of r.fault ≢ stream → (s : S) (o : Outcome) →
+            BreaksAt S.Sink s (budget_of self.old) p byte self.new.sink r)) }
+        ensures amid { IfErr result (λ _. IfSome self.new.refusal (λ r. cause_of r.fault ≢ stream → (s : S) (o : Outcome) →
             Continues S.Sink s o self.old.sink (holding_of self.old) (placed_at byte place ∷ []) →
-            BreaksFrom S.Sink s [] o self.new.sink (cause_of r.fault) × ((r.place ≡ place) ⊎ (held_place self.old.open_run ≡ Some r.place))) }
+            BreaksFrom S.Sink s [] o self.new.sink (cause_of r.fault) × ((r.place ≡ place) ⊎ (held_place self.old.open_run ≡ Some r.place)))) }
         ensures placed { OnOk result (Places self.old self.new place) }
-        ensures failed { IfErr result (λ r. r.fault ≡ Fault.Sink → S.failed self.new.sink ≡ true) }
-        ensures kept { IfErr result (λ r. S.failed self.old.sink ≡ false → S.failed self.new.sink ≡ true → r.fault ≡ Fault.Sink) }
+        ensures failed { IfErr result (λ _. IfSome self.new.refusal (λ r. r.fault ≡ Fault.Sink → S.failed self.new.sink ≡ true)) }
+        ensures kept { IfErr result (λ _. IfSome self.new.refusal (λ r. S.failed self.old.sink ≡ false → S.failed self.new.sink ≡ true → r.fault ≡ Fault.Sink)) }
         ensures clear { OnOk result (S.failed self.old.sink ≡ false → S.failed self.new.sink ≡ false) }
         ensures counts { Charges self.old self.new }
         ensures uncharged { IfErr result (λ _. self.new.charged ≡ self.old.charged) }
@@ -207,14 +243,14 @@ impl<S: Sink> Reader<S> {
     }
 
     /// A word joins the open run.
-    fn join(&mut self, open_run: OpenRun, word: Word, place: u64) -> Result<(), Refusal>
+    fn join(&mut self, open_run: OpenRun, word: Word, place: u64) -> Result<(), Refused>
         requires live { self.old.refusal ≡ None }
         requires between { self.old.open_body ≡ None }
         requires opened { self.old.open_run ≡ Some open_run }
-        ensures answered { MatchResult result (λ _. self.new.refusal ≡ None) (λ r. self.new.refusal ≡ Some r) }
+        ensures answered { MatchResult result (λ _. self.new.refusal ≡ None) (λ _. IsSome self.new.refusal) }
         ensures reaches { (s : S) (o : Outcome) (x : Placed) (pending : List Placed) → CarriesWord x word →
             Continues S.Sink s o self.old.sink (holding_of self.old) (x ∷ pending) → Reaches self.new s o pending }
-        ensures breaks { IfErr result (λ r. cause_of r.fault ≢ stream → (r ≡ refusal Fault.Memory place) × (length self.old.run.items < run_limit)) }
+        ensures breaks { IfErr result (λ _. IfSome self.new.refusal (λ r. cause_of r.fault ≢ stream → (r ≡ refusal Fault.Memory place) × (length self.old.run.items < run_limit))) }
         ensures sink { self.new.sink ≡ self.old.sink }
         ensures counts { SameCounts self.old self.new }
         ensures bodies { SameBodies self.old self.new }
@@ -230,11 +266,11 @@ impl<S: Sink> Reader<S> {
     }
 
     /// The open run is over, and its opcode acts.
-    fn close(&mut self, open_run: OpenRun) -> Result<(), Refusal>
+    fn close(&mut self, open_run: OpenRun) -> Result<(), Refused>
         requires live { self.old.refusal ≡ None }
         requires between { self.old.open_body ≡ None }
         requires opened { self.old.open_run ≡ Some open_run }
-        ensures answered { MatchResult result (λ _. self.new.refusal ≡ None) (λ r. self.new.refusal ≡ Some r) }
+        ensures answered { MatchResult result (λ _. self.new.refusal ≡ None) (λ _. IsSome self.new.refusal) }
         ensures reaches { (s : S) (o : Outcome) (x : Placed) (pending : List Placed) → is_operand x ≡ false →
             Continues S.Sink s o self.old.sink (holding_of self.old) (x ∷ pending) → Reaches self.new s o (x ∷ pending) }
         ensures closes { (s : S) (p : List ℕ) → Continues S.Sink s (begun (budget_of self.old) p) self.old.sink (holding_of self.old) [] →
@@ -243,13 +279,13 @@ impl<S: Sink> Reader<S> {
             Continues S.Sink s (begun (budget_of self.old) p) self.old.sink (holding_of self.old) [] →
             ContinuesPast S.Sink s (with_run (begun (budget_of self.old) p)).entries (begun (budget_of self.old) (p ++ b ∷ [])) self.new.sink (holding_of self.new)
             (record { byte = b; place = length p } ∷ [])) }
-        ensures amid { IfErr result (λ r. cause_of r.fault ≢ stream → (s : S) (o : Outcome) (x : Placed) → is_operand x ≡ false →
-            Continues S.Sink s o self.old.sink (holding_of self.old) (x ∷ []) → BreaksFrom S.Sink s [] o self.new.sink (cause_of r.fault)) }
+        ensures amid { IfErr result (λ _. IfSome self.new.refusal (λ r. cause_of r.fault ≢ stream → (s : S) (o : Outcome) (x : Placed) → is_operand x ≡ false →
+            Continues S.Sink s o self.old.sink (holding_of self.old) (x ∷ []) → BreaksFrom S.Sink s [] o self.new.sink (cause_of r.fault))) }
         ensures closed { self.new.refusal ≡ None → self.new.open_run ≡ None }
-        ensures place { IfErr result (λ r. r.place ≡ open_run.place) }
+        ensures place { IfErr result (λ _. IfSome self.new.refusal (λ r. r.place ≡ open_run.place)) }
         ensures between { self.new.open_body ≡ None }
-        ensures failed { IfErr result (λ r. r.fault ≡ Fault.Sink → S.failed self.new.sink ≡ true) }
-        ensures kept { IfErr result (λ r. S.failed self.old.sink ≡ false → S.failed self.new.sink ≡ true → r.fault ≡ Fault.Sink) }
+        ensures failed { IfErr result (λ _. IfSome self.new.refusal (λ r. r.fault ≡ Fault.Sink → S.failed self.new.sink ≡ true)) }
+        ensures kept { IfErr result (λ _. IfSome self.new.refusal (λ r. S.failed self.old.sink ≡ false → S.failed self.new.sink ≡ true → r.fault ≡ Fault.Sink)) }
         ensures clear { OnOk result (S.failed self.old.sink ≡ false → S.failed self.new.sink ≡ false) }
         ensures counts { SameCounts self.old self.new }
         ensures bytes { SameBytes self.old self.new }
@@ -273,18 +309,18 @@ impl<S: Sink> Reader<S> {
 
     /// Takes a byte where no run is open, and no body. Most codes are one byte, which needs no step of the lexer.
     #[inline(always)]
-    fn lex(&mut self, byte: u8, place: u64) -> Result<(), Refusal>
+    fn lex(&mut self, byte: u8, place: u64) -> Result<(), Refused>
         requires live { self.old.refusal ≡ None }
         requires between { self.old.open_body ≡ None }
         requires closed { self.old.open_run ≡ None }
-        ensures answered { MatchResult result (λ _. self.new.refusal ≡ None) (λ r. self.new.refusal ≡ Some r) }
+        ensures answered { MatchResult result (λ _. self.new.refusal ≡ None) (λ _. IsSome self.new.refusal) }
         ensures reaches { (s : S) (o : Outcome) (inputs : List Placed) →
             Continues S.Sink s o self.old.sink (holding_of self.old) (placed_at byte place ∷ frames_left self.old ++ inputs) → ReachesWith self.new s o inputs }
-        ensures breaks { IfErr result (λ r. cause_of r.fault ≢ stream → (s : S) (known : List Entry) (o : Outcome) →
+        ensures breaks { IfErr result (λ _. IfSome self.new.refusal (λ r. cause_of r.fault ≢ stream → (s : S) (known : List Entry) (o : Outcome) →
             ContinuesPast S.Sink s known o self.old.sink (holding_of self.old) (record { byte = byte; place = place } ∷ []) →
-            (r.place ≡ place) × BreaksSome S.Sink s known o self.new.sink (holding_of self.old) (cause_of r.fault)) }
-        ensures failed { IfErr result (λ r. r.fault ≡ Fault.Sink → S.failed self.new.sink ≡ true) }
-        ensures kept { IfErr result (λ r. S.failed self.old.sink ≡ false → S.failed self.new.sink ≡ true → r.fault ≡ Fault.Sink) }
+            (r.place ≡ place) × BreaksSome S.Sink s known o self.new.sink (holding_of self.old) (cause_of r.fault))) }
+        ensures failed { IfErr result (λ _. IfSome self.new.refusal (λ r. r.fault ≡ Fault.Sink → S.failed self.new.sink ≡ true)) }
+        ensures kept { IfErr result (λ _. IfSome self.new.refusal (λ r. S.failed self.old.sink ≡ false → S.failed self.new.sink ≡ true → r.fault ≡ Fault.Sink)) }
         ensures clear { OnOk result (S.failed self.old.sink ≡ false → S.failed self.new.sink ≡ false) }
         ensures counts { Charges self.old self.new }
         ensures uncharged { IfErr result (λ _. self.new.charged ≡ self.old.charged) }
@@ -312,18 +348,18 @@ impl<S: Sink> Reader<S> {
 
     /// Takes a byte of any code, where no run is open, and no body.
     #[inline(never)]
-    fn read_code(&mut self, byte: u8, place: u64) -> Result<(), Refusal>
+    fn read_code(&mut self, byte: u8, place: u64) -> Result<(), Refused>
         requires live { self.old.refusal ≡ None }
         requires between { self.old.open_body ≡ None }
         requires closed { self.old.open_run ≡ None }
-        ensures answered { MatchResult result (λ _. self.new.refusal ≡ None) (λ r. self.new.refusal ≡ Some r) }
+        ensures answered { MatchResult result (λ _. self.new.refusal ≡ None) (λ _. IsSome self.new.refusal) }
         ensures reaches { (s : S) (o : Outcome) (inputs : List Placed) →
             Continues S.Sink s o self.old.sink (holding_of self.old) (placed_at byte place ∷ frames_left self.old ++ inputs) → ReachesWith self.new s o inputs }
-        ensures breaks { IfErr result (λ r. cause_of r.fault ≢ stream → (s : S) (known : List Entry) (o : Outcome) →
+        ensures breaks { IfErr result (λ _. IfSome self.new.refusal (λ r. cause_of r.fault ≢ stream → (s : S) (known : List Entry) (o : Outcome) →
             ContinuesPast S.Sink s known o self.old.sink (holding_of self.old) (record { byte = byte; place = place } ∷ []) →
-            (r.place ≡ place) × BreaksSome S.Sink s known o self.new.sink (holding_of self.old) (cause_of r.fault)) }
-        ensures failed { IfErr result (λ r. r.fault ≡ Fault.Sink → S.failed self.new.sink ≡ true) }
-        ensures kept { IfErr result (λ r. S.failed self.old.sink ≡ false → S.failed self.new.sink ≡ true → r.fault ≡ Fault.Sink) }
+            (r.place ≡ place) × BreaksSome S.Sink s known o self.new.sink (holding_of self.old) (cause_of r.fault))) }
+        ensures failed { IfErr result (λ _. IfSome self.new.refusal (λ r. r.fault ≡ Fault.Sink → S.failed self.new.sink ≡ true)) }
+        ensures kept { IfErr result (λ _. IfSome self.new.refusal (λ r. S.failed self.old.sink ≡ false → S.failed self.new.sink ≡ true → r.fault ≡ Fault.Sink)) }
         ensures clear { OnOk result (S.failed self.old.sink ≡ false → S.failed self.new.sink ≡ false) }
         ensures counts { Charges self.old self.new }
         ensures uncharged { IfErr result (λ _. self.new.charged ≡ self.old.charged) }
@@ -361,17 +397,17 @@ impl<S: Sink> Reader<S> {
 
     /// Takes a byte of the open body.
     #[inline(never)]
-    fn read_body(&mut self, body: OpenBody, byte: u8, place: u64) -> Result<(), Refusal>
+    fn read_body(&mut self, body: OpenBody, byte: u8, place: u64) -> Result<(), Refused>
         requires live { self.old.refusal ≡ None }
         requires opened { self.old.open_body ≡ Some body }
-        ensures answered { MatchResult result (λ _. self.new.refusal ≡ None) (λ r. self.new.refusal ≡ Some r) }
+        ensures answered { MatchResult result (λ _. self.new.refusal ≡ None) (λ _. IsSome self.new.refusal) }
         ensures reaches { (s : S) (o : Outcome) (inputs : List Placed) →
             Continues S.Sink s o self.old.sink (holding_of self.old) (placed_at byte place ∷ frames_left self.old ++ inputs) → ReachesWith self.new s o inputs }
-        ensures breaks { IfErr result (λ r. cause_of r.fault ≢ stream → (s : S) (known : List Entry) (o : Outcome) →
+        ensures breaks { IfErr result (λ _. IfSome self.new.refusal (λ r. cause_of r.fault ≢ stream → (s : S) (known : List Entry) (o : Outcome) →
             ContinuesPast S.Sink s known o self.old.sink (holding_of self.old) (placed_at byte place ∷ []) →
-            (r.place ≡ place) × BreaksInBody S.Sink s known o self.new.sink (holding_of self.old) (cause_of r.fault)) }
-        ensures failed { IfErr result (λ r. r.fault ≡ Fault.Sink → S.failed self.new.sink ≡ true) }
-        ensures kept { IfErr result (λ r. S.failed self.old.sink ≡ false → S.failed self.new.sink ≡ true → r.fault ≡ Fault.Sink) }
+            (r.place ≡ place) × BreaksInBody S.Sink s known o self.new.sink (holding_of self.old) (cause_of r.fault))) }
+        ensures failed { IfErr result (λ _. IfSome self.new.refusal (λ r. r.fault ≡ Fault.Sink → S.failed self.new.sink ≡ true)) }
+        ensures kept { IfErr result (λ _. IfSome self.new.refusal (λ r. S.failed self.old.sink ≡ false → S.failed self.new.sink ≡ true → r.fault ≡ Fault.Sink)) }
         ensures clear { OnOk result (S.failed self.old.sink ≡ false → S.failed self.new.sink ≡ false) }
         ensures counts { Charges self.old self.new }
         ensures uncharged { IfErr result (λ _. self.new.charged ≡ self.old.charged) }
@@ -400,15 +436,15 @@ impl<S: Sink> Reader<S> {
     }
 
     /// Takes a byte of the open body, of which no ESC is held.
-    fn keep(&mut self, body: OpenBody, byte: u8, place: u64) -> Result<(), Refusal>
+    fn keep(&mut self, body: OpenBody, byte: u8, place: u64) -> Result<(), Refused>
         requires live { self.old.refusal ≡ None }
         requires named { IsGraphic body.name }
         requires low { byte < 0x80 }
-        ensures answered { MatchResult result (λ _. self.new.refusal ≡ None) (λ r. self.new.refusal ≡ Some r) }
+        ensures answered { MatchResult result (λ _. self.new.refusal ≡ None) (λ _. IsSome self.new.refusal) }
         ensures reaches { (s : S) (o : Outcome) (inputs : List Placed) →
             ReadsOn S.Sink s o self.old.sink (holding_of self.old) body (placed_at byte place) (frames_left self.old ++ inputs) → ReachesWith self.new s o inputs }
-        ensures breaks { IfErr result (λ r. cause_of r.fault ≢ stream → (r ≡ refusal Fault.Memory place)
-            × ((s : S) (o : Outcome) → ReadsOn S.Sink s o self.old.sink (holding_of self.old) body (placed_at byte place) [] → o.refusal ≡ None)) }
+        ensures breaks { IfErr result (λ _. IfSome self.new.refusal (λ r. cause_of r.fault ≢ stream → (r ≡ refusal Fault.Memory place)
+            × ((s : S) (o : Outcome) → ReadsOn S.Sink s o self.old.sink (holding_of self.old) body (placed_at byte place) [] → o.refusal ≡ None))) }
         ensures sink { self.new.sink ≡ self.old.sink }
         ensures counts { Charges self.old self.new }
         ensures uncharged { IfErr result (λ _. self.new.charged ≡ self.old.charged) }
@@ -443,19 +479,19 @@ impl<S: Sink> Reader<S> {
         escape: u64,
         ender: u8,
         place: u64,
-    ) -> Result<(), Refusal>
+    ) -> Result<(), Refused>
         requires live { self.old.refusal ≡ None }
         requires opened { self.old.open_body ≡ Some body }
         requires held { body.escape ≡ Some escape }
         requires ends { bodies.ends_body ender ≡ true }
-        ensures answered { MatchResult result (λ _. self.new.refusal ≡ None) (λ r. self.new.refusal ≡ Some r) }
+        ensures answered { MatchResult result (λ _. self.new.refusal ≡ None) (λ _. IsSome self.new.refusal) }
         ensures reaches { (s : S) (o : Outcome) (inputs : List Placed) →
             Continues S.Sink s o self.old.sink (holding_of self.old) (placed_at ender place ∷ frames_left self.old ++ inputs) → ReachesWith self.new s o inputs }
-        ensures breaks { IfErr result (λ r. cause_of r.fault ≢ stream → (s : S) (known : List Entry) (o : Outcome) →
+        ensures breaks { IfErr result (λ _. IfSome self.new.refusal (λ r. cause_of r.fault ≢ stream → (s : S) (known : List Entry) (o : Outcome) →
             ContinuesPast S.Sink s known o self.old.sink (holding_of self.old) (placed_at ender place ∷ []) →
-            (r.place ≡ place) × BreaksInBody S.Sink s known o self.new.sink (holding_of self.old) (cause_of r.fault)) }
-        ensures failed { IfErr result (λ r. r.fault ≡ Fault.Sink → S.failed self.new.sink ≡ true) }
-        ensures kept { IfErr result (λ r. S.failed self.old.sink ≡ false → S.failed self.new.sink ≡ true → r.fault ≡ Fault.Sink) }
+            (r.place ≡ place) × BreaksInBody S.Sink s known o self.new.sink (holding_of self.old) (cause_of r.fault))) }
+        ensures failed { IfErr result (λ _. IfSome self.new.refusal (λ r. r.fault ≡ Fault.Sink → S.failed self.new.sink ≡ true)) }
+        ensures kept { IfErr result (λ _. IfSome self.new.refusal (λ r. S.failed self.old.sink ≡ false → S.failed self.new.sink ≡ true → r.fault ≡ Fault.Sink)) }
         ensures clear { OnOk result (S.failed self.old.sink ≡ false → S.failed self.new.sink ≡ false) }
         ensures counts { Charges self.old self.new }
         ensures uncharged { IfErr result (λ _. self.new.charged ≡ self.old.charged) }
@@ -480,17 +516,17 @@ impl<S: Sink> Reader<S> {
         escape: u64,
         byte: u8,
         place: u64,
-    ) -> Result<(), Refusal>
+    ) -> Result<(), Refused>
         requires live { self.old.refusal ≡ None }
         requires opened { self.old.open_body ≡ Some body }
         requires held { body.escape ≡ Some escape }
         requires ends { bodies.ends_body byte ≡ true }
         requires shows { body.show ≡ true }
-        ensures answered { MatchResult result (λ _. self.new.refusal ≡ None) (λ r. self.new.refusal ≡ Some r) }
+        ensures answered { MatchResult result (λ _. self.new.refusal ≡ None) (λ _. IsSome self.new.refusal) }
         ensures reaches { (s : S) (o : Outcome) (inputs : List Placed) →
             Continues S.Sink s o self.old.sink (holding_of self.old) (placed_at byte place ∷ frames_left self.old ++ inputs) → ReachesWith self.new s o inputs }
-        ensures breaks { IfErr result (λ r. cause_of r.fault ≢ stream → (r ≡ refusal Fault.Memory place)
-            × ((s : S) (o : Outcome) → Continues S.Sink s o self.old.sink (holding_of self.old) (placed_at byte place ∷ []) → o.machine.left < left_of self.old)) }
+        ensures breaks { IfErr result (λ _. IfSome self.new.refusal (λ r. cause_of r.fault ≢ stream → (r ≡ refusal Fault.Memory place)
+            × ((s : S) (o : Outcome) → Continues S.Sink s o self.old.sink (holding_of self.old) (placed_at byte place ∷ []) → o.machine.left < left_of self.old))) }
         ensures sink { self.new.sink ≡ self.old.sink }
         ensures counts { Charges self.old self.new }
         ensures uncharged { IfErr result (λ _. self.new.charged ≡ self.old.charged) }
@@ -517,13 +553,13 @@ impl<S: Sink> Reader<S> {
     }
 
     /// Calls the macro of this name.
-    fn call(&mut self, name: u8, place: u64) -> Result<(), Refusal>
+    fn call(&mut self, name: u8, place: u64) -> Result<(), Refused>
         requires live { self.old.refusal ≡ None }
         requires named { IsGraphic name }
-        ensures answered { MatchResult result (λ _. self.new.refusal ≡ None) (λ r. self.new.refusal ≡ Some r) }
+        ensures answered { MatchResult result (λ _. self.new.refusal ≡ None) (λ _. IsSome self.new.refusal) }
         ensures shows { Shows self.old self.new (body_of self.old.store.names name) place }
-        ensures breaks { IfErr result (λ r. cause_of r.fault ≢ stream →
-            (r ≡ refusal Fault.Memory place) × (0 < length (body_of self.old.store.names name)) × (length (body_of self.old.store.names name) ≤ left_of self.old)) }
+        ensures breaks { IfErr result (λ _. IfSome self.new.refusal (λ r. cause_of r.fault ≢ stream →
+            (r ≡ refusal Fault.Memory place) × (0 < length (body_of self.old.store.names name)) × (length (body_of self.old.store.names name) ≤ left_of self.old))) }
         ensures sink { self.new.sink ≡ self.old.sink }
         ensures counts { Charges self.old self.new }
         ensures uncharged { IfErr result (λ _. self.new.charged ≡ self.old.charged) }
@@ -571,13 +607,18 @@ impl<S: Sink> Reader<S> {
             return Err(latched);
         }
         if let Some(_) = self.open_body {
-            return refuse(&mut self.refusal, Fault::Unended, self.fed);
+            return Err(Refusal {
+                fault: Fault::Unended,
+                place: self.fed,
+            });
         }
         let Some(open_run) = self.open_run else {
             return self.settle();
         };
-        self.close(open_run)?;
-        self.settle()
+        let Err(Refused) = self.close(open_run) else {
+            return self.settle();
+        };
+        self.told()
     }
 
     /// No run is open at the end, nor a body, and what is unfinished is refused.
@@ -590,10 +631,16 @@ impl<S: Sink> Reader<S> {
         ensures sink { self.new.sink ≡ self.old.sink }
     {
         if !self.lexer.at_rest() {
-            return refuse(&mut self.refusal, Fault::Cut, self.fed);
+            return Err(Refusal {
+                fault: Fault::Cut,
+                place: self.fed,
+            });
         }
         if self.work.state.definition.is_some() {
-            return refuse(&mut self.refusal, Fault::Unended, self.fed);
+            return Err(Refusal {
+                fault: Fault::Unended,
+                place: self.fed,
+            });
         }
         Ok(())
     }
@@ -695,12 +742,12 @@ fn present(
     span: Span,
     count: u64,
     place: u64,
-) -> Result<(), Refusal>
+) -> Result<(), Refused>
     requires some { span.start < span.end }
     requires counted { count + span.start ≡ span.end }
     requires most { count + charged.old ≤ MOST }
     ensures shown { OnOk result ((charged.new ≡ charged.old + count) × (latch.new ≡ latch.old) × ((bytes : List ℕ) → unread bytes frames.new.stack.items ≡ all_at place (part_at bytes span) ++ unread bytes frames.old.stack.items)) }
-    ensures wants { IfErr result (λ r. (r ≡ refusal Fault.Memory place) × (latch.new ≡ Some r)) }
+    ensures wants { IfErr result (λ _. latch.new ≡ Some (refusal Fault.Memory place)) }
     ensures uncharged { IfErr result (λ _. charged.new ≡ charged.old) }
     ensures within { (n : ℕ) → span.end ≤ n → FramesIn n frames.old.stack.items → FramesIn n frames.new.stack.items }
     ensures turned { (bytes : List ℕ) → span.end ≤ length bytes → length (unread bytes frames.new.stack.items) + charged.old ≡ length (unread bytes frames.old.stack.items) + charged.new }
@@ -714,13 +761,12 @@ fn present(
 }
 
 /// Refuses the stream, for good.
-fn refuse<T>(latch: &mut Option<Refusal>, fault: Fault, place: u64) -> Result<T, Refusal>
+fn refuse<T>(latch: &mut Option<Refusal>, fault: Fault, place: u64) -> Result<T, Refused>
     ensures latched { latch.new ≡ Some (refusal fault place) }
-    ensures answer { result ≡ Err (refusal fault place) }
+    ensures answer { result ≡ Err (record {}) }
 {
-    let refusal = Refusal { fault, place };
-    *latch = Some(refusal);
-    Err(refusal)
+    *latch = Some(Refusal { fault, place });
+    Err(Refused)
 }
 
 /// Refuses the stream, for good, where a code there was refused.
@@ -728,9 +774,9 @@ fn latched(
     latch: &mut Option<Refusal>,
     acted: Result<(), DrawFault>,
     place: u64,
-) -> Result<(), Refusal>
+) -> Result<(), Refused>
     ensures ok { IfOk acted (λ _. (IsOk result) × (latch.new ≡ latch.old)) }
-    ensures err { IfErr acted (λ fault. (latch.new ≡ Some (refusal (draw_fault fault) place)) × (result ≡ Err (refusal (draw_fault fault) place))) }
+    ensures err { IfErr acted (λ fault. (latch.new ≡ Some (refusal (draw_fault fault) place)) × (IsErr result)) }
 {
     match acted {
         Ok(()) => Ok(()),

@@ -1,8 +1,8 @@
 //! Stretches: bytes of one kind that follow one another, in a piece or in a body, and are taken together.
-ghost use Rattle.std.specs.Prelude.{◌≡◌, ◌+◌, ◌^◌, ◌<◌, ◌≤◌, ℕ, None, Some, true, false, length, OnOk, IfOk, IfErr, MatchResult};
+ghost use Rattle.std.specs.Prelude.{◌≡◌, ◌+◌, ◌^◌, ◌<◌, ◌≤◌, ℕ, None, Some, true, false, length, OnOk, IfOk, IfSome, IfErr, IsSome, MatchResult};
 
-use super::{Reader, refuse};
-use crate::fault::{Fault, Refusal};
+use super::{Reader, Refused, refuse};
+use crate::fault::Fault;
 use crate::graphic::graphic_bytes;
 use crate::operands::take_words;
 use nap_list::Sink;
@@ -13,14 +13,14 @@ impl<S: Sink> Reader<S> {
 
     /// Takes the bytes at the front that are operands of the open run, or characters where no run is open, and tells how
     /// many. The next byte is another one, or an operand for which there is no room, and has a turn of its own.
-    pub(super) fn stretch(&mut self, piece: &[u8]) -> Result<usize, Refusal>
+    pub(super) fn stretch(&mut self, piece: &[u8]) -> Result<usize, Refused>
         requires live { self.old.refusal ≡ None }
         requires few { fed_of self.old + length piece.now < 2 ^ 63 }
-        ensures answered { MatchResult result (λ _. self.new.refusal ≡ None) (λ r. self.new.refusal ≡ Some r) }
+        ensures answered { MatchResult result (λ _. self.new.refusal ≡ None) (λ _. IsSome self.new.refusal) }
         ensures takes { IfOk result (λ n. TakesStretch self.old self.new piece.now n) }
-        ensures stops { IfErr result (λ r. (i : ℕ) × StopsAt self.old self.new piece.now r i) }
-        ensures failed { IfErr result (λ r. r.fault ≡ Fault.Sink → S.failed self.new.sink ≡ true) }
-        ensures kept { IfErr result (λ r. S.failed self.old.sink ≡ false → S.failed self.new.sink ≡ true → r.fault ≡ Fault.Sink) }
+        ensures stops { IfErr result (λ _. IfSome self.new.refusal (λ r. (i : ℕ) × StopsAt self.old self.new piece.now r i)) }
+        ensures failed { IfErr result (λ _. IfSome self.new.refusal (λ r. r.fault ≡ Fault.Sink → S.failed self.new.sink ≡ true)) }
+        ensures kept { IfErr result (λ _. IfSome self.new.refusal (λ r. S.failed self.old.sink ≡ false → S.failed self.new.sink ≡ true → r.fault ≡ Fault.Sink)) }
         ensures budget { self.new.budget ≡ self.old.budget }
         ensures charged { self.new.charged ≡ self.old.charged }
         ensures turned { self.old.turns ≤ self.new.turns }
@@ -39,16 +39,16 @@ impl<S: Sink> Reader<S> {
 
     /// Takes the bytes at the front that are characters by themselves, all at once, and tells how many. A character that
     /// the sink doesn't take is refused at its place.
-    fn characters(&mut self, piece: &[u8]) -> Result<usize, Refusal>
+    fn characters(&mut self, piece: &[u8]) -> Result<usize, Refused>
         requires live { self.old.refusal ≡ None }
         requires between { self.old.open_body ≡ None }
         requires closed { self.old.open_run ≡ None }
         requires few { fed_of self.old + length piece.now < 2 ^ 63 }
-        ensures answered { MatchResult result (λ _. self.new.refusal ≡ None) (λ r. self.new.refusal ≡ Some r) }
+        ensures answered { MatchResult result (λ _. self.new.refusal ≡ None) (λ _. IsSome self.new.refusal) }
         ensures takes { IfOk result (λ n. TakesStretch self.old self.new piece.now n) }
-        ensures stops { IfErr result (λ r. (i : ℕ) × StopsAt self.old self.new piece.now r i) }
-        ensures failed { IfErr result (λ r. r.fault ≡ Fault.Sink → S.failed self.new.sink ≡ true) }
-        ensures kept { IfErr result (λ r. S.failed self.old.sink ≡ false → S.failed self.new.sink ≡ true → r.fault ≡ Fault.Sink) }
+        ensures stops { IfErr result (λ _. IfSome self.new.refusal (λ r. (i : ℕ) × StopsAt self.old self.new piece.now r i)) }
+        ensures failed { IfErr result (λ _. IfSome self.new.refusal (λ r. r.fault ≡ Fault.Sink → S.failed self.new.sink ≡ true)) }
+        ensures kept { IfErr result (λ _. IfSome self.new.refusal (λ r. S.failed self.old.sink ≡ false → S.failed self.new.sink ≡ true → r.fault ≡ Fault.Sink)) }
         ensures budget { self.new.budget ≡ self.old.budget }
         ensures charged { self.new.charged ≡ self.old.charged }
         ensures turned { self.old.turns ≤ self.new.turns }
@@ -78,14 +78,14 @@ impl<S: Sink> Reader<S> {
 
     /// Takes the bytes at the front of the innermost body that are operands of the open run, or characters where no run is
     /// open. The next byte has a turn of its own.
-    pub(super) fn stretch_of_body(&mut self) -> Result<(), Refusal>
+    pub(super) fn stretch_of_body(&mut self) -> Result<(), Refused>
         requires live { self.old.refusal ≡ None }
         requires few { fed_of self.old < 2 ^ 63 }
-        ensures answered { MatchResult result (λ _. self.new.refusal ≡ None) (λ r. self.new.refusal ≡ Some r) }
+        ensures answered { MatchResult result (λ _. self.new.refusal ≡ None) (λ _. IsSome self.new.refusal) }
         ensures takes { OnOk result (TakesFront self.old self.new) }
-        ensures stops { IfErr result (λ r. StopsInFront self.old self.new r) }
-        ensures failed { IfErr result (λ r. r.fault ≡ Fault.Sink → S.failed self.new.sink ≡ true) }
-        ensures kept { IfErr result (λ r. S.failed self.old.sink ≡ false → S.failed self.new.sink ≡ true → r.fault ≡ Fault.Sink) }
+        ensures stops { IfErr result (λ _. IfSome self.new.refusal (λ r. StopsInFront self.old self.new r)) }
+        ensures failed { IfErr result (λ _. IfSome self.new.refusal (λ r. r.fault ≡ Fault.Sink → S.failed self.new.sink ≡ true)) }
+        ensures kept { IfErr result (λ _. IfSome self.new.refusal (λ r. S.failed self.old.sink ≡ false → S.failed self.new.sink ≡ true → r.fault ≡ Fault.Sink)) }
         ensures counts { Drains self.old self.new }
         ensures charged { self.new.charged ≡ self.old.charged }
     {
@@ -106,16 +106,16 @@ impl<S: Sink> Reader<S> {
 
     /// Takes the bytes at the front of the innermost body that are characters by themselves, all at once. A character that
     /// the sink doesn't take is refused at the place of the body.
-    fn characters_of_body(&mut self) -> Result<(), Refusal>
+    fn characters_of_body(&mut self) -> Result<(), Refused>
         requires live { self.old.refusal ≡ None }
         requires between { self.old.open_body ≡ None }
         requires closed { self.old.open_run ≡ None }
         requires few { fed_of self.old < 2 ^ 63 }
-        ensures answered { MatchResult result (λ _. self.new.refusal ≡ None) (λ r. self.new.refusal ≡ Some r) }
+        ensures answered { MatchResult result (λ _. self.new.refusal ≡ None) (λ _. IsSome self.new.refusal) }
         ensures takes { OnOk result (TakesFront self.old self.new) }
-        ensures stops { IfErr result (λ r. StopsInFront self.old self.new r) }
-        ensures failed { IfErr result (λ r. r.fault ≡ Fault.Sink → S.failed self.new.sink ≡ true) }
-        ensures kept { IfErr result (λ r. S.failed self.old.sink ≡ false → S.failed self.new.sink ≡ true → r.fault ≡ Fault.Sink) }
+        ensures stops { IfErr result (λ _. IfSome self.new.refusal (λ r. StopsInFront self.old self.new r)) }
+        ensures failed { IfErr result (λ _. IfSome self.new.refusal (λ r. r.fault ≡ Fault.Sink → S.failed self.new.sink ≡ true)) }
+        ensures kept { IfErr result (λ _. IfSome self.new.refusal (λ r. S.failed self.old.sink ≡ false → S.failed self.new.sink ≡ true → r.fault ≡ Fault.Sink)) }
         ensures counts { Drains self.old self.new }
         ensures charged { self.new.charged ≡ self.old.charged }
     {

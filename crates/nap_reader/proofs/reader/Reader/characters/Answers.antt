@@ -2,6 +2,7 @@ use Rattle.std.proofs.Common.{◌<◌, ℕ, List, length, refl, ap, sym, ◌∙�
 use Rattle.std.proofs.lemmas.Bool.{eqb-false}
 use Rattle.nap_draw.specs.declared.work.Work.{Work}
 use Rattle.nap_reader.specs.Holding.{holding_of, machine_of}
+use Rattle.nap_reader.proofs.ReadingLemmas.{if_some_is}
 use Rattle.nap_reader.proofs.PrefixLemmas.{at_front}
 use Rattle.nap_reader.proofs.TextLemmas.{halts_less, text_takes, text_stops}
 use Rattle.nap_reader.proofs.reader.Reader.characters.Given.{Over}
@@ -51,8 +52,10 @@ returns-in-Err-clause-stops g c =
     let q : List ℕ = c.graphic_bytes-text.result.now in
     let front = at_front 32 piece q c.graphic_bytes-text.ensures.bytes in
     let some : 0 < length q = omega (arith, eqb-false (length q) 0 (sym c.is_empty.ensures ∙ c.if-is_empty.false)) in
-    rw (c.refuse.ensures.answer, c.from.ensures) (
+    rw c.refuse.ensures.answer
+    (if_some_is _ c.refuse.new.latch _ c.refuse.ensures.latched
+    (rw c.from.ensures (
       c.in-Err.short.taken,
       text_stops old _ c.in-Some.set piece q c.in-Err.short.taken c.in-Err.short.fault front.0 front.1 some c.requires.live c.requires.between c.requires.closed
           ((c.characters.ensures c.in-Some.set).0 c.in-Some.is) c.graphic_bytes-text.ensures.graphic g.met.S.Sink.took_more g.met.S.Sink.took_broke c.in-Err.ensures.put.0 refl refl refl,
-    )
+    )))

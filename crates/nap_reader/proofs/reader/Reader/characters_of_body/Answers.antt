@@ -4,6 +4,7 @@ use Rattle.nap_draw.specs.declared.work.Work.{Work}
 use Rattle.nap_reader.specs.Framed.{FramesIn, Innermost, unread}
 use Rattle.nap_reader.specs.Stream.{all_at}
 use Rattle.nap_reader.specs.Holding.{holding_of, machine_of}
+use Rattle.nap_reader.proofs.ReadingLemmas.{if_some_is}
 use Rattle.nap_reader.proofs.FrameLemmas.{innermost-first, skipped, skipped_count}
 use Rattle.nap_reader.proofs.PrefixLemmas.{at_front}
 use Rattle.nap_reader.proofs.TextLemmas.{halts_less}
@@ -91,7 +92,9 @@ returns-in-Err-clause-stops g c =
     let some : 0 < length q = omega (arith, eqb-false (length q) 0 (sym c.is_empty.ensures ∙ c.if-is_empty.false)) in
     let inner : Innermost old.store.bytes old.frames.stack.items body place = subst (λ (bs : List ℕ). Innermost bs old.frames.stack.items body place) c.bytes.ensures c.in-Some-innermost.ensures in
     let rest = all_at place (drop (length q) body) ++ unread old.store.bytes inner.before in
-    rw (c.refuse.ensures.answer, c.from.ensures)
+    rw c.refuse.ensures.answer
+    (if_some_is _ c.refuse.new.latch _ c.refuse.ensures.latched
+    (rw c.from.ensures
     (stops_in_text old _ place q rest c.requires.between (innermost-first old.store.bytes old.frames.stack.items body place (length q) inner ∙ ap (λ (bs : List ℕ). all_at place bs ++ rest) front.1)
     c.in-Some.set c.requires.closed ((c.characters.ensures c.in-Some.set).0 c.in-Some.is) c.graphic_bytes-text.ensures.graphic some g.met.S.Sink.took_more g.met.S.Sink.took_broke
-    c.in-Err.short.taken c.in-Err.short.fault c.in-Err.ensures.put.0)
+    c.in-Err.short.taken c.in-Err.short.fault c.in-Err.ensures.put.0)))

@@ -70,7 +70,7 @@ returns-in-Err-clause-amid g c =
     let r = c.args.self.now in
     let acts = subst (λ (run : List ℕ). Acts g.S.Sink told (rule r.work c.args.open_run.op run) r.work c.act.new.self r.sink c.act.new.sink (Err c.in-Err.fault)) c.deref.ensures.value c.in-Err.ensures.acts in
     let f = draw_fault c.in-Err.fault in
-    rw (c.refuse.ensures.answer, c.from.ensures)
+    rw (c.refuse.ensures.answer, c.refuse.ensures.latched, c.from.ensures)
     (λ broke s o x other k.
     rule_breaks g.S.Sink s o r.sink c.act.new.sink (holding_of r) (x ∷ []) k (machine_of r) c.args.open_run.place (x ∷ []) (rule r.work c.args.open_run.op r.run.items)
     (over g.S.Sink s o r.sink (holding_of r) c.args.open_run c.requires.between c.requires.opened x [] k other _ refl)

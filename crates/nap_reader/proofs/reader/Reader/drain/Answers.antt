@@ -1,4 +1,5 @@
 use Rattle.std.proofs.Common.{◌≡◌, ◌-◌, ℕ, All, List, [], ◌∷◌, ◌++◌, ap, ◌∙◌, sym, subst, arith}
+use Rattle.std.proofs.lemmas.Option.{IfSome_then}
 use Rattle.std.proofs.lemmas.Result.{err_from_is_err_and}
 use Rattle.nap_reader.specs.Stream.{Placed, Outcome}
 use Rattle.nap_reader.specs.Framed.{placed_at, unread}
@@ -8,7 +9,7 @@ use Rattle.nap_reader.proofs.PartLemmas.{cut, breaks_more}
 use Rattle.nap_reader.proofs.LeadsLemmas.{leads_left}
 use Rattle.std.proofs.lemmas.List.Elements.{All-head, All-tail}
 use Rattle.nap_reader.proofs.PlaceLemmas.{IsAt, breaks_at, places_next}
-use Rattle.nap_reader.proofs.ReadingLemmas.{reaches_refusal}
+use Rattle.nap_reader.proofs.ReadingLemmas.{if_some_at, some_of, reaches_refusal}
 use Rattle.nap_reader.proofs.reader.Reader.drain.Given.{Over}
 use Rattle.nap_reader.proofs.reader.Reader.drain.Goals as goal
 use Rattle.nap_reader.proofs.reader.Reader.drain.Goals.{In_ok-turn}
@@ -27,19 +28,18 @@ returns-in_err-turn-clause-amid g c =
     let e = err_from_is_err_and c.from_residual.result c.from_residual.ensures.1 in
     let now = c.loop-byte.self in
     let t = c.turn.new.self in
-    let f = c.in_err-turn.field-0.0 in
     let x : Placed = placed_at c.in-Some.byte c.in-Some.place in
     let rest = unread now.store.bytes c.next.new.self.stack.items in
     let front : frames_left now ≡ x ∷ rest = subst (λ (bytes : List ℕ). unread bytes now.frames.stack.items ≡ x ∷ unread bytes c.next.new.self.stack.items) c.bytes.ensures c.in-Some.ensures.byte in
-    rw (e.1, e.2) (λ broke s o inputs k.
+    rw e.1 (IfSome_then t.refusal c.in_err-turn.ensures.amid (λ f amid broke s o inputs k.
     let all = subst (λ (xs : List Placed). Continues g.S.Sink s o now.sink (holding_of now) (xs ++ inputs)) front (c.loop-byte.invariant.reaches s o inputs k) in
     let less = cut g.S.Sink s o now.sink (holding_of now) (x ∷ []) (rest ++ inputs) all in
-    let h = c.in_err-turn.ensures.amid broke s less.0 less.3 in (
+    let h = amid broke s less.0 less.3 in (
       breaks_more g.S.Sink s [] less.1 less.0 o t.sink (cause_of f.fault) less.2 h.0,
       λ n all run.
           let before = c.loop-byte.invariant.places n all run in
           breaks_at now.open_run f c.in-Some.place n (All-head (IsAt n) x rest (subst (All (IsAt n)) front before.0)) before.1 h.1,
-    ))
+    )))
 
 pub returns-in_err-turn-clause-some : goal.returns-in_err-turn-clause-some
 returns-in_err-turn-clause-some g c =
@@ -99,8 +99,9 @@ loop-byte-preserved g c =
 pub returns-in_err-stretch_of_body-clause-reaches : goal.returns-in_err-stretch_of_body-clause-reaches
 returns-in_err-stretch_of_body-clause-reaches g c s o inputs k =
     let u = c.stretch_of_body.new.self in
-    reaches_refusal g.S.Sink s o u.sink (holding_of u) (frames_left u ++ inputs) u.refusal c.in_err-stretch_of_body.field-0.0 c.in_err-stretch_of_body.ensures.answered
-    (λ own. absurd (c.in_err-stretch_of_body.ensures.stops.cause own))
+    let some = some_of u.refusal c.in_err-stretch_of_body.ensures.answered in
+    reaches_refusal g.S.Sink s o u.sink (holding_of u) (frames_left u ++ inputs) u.refusal some.0 some.1
+    (λ own. absurd ((if_some_at _ u.refusal some.0 some.1 c.in_err-stretch_of_body.ensures.stops).cause own))
 
 pub returns-in_err-stretch_of_body-clause-left : goal.returns-in_err-stretch_of_body-clause-left
 returns-in_err-stretch_of_body-clause-left g c =
@@ -115,8 +116,9 @@ pub returns-in_err-stretch_of_body-clause-amid : goal.returns-in_err-stretch_of_
 returns-in_err-stretch_of_body-clause-amid g c =
     let one = (goal.at.returns-in_err-stretch_of_body-clause-amid g c).In_ok-turn in
     let e = err_from_is_err_and c.from_residual-in_err-stretch_of_body.result c.from_residual-in_err-stretch_of_body.ensures.1 in
-    let stops = c.in_err-stretch_of_body.ensures.stops in
-    rw (e.1, e.2) (λ broke s o inputs k. (stops.breaks s o inputs (went_on g one s o inputs k), λ n all run. stops.place n (went_to g one n all run).0))
+    rw e.1
+    (IfSome_then c.stretch_of_body.new.self.refusal c.in_err-stretch_of_body.ensures.stops
+    (λ f stops broke s o inputs k. (stops.breaks s o inputs (went_on g one s o inputs k), λ n all run. stops.place n (went_to g one n all run).0)))
 
 pub returns-in_err-stretch_of_body-clause-some : goal.returns-in_err-stretch_of_body-clause-some
 returns-in_err-stretch_of_body-clause-some g c =

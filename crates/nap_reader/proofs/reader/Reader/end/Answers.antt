@@ -5,7 +5,7 @@ use Rattle.nap_reader.specs.Holding.{ClosesBy, holding_of}
 use Rattle.nap_reader.specs.Standing.{IsTaken}
 use Rattle.nap_reader.specs.Stream.{begun, with_run, with_code}
 use Rattle.nap_reader.proofs.BreakingLemmas.{in_run}
-use Rattle.nap_reader.proofs.EndLemmas.{body_ended, ends_still, ended_taken}
+use Rattle.nap_reader.proofs.EndLemmas.{body_ended, ends_still, ended_taken, refused_at_end}
 use Rattle.nap_reader.proofs.LeadsLemmas.{leads_unrefused}
 use Rattle.nap_reader.proofs.ReadingLemmas.{on_ok_by, if_err_by, matched_ok, matched_err}
 use Rattle.nap_reader.proofs.reader.Reader.end.Goals as goal
@@ -37,42 +37,51 @@ returns-in_default-open_run-clause-refused g c =
 pub returns-in-Some-open_body-clause-refused : goal.returns-in-Some-open_body-clause-refused
 returns-in-Some-open_body-clause-refused g c =
     let r = c.args.self.now in
-    rw c.refuse.ensures.answer
-    (λ own s p h. body_ended g.S.Sink s r.budget p r.sink (holding_of r) c.in-Some-open_body.field-0 r.fed (h.continues c.in_default.is) c.in-Some-open_body.is (h.fed c.in_default.is))
+    λ own s p h. body_ended g.S.Sink s r.budget p r.sink (holding_of r) c.in-Some-open_body.field-0 r.fed (h.continues c.in_default.is) c.in-Some-open_body.is (h.fed c.in_default.is)
 
-pub returns-in_err-close-clause-breaks : goal.returns-in_err-close-clause-breaks
-returns-in_err-close-clause-breaks g c =
-    let e = err_from_is_err_and c.from_residual.result c.from_residual.ensures.1 in
+pub returns-clause-breaks : goal.returns-clause-breaks
+returns-clause-breaks g c =
+    let e = err_from_is_err_and c.told.result c.told.ensures in
     let r = c.args.self.now in
     let u = c.close.new.self in
-    let f = c.in_err-close.field-0.0 in
-    rw (e.1, e.2)
+    rw e.1
     (λ live broke s p h.
-    in_run g.S.Sink s r.budget p u.sink f (cause_of f.fault) broke
-    (subst (ClosesBy g.S.Sink s r.budget p u.sink (holding_of u)) c.in_err-close.ensures.answered (c.close.ensures.closes s p (h.continues live))))
+    in_run g.S.Sink s r.budget p u.sink e.0 (cause_of e.0.fault) broke
+    (subst (ClosesBy g.S.Sink s r.budget p u.sink (holding_of u)) e.2 (c.close.ensures.closes s p (h.continues live))))
 
-pub returns-clause-ended : goal.returns-clause-ended
-returns-clause-ended g c =
-    on_ok_by c.settle-2.result (λ a is s p h.
+pub returns-in_default-close-clause-ended : goal.returns-in_default-close-clause-ended
+returns-in_default-close-clause-ended g c =
+    on_ok_by c.settle-in_default-close.result (λ a is s p h.
     let r = c.args.self.now in
     let t = c.close.new.self in
-    let u = c.settle-2.new.self in
+    let u = c.settle-in_default-close.new.self in
     let o = begun r.budget p in
     let w = with_run o in
     let k = h.continues c.in_default.is in
-    let e = subst (ClosesBy g.S.Sink s r.budget p t.sink (holding_of t)) c.in_ok-close.ensures.answered (c.close.ensures.closes s p k) in
+    let e = subst (ClosesBy g.S.Sink s r.budget p t.sink (holding_of t)) c.in_default-close.ensures.answered (c.close.ensures.closes s p k) in
     ended_taken g.S.Sink s r.budget p t.sink (holding_of t) u.sink None t.fed (leads_unrefused g.S.Sink s o r.sink (holding_of r) k) e (c.close.ensures.counts.fed ∙ h.fed c.in_default.is)
-    (matched_ok (λ _. IsTaken g.S.Sink s (with_code w t.fed w.unfinished) u.sink None) (λ f. IsTaken g.S.Sink s (with_code w t.fed w.unfinished) u.sink (Some f)) c.settle-2.result a is (c.settle-2.ensures.settled s w e)))
+    (matched_ok (λ _. IsTaken g.S.Sink s (with_code w t.fed w.unfinished) u.sink None) (λ f. IsTaken g.S.Sink s (with_code w t.fed w.unfinished) u.sink (Some f)) c.settle-in_default-close.result a is (c.settle-in_default-close.ensures.settled s w e)))
 
+pub returns-in_default-close-clause-refused : goal.returns-in_default-close-clause-refused
+returns-in_default-close-clause-refused g c =
+    if_err_by c.settle-in_default-close.result (λ f is own s p h.
+    let r = c.args.self.now in
+    let t = c.close.new.self in
+    let u = c.settle-in_default-close.new.self in
+    let o = begun r.budget p in
+    let w = with_run o in
+    let k = h.continues c.in_default.is in
+    let e = subst (ClosesBy g.S.Sink s r.budget p t.sink (holding_of t)) c.in_default-close.ensures.answered (c.close.ensures.closes s p k) in
+    ended_taken g.S.Sink s r.budget p t.sink (holding_of t) u.sink (Some f) t.fed (leads_unrefused g.S.Sink s o r.sink (holding_of r) k) e (c.close.ensures.counts.fed ∙ h.fed c.in_default.is)
+    (matched_err (λ _. IsTaken g.S.Sink s (with_code w t.fed w.unfinished) u.sink None) (λ f. IsTaken g.S.Sink s (with_code w t.fed w.unfinished) u.sink (Some f)) c.settle-in_default-close.result f is (c.settle-in_default-close.ensures.settled s w e)))
+
+-- the opcode was refused that acted at the end
 pub returns-clause-refused : goal.returns-clause-refused
 returns-clause-refused g c =
-    if_err_by c.settle-2.result (λ f is own s p h.
+    let e = err_from_is_err_and c.told.result c.told.ensures in
     let r = c.args.self.now in
-    let t = c.close.new.self in
-    let u = c.settle-2.new.self in
-    let o = begun r.budget p in
-    let w = with_run o in
-    let k = h.continues c.in_default.is in
-    let e = subst (ClosesBy g.S.Sink s r.budget p t.sink (holding_of t)) c.in_ok-close.ensures.answered (c.close.ensures.closes s p k) in
-    ended_taken g.S.Sink s r.budget p t.sink (holding_of t) u.sink (Some f) t.fed (leads_unrefused g.S.Sink s o r.sink (holding_of r) k) e (c.close.ensures.counts.fed ∙ h.fed c.in_default.is)
-    (matched_err (λ _. IsTaken g.S.Sink s (with_code w t.fed w.unfinished) u.sink None) (λ f. IsTaken g.S.Sink s (with_code w t.fed w.unfinished) u.sink (Some f)) c.settle-2.result f is (c.settle-2.ensures.settled s w e)))
+    let u = c.close.new.self in
+    rw e.1
+    (λ own s p h.
+    refused_at_end g.S.Sink s r.budget p u.sink e.0 own (leads_unrefused g.S.Sink s (begun r.budget p) r.sink (holding_of r) (h.continues c.in_default.is))
+    (subst (ClosesBy g.S.Sink s r.budget p u.sink (holding_of u)) e.2 (c.close.ensures.closes s p (h.continues c.in_default.is))))

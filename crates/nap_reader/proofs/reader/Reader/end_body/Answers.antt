@@ -9,7 +9,7 @@ use Rattle.nap_reader.specs.Framed.{placed_at, unread}
 use Rattle.nap_reader.specs.Holding.{Continues, ContinuesPast, frames_left, holding_of, machine_of}
 use Rattle.nap_reader.proofs.ActingLemmas.{some_in_body, wants_from}
 use Rattle.nap_reader.proofs.OpenBodyLemmas.{body_bound, same_done, held_body, escape_steps}
-use Rattle.nap_reader.proofs.ReadingLemmas.{if_err_map}
+use Rattle.nap_reader.proofs.ReadingLemmas.{latched_map}
 use Rattle.std.proofs.lemmas.Result.{on_ok_weaker}
 use Rattle.nap_reader.proofs.PlaceLemmas.{places_past}
 use Rattle.nap_reader.proofs.reader.Reader.end_body.Goals as goal
@@ -38,7 +38,7 @@ returns-clause-reaches g c s o inputs k =
 pub returns-then-body-clause-breaks : goal.returns-then-body-clause-breaks
 returns-then-body-clause-breaks g c =
     let r = c.args.self.now in
-    if_err_map c.show_body.result
+    latched_map c.show_body.result c.show_body.new.self.refusal
     (λ f wants broke s known o k.
     let want = wants broke in
     (ap (λ (f : Refusal). f.place) want.0, rw (want.0, c.show_body.ensures.sink) (inr (want.1 s o k.continues, wants_from g.S.Sink s known o r.sink (holding_of r) _ k))))
@@ -58,7 +58,7 @@ returns-clause-breaks g c =
       body = t.body;
     } in
     let after : LexerState = record { sets = r.lexer.sets; half = 27 ∷ [] } in
-    if_err_map c.lex.result
+    latched_map c.lex.result c.lex.new.self.refusal
     (λ f breaks broke s known o k.
     let lexer = escape_steps r.lexer c.step.result c.step.new.self (held_body g.S.Sink s o r.sink h c.args.body c.requires.opened x [] k.continues).at.half c.step.ensures.steps in
     let there = body_bound g.S.Sink s o r.sink h c.args.body c.requires.opened x [] k.continues c.args.escape c.requires.held c.requires.ends c.if-body.false in

@@ -28,14 +28,14 @@ returns-then-room-eq0-clause-reaches g c s o inputs k =
     (λ own. byte_full g.S.Sink s o r.sink (holding_of r) c.args.body x pending k (record { low = c.requires.low; other = c.if-byte-eq27.false }) full)
 
 pub returns-then-room-eq0-clause-breaks : goal.returns-then-room-eq0-clause-breaks
-returns-then-room-eq0-clause-breaks g c = rw c.refuse.ensures.answer (λ broke. absurd (broke refl))
+returns-then-room-eq0-clause-breaks g c = rw (c.refuse.ensures.answer, c.refuse.ensures.latched) (λ broke. absurd (broke refl))
 
 pub returns-in_default-clause-breaks : goal.returns-in_default-clause-breaks
 returns-in_default-clause-breaks g c =
     let r = c.args.self.now in
     let x : Placed = placed_at c.args.byte c.args.place in
     let some : store_limit - r.store.stored - length r.store.body ≢ 0 = omega (arith, c.room.ensures, c.if-room-eq0.false) in
-    rw c.refuse-in_default.ensures.answer
+    rw (c.refuse-in_default.ensures.answer, c.refuse-in_default.ensures.latched)
     (λ broke. (
       refl,
       λ s o k.

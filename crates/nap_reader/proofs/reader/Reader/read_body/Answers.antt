@@ -6,7 +6,7 @@ use Rattle.nap_reader.specs.Framed.{placed_at, unread}
 use Rattle.nap_reader.specs.Holding.{Holding, ReadsOn, frames_left, holding_of, machine_of}
 use Rattle.nap_reader.proofs.FrameLemmas.{frames-store, unread-store}
 use Rattle.nap_reader.proofs.OpenBodyLemmas.{byte_eighth, byte_full, reads_on, escape_full, escape_kept, escape_unrefused}
-use Rattle.nap_reader.proofs.ReadingLemmas.{if_err_map, reaches_refusal}
+use Rattle.nap_reader.proofs.ReadingLemmas.{latched_map, reaches_refusal}
 use Rattle.nap_reader.proofs.ActingLemmas.{wants_next}
 use Rattle.nap_reader.specs.declared.fault.Refusal.{Refusal}
 use Rattle.std.proofs.lemmas.Result.{on_ok_weaker}
@@ -61,7 +61,7 @@ returns-in_default-push-clause-breaks g c =
       | else-room-eq1-via-then-room-eq1+else-byte-ne27 w ↦ inl w.if-byte-ne27.false
       | else-room-eq1-via-else-room-eq1 w ↦ inr (omega (arith, c.room-room.ensures, w.if-room-eq1.false))
     ] in
-    rw c.refuse-in_default-push.ensures.answer
+    rw (c.refuse-in_default-push.ensures.answer, c.refuse-in_default-push.ensures.latched)
     (λ broke s known o k. (
       refl,
       inl
@@ -100,7 +100,7 @@ returns-clause-reaches g c s o inputs k =
 pub returns-in_default-clause-breaks : goal.returns-in_default-clause-breaks
 returns-in_default-clause-breaks g c =
     let r = c.args.self.now in
-    if_err_map c.keep.result
+    latched_map c.keep.result c.keep.new.self.refusal
     (λ f wants broke s known o k.
     let want = wants broke in (
       ap (λ (f : Refusal). f.place) want.0,
@@ -114,7 +114,7 @@ pub returns-clause-breaks : goal.returns-clause-breaks
 returns-clause-breaks g c =
     let r = c.args.self.now in
     let some : store_limit - r.store.stored - length r.store.body ≢ 0 = omega (arith, c.room-room.ensures, c.if-room-eq0.false) in
-    if_err_map c.keep-2.result
+    latched_map c.keep-2.result c.keep-2.new.self.refusal
     (λ f wants broke s known o k.
     let want = wants broke in
     let kept = escape_kept g.S.Sink s o r.sink (holding_of r) c.args.body c.requires.opened (placed_at c.args.byte c.args.place) [] k.continues c.in-Some.escape c.in-Some.is c.if-byte-ge128.false

@@ -9,7 +9,7 @@ use Rattle.nap_reader.specs.Bodies.{in_body, body_of}
 use Rattle.nap_reader.specs.Faults.{code_fault}
 use Rattle.nap_reader.specs.Holding.{Holding, Continues, ReachesBy, frames_left, holding_of, machine_of}
 use Rattle.nap_reader.specs.Stream.{Placed, Machine, refusal, all_at, charged, drawn_front}
-use Rattle.nap_reader.proofs.ReadingLemmas.{if_err_map, on_ok_by, reaches, reaches_refusal, more_of, code_of, fault_of, code_goes_on, byte_refused, code_acts, code_strays, acts, calls, defines, still_between, shows_reach, opens_drawn, run_opens}
+use Rattle.nap_reader.proofs.ReadingLemmas.{latched_map, on_ok_by, reaches, reaches_refusal, more_of, code_of, fault_of, code_goes_on, byte_refused, code_acts, code_strays, acts, calls, defines, still_between, shows_reach, opens_drawn, run_opens}
 use Rattle.nap_reader.proofs.ActingLemmas.{call_breaks, acted_reaches, acted_breaks}
 use Rattle.nap_reader.proofs.LeadsLemmas.{is_between, leads_shown, leads_budget}
 use Rattle.nap_reader.proofs.OpenBodyLemmas.{body_begins}
@@ -186,7 +186,7 @@ returns-in-Calls-clause-breaks g c =
     let x : Placed = record { byte = c.args.byte; place = c.args.place } in
     let step = code_of _ r.lexer c.args.byte c.in-Code.code c.step.new.self c.in-Code.ensures.steps in
     let name = c.in-Calls.name in
-    if_err_map c.call.result
+    latched_map c.call.result c.call.new.self.refusal
     (λ f wants broke s known o k.
     let want = wants broke in
     let e = calls g.S.Sink s o r.sink (holding_of r) c.requires.between c.requires.closed x [] k.continues c.in-Code.code step.0 step.1 step.2 step.3 name (sym c.in-Calls.ensures) in (

@@ -65,13 +65,13 @@ returns-then-count-left-clause-reaches g c s o inputs k =
     (body_shows g.S.Sink s o r.sink h c.args.body c.requires.opened x pending k c.args.escape c.requires.held c.requires.ends c.requires.shows) many)
 
 pub returns-then-count-left-clause-breaks : goal.returns-then-count-left-clause-breaks
-returns-then-count-left-clause-breaks g c = rw c.refuse.ensures.answer (λ broke. absurd (broke refl))
+returns-then-count-left-clause-breaks g c = rw (c.refuse.ensures.answer, c.refuse.ensures.latched) (λ broke. absurd (broke refl))
 
 pub returns-in_default-clause-breaks : goal.returns-in_default-clause-breaks
 returns-in_default-clause-breaks g c =
     let r = c.args.self.now in
     let few : length r.store.body + 2 ≤ r.budget - r.charged = omega (arith, c.open_len.ensures.count, c.left.ensures.left, c.if-count-left.false) in
-    rw c.refuse-in_default.ensures.answer
+    rw (c.refuse-in_default.ensures.answer, c.refuse-in_default.ensures.latched)
     (λ broke. (
       refl,
       λ s o k. body_charged g.S.Sink s o r.sink (holding_of r) c.args.body c.requires.opened (placed_at c.args.byte c.args.place) [] k c.args.escape c.requires.held c.requires.ends c.requires.shows few,
@@ -82,10 +82,12 @@ returns-clause-breaks g c =
     let r = c.args.self.now in
     let few : length r.store.body + 2 ≤ r.budget - r.charged = omega (arith, c.open_len.ensures.count, c.left.ensures.left, c.if-count-left.false) in
     if_err_map c.present.result
-    (λ f wants broke. (
-      wants.0,
+    (λ f wants.
+    rw wants
+    (λ broke. (
+      refl,
       λ s o k. body_charged g.S.Sink s o r.sink (holding_of r) c.args.body c.requires.opened (placed_at c.args.byte c.args.place) [] k c.args.escape c.requires.held c.requires.ends c.requires.shows few,
-    ))
+    )))
     c.present.ensures.wants
 
 pub returns-clause-reaches : goal.returns-clause-reaches

@@ -13,7 +13,7 @@ use Rattle.nap_reader.proofs.ActingLemmas.{body_breaks_from, breaks_from, wants_
 use Rattle.nap_reader.proofs.PartLemmas.{breaks_longer}
 use Rattle.nap_reader.proofs.LeadsLemmas.{leads_machine}
 use Rattle.nap_reader.proofs.OpenBodyLemmas.{held_body}
-use Rattle.nap_reader.proofs.ReadingLemmas.{if_err_map, on_ok_by, reaches_refusal}
+use Rattle.nap_reader.proofs.ReadingLemmas.{latched_map, if_some_by, if_some_at, some_of, on_ok_by, reaches_refusal}
 use Rattle.nap_reader.proofs.PlaceLemmas.{still_places, places_past}
 use Rattle.nap_reader.proofs.reader.Reader.turn.Goals as goal
 
@@ -41,19 +41,19 @@ returns-in_err-close-clause-reaches g c s o inputs k =
     let x : Placed = placed_at c.args.byte c.args.place in
     let pending = frames_left r ++ inputs in
     let u = c.close.new.self in
-    reaches_refusal g.S.Sink s o u.sink (holding_of u) (frames_left u ++ inputs) u.refusal c.in_err-close.field-0.0 c.in_err-close.ensures.answered
-    (subst (ReachesBy g.S.Sink s o u.sink (holding_of u) (x ∷ pending)) c.in_err-close.ensures.answered (c.close.ensures.reaches s o x pending c.in_default-operand.ensures k))
+    let some = some_of u.refusal c.in_err-close.ensures.answered in
+    reaches_refusal g.S.Sink s o u.sink (holding_of u) (frames_left u ++ inputs) u.refusal some.0 some.1
+    (subst (ReachesBy g.S.Sink s o u.sink (holding_of u) (x ∷ pending)) some.1 (c.close.ensures.reaches s o x pending c.in_default-operand.ensures k))
 
 pub returns-in_err-close-clause-breaks : goal.returns-in_err-close-clause-breaks
 returns-in_err-close-clause-breaks g c =
     let e = err_from_is_err_and c.from_residual.result c.from_residual.ensures.1 in
     let u = c.close.new.self in
-    let r = c.in_err-close.field-0.0 in
     let budget = c.args.self.now.budget in
-    rw (e.1, e.2)
-    (λ broke s p k all.
+    rw e.1
+    (if_some_by u.refusal (λ r is broke s p k all.
     run_breaks g.S.Sink s budget p c.args.byte u.sink r (cause_of r.fault) c.in_default-operand.ensures broke
-    (subst (ClosesBy g.S.Sink s budget p u.sink (holding_of u)) c.in_err-close.ensures.answered (c.close.ensures.closes s p k)))
+    (subst (ClosesBy g.S.Sink s budget p u.sink (holding_of u)) is (c.close.ensures.closes s p k))))
 
 pub returns-in-Some-operand-clause-reaches : goal.returns-in-Some-operand-clause-reaches
 returns-in-Some-operand-clause-reaches g c s o inputs k =
@@ -68,7 +68,7 @@ returns-in-Some-operand-clause-reaches g c s o inputs k =
 pub returns-in-Some-operand-clause-breaks : goal.returns-in-Some-operand-clause-breaks
 returns-in-Some-operand-clause-breaks g c =
     let r = c.args.self.now in
-    if_err_map c.join.result
+    latched_map c.join.result c.join.new.self.refusal
     (λ f wants broke s p k all.
     let want = wants broke in
     subst (λ (x : Refusal). BreaksAt g.S.Sink s r.budget p c.args.byte c.join.new.self.sink x) (sym (want.0 ∙ ap (refusal faults.Memory) all))
@@ -78,7 +78,7 @@ returns-in-Some-operand-clause-breaks g c =
 pub returns-in-Some-clause-breaks : goal.returns-in-Some-clause-breaks
 returns-in-Some-clause-breaks g c =
     let r = c.args.self.now in
-    if_err_map c.read_body.result
+    latched_map c.read_body.result c.read_body.new.self.refusal
     (λ f breaks broke s p k all.
     let h = breaks broke s (begun r.budget p).entries (begun r.budget (p ++ c.args.byte ∷ [])) (rw all (past_still g.S.Sink s r.budget p c.args.byte r.sink (holding_of r) k)) in
     let next = (past_still g.S.Sink s r.budget p c.args.byte r.sink (holding_of r) k).continues in
@@ -89,7 +89,7 @@ returns-in-Some-clause-breaks g c =
 pub returns-in_default-open_run-clause-breaks : goal.returns-in_default-open_run-clause-breaks
 returns-in_default-open_run-clause-breaks g c =
     let r = c.args.self.now in
-    if_err_map c.lex.result
+    latched_map c.lex.result c.lex.new.self.refusal
     (λ f breaks broke s p k all.
     let h = breaks broke s (begun r.budget p).entries (begun r.budget (p ++ c.args.byte ∷ [])) (rw all (past_still g.S.Sink s r.budget p c.args.byte r.sink (holding_of r) k)) in
     still_breaks g.S.Sink s r.budget p c.args.byte r.sink (holding_of r) c.lex.new.self.sink f k c.in_default-open_run.is (h.0 ∙ all) h.1)
@@ -99,7 +99,7 @@ pub returns-clause-breaks : goal.returns-clause-breaks
 returns-clause-breaks g c =
     let r = c.args.self.now in
     let u = c.close.new.self in
-    if_err_map c.lex-2.result
+    latched_map c.lex-2.result c.lex-2.new.self.refusal
     (λ f breaks broke s p k all.
     let h = breaks broke s (with_run (begun r.budget p)).entries (begun r.budget (p ++ c.args.byte ∷ [])) (rw all (c.in_ok-close.ensures.past s p c.args.byte c.in_default-operand.ensures k)) in
     let left = ap (λ (m : Machine). m.left) (leads_machine g.S.Sink s (begun r.budget p) r.sink (holding_of r) k) in
@@ -109,7 +109,7 @@ returns-clause-breaks g c =
 
 pub returns-in-Some-clause-amid : goal.returns-in-Some-clause-amid
 returns-in-Some-clause-amid g c =
-    if_err_map c.read_body.result
+    latched_map c.read_body.result c.read_body.new.self.refusal
     (λ f breaks broke s o k.
     let h = breaks broke s k.done o (record { continues = k; done = refl }) in
     (breaks_longer g.S.Sink s [] k.done o c.read_body.new.self.sink (cause_of f.fault) (body_breaks_from g.S.Sink s k.done o c.read_body.new.self.sink (holding_of c.args.self.now) (cause_of f.fault) h.1), inl h.0))
@@ -118,7 +118,7 @@ returns-in-Some-clause-amid g c =
 pub returns-in_default-open_run-clause-amid : goal.returns-in_default-open_run-clause-amid
 returns-in_default-open_run-clause-amid g c =
     let r = c.args.self.now in
-    if_err_map c.lex.result
+    latched_map c.lex.result c.lex.new.self.refusal
     (λ f breaks broke s o k.
     let h = breaks broke s k.done o (record { continues = k; done = refl }) in (
       breaks_longer g.S.Sink s [] k.done o c.lex.new.self.sink (cause_of f.fault)
@@ -130,7 +130,7 @@ returns-in_default-open_run-clause-amid g c =
 pub returns-in-Some-operand-clause-amid : goal.returns-in-Some-operand-clause-amid
 returns-in-Some-operand-clause-amid g c =
     let r = c.args.self.now in
-    if_err_map c.join.result
+    latched_map c.join.result c.join.new.self.refusal
     (λ f wants broke s o k.
     let want = (wants broke).0 in (
       rw (want, c.join.ensures.sink)
@@ -142,16 +142,17 @@ returns-in-Some-operand-clause-amid g c =
 pub returns-in_err-close-clause-amid : goal.returns-in_err-close-clause-amid
 returns-in_err-close-clause-amid g c =
     let e = err_from_is_err_and c.from_residual.result c.from_residual.ensures.1 in
-    rw (e.1, e.2) (λ broke s o k. (
-      c.in_err-close.ensures.amid broke s o (placed_at c.args.byte c.args.place) c.in_default-operand.ensures k,
-      inr (ap held_place c.in-Some-open_run.is ∙ ap Some (sym c.in_err-close.ensures.place)),
-    ))
+    let u = c.close.new.self in
+    rw e.1 (if_some_by u.refusal (λ r is broke s o k. (
+      if_some_at _ u.refusal r is c.in_err-close.ensures.amid broke s o (placed_at c.args.byte c.args.place) c.in_default-operand.ensures k,
+      inr (ap held_place c.in-Some-open_run.is ∙ ap Some (sym (if_some_at _ u.refusal r is c.in_err-close.ensures.place))),
+    )))
 
 pub returns-clause-amid : goal.returns-clause-amid
 returns-clause-amid g c =
     let x : Placed = placed_at c.args.byte c.args.place in
     let u = c.close.new.self in
-    if_err_map c.lex-2.result
+    latched_map c.lex-2.result c.lex-2.new.self.refusal
     (λ f breaks broke s o k.
     let k' : Continues g.S.Sink s o u.sink (holding_of u) (x ∷ []) =
     subst (ReachesBy g.S.Sink s o u.sink (holding_of u) (x ∷ [])) c.in_ok-close.ensures.answered (c.close.ensures.reaches s o x [] c.in_default-operand.ensures k) in

@@ -1,6 +1,6 @@
 use Rattle.std.proofs.Common.{◌≡◌, ◌+◌, ◌-◌, ◌≤◌, ℕ, false, List, ◌++◌, None, length, take}
 use Rattle.nap_reader.specs.Standing.{Stands}
-use Rattle.nap_reader.proofs.reader.Reader.feed.Given as goal
+use Rattle.nap_reader.proofs.reader.Reader.take.Given as goal
 
 abbrev pub invariant-loop-at : goal.invariant-loop-at
 invariant-loop-at g l = record {
