@@ -1,9 +1,9 @@
 //! Decoding of a run into a room of points that the caller lends. What the room held before means nothing.
-ghost use Rattle.std.specs.Prelude.{◌≡◌, [], true, false, IfOk, IfErr};
-ghost use Rattle.nap_draw.specs.declared.fault.DrawFault.TheVariants.{Memory};
+ghost use Rattle.std.specs.Prelude.{◌≡◌, ◌+◌, ◌*◌, ◌/◌, ◌≤◌, [], true, false, length, vec_capacity, IfOk, IfErr};
+ghost use Rattle.nap_draw.specs.declared.fault.DrawFault.TheVariants.{Memory, Outside};
 ghost use Rattle.nap_draw.specs.Operands.{moves};
 ghost use Rattle.nap_draw.specs.Geometry.{points_at, reached, away, across};
-ghost use Rattle.nap_draw.specs.Doing.{Fills, paired, crossed};
+ghost use Rattle.nap_draw.specs.Doing.{Fills, Filling, paired, crossed};
 
 use crate::fault::DrawFault;
 use crate::spans::span_by;
@@ -20,7 +20,8 @@ pub(crate) fn points_into(
 {
     let size = domain.multi();
     let mut full = emptied(room, run.len().div_ceil(usize::from(size)));
-    for operand in run.chunks(usize::from(size)) {
+    let rest = whole_points(room, size, run)?;
+    for operand in rest.chunks(usize::from(size)) {
         let Some(point) = multi(operand, size).point() else {
             return Err(DrawFault::Outside);
         };
@@ -41,7 +42,8 @@ pub(crate) fn steps_into(
     let size = domain.multi();
     let mut at = from;
     let mut full = emptied(room, run.len().div_ceil(usize::from(size)));
-    for operand in run.chunks(usize::from(size)) {
+    let rest = whole_steps(room, &mut at, size, run)?;
+    for operand in rest.chunks(usize::from(size)) {
         let Some(point) = at.by(multi(operand, size)) else {
             return Err(DrawFault::Outside);
         };
@@ -95,6 +97,84 @@ pub(crate) fn pairs_into(
         full |= room.push(span.to).is_err();
     }
     settled(full)
+}
+
+/// The points of whole operands of three words, the most common size, where the room has places for all of them. Gives the
+/// words that are left.
+fn whole_points<'a>(
+    room: &mut Vec<Point>,
+    size: u8,
+    run: &'a [Word],
+) -> Result<&'a [Word], DrawFault>
+    requires { room.old.items ≡ [] }
+    ensures ok { IfOk result (λ rest. Filling (points_at (moves size run.now)) (points_at (moves size rest.now)) false (λ front. room.new.items ≡ front)) }
+    ensures err { IfErr result (λ fault. (fault ≡ Outside) × (points_at (moves size run.now) ≡ None)) }
+{
+    if size != 3 || run.len() / 3 > room.capacity() {
+        return Ok(run);
+    }
+    points_of_three(room, run)
+}
+
+fn points_of_three<'a>(room: &mut Vec<Point>, run: &'a [Word]) -> Result<&'a [Word], DrawFault>
+    requires empty { room.old.items ≡ [] }
+    requires places { length run.now / 3 ≤ vec_capacity room.old }
+    ensures ok { IfOk result (λ rest. Filling (points_at (moves 3 run.now)) (points_at (moves 3 rest.now)) false (λ front. room.new.items ≡ front)) }
+    ensures err { IfErr result (λ fault. (fault ≡ Outside) × (points_at (moves 3 run.now) ≡ None)) }
+{
+    let mut rest = run;
+    while rest.len() >= 3 {
+        let (operand, others) = rest.split_at(3);
+        let Some(point) = multi(operand, 3).point() else {
+            return Err(DrawFault::Outside);
+        };
+        room.push_reserved(point);
+        rest = others;
+    }
+    Ok(rest)
+}
+
+/// The points that whole operands of three words reach from this one, where the room has places for all of them. The point
+/// becomes the last of them, and what is given are the words that are left.
+fn whole_steps<'a>(
+    room: &mut Vec<Point>,
+    at: &mut Point,
+    size: u8,
+    run: &'a [Word],
+) -> Result<&'a [Word], DrawFault>
+    requires { room.old.items ≡ [] }
+    ensures ok { IfOk result (λ rest. Filling (reached at.old (moves size run.now)) (reached at.new (moves size rest.now)) false (λ front. room.new.items ≡ front)) }
+    ensures err { IfErr result (λ fault. (fault ≡ Outside) × (reached at.old (moves size run.now) ≡ None)) }
+{
+    if size != 3 || run.len() / 3 > room.capacity() {
+        return Ok(run);
+    }
+    steps_of_three(room, at, run)
+}
+
+fn steps_of_three<'a>(
+    room: &mut Vec<Point>,
+    at: &mut Point,
+    run: &'a [Word],
+) -> Result<&'a [Word], DrawFault>
+    requires empty { room.old.items ≡ [] }
+    requires places { length run.now / 3 ≤ vec_capacity room.old }
+    ensures ok { IfOk result (λ rest. Filling (reached at.old (moves 3 run.now)) (reached at.new (moves 3 rest.now)) false (λ front. room.new.items ≡ front)) }
+    ensures err { IfErr result (λ fault. (fault ≡ Outside) × (reached at.old (moves 3 run.now) ≡ None)) }
+{
+    let mut last = *at;
+    let mut rest = run;
+    while rest.len() >= 3 {
+        let (operand, others) = rest.split_at(3);
+        let Some(point) = last.by(multi(operand, 3)) else {
+            return Err(DrawFault::Outside);
+        };
+        room.push_reserved(point);
+        last = point;
+        rest = others;
+    }
+    *at = last;
+    Ok(rest)
 }
 
 /// Empties the room, and makes it large enough. Says whether there is no memory for that.
