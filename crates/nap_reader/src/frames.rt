@@ -45,7 +45,22 @@ impl Frames {
     }
 
     /// Takes the next byte of the innermost body, with its place.
+    #[inline(always)]
     pub(crate) fn next(&mut self, bytes: &[u8]) -> Option<(u8, u64)>
+        requires { FramesIn (length bytes.now) self.old.stack.items }
+        ensures byte { MatchOption result ((self.old.stack.items ≡ []) × (self.new.stack.items ≡ []))
+            (λ x. unread bytes.now self.old.stack.items ≡ placed_at x.0 x.1 ∷ unread bytes.now self.new.stack.items) }
+        ensures within { FramesIn (length bytes.now) self.new.stack.items }
+    {
+        // Most often no body is being read.
+        if self.stack.is_empty() {
+            return None;
+        }
+        self.next_of_body(bytes)
+    }
+
+    #[inline(never)]
+    fn next_of_body(&mut self, bytes: &[u8]) -> Option<(u8, u64)>
         requires { FramesIn (length bytes.now) self.old.stack.items }
         ensures byte { MatchOption result ((self.old.stack.items ≡ []) × (self.new.stack.items ≡ []))
             (λ x. unread bytes.now self.old.stack.items ≡ placed_at x.0 x.1 ∷ unread bytes.now self.new.stack.items) }

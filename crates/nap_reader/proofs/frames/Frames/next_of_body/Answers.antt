@@ -2,7 +2,7 @@ use Rattle.std.proofs.Common.{◌∷◌, List, length, get_or, ap, ◌∙◌, sy
 use Rattle.nap_reader.specs.declared.frames.Frame.{Frame}
 use Rattle.nap_reader.specs.Framed.{placed_at, unread}
 use Rattle.nap_reader.proofs.FrameLemmas.{last-frame, gives-more, gives-last}
-use Rattle.nap_reader.proofs.frames.Frames.next.Goals as goal
+use Rattle.nap_reader.proofs.frames.Frames.next_of_body.Goals as goal
 
 pub returns-then-frame-clause-byte : goal.returns-then-frame-clause-byte
 returns-then-frame-clause-byte c =
