@@ -1,0 +1,141 @@
+"""Wrong bodies: edits that break a promise, and what the prover said of each.
+
+Those in crates/NAME/must-fail/ are tried by each run of `rt ci`. Those in crates/NAME/wrong-bodies/ are tried by
+scripts/wrong-bodies, which keeps its verdicts in the file `refused` beside them, with a sum over all that decides them.
+"""
+import csv
+import hashlib
+from pathlib import Path
+from typing import Dict, Iterator, List, NamedTuple, Optional
+
+from clauses import crates_in, sum_of
+
+HEAD = "# What the prover said of each wrong body. scripts/wrong-bodies writes this file.\n"
+LIST = "docs/wrong-bodies.tsv"
+PLACES = {"gate": "must-fail", "apart": "wrong-bodies"}
+REFUSED = "refused"
+
+
+class Verdict(NamedTuple):
+    """What an edit's try came to: the word `refused` or another, and a sum over the edit's text."""
+
+    edit: str
+    said: str
+
+
+class Verdicts(NamedTuple):
+    """The verdicts on a crate's wrong bodies, by their names, and the sum over what decides them."""
+
+    decided_by: str
+    of: Dict[str, Verdict]
+
+
+def sum_of_edit(edit: Path) -> str:
+    """A short sum over an edit's text."""
+    return hashlib.sha256(edit.read_bytes()).hexdigest()[:16]
+
+
+def edits_in(folder: Path) -> List[Path]:
+    """The edits of a folder, in the order of their names."""
+    return sorted(folder.glob("*.edit"))
+
+
+def read_verdicts(crate: Path) -> Optional[Verdicts]:
+    """The verdicts that a crate keeps, or None where it keeps none."""
+    file = crate / "wrong-bodies" / REFUSED
+    if not file.exists():
+        return None
+    decided_by, verdicts = "", {}
+    for line in file.read_text("utf-8").splitlines():
+        words = line.split()
+        if words[:1] == ["clauses"]:
+            decided_by = words[1]
+        elif line and not line.startswith("#"):
+            verdicts[words[0]] = Verdict(words[1], " ".join(words[2:]))
+    return Verdicts(decided_by, verdicts)
+
+
+def write_verdicts(crate: Path, verdicts: Verdicts) -> None:
+    """Keeps the verdicts on a crate's wrong bodies."""
+    lines = [f"{name} {it.edit} {it.said}\n" for name, it in sorted(verdicts.of.items())]
+    text = f"{HEAD}clauses {verdicts.decided_by}\n{''.join(lines)}"
+    (crate / "wrong-bodies" / REFUSED).write_text(text, "utf-8")
+
+
+def why_it_does_not_fit(edit: Path, crate: Path) -> Optional[str]:
+    """Why an edit can't be applied to its crate, or None: each `old:` text stands once in its file, one pair after another."""
+    path, old = "", ""
+    texts: Dict[str, str] = {}
+    for line in edit.read_text("utf-8").splitlines():
+        word, _, rest = line.partition(":")
+        rest = rest[1:] if rest.startswith(" ") else rest
+        if word == "file":
+            path = rest.strip()
+            if not (crate / path).is_file():
+                return f"there is no file {path}"
+            texts.setdefault(path, (crate / path).read_text("utf-8"))
+        elif word == "old":
+            old = rest
+        elif word == "new":
+            times = texts[path].count(old) if path and old else 0
+            if times != 1:
+                return f"its old text stands {times} times in {path or 'no file'}"
+            texts[path] = texts[path].replace(old, rest)
+    return None if texts else "it names no file"
+
+
+def faults_of_edits(crate: Path) -> Iterator[Optional[str]]:
+    """For each edit of a crate, in both folders, why it can't be applied, or None."""
+    for folder in PLACES.values():
+        for edit in edits_in(crate / folder):
+            why = why_it_does_not_fit(edit, crate)
+            yield why and f"{crate.name}/{folder}/{edit.name}: {why}"
+
+
+def faults_of_verdicts(root: Path, name: str) -> Iterator[Optional[str]]:
+    """For a crate's sum and for each of its wrong bodies that are tried apart, what is wrong with what is kept, or None."""
+    crate = root / "crates" / name
+    edits = {edit.stem: sum_of_edit(edit) for edit in edits_in(crate / "wrong-bodies")}
+    kept = read_verdicts(crate)
+    if not edits and kept is None:
+        return
+    again = f"run scripts/wrong-bodies {name}"
+    if kept is None:
+        yield f"{name}: its wrong bodies have no verdicts: {again}"
+        return
+    changed = kept.decided_by != sum_of(root, name)
+    yield f"{name}: a clause or a definition changed since its wrong bodies were tried: {again}" if changed else None
+    for edit, text in edits.items():
+        verdict = kept.of.get(edit)
+        if verdict is None or verdict.edit != text:
+            yield f"{name}: the wrong body {edit} has no verdict: {again}"
+        else:
+            yield None if verdict.said == REFUSED else f"{name}: the wrong body {edit} isn't refused: {verdict.said}"
+    for edit in sorted(set(kept.of) - set(edits)):
+        yield f"{name}: there is a verdict on {edit}, and no such wrong body: {again}"
+
+
+def faults_of_list(root: Path) -> Iterator[Optional[str]]:
+    """For each edit that the list of wrong bodies names, or a folder has, what differs between the two, or None."""
+    with (root / LIST).open(encoding="utf-8", newline="") as file:
+        rows = csv.DictReader(file, delimiter="\t", quoting=csv.QUOTE_NONE)
+        listed = {f"crates/{row['crate']}/{PLACES[row['place']]}/{row['edit']}.edit" for row in rows}
+    there = {
+        str(edit.relative_to(root))
+        for name in crates_in(root)
+        for folder in PLACES.values()
+        for edit in edits_in(root / "crates" / name / folder)
+    }
+    for edit in sorted(listed | there):
+        if edit not in there:
+            yield f"{LIST} names {edit}, which isn't there"
+        else:
+            yield None if edit in listed else f"{edit} isn't in {LIST}"
+
+
+def faults(root: Path) -> Iterator[Optional[str]]:
+    """For each thing that is looked at, what is wrong with it, or None."""
+    for name in crates_in(root):
+        yield from faults_of_edits(root / "crates" / name)
+        yield from faults_of_verdicts(root, name)
+    yield from faults_of_list(root)
