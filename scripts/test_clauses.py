@@ -102,7 +102,7 @@ class Sums(unittest.TestCase):
         before = sum_of(self.root, "high")
         path = self.root / "crates" / name / file
         text = path.read_text("utf-8") if path.exists() else ""
-        self.assertEqual(text.count(old), 1 if text else 0)
+        self.assertEqual(text.count(old), 1)
         path.write_text(text.replace(old, new) if text else new, "utf-8")
         return sum_of(self.root, "high") != before
 
