@@ -9,7 +9,7 @@ use Rattle.clap.specs.declared.parser.matches.ArgMatches.TheViews.{out-ArgMatche
 use Rattle.clap.specs.declared.parser.matches.SubCommand.{SubCommand}
 use Rattle.clap.specs.declared.error.Error.{Error}
 use Rattle.clap.proofs.OnLiterals.{clap_on_literals}
-use Rattle.nap_cli.specs.declared.command.Command.{Command}
+use Rattle.nap_command.specs.declared.command.Command.{Command}
 use Rattle.nap_cli.specs.CommandLine.{Chooses, IsFault, Says, action_name, command_line}
 
 pub line_is_simple : is_simple command_line ≡ true

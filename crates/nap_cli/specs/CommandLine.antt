@@ -6,11 +6,12 @@ use Rattle.clap.specs.declared.error.kind.ErrorKind.TheVariants as kind
 use Rattle.clap.specs.declared.builder.ArgAction.TheVariants.{SetTrue}
 use Rattle.clap.specs.declared.builder.value_parser.ValueParser.TheVariants.{Signed}
 use Rattle.nap_reader.specs.declared.budget.TheConstants.Budget.{MOST, USUAL}
-use Rattle.nap_cli.specs.declared.command.Action.{Action}
-use Rattle.nap_cli.specs.declared.command.Action.TheVariants as action
-use Rattle.nap_cli.specs.declared.command.Command.{Command}
-use Rattle.nap_cli.specs.Devices.{Devices, Unread, outputs_of}
-use Rattle.nap_cli.specs.Commands.{Explains, Ran}
+use Rattle.nap_command.specs.declared.command.Action.{Action}
+use Rattle.nap_command.specs.declared.command.Action.TheVariants as action
+use Rattle.nap_command.specs.declared.command.Command.{Command}
+use Rattle.nap_command.specs.Devices.{Devices}
+use Rattle.nap_command.specs.Commands.{Ran}
+use Rattle.nap_cli.specs.Explaining.{Explains, Unread, outputs_of}
 
 -- The command line, as clap reads it.
 

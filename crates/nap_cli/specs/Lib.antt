@@ -1,5 +1,2 @@
-pub mod Failures
-pub mod Devices
-pub mod Commands
+pub mod Explaining
 pub mod CommandLine
-pub mod Collecting

@@ -1,17 +1,13 @@
 //! naplps: reads NAPLPS pages and rewrites them in one canonical spelling.
 #![tactic(auto)]
 
-mod answer;
-mod collect;
-mod command;
-mod device;
-mod failure;
 mod program;
 #[cfg(test)]
 mod tests;
+mod words;
 
 use nap_list::{Source, Target};
-pub use program::{execute, run};
+pub use program::run;
 use std::io::BufWriter;
 use std::process::ExitCode;
 use std::{env, io};

@@ -1,157 +1,16 @@
 //! The program on its words.
-ghost use Rattle.std.specs.Prelude.{◌≡◌, ◌+◌, ◌<◌, ◌≤◌, ◌^◌, ℕ, List, true, false, Err, MatchResult, map, string_bytes};
-ghost use Rattle.std.specs.Io.KnownBytes.{Appends, Consumes};
+ghost use Rattle.std.specs.Prelude.{◌≡◌, ◌<◌, ◌^◌, false, map, string_bytes};
 ghost use Rattle.clap.specs.Values.{kind_of};
-ghost use Rattle.nap_list.specs.declared.device.TheConstants.{READS};
-ghost use Rattle.nap_list.specs.Reading.{reading};
-ghost use Rattle.nap_cli.specs.Devices.{devices, outputs};
-ghost use Rattle.nap_cli.specs.Commands.{Ends, EndsWhole, Explains, Fails, Finds, Ran, SendsOn, Tells};
+ghost use Rattle.nap_command.specs.Devices.{devices};
+ghost use Rattle.nap_cli.specs.Explaining.{Explains, outputs};
 ghost use Rattle.nap_cli.specs.CommandLine.{Answers};
 
-use crate::answer::{Printout, Verdict, answer_input, answer_text};
-use crate::command::Command;
-use crate::device::{read_whole, write_whole};
-use crate::failure::Failure;
+use crate::words::parse;
 use clap::Error;
 use clap::error::ErrorKind;
-use nap_canon::{ConvertFault, convert};
+use nap_command::{Failure, execute, tell, write_whole};
 use nap_list::{Inlet, Outlet};
-use std::alloc::{AllocError, Global};
-
-/// Tells of a failure on standard error, or that there was no memory for its line, and answers the exit status of what
-/// was told. Whether standard error takes it makes no difference.
-fn tell<E: Outlet>(alloc: Global, failure: Failure, errors: &mut E) -> u8
-    ensures { (e : List ℕ) × Appends (E.taken errors.old) (E.taken errors.new) e × Tells e (E.failed errors.new) (Err failure) result }
-{
-    match failure.line(alloc) {
-        Ok(line) => {
-            let _ = write_whole(errors, line.as_bytes());
-            failure.status()
-        }
-        Err(AllocError) => {
-            let _ = write_whole(errors, b"no memory\n");
-            Failure::Memory.status()
-        }
-    }
-}
-
-/// What a command prints of its input.
-fn find<I: Inlet>(alloc: Global, command: &Command, input: &mut I) -> Result<Printout, Failure>
-    requires { I.calls input.old < 2 ^ 63 }
-    ensures few { I.calls input.new ≤ I.calls input.old + READS }
-    ensures found { let seen = reading I.Inlet input.old input.new in
-        (p : List ℕ) × Consumes (I.left input.old) (I.left input.new) p
-        × MatchResult result (λ a. Finds command.now p seen a.text.items a.verdict) (Fails command.now p seen) }
-{
-    if !command.hex {
-        return answer_input(alloc, command, input);
-    }
-    let text = read_whole(alloc, input)?;
-    answer_text(alloc, command, text.as_slice())
-}
-
-/// Prints what a command finds, and flushes the output also where that is nothing. A failing output takes the place of
-/// the failure before it.
-fn perform<I: Inlet, O: Outlet>(
-    alloc: Global,
-    command: &Command,
-    input: &mut I,
-    output: &mut O,
-) -> Result<Verdict, Failure>
-    requires calls { I.calls input.old < 2 ^ 63 }
-    requires works { O.failed output.old ≡ false }
-    ensures few { I.calls input.new ≤ I.calls input.old + READS }
-    ensures ends { let seen = reading I.Inlet input.old input.new in
-        (p : List ℕ) × (q : List ℕ) × Consumes (I.left input.old) (I.left input.new) p × Appends (O.taken output.old) (O.taken output.new) q
-        × EndsWhole command.now p seen q (O.failed output.new) result }
-    ensures sends { O.failed output.new ≡ false → O.sent output.new ≡ true }
-{
-    match find(alloc, command, input) {
-        Ok(answer) => match write_whole(output, answer.text.as_slice()) {
-            Ok(()) => Ok(answer.verdict),
-            Err(fault) => Err(fault),
-        },
-        Err(failure) => match write_whole(output, &[]) {
-            Ok(()) => Err(failure),
-            Err(fault) => Err(fault),
-        },
-    }
-}
-
-/// Prints the canonical stream of a page as it is read: the output again, and how that ended.
-fn stream<I: Inlet, O: Outlet + Drop>(
-    alloc: Global,
-    command: &Command,
-    input: &mut I,
-    output: O,
-) -> (O, Result<Verdict, Failure>)
-    requires streams { command.now.stream ≡ true }
-    requires calls { I.calls input.old < 2 ^ 63 }
-    requires works { O.failed output ≡ false }
-    ensures few { I.calls input.new ≤ I.calls input.old + READS }
-    ensures ends { let seen = reading I.Inlet input.old input.new in
-        (p : List ℕ) × (q : List ℕ) × Consumes (I.left input.old) (I.left input.new) p × Appends (O.taken output) (O.taken result.0) q
-        × Ends command.now p seen q (O.failed result.0) result.1 }
-    ensures sends { SendsOn result.1 (O.failed result.0) (O.sent result.0) }
-{
-    if command.hex {
-        return (output, Err(Failure::Excluded));
-    }
-    let (output, converted) = convert(alloc, input, output, command.budget);
-    let ended = match converted {
-        Ok(_) => Ok(Verdict::Accepted),
-        Err(ConvertFault::Refused { refusal, .. }) => Err(Failure::Refused(refusal)),
-        Err(ConvertFault::Read { .. }) => Err(Failure::Read),
-        Err(ConvertFault::Write { written }) => Err(Failure::Write(written)),
-    };
-    (output, ended)
-}
-
-/// Does what a command says: the output again, and how that ended.
-fn act<I: Inlet, O: Outlet + Drop>(
-    alloc: Global,
-    command: &Command,
-    input: &mut I,
-    output: O,
-) -> (O, Result<Verdict, Failure>)
-    requires calls { I.calls input.old < 2 ^ 63 }
-    requires works { O.failed output ≡ false }
-    ensures few { I.calls input.new ≤ I.calls input.old + READS }
-    ensures ends { let seen = reading I.Inlet input.old input.new in
-        (p : List ℕ) × (q : List ℕ) × Consumes (I.left input.old) (I.left input.new) p × Appends (O.taken output) (O.taken result.0) q
-        × Ends command.now p seen q (O.failed result.0) result.1 }
-    ensures sends { SendsOn result.1 (O.failed result.0) (O.sent result.0) }
-{
-    if command.stream {
-        return stream(alloc, command, input, output);
-    }
-    let mut output = output;
-    let ended = perform(alloc, command, input, &mut output);
-    (output, ended)
-}
-
-/// A command on its input: the output again, and the exit status.
-pub fn execute<I: Inlet, O: Outlet + Drop, E: Outlet>(
-    alloc: Global,
-    command: &Command,
-    input: &mut I,
-    output: O,
-    errors: &mut E,
-) -> (O, u8)
-    requires calls { I.calls input.old < 2 ^ 63 }
-    requires works { O.failed output ≡ false }
-    ensures { let seen = devices I.Inlet O.Outlet E.Outlet in
-        Ran command.now (seen input.old output errors.old) (seen input.new result.0 errors.new) result.1 }
-{
-    let (output, ended) = act(alloc, command, input, output);
-    match ended {
-        Ok(verdict) => (output, verdict.status()),
-        Err(failure) => {
-            let status = tell(alloc, failure, errors);
-            (output, status)
-        }
-    }
-}
+use std::alloc::Global;
 
 /// Help goes to the output. What is wrong with the words goes to standard error, and the output stays as it is.
 fn explain<O: Outlet, E: Outlet>(alloc: Global, error: Error, output: O, errors: &mut E) -> (O, u8)
@@ -191,7 +50,7 @@ pub fn run<I: Inlet, O: Outlet + Drop, E: Outlet>(
     ensures { let seen = devices I.Inlet O.Outlet E.Outlet in
         Answers (map string_bytes words.now) (seen input.old output errors.old) (seen input.new result.0 errors.new) result.1 }
 {
-    match Command::parse(alloc, words) {
+    match parse(alloc, words) {
         Ok(command) => execute(alloc, &command, input, output, errors),
         Err(error) => explain(alloc, error, output, errors),
     }

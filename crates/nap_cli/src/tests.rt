@@ -1,31 +1,25 @@
-//! The program on its words, with inputs and outputs that also fail.
+//! The program on its words.
 use crate::run;
 use nap_list::{Source, Target};
 use std::alloc::{AllocError, Global};
 
-mod commands;
-mod devices;
-mod flushes;
+mod examples;
 mod help;
-mod streams;
 mod words;
 
 const POINT: &[u8] = b"0E 26 52 40 40";
 
-fn words_of(alloc: Global, words: &[&str]) -> Result<Vec<String>, AllocError> {
+// The words between single spaces.
+fn words_of(alloc: Global, words: &str) -> Result<Vec<String>, AllocError> {
     let mut all = Vec::new(alloc);
-    for word in words {
+    for word in words.split(' ') {
         all.push(String::from_str(alloc, word)?)?;
     }
     Ok(all)
 }
 
 // The output, the text of standard error, and the status.
-fn answer(
-    alloc: Global,
-    words: &[&str],
-    input: &[u8],
-) -> Result<(Vec<u8>, Vec<u8>, u8), AllocError> {
+fn answer(alloc: Global, words: &str, input: &[u8]) -> Result<(Vec<u8>, Vec<u8>, u8), AllocError> {
     let words = words_of(alloc, words)?;
     let mut errors = Target::new(Vec::new(alloc));
     let (output, status) = run(

@@ -13,6 +13,3 @@ pub use code_set::{CharSet, CodeSet, CodeSets, GSet, designate};
 pub use control::{CursorKind, Mask, Row, Size, TextStep, control0, control1};
 pub use lexer::Lexer;
 pub use opcode::{Left, Opcode, opcode_of};
-
-#[cfg(test)]
-mod tests;

@@ -25,6 +25,3 @@ pub use act::{RUN_LIMIT, apply};
 pub use controls::{control, text};
 pub use fault::DrawFault;
 pub use work::{Effects, Work};
-
-#[cfg(test)]
-mod tests;

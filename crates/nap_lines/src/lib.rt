@@ -9,6 +9,3 @@ mod tail;
 
 pub use line::line_of;
 pub use line_sink::LineSink;
-
-#[cfg(test)]
-mod tests;

@@ -23,6 +23,3 @@ pub use legality::legal;
 pub use points::{Points, SHAPE_POINTS};
 pub use sink::{ListSink, Sink, SinkFault, TextFault};
 pub use state::{Definition, Drawing, LastChar, Opened, State, corner};
-
-#[cfg(test)]
-mod tests;

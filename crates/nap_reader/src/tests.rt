@@ -1,36 +1,38 @@
-//! Streams by hand, with the lists, refusals and counts that the profile gives them.
-ghost use Rattle.std.specs.Prelude.{◌<◌};
-
-use crate::{Budget, Fault, RUN_LIMIT, Reader, Refusal, read_all};
-use nap_codes::{CodeFault, Left};
-use nap_draw::DrawFault;
-use nap_list::{Area, Colour, Entry, Ink, ListSink, Origin, Pen, Points, Sink, Texture};
+//! The worked examples: streams, with their lists or why they are refused.
+use crate::{Budget, Fault, Reader, Refusal, read_all};
+use nap_codes::{CharSet, Left, Size};
+use nap_list::{
+    CharSize, Colour, Entry, Hand, Ink, ListSink, Origin, Pen, Points, TextLook, Texture,
+};
 use nap_values::{Addr, Grb, Move, Point, Word};
 use std::alloc::{AllocError, Global};
 use std::process::Abort;
 use std::test::Fail;
 
-mod cuts;
-mod definitions;
-mod faults;
-mod known;
-mod macros;
-mod pairs;
-mod sinks;
-mod text;
-
 const AT_START: Colour = Colour::Own(Origin::AtStart);
 
-fn point(x: u32, y: u32) -> Point {
+fn at(x: u32, y: u32) -> Point {
     Point::try_new(x, y).unwrap_or(Point::origin())
 }
 
-fn dot(x: u32, y: u32) -> Entry {
-    Entry::Point {
-        at: point(x, y),
-        pel: Move::zero(),
-        colour: AT_START,
-    }
+fn middle() -> Point {
+    at(4_194_304, 4_194_304)
+}
+
+fn word(number: u8) -> Word {
+    Word::try_new(number).unwrap_or(Word::ZERO)
+}
+
+fn address(number: u32) -> Addr {
+    Addr::try_new(number).unwrap_or(Addr::try_new(0).unwrap())
+}
+
+fn size(x: i32, y: i32) -> Move {
+    Move::try_new(x, y).unwrap_or(Move::zero())
+}
+
+fn dot(at: Point, pel: Move, colour: Colour) -> Entry {
+    Entry::Point { at, pel, colour }
 }
 
 /// What lines are drawn with at the start.
@@ -54,250 +56,258 @@ fn line(from: Point, to: Point) -> Entry {
     }
 }
 
-fn refusal(fault: Fault, place: u64) -> Option<Refusal> {
+fn reset(first: u8, second: u8, pen: Pen) -> Entry {
+    Entry::Reset {
+        first: word(first),
+        second: word(second),
+        pen,
+    }
+}
+
+/// A character with these words of TEXT and this size.
+fn sized(set: CharSet, code: u8, pen: Pen, words: [u8; 2], size: CharSize) -> Entry {
+    let [first, second] = words;
+    let text = TextLook {
+        first: word(first),
+        second: word(second),
+        size,
+        reverse: false,
+        underline: false,
+        wrap: false,
+        scroll: false,
+    };
+    let hand = Hand {
+        pen,
+        colour: AT_START,
+        text,
+    };
+    Entry::Char { set, code, hand }
+}
+
+fn character(set: CharSet, code: u8, pen: Pen) -> Entry {
+    sized(set, code, pen, [0, 0], CharSize::Named(Size::Normal))
+}
+
+fn small(pen: Pen) -> Entry {
+    let size = CharSize::Named(Size::Small);
+    sized(CharSet::Primary, 0x41, pen, [0, 0], size)
+}
+
+fn refused(fault: Fault, place: u64) -> Option<Refusal> {
     Some(Refusal { fault, place })
 }
 
-/// All that a reader says of a stream.
-#[derive(PartialEq, Debug, Drop)]
-struct Answer {
-    list: Vec<Entry>,
-    refusal: Option<Refusal>,
-    fed: u64,
-    turns: u64,
-    charged: u64,
-}
+/// A stream, its entries before its end or before its refusal, why it is refused, and how much is charged.
+type Row<'a> = (&'a [u8], &'a [Entry], Option<Refusal>, u64);
 
-impl Answer {
-    /// The same for the stream in these pieces.
-    fn agrees_in(&self, rt: &impl Abort, alloc: Global, pieces: &[&[u8]]) {
-        let other = answer_in(rt, alloc, pieces);
-        assert_eq!(rt; *self, other, "of {pieces:?}");
-    }
-
-    /// The same for the stream that is read in one call.
-    fn agrees_whole(&self, rt: &impl Abort, alloc: Global, bytes: &[u8]) {
-        match read(rt, alloc, bytes) {
-            Ok(list) => {
-                assert_eq!(rt; self.refusal, None, "of {bytes:?}");
-                assert_eq!(rt; list, self.list, "of {bytes:?}");
-            }
-            Err(refusal) => assert_eq!(rt; Some(refusal), self.refusal, "of {bytes:?}"),
+/// The stream in one call and in single bytes is read as its row says.
+#[tactic(auto, unfolding(nap_list::specs::State::walk))]
+fn agrees(rt: &impl Abort, alloc: Global, budget: Budget, row: Row<'_>) {
+    let (bytes, list, refusal, charged) = row;
+    assert!(rt; bytes.len() < 1 << 32);
+    match read_all(alloc, budget, bytes) {
+        Ok(read) => {
+            assert_eq!(rt; refusal, None, "of {bytes:?}");
+            assert_eq!(rt; read.as_slice(), list, "of {bytes:?}");
         }
+        Err(found) => assert_eq!(rt; Some(found), refusal, "of {bytes:?}"),
     }
-}
-
-/// Feeds a piece, where few bytes came before it.
-fn feed<S: Sink>(rt: &impl Abort, reader: &mut Reader<S>, piece: &[u8]) -> Result<(), Refusal> {
-    assert!(rt; reader.fed() < 1 << 32);
-    assert!(rt; piece.len() < 1 << 32);
-    reader.feed(piece)
-}
-
-/// The sink at the end of the stream, and why it is refused.
-fn end<S: Sink>(reader: Reader<S>) -> (S, Option<Refusal>) {
-    match reader.finish() {
+    let mut reader = Reader::new(alloc, budget, ListSink::new(alloc));
+    for byte in bytes {
+        assert!(rt; reader.fed() < 1 << 32);
+        assert_eq!(rt; reader.feed(&[*byte]).err(), reader.refused());
+    }
+    let counts = (reader.charged(), reader.turns());
+    let turns = reader.fed().wrapping_add(charged);
+    assert_eq!(rt; counts, (charged, turns), "of {bytes:?}");
+    let (sink, found) = match reader.finish() {
         Ok(sink) => (sink, None),
         Err(stopped) => (stopped.sink, Some(stopped.refusal)),
-    }
+    };
+    assert_eq!(rt; found, refusal, "of {bytes:?}");
+    assert_eq!(rt; sink.into_list().as_slice(), list, "of {bytes:?}");
 }
 
-/// What a reader says of a stream that comes in these pieces. Once it is refused, each further piece is.
-#[tactic(auto, unfolding(nap_list::specs::State::walk))]
-fn answer_in(rt: &impl Abort, alloc: Global, pieces: &[&[u8]]) -> Answer {
-    let mut reader = Reader::new(alloc, Budget::usual(), ListSink::new(alloc));
-    for piece in pieces {
-        let before = reader.refused();
-        let answer = feed(rt, &mut reader, piece);
-        assert_eq!(rt; answer.err(), reader.refused());
-        assert!(rt; before.is_none() || before == reader.refused());
+/// All rows, under the usual budget.
+fn all_agree(rt: &impl Abort, alloc: Global, rows: &[Row<'_>]) {
+    for row in rows {
+        agrees(rt, alloc, Budget::usual(), *row);
     }
-    let (fed, turns, charged) = (reader.fed(), reader.turns(), reader.charged());
-    let before = reader.refused();
-    let (sink, refusal) = end(reader);
-    assert!(rt; before.is_none() || before == refusal);
-    Answer {
-        list: sink.into_list(),
-        refusal,
-        fed,
-        turns,
-        charged,
-    }
-}
-
-/// A stream, and what is to be said of it.
-#[derive(Debug, Drop)]
-struct Row<'a> {
-    bytes: &'a [u8],
-    list: &'a [Entry],
-    refusal: Option<Refusal>,
-    fed: u64,
-}
-
-impl Row<'_> {
-    fn agrees(&self, rt: &impl Abort, answer: &Answer) {
-        let bytes = self.bytes;
-        assert_eq!(rt; answer.list.as_slice(), self.list, "of {bytes:?}");
-        assert_eq!(rt; answer.refusal, self.refusal, "of {bytes:?}");
-        let counts = (answer.fed, answer.turns, answer.charged);
-        assert_eq!(rt; counts, (self.fed, self.fed, 0), "of {bytes:?}");
-    }
-
-    /// The same for the stream whole, in single bytes and in every cut into two pieces.
-    fn agrees_in_every_cut(&self, rt: &impl Abort, alloc: Global) -> Result<(), AllocError> {
-        self.agrees_whole(rt, alloc);
-        self.agrees_in_single_bytes(rt, alloc)?;
-        for cut in 0..=self.bytes.len() {
-            let (first, second) = self.bytes.split_at(cut);
-            self.agrees(rt, &answer_in(rt, alloc, &[first, &[], second, &[]]));
-        }
-        Ok(())
-    }
-
-    /// The same for the stream whole, in single bytes and cut into two pieces near its end.
-    fn agrees_near_its_end(&self, rt: &impl Abort, alloc: Global) -> Result<(), AllocError> {
-        self.agrees_whole(rt, alloc);
-        self.agrees_in_single_bytes(rt, alloc)?;
-        for cut in self.bytes.len().saturating_sub(4)..=self.bytes.len() {
-            let (first, second) = self.bytes.split_at(cut);
-            self.agrees(rt, &answer_in(rt, alloc, &[first, second]));
-        }
-        Ok(())
-    }
-
-    fn agrees_whole(&self, rt: &impl Abort, alloc: Global) {
-        assert!(rt; self.bytes.len() < 1 << 32);
-        match read_all(alloc, Budget::usual(), self.bytes) {
-            Ok(list) => {
-                assert_eq!(rt; self.refusal, None);
-                assert_eq!(rt; list.as_slice(), self.list);
-            }
-            Err(refusal) => assert_eq!(rt; Some(refusal), self.refusal),
-        }
-    }
-
-    fn agrees_in_single_bytes(&self, rt: &impl Abort, alloc: Global) -> Result<(), AllocError> {
-        let pieces = single_bytes(alloc, self.bytes)?;
-        self.agrees(rt, &answer_in(rt, alloc, &pieces));
-        Ok(())
-    }
-}
-
-/// Each byte in a piece of its own, with empty pieces between.
-fn single_bytes<'a>(alloc: Global, bytes: &'a [u8]) -> Result<Vec<&'a [u8]>, AllocError> {
-    let mut pieces: Vec<&'a [u8]> = Vec::new(alloc);
-    for index in 0..bytes.len() {
-        pieces.push(&bytes[index..index])?;
-        pieces.push(&bytes[index..=index])?;
-    }
-    Ok(pieces)
-}
-
-/// The display list of a stream, or its refusal.
-fn read(rt: &impl Abort, alloc: Global, bytes: &[u8]) -> Result<Vec<Entry>, Refusal> {
-    assert!(rt; bytes.len() < 1 << 32);
-    read_all(alloc, Budget::usual(), bytes)
 }
 
 #[test]
-fn streams_say_the_same_in_every_cut(rt: HostRuntime) -> Result<(), Fail> {
+fn drawings(rt: HostRuntime) -> Result<(), Fail> {
     let alloc = rt.alloc();
-    let middle = &[dot(4_194_304, 4_194_304)][..];
-    let moved = &[dot(6_291_456, 6_291_456)][..];
-    let diagonal = &[line(Point::origin(), point(4_194_304, 4_194_304))][..];
-    let rows: [(&[u8], &[Entry], u64); 8] = [
-        (b"", &[], 0),
-        (b"\x0E!_", &[], 3),
-        (b"\x0E&R@@", middle, 5),
-        (b"\x0E&R", middle, 3),
-        (b"\x0E!_&R@@@@@@@", middle, 12),
-        (b"\x0E%R@@'I@@", moved, 9),
-        (b"\x0E)R@@", diagonal, 5),
-        (b"\x1B+ z\x1D!", &[], 6),
+    let red = Entry::Map {
+        addr: address(1_048_576),
+        grb: Grb::new(0, 49_152, 0),
+    };
+    let blink = Entry::Blink {
+        addr: address(1_048_576),
+        on: word(1),
+        off: word(2),
+        delay: word(3),
+        colour: AT_START,
+    };
+    let mut points = Points::with_capacity(alloc, 3)?;
+    for corner in [Point::origin(), at(2_097_152, 2_097_152), Point::origin()] {
+        points.push(corner)?;
+    }
+    let arc = Entry::Arc {
+        filled: false,
+        points,
+        ink: ink(),
+    };
+    let one = &[dot(middle(), Move::zero(), AT_START)][..];
+    let mapped = &[red, dot(middle(), Move::zero(), AT_START)][..];
+    let large = &[dot(middle(), size(2_097_152, 2_097_152), AT_START)][..];
+    let again = &[
+        reset(1, 0, Pen::Start),
+        dot(middle(), Move::zero(), AT_START),
+    ][..];
+    let arc = &[arc][..];
+    let rows: [Row<'_>; 12] = [
+        (b"", &[], None, 0),
+        (b"\x0E!_", &[], None, 0),
+        (b"\x0E&R@@", one, None, 0),
+        (b"\x0E)R@@", &[line(Point::origin(), middle())], None, 0),
+        (b"\x0E&R", one, None, 0),
+        (b"\x0E.@@@I@@", arc, None, 0),
+        (b"\x0E.@@@I@@\x7F@@", arc, None, 0),
+        (b"\x0E$P@@)P@@", &[], refused(Fault::Outside, 5), 0),
+        (b"\x0E>D<R>&R", mapped, None, 0),
+        (b"\x0E A@&R", again, None, 0),
+        (b"\x0E!DI&R@", large, None, 0),
+        (b"\x0E?DABC", &[blink], None, 0),
     ];
-    for (bytes, list, fed) in rows {
-        let row = Row {
-            bytes,
-            list,
-            refusal: None,
-            fed,
-        };
-        row.agrees_in_every_cut(&rt, alloc)?;
-    }
-    Ok(())
-}
-
-fn address(number: u32) -> Addr
-    requires { number < 16777216 }
-{
-    Addr::try_new(number).unwrap()
-}
-
-/// The middle of the square, in this colour.
-fn middle_in(colour: Colour) -> Entry {
-    Entry::Point {
-        at: point(4_194_304, 4_194_304),
-        pel: Move::zero(),
-        colour,
-    }
-}
-
-#[test]
-fn colours_of_the_map(rt: HostRuntime) -> Result<(), Fail> {
-    let alloc = rt.alloc();
-    let addr = address(1_048_576);
-    let grb = Grb::new(0, 49_152, 0);
-    let pair = Colour::Pair(addr, address(2_097_152));
-    let own = &[Entry::Map { addr, grb }, middle_in(AT_START)];
-    let paired = &[Entry::Map { addr, grb }, middle_in(pair)];
-    for (bytes, list) in [(b"\x0E>D<R>&R", own), (b"\x0E>DH<R&R", paired)] {
-        let row = Row {
-            bytes,
-            list,
-            refusal: None,
-            fed: 8,
-        };
-        row.agrees_in_every_cut(&rt, alloc)?;
-    }
+    all_agree(&rt, alloc, &rows);
     Ok(())
 }
 
 #[test]
-fn a_reset_and_a_field_hold_the_pen(rt: HostRuntime) -> Result<(), Fail> {
+fn text_and_definitions(rt: HostRuntime) {
     let alloc = rt.alloc();
-    let reset = Entry::Reset {
-        first: Word::try_new(1).unwrap(),
-        second: Word::ZERO,
-        pen: Pen::Start,
-    };
-    let field = Entry::Field {
-        area: Area::Whole,
-        pen: Pen::Start,
-    };
-    let row = Row {
-        bytes: b"\x0E A@&R",
-        list: &[reset, middle_in(AT_START)],
-        refusal: None,
-        fed: 6,
-    };
-    row.agrees_in_every_cut(&rt, alloc)?;
-    let row = Row {
-        bytes: b"\x0E8)@@@",
-        list: &[field],
-        refusal: refusal(Fault::PenUnknown, 2),
-        fed: 6,
-    };
-    row.agrees_in_every_cut(&rt, alloc)?;
-    Ok(())
+    let letter = character(CharSet::Primary, 0x41, Pen::Start);
+    let right = at(4_194_304, 0);
+    let defined = &[
+        Entry::GlyphStart(0x41),
+        dot(at(2_097_152, 2_097_152), Move::zero(), AT_START),
+        Entry::DefEnd,
+        line(right, middle()),
+    ][..];
+    let sets = &[
+        character(CharSet::Supplementary, 0x41, Pen::Start),
+        character(CharSet::Mosaic, 0x42, Pen::After),
+        character(CharSet::Drcs, 0x43, Pen::After),
+    ][..];
+    let given = CharSize::Given(size(4_194_304, 4_194_304));
+    let around = &[
+        character(CharSet::Primary, 0x41, Pen::Start),
+        reset(0, 0, Pen::At(right)),
+        character(CharSet::Primary, 0x42, Pen::After),
+    ][..];
+    let rows: [Row<'_>; 6] = [
+        (b"A\x0E)R@@", &[letter], refused(Fault::PenUnknown, 2), 0),
+        (b"\x0E$P@@\x1BCA!@&I\x1BE(R@@", defined, None, 0),
+        (
+            b"\x1BJA\x1BFB",
+            &[small(Pen::Start), small(Pen::After), small(Pen::After)],
+            None,
+            0,
+        ),
+        (b"\x19A\x1DB\x1B({C", sets, None, 0),
+        (
+            b"\x0E\"ABR@@\x0FA",
+            &[sized(CharSet::Primary, 0x41, Pen::Start, [1, 2], given)],
+            None,
+            0,
+        ),
+        (b"A\x0E$P@@ @@\x0FB", around, None, 0),
+    ];
+    all_agree(&rt, alloc, &rows);
 }
 
 #[test]
-fn the_longest_polygon(rt: HostRuntime) -> Result<(), Fail> {
+fn macros(rt: HostRuntime) {
     let alloc = rt.alloc();
-    let mut bytes = Vec::from_slice(alloc, b"\x0E!@4")?;
-    for _ in 0..2_000 {
-        bytes.push(0x40)?;
+    let one = &[dot(middle(), Move::zero(), AT_START)][..];
+    let endless = b"\x1B@!\x1D!\x1BE\x1B/z\x1D!".as_slice();
+    let over = refused(Fault::Budget, 11);
+    let again = &[
+        reset(0, 16, Pen::Start),
+        dot(middle(), Move::zero(), AT_START),
+    ][..];
+    let shown = &[
+        dot(middle(), Move::zero(), AT_START),
+        Entry::GlyphStart(0x41),
+        Entry::DefEnd,
+    ][..];
+    let rows: [Row<'_>; 5] = [
+        (b"\x1B@!\x0E&R\x1BE\x1B/z\x1D!@@", one, None, 3),
+        (endless, &[], over, 1_048_576),
+        (b"\x1B@!\x0E @P&R\x1BE\x1B/z\x1D!\x1D!", again, None, 6),
+        (b"\x1BA!\x0E&R\x1BCA\x1BE", shown, None, 5),
+        (
+            b"\x1B@!\x1B\x1BE\x1B/z\x1D!JA",
+            &[small(Pen::Start)],
+            None,
+            1,
+        ),
+    ];
+    all_agree(&rt, alloc, &rows);
+    if let Some(none) = Budget::new(0) {
+        agrees(&rt, alloc, none, (endless, &[], over, 0));
     }
+}
+
+#[test]
+fn refusals(rt: HostRuntime) {
+    let glyph = &[Entry::GlyphStart(0x41)][..];
+    let again = &[reset(4, 0, Pen::Start)][..];
+    let point_alone = Fault::LeftOut(Left::IncrementalPoint);
+    let rows: [Row<'_>; 19] = [
+        (b"\x1B", &[], refused(Fault::Cut, 1), 0),
+        (b"\x1D", &[], refused(Fault::Cut, 1), 0),
+        (b"\x1C@", &[], refused(Fault::Cut, 2), 0),
+        (b"\x1B@!A", &[], refused(Fault::Unended, 4), 0),
+        (b"\x1BCA", glyph, refused(Fault::Unended, 3), 0),
+        (b"\x80", &[], refused(Fault::EighthBit, 0), 0),
+        (b"\x0E@", &[], refused(Fault::Stray, 1), 0),
+        (b"\x1BFA", &[], refused(Fault::NothingToRepeat, 2), 0),
+        (b"\x1B0", &[], refused(Fault::BadEscape, 1), 0),
+        (b"\x19\x0E", &[], refused(Fault::ShiftAlone, 1), 0),
+        (b"\x1B*W\x19&", &[], refused(Fault::ShiftedCode, 4), 0),
+        (b"\x1C@\x05", &[], refused(Fault::BadArgument, 2), 0),
+        (b"\x18", &[], refused(Fault::LeftOut(Left::Can), 0), 0),
+        (b"\x0E9", &[], refused(point_alone, 1), 0),
+        (b"\x0E!`", &[], refused(Fault::ThreeD, 1), 0),
+        (b"\x0E$", &[], refused(Fault::Missing, 1), 0),
+        (b"\x0E<", &[], refused(Fault::Missing, 1), 0),
+        (b"\x0E<@@@@", &[], refused(Fault::ManyColours, 1), 0),
+        (b"\x0E D@<R", again, refused(Fault::NoAddress, 4), 0),
+    ];
+    all_agree(&rt, rt.alloc(), &rows);
+}
+
+/// A text, and so many of this byte behind it, and an end.
+fn long(
+    alloc: Global,
+    start: &[u8],
+    byte: u8,
+    count: usize,
+    end: &[u8],
+) -> Result<Vec<u8>, AllocError> {
+    let mut bytes = Vec::from_slice(alloc, start)?;
+    for _ in 0..count {
+        bytes.push(byte)?;
+    }
+    bytes.extend_from_slice(end)?;
+    Ok(bytes)
+}
+
+#[test]
+fn limits(rt: HostRuntime) -> Result<(), Fail> {
+    let alloc = rt.alloc();
     let mut points = Points::new(alloc);
     for _ in 0..2_001 {
         points.push(Point::origin())?;
@@ -307,134 +317,24 @@ fn the_longest_polygon(rt: HostRuntime) -> Result<(), Fail> {
         points,
         ink: ink(),
     };
-    let row = Row {
-        bytes: &bytes,
-        list: &[polygon],
-        refusal: None,
-        fed: 2_004,
-    };
-    row.agrees_near_its_end(&rt, alloc)?;
-    bytes.push(0x40)?;
-    let row = Row {
-        bytes: &bytes,
-        list: &[],
-        refusal: refusal(Fault::ManyPoints, 3),
-        fed: 2_005,
-    };
-    row.agrees_near_its_end(&rt, alloc)?;
+    let mut dots = Vec::new(alloc);
+    for _ in 0..5_462 {
+        dots.push(dot(Point::origin(), Move::zero(), AT_START))?;
+    }
+    let most_points = long(alloc, b"\x0E!@4", 0x40, 2_000, b"")?;
+    let many_points = long(alloc, b"\x0E!@4", 0x40, 2_001, b"")?;
+    let most_bytes = long(alloc, b"\x0E&", 0x40, 16_384, b"")?;
+    let many_bytes = long(alloc, b"\x0E&", 0x40, 16_385, b"")?;
+    let full = long(alloc, b"\x1B@!", 0x41, 1_048_576, b"\x1BE")?;
+    let over = long(alloc, b"\x1B@!", 0x41, 1_048_577, b"\x1BE")?;
+    let rows: [Row<'_>; 6] = [
+        (&most_points, &[polygon], None, 0),
+        (&many_points, &[], refused(Fault::ManyPoints, 3), 0),
+        (&most_bytes, &dots, None, 0),
+        (&many_bytes, &[], refused(Fault::LongRun, 1), 0),
+        (&full, &[], None, 0),
+        (&over, &[], refused(Fault::Store, 1_048_579), 0),
+    ];
+    all_agree(&rt, alloc, &rows);
     Ok(())
-}
-
-#[test]
-fn the_longest_run(rt: HostRuntime) -> Result<(), Fail> {
-    let alloc = rt.alloc();
-    let mut bytes = Vec::from_slice(alloc, b"\x0E&")?;
-    let mut list = Vec::new(alloc);
-    for count in 1..=16_384 {
-        bytes.push(0x40)?;
-        if count % 3 == 1 {
-            list.push(dot(0, 0))?;
-        }
-    }
-    assert_eq!(rt; list.len(), 5_462);
-    let row = Row {
-        bytes: &bytes,
-        list: &list,
-        refusal: None,
-        fed: 16_386,
-    };
-    row.agrees_near_its_end(&rt, alloc)?;
-
-    bytes.push(0x40)?;
-    let row = Row {
-        bytes: &bytes,
-        list: &[],
-        refusal: refusal(Fault::LongRun, 1),
-        fed: 16_387,
-    };
-    row.agrees_near_its_end(&rt, alloc)?;
-    Ok(())
-}
-
-#[test]
-#[tactic(auto, unfolding(nap_list::specs::State::walk))]
-fn an_open_run_has_no_entry_yet(rt: HostRuntime) {
-    let alloc = rt.alloc();
-    let middle = &[dot(4_194_304, 4_194_304)][..];
-    for (bytes, want) in [
-        (b"\x0E&R@@".as_slice(), &middle[..0]),
-        (b"\x0E&R@@\x0F", middle),
-        (b"\x0E&R@@)P@@", middle),
-    ] {
-        let mut reader = Reader::new(alloc, Budget::usual(), ListSink::new(alloc));
-        assert_eq!(rt; feed(&rt, &mut reader, bytes), Ok(()));
-        let list = reader.into_sink().into_list();
-        assert_eq!(rt; list.as_slice(), want, "of {bytes:?}");
-    }
-}
-
-#[test]
-#[tactic(auto, unfolding(nap_list::specs::State::walk))]
-fn a_refusal_stays(rt: HostRuntime) {
-    let alloc = rt.alloc();
-    let mut reader = Reader::new(alloc, Budget::usual(), ListSink::new(alloc));
-    assert_eq!(rt; feed(&rt, &mut reader, b"\x0E&R"), Ok(()));
-    assert_eq!(rt; reader.refused(), None);
-    let want = Refusal {
-        fault: Fault::EighthBit,
-        place: 3,
-    };
-    for piece in [b"\x80", b"&"] {
-        assert_eq!(rt; feed(&rt, &mut reader, piece), Err(want));
-        assert_eq!(rt; reader.refused(), Some(want));
-        assert_eq!(rt; (reader.fed(), reader.turns()), (4, 4));
-    }
-    let (sink, refusal) = end(reader);
-    assert_eq!(rt; refusal, Some(want));
-    let list = sink.into_list();
-    assert_eq!(rt; list.as_slice(), [dot(4_194_304, 4_194_304)].as_slice());
-}
-
-#[test]
-fn budgets_have_a_limit(rt: HostRuntime) {
-    for (bytes, want) in [
-        (0, Some(0)),
-        (16_777_217, Some(16_777_217)),
-        (67_108_864, Some(67_108_864)),
-        (67_108_865, None),
-    ] {
-        assert_eq!(rt; Budget::new(bytes).map(Budget::get), want);
-    }
-    assert_eq!(rt; Budget::usual().get(), 1_048_576);
-    assert_eq!(rt;
-        (Budget::MOST, Budget::USUAL, RUN_LIMIT),
-        (67_108_864, 1_048_576, 16_384)
-    );
-}
-
-#[test]
-fn a_refusal_prints_what_is_wrong_and_where(rt: HostRuntime) -> Result<(), Fail> {
-    let alloc = rt.alloc();
-    let text = format!(in alloc;
-        "{}",
-        Refusal {
-            fault: Fault::LeftOut(Left::Can),
-            place: 7
-        }
-    )?;
-    assert_eq!(rt; text.as_str(), "CAN is left out at 7");
-    Ok(())
-}
-
-#[test]
-fn faults_have_numbers_and_names(rt: HostRuntime) {
-    for (fault, number, name) in [
-        (Fault::from(CodeFault::EighthBit), 1, "EighthBit"),
-        (Fault::LeftOut(Left::Can), 6, "LeftOut"),
-        (Fault::from(DrawFault::Outside), 10, "Outside"),
-        (Fault::LongRun, 13, "LongRun"),
-        (Fault::Sink, 22, "Sink"),
-    ] {
-        assert_eq!(rt; (fault.number(), fault.name()), (number, name));
-    }
 }

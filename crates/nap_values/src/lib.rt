@@ -19,6 +19,3 @@ pub use operand::{colour, multi, single};
 pub use point::Point;
 pub use spelling::{put_addr, put_grb, put_move, put_point};
 pub use word::Word;
-
-#[cfg(test)]
-mod tests;

@@ -2,7 +2,7 @@ use Rattle.std.proofs.Common.{◌∙◌, [], Ok, Err, inl, refl, rules}
 use Rattle.std.proofs.KnownBytes.{Appends-nil}
 use Rattle.std.proofs.Math.Bool.{or-false}
 use Rattle.clap.specs.Values.{kind_of}
-use Rattle.nap_cli.specs.declared.answer.Verdict.TheVariants as verdict
+use Rattle.nap_command.specs.declared.answer.Verdict.TheVariants as verdict
 use Rattle.nap_cli.proofs.ExplainLemmas.{explains_help, explains_memory, shows_failing}
 use Rattle.nap_cli.proofs.OptionLemmas.{true_or_false}
 use Rattle.nap_cli.proofs.program.explain.Goals as goal

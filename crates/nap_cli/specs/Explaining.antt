@@ -1,0 +1,82 @@
+use Rattle.std.specs.Prelude.{ℕ, ◌≡◌, ◌⊎◌, Bool, true, List, Option, Result, Ok, Err}
+use Rattle.std.specs.Io.KnownBytes.{Appends}
+use Rattle.clap.specs.declared.error.kind.ErrorKind.{ErrorKind}
+use Rattle.clap.specs.declared.error.kind.ErrorKind.TheVariants as kind
+use Rattle.nap_list.specs.declared.device.Outlet as outlet
+use Rattle.nap_command.specs.declared.answer.Verdict.{Verdict}
+use Rattle.nap_command.specs.declared.answer.Verdict.TheVariants as verdict
+use Rattle.nap_command.specs.declared.failure.Failure.{Failure}
+use Rattle.nap_command.specs.declared.failure.Failure.TheVariants as failure
+use Rattle.nap_command.specs.Devices.{Devices, Takes}
+use Rattle.nap_command.specs.Commands.{Tells}
+
+-- What the two outputs of a command show: the bytes that they took, where they tell them; whether the one was flushed
+-- behind its last write; and which of them failed.
+pub record Outputs : Type 0 where
+  pub taken : Option (List ℕ)
+  pub sent : Bool
+  pub failed : Bool
+  pub told : Option (List ℕ)
+  pub errors_failed : Bool
+
+abbrev pub outputs : {O E : Type 0} → outlet.Ghosts O → outlet.Ghosts E → O → E → Outputs
+outputs o e output errors = record {
+  taken = o.taken output;
+  sent = o.sent output;
+  failed = o.failed output;
+  told = e.taken errors;
+  errors_failed = e.failed errors;
+}
+
+abbrev pub outputs_of : Devices → Outputs
+outputs_of d = record { taken = d.taken; sent = d.sent; failed = d.output_failed; told = d.told; errors_failed = d.errors_failed }
+
+-- the input is as it was
+pub record Unread (before after : Devices) : Type 0 where
+  pub left : after.left ≡ before.left
+  pub reads : after.reads ≡ before.reads
+  pub failed : after.input_failed ≡ before.input_failed
+
+-- the output is as it was
+pub record Unprinted (before after : Outputs) : Type 0 where
+  pub taken : after.taken ≡ before.taken
+  pub sent : after.sent ≡ before.sent
+  pub failed : after.failed ≡ before.failed
+
+-- The output took help, which has this text, and the command ended so: all was taken and sent on; or the output failed,
+-- and had taken the first bytes; or there was no memory for the text.
+abbrev pub ShowsText : Outputs → Outputs → List ℕ → Result Verdict Failure → Type 0
+ShowsText before after text (Ok verdict.Accepted) = Takes before.taken after.taken text (Ok tt) × (after.failed ≡ before.failed) × (after.sent ≡ true)
+ShowsText before after text (Err (failure.Write taken)) = Takes before.taken after.taken text (Err (failure.Write taken)) × (after.failed ≡ true)
+ShowsText before after text (Err failure.Memory) = Unprinted before after
+ShowsText before after text _ = ⊥
+
+-- help was shown, or failed to be
+pub record ShowsHelp (before after : Outputs) (status : ℕ) : Type 0 where
+  pub text : List ℕ
+  pub e : List ℕ
+  pub ended : Result Verdict Failure
+  pub shown : ShowsText before after text ended
+  pub told : Appends before.told after.told e
+  pub tells : Tells e after.errors_failed ended status
+
+-- There was no memory, which standard error tells; nothing was printed.
+pub record WantsMemory (before after : Outputs) (status : ℕ) : Type 0 where
+  pub unprinted : Unprinted before after
+  pub e : List ℕ
+  pub told : Appends before.told after.told e
+  pub tells : Tells e after.errors_failed (Err failure.Memory) status
+
+-- Nothing was printed. What standard error took of what is wrong with the words is left to clap.
+pub record TellsWrong (before after : Outputs) (status : ℕ) : Type 0 where
+  pub unprinted : Unprinted before after
+  pub e : List ℕ
+  pub told : Appends before.told after.told e
+  pub status_is : status ≡ 2
+
+-- what comes of words that are no command, by what clap finds in them: help, or want of memory, or what is wrong
+abbrev pub Explains : ErrorKind → Outputs → Outputs → ℕ → Type 0
+Explains kind.DisplayHelp before after status = ShowsHelp before after status
+Explains kind.DisplayVersion before after status = ShowsHelp before after status
+Explains kind.OutOfMemory before after status = WantsMemory before after status
+Explains _ before after status = TellsWrong before after status ⊎ WantsMemory before after status

@@ -1,0 +1,221 @@
+//! How the words of a command line say a command.
+ghost use Rattle.std.specs.Prelude.{◌≡◌, ◌≢◌, ◌⊎◌, Bool, false, IfErr, IfOk, MatchOption, decimal, map, string_bytes};
+ghost use Rattle.clap.specs.Words.{app_of, found_of, kind_of, rows_of};
+ghost use Rattle.clap.specs.declared.builder.command.Command.TheViews.{out-Command as fields_of};
+ghost use Rattle.nap_cli.specs.CommandLine.{Chooses, ChoosesStream, IsFault, Says, action_name, canon_app, command_app, command_line_by};
+
+use clap::error::ErrorKind;
+use clap::{Arg, ArgAction, ArgMatches, Error, value_parser};
+use nap_command::{Action, Command};
+use nap_reader::Budget;
+use std::alloc::{AllocError, Global};
+
+const PROGRAM: &str = "naplps";
+
+const HEX: &str = "hex";
+
+const BUDGET: &str = "budget";
+
+const STREAM: &str = "stream";
+
+const LIST: &str = "list";
+
+const CHECK: &str = "check";
+
+const CANON: &str = "canon";
+
+const ABOUT: &str = "naplps 0.1.0: reads NAPLPS pages and rewrites them in one canonical spelling.
+
+A page is read from standard input, as bytes or as hexadecimal text. What comes of it goes to standard output, and
+what goes wrong to standard error; 'check' prints a refusal as its answer.";
+
+const STATUSES: &str = "Statuses:
+  0  accepted
+  1  refused, as 'refused 10 Outside at 5': the number and the name of the fault, and the place of the byte, from 0.
+  2  a wrong command line
+  3  a fault of reading or writing, bad hexadecimal text, or no memory outside the reading of the page
+
+Example:
+  echo '0E 26 52 40 40' | naplps list --hex";
+
+const LIST_HELP: &str =
+    "Prints one line for each point, line, character or reset that the page draws";
+
+const LIST_EXAMPLE: &str =
+    "A refused page prints nothing; standard error says why. Statuses are those of 'naplps --help'.
+
+Example:
+  echo '0E 26 52 40 40' | naplps list --hex
+prints
+  POINT 4194304,4194304 pel=0,0 colour=own-start";
+
+const CHECK_HELP: &str =
+    "Says whether the page is accepted, and with how many entries, or why it is refused";
+
+const CHECK_EXAMPLE: &str =
+    "A refusal is printed too, with the status 1. Statuses are those of 'naplps --help'.
+
+Example:
+  echo '0E 26 52 40 40' | naplps check --hex
+prints
+  accepted 1 entries";
+
+const CANON_HELP: &str =
+    "Prints the page's canonical stream: two pages draw the same acts exactly if these are equal";
+
+const CANON_EXAMPLE: &str =
+    "With --hex the canonical stream is printed as lower-case digits. A refused page prints nothing; standard error says why.
+With --stream, which goes without --hex, a refused page prints the canonical text of what comes before the refusal.
+Statuses are those of 'naplps --help'.
+
+Example:
+  echo '0E 26 52 40 40' | naplps canon --hex
+prints
+  0e215f265240404040404040";
+
+/// The texts of `--budget` that name its limits.
+#[derive(Drop)]
+struct BudgetTexts {
+    usual: String,
+    help: String,
+}
+
+impl BudgetTexts {
+    fn new(alloc: Global) -> Result<BudgetTexts, AllocError>
+        ensures { IfOk result (λ texts. string_bytes texts.usual ≡ decimal Budget.USUAL) }
+    {
+        Ok(BudgetTexts {
+            usual: Budget::USUAL.to_string(alloc)?,
+            help: format!(in alloc;
+                "How many bytes of macro bodies the page may be charged with, from 0 to {}",
+                Budget::MOST
+            )?,
+        })
+    }
+}
+
+/// One command of the program, with the options that each has.
+fn subcommand<'a>(
+    alloc: Global,
+    texts: &'a BudgetTexts,
+    name: &'a str,
+    about: &'a str,
+    example: &'a str,
+) -> Result<clap::Command<'a>, AllocError>
+    ensures app { IfOk result (λ c. app_of c ≡ command_app (string_bytes texts.entry.now.usual) name.entry.now) }
+    ensures local { IfOk result (λ c. (fields_of c).has_globals ≡ false) }
+{
+    let hex = Arg::new(alloc, HEX)
+        .long(HEX)
+        .action(ArgAction::SetTrue)
+        .help("The page is hexadecimal digits, with spaces, tabs and line ends as you like");
+    let budget = Arg::new(alloc, BUDGET)
+        .long(BUDGET)
+        .value_name("N")
+        .value_parser(value_parser!(u32).range(0..=i64::from(Budget::MOST)))
+        .default_value(texts.usual.as_str())
+        .help(texts.help.as_str());
+    clap::Command::new(alloc, name)
+        .about(about)
+        .after_help(example)
+        .arg(hex)?
+        .arg(budget)
+}
+
+/// `canon`, which has one option more.
+fn canon_command<'a>(alloc: Global, texts: &'a BudgetTexts) -> Result<clap::Command<'a>, AllocError>
+    ensures app { IfOk result (λ c. app_of c ≡ canon_app (string_bytes texts.entry.now.usual)) }
+    ensures local { IfOk result (λ c. (fields_of c).has_globals ≡ false) }
+{
+    let stream = Arg::new(alloc, STREAM)
+        .long(STREAM)
+        .action(ArgAction::SetTrue)
+        .help(
+            "Prints while it reads, and keeps no entry, so its memory doesn't grow with the page",
+        );
+    subcommand(alloc, texts, CANON, CANON_HELP, CANON_EXAMPLE)?.arg(stream)
+}
+
+/// The whole command line.
+fn program<'a>(alloc: Global, texts: &'a BudgetTexts) -> Result<clap::Command<'a>, AllocError>
+    ensures { IfOk result (λ c. app_of c ≡ command_line_by (string_bytes texts.entry.now.usual)) }
+{
+    clap::Command::new(alloc, PROGRAM)
+        .bin_name(PROGRAM)?
+        .about(ABOUT)
+        .after_help(STATUSES)
+        .no_binary_name(true)
+        .subcommand_required(true)
+        .subcommand(subcommand(alloc, texts, LIST, LIST_HELP, LIST_EXAMPLE)?)?
+        .subcommand(subcommand(alloc, texts, CHECK, CHECK_HELP, CHECK_EXAMPLE)?)?
+        .subcommand(canon_command(alloc, texts)?)
+}
+
+/// What clap says where words say no command.
+fn no_command(program: &mut clap::Command<'_>) -> Error
+    ensures { (kind_of result ≡ ErrorKind.OutOfMemory) ⊎ (kind_of result ≡ ErrorKind.MissingSubcommand) }
+{
+    match program.error(ErrorKind::MissingSubcommand, "there is no such command") {
+        Ok(error) => error,
+        Err(error) => Error::from(error),
+    }
+}
+
+/// The command that these words say, without the program's name; else clap's text of help or of what is wrong.
+pub fn parse(alloc: Global, words: &[String]) -> Result<Command, Error>
+    ensures said { IfOk result (λ c. Says (map string_bytes words.now) c) }
+    ensures fault { IfErr result (λ e. IsFault (map string_bytes words.now) (kind_of e)) }
+{
+    let texts = BudgetTexts::new(alloc)?;
+    let mut program = program(alloc, &texts)?;
+    let matches = program.try_get_matches_from_mut(words)?;
+    let said = match matches.subcommand() {
+        Some((name, options)) => command_named(name, options),
+        None => None,
+    };
+    match said {
+        Some(command) => Ok(command),
+        None => Err(no_command(&mut program)),
+    }
+}
+
+/// The command of this name with these options. clap has checked them, so that there is one.
+fn command_named(name: &str, options: &ArgMatches<'_>) -> Option<Command>
+    ensures { MatchOption result
+        ((c : Command) → action_name c.action ≡ name.now → Chooses (rows_of (found_of options.now)) c → ⊥)
+        (λ c. (action_name c.action ≡ name.now) × Chooses (rows_of (found_of options.now)) c) }
+{
+    let action = action_named(name)?;
+    Some(Command {
+        action,
+        hex: options.get_one(HEX)?,
+        budget: Budget::new(options.get_one(BUDGET)?)?,
+        stream: streams(action, options)?,
+    })
+}
+
+/// The action of the command with this name.
+fn action_named(name: &str) -> Option<Action>
+    ensures { MatchOption result ((a : Action) → action_name a ≢ name.now) (λ a. action_name a ≡ name.now) }
+{
+    match name {
+        LIST => Some(Action::List),
+        CHECK => Some(Action::Check),
+        CANON => Some(Action::Canon),
+        _ => None,
+    }
+}
+
+/// Whether an action prints as it reads, by these options of its command.
+fn streams(action: Action, options: &ArgMatches<'_>) -> Option<bool>
+    ensures { MatchOption result ((stream : Bool) → ChoosesStream action (rows_of (found_of options.now)) stream → ⊥)
+        (λ stream. ChoosesStream action (rows_of (found_of options.now)) stream) }
+{
+    match action {
+        Action::Canon => {
+            let stream = options.get_one(STREAM)?;
+            Some(stream)
+        }
+        _ => Some(false),
+    }
+}

@@ -1,0 +1,101 @@
+use Rattle.std.proofs.Common.{ℕ, ◌≡◌, Bool, true, false, List, [], ◌++◌, Option, Some, Result, Ok, Err, refl, ap, sym, subst, ◌∙◌, arith}
+use Rattle.std.specs.Prelude.{MatchResult}
+use Rattle.std.specs.Io.KnownBytes.{Appends}
+use Rattle.nap_list.specs.declared.count_sink.CountSink.{CountSink}
+use Rattle.nap_list.specs.declared.device.Outlet as outlet
+use Rattle.nap_list.specs.declared.entry.Entry.{Entry}
+use Rattle.nap_list.specs.declared.sink.Sink.{Ghosts}
+use Rattle.nap_list.specs.Counting.{Counts}
+use Rattle.nap_list.specs.Reading.{Reading, IsReadWhole}
+use Rattle.nap_reader.specs.declared.fault.Fault.{Fault}
+use Rattle.nap_reader.specs.declared.fault.Fault.TheVariants as fault
+use Rattle.nap_reader.specs.declared.fault.Refusal.{Refusal}
+use Rattle.nap_reader.specs.Breaking.{cause_of}
+use Rattle.nap_canon.specs.Sinking.{Begun, Canonical, Took}
+use Rattle.nap_canon.specs.Streams.{list_of}
+use Rattle.nap_canon.specs.Text.{text}
+use Rattle.nap_canon.proofs.PublicLaws.{sink_writes_text}
+use Rattle.nap_command.specs.declared.answer.Printout.{Printout}
+use Rattle.nap_command.specs.declared.answer.Verdict.{Verdict}
+use Rattle.nap_command.specs.declared.answer.Verdict.TheVariants as verdict
+use Rattle.nap_command.specs.declared.command.Action.{Action}
+use Rattle.nap_command.specs.declared.command.Action.TheVariants as action
+use Rattle.nap_command.specs.declared.command.Command.{Command}
+use Rattle.nap_command.specs.declared.failure.Failure.{Failure}
+use Rattle.nap_command.specs.declared.failure.Failure.TheVariants as failure
+use Rattle.nap_command.specs.Collecting.{Collects, IsRead, RefusedBy}
+use Rattle.nap_command.specs.Commands.{Denies, Fails, Finds, IsRefusal, PrintsBy, PrintsCount, canon_text, count_line, refusal_of_text}
+
+true_isnt : false ≡ true → ⊥
+true_isnt h = let bad : ⊥ = cc in bad
+
+-- A page was counted.
+module _ (g : Ghosts CountSink) (s : CountSink) (none : s.count ≡ 0) (took_is : (t : CountSink) (d : List Entry) → g.took s d t → Counts s d t)
+    (sound : (t : CountSink) → g.failed t ≡ false) (c : Command) (p : List ℕ) (check : c.action ≡ action.Check) where
+  refused : (f : Fault) (place : ℕ) → RefusedBy g c.budget p (record { fault = f; place = place }) (cause_of f) → IsRefusal c p (record { fault = f; place = place })
+  refused fault.Memory place h = record { refused = λ no. absurd (no refl); memory = λ _. h }
+  refused fault.Sink place (h, (t, failed)) = absurd (true_isnt (sym (sound t) ∙ failed))
+  refused f place h = record { refused = λ _. h; memory = λ is. let bad : ⊥ = cc in absurd bad }
+
+  counted : (found : Result CountSink Refusal) (q : List ℕ) (v : Verdict) → Collects g s c.budget p found → PrintsCount found q v → PrintsBy action.Check c p q v
+  counted (Ok t) q verdict.Accepted h is = (
+    h.0,
+    let all = (took_is t (list_of c.budget p) h.1).count in is ∙ ap count_line (omega (arith, all, none)),
+  )
+  counted (Ok t) q verdict.Refused h is = absurd is
+  counted (Err r) q verdict.Accepted h is = absurd is
+  counted (Err r) q verdict.Refused h is = (r, refused r.fault r.place h, is)
+
+  -- and its bytes were read
+  pub finds_count : (seen : Reading) (found : Result CountSink Refusal) (result : Result Printout Failure) → c.hex ≡ false → IsReadWhole seen p → IsRead g s c.budget p found →
+      MatchResult result (λ a. PrintsCount found a.text.items a.verdict) (λ f. f ≡ failure.Memory) →
+      MatchResult result (λ a. Finds c p seen a.text.items a.verdict) (Fails c p seen)
+  finds_count seen found (Ok a) bytes whole h is = (whole, (p, rw bytes refl, subst (λ (act : Action). PrintsBy act c p a.text.items a.verdict) (sym check) (counted found a.text.items a.verdict h.collects is)))
+  finds_count seen found (Err f) bytes whole h is = rw is whole.none_failed
+
+-- The text of a page was taken, by an outlet that tells its bytes.
+module _ {O : Type 0} (o : outlet.Ghosts O) (w : O) (s : Canonical O) (begins : Begun o w s) (works : o.failed s.outlet ≡ false) (items : O → List ℕ)
+    (tells : (u : O) → o.taken u ≡ Some (items u)) (empty : items w ≡ []) (g : Ghosts (Canonical O))
+    (took_is : (t : Canonical O) (d : List Entry) → g.took s d t → Took o s d t) (c : Command) (p : List ℕ) (canon : c.action ≡ action.Canon) where
+  text_is : (t : Canonical O) (d : List Entry) → Took o s d t → items t.outlet ≡ text d
+  text_is t d took =
+      let taken : Appends (o.taken w) (o.taken t.outlet) (text d) = (sink_writes_text o w s t d begins works took).grows.taken in
+      let told : Appends (Some (items w)) (Some (items t.outlet)) (text d) =
+      subst (λ (a : Option (List ℕ)). Appends a (Some (items t.outlet)) (text d)) (tells w) (subst (λ (b : Option (List ℕ)). Appends (o.taken w) b (text d)) (tells t.outlet) taken) in
+      told ∙ ap (λ (bytes : List ℕ). bytes ++ text d) empty
+
+  lacks : (f : Fault) (place : ℕ) → RefusedBy g c.budget p (record { fault = f; place = place }) (cause_of f) →
+      IsRefusal c p (refusal_of_text (record { fault = f; place = place }))
+  lacks fault.Memory place h = record { refused = λ no. absurd (no refl); memory = λ _. h }
+  lacks fault.Sink place (h, (t, failed)) = record { refused = λ no. absurd (no refl); memory = λ _. h }
+  lacks f place h = record { refused = λ _. h; memory = λ is. let bad : ⊥ = cc in absurd bad }
+
+  pub prints_text : (hex : Bool) (found : Result (Canonical O) Refusal) (result : Result Printout Failure) → c.hex ≡ hex → IsRead g s c.budget p found →
+      MatchResult found (λ t. MatchResult result (λ a. (a.text.items ≡ canon_text hex (items t.outlet)) × (a.verdict ≡ verdict.Accepted)) (λ f. f ≡ failure.Memory))
+      (λ r. result ≡ Err (failure.Refused (refusal_of_text r))) →
+      MatchResult result (λ a. PrintsBy action.Canon c p a.text.items a.verdict) (Denies c p)
+  prints_text hex (Ok t) (Ok a) same h is =
+      rw (is.1) (
+        text (list_of c.budget p),
+        record { accepted = h.collects.0; text_is = refl },
+        is.0 ∙ ap (canon_text hex) (text_is t (list_of c.budget p) (took_is t (list_of c.budget p) h.collects.1)) ∙ ap (λ (b : Bool). canon_text b (text (list_of c.budget p))) (sym same),
+      )
+  prints_text hex (Ok t) (Err f) same h is = rw is tt
+  prints_text hex (Err r) result same h is = rw is (λ other. let bad : ⊥ = cc (canon, other) in bad, lacks r.fault r.place h.collects)
+
+  -- and its bytes were read
+  pub finds_text : (seen : Reading) (found : Result (Canonical O) Refusal) (result : Result Printout Failure) → c.hex ≡ false → IsReadWhole seen p → IsRead g s c.budget p found →
+      MatchResult found (λ t. MatchResult result (λ a. (a.text.items ≡ canon_text false (items t.outlet)) × (a.verdict ≡ verdict.Accepted)) (λ f. f ≡ failure.Memory))
+      (λ r. result ≡ Err (failure.Refused (refusal_of_text r))) →
+      MatchResult result (λ a. Finds c p seen a.text.items a.verdict) (Fails c p seen)
+  finds_text seen found result bytes whole h is = at result (prints_text false found result bytes h is)
+    where
+      at : (result : Result Printout Failure) → MatchResult result (λ a. PrintsBy action.Canon c p a.text.items a.verdict) (Denies c p) →
+          MatchResult result (λ a. Finds c p seen a.text.items a.verdict) (Fails c p seen)
+      at (Ok a) k = (whole, (p, rw bytes refl, subst (λ (act : Action). PrintsBy act c p a.text.items a.verdict) (sym canon) k))
+      at (Err failure.Memory) k = whole.none_failed
+      at (Err (failure.Refused r)) k = (whole, (p, rw bytes refl, k))
+      at (Err failure.Excluded) k = absurd k
+      at (Err failure.Read) k = absurd k
+      at (Err failure.Hex) k = absurd k
+      at (Err (failure.Write n)) k = absurd k

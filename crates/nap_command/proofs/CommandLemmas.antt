@@ -1,0 +1,47 @@
+use Rattle.std.proofs.Common.{◌≡◌, ◌≤◌, inl, inr, ℕ, zero, suc, List, [], Bool, true, Option, Err, refl, sym, subst, take, length, length-take, arith}
+use Rattle.std.specs.Io.KnownBytes.{Appends}
+use Rattle.nap_command.specs.declared.command.Command.{Command}
+use Rattle.nap_command.specs.declared.failure.Failure.{Failure}
+use Rattle.nap_command.specs.declared.failure.Failure.TheVariants as failure
+use Rattle.nap_command.specs.declared.answer.Verdict.{Verdict}
+use Rattle.nap_list.specs.Reading.{Reading}
+use Rattle.nap_command.specs.Devices.{Takes}
+use Rattle.nap_command.specs.Commands.{EndsWhole, Fails, Finds, IsPartly}
+
+front_length : (n : ℕ) (xs : List ℕ) → n ≤ length xs → length (take n xs) ≡ n
+front_length n xs h = omega (arith, length-take n xs, h)
+
+take_of_nothing : (n : ℕ) → let nothing : List ℕ = [] in take n nothing ≡ nothing
+take_of_nothing zero = refl
+take_of_nothing (suc n) = refl
+
+-- the output failed once it had taken so many bytes of a text
+broken : (c : Command) (p : List ℕ) (a : Reading) (text : List ℕ) (old new : Option (List ℕ)) (b : Bool) (n : ℕ)
+    → Takes old new text (Err (failure.Write n)) → b ≡ true → IsPartly c p a (take n text) → (q : List ℕ) × Appends old new q × EndsWhole c p a q b (Err (failure.Write n))
+broken c p a text old new b n k e partly = (
+  take n text,
+  k.1,
+  subst (λ (x : Bool). EndsWhole c p a (take n text) x (Err (failure.Write n))) (sym e) (sym (front_length n text k.0), partly),
+)
+
+-- the output failed amid what was found
+pub ends_amid : (c : Command) (p : List ℕ) (a : Reading) (text : List ℕ) (v : Verdict) (old new : Option (List ℕ)) (b : Bool) (f : Failure)
+    → Finds c p a text v → Takes old new text (Err f) → b ≡ true → (q : List ℕ) × Appends old new q × EndsWhole c p a q b (Err f)
+ends_amid c p a text v old new b (failure.Write n) h k e =
+    broken c p a text old new b n k e
+    (inl (text, v, h, subst (λ (m : ℕ). take m text ≡ take n text) (sym (front_length n text k.0)) refl))
+ends_amid c p a text v old new b failure.Excluded h k e = absurd k
+ends_amid c p a text v old new b failure.Read h k e = absurd k
+ends_amid c p a text v old new b failure.Hex h k e = absurd k
+ends_amid c p a text v old new b (failure.Refused r) h k e = absurd k
+ends_amid c p a text v old new b failure.Memory h k e = absurd k
+
+-- the output failed after the command had
+pub ends_after : (c : Command) (p : List ℕ) (a : Reading) (before : Failure) (old new : Option (List ℕ)) (b : Bool) (f : Failure)
+    → Fails c p a before → Takes old new [] (Err f) → b ≡ true → (q : List ℕ) × Appends old new q × EndsWhole c p a q b (Err f)
+ends_after c p a before old new b (failure.Write n) h k e = broken c p a [] old new b n k e (inr (before, h, take_of_nothing n))
+ends_after c p a before old new b failure.Excluded h k e = absurd k
+ends_after c p a before old new b failure.Read h k e = absurd k
+ends_after c p a before old new b failure.Hex h k e = absurd k
+ends_after c p a before old new b (failure.Refused r) h k e = absurd k
+ends_after c p a before old new b failure.Memory h k e = absurd k

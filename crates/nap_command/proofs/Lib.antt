@@ -1,0 +1,5 @@
+pub mod CommandLemmas
+pub mod DeviceLemmas
+pub mod CollectLemmas
+pub mod AnswerLemmas
+pub mod TellLemmas

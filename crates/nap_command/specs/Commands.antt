@@ -1,0 +1,188 @@
+use Rattle.std.specs.Prelude.{ℕ, ◌≡◌, ◌≢◌, ◌⊎◌, ◌==◌, ◌||◌, ◌+◌, ◌≤◌, not, Bool, true, false, List, [], ◌∷◌, ◌++◌, length, take, filter, codes, decimal, Some, Result, Ok, Err, IsErr}
+use Rattle.std.specs.Io.KnownBytes.{Appends, Consumes}
+use Rattle.hex.specs.Hex.{decode_of, encode_lower}
+use Rattle.nap_list.specs.declared.count_sink.CountSink.{CountSink}
+use Rattle.nap_reader.specs.declared.fault.Fault.{Fault}
+use Rattle.nap_reader.specs.declared.fault.Fault.TheVariants as fault
+use Rattle.nap_reader.specs.declared.fault.Refusal.{Refusal}
+use Rattle.nap_reader.specs.Stream.{means}
+use Rattle.nap_reader.specs.Breaking.{BreaksWithin}
+use Rattle.nap_canon.specs.declared.conversion.ConvertFault.{ConvertFault}
+use Rattle.nap_canon.specs.declared.conversion.ConvertFault.TheVariants as convert_fault
+use Rattle.nap_canon.specs.Converting.{Converts}
+use Rattle.nap_canon.specs.Streams.{IsAccepted, list_of, IsCanonicalOf}
+use Rattle.nap_command.specs.declared.answer.Verdict.{Verdict}
+use Rattle.nap_command.specs.declared.answer.Verdict.TheVariants as verdict
+use Rattle.nap_command.specs.declared.command.Action.{Action}
+use Rattle.nap_command.specs.declared.command.Action.TheVariants as action
+use Rattle.nap_command.specs.declared.command.Command.{Command}
+use Rattle.nap_list.specs.declared.device.TheConstants.{READS}
+use Rattle.nap_list.specs.Reading.{Reading, NoneFailed, IsCutOff, IsReadWhole}
+use Rattle.nap_command.specs.declared.failure.Failure.{Failure}
+use Rattle.nap_command.specs.declared.failure.Failure.TheVariants as failure
+use Rattle.nap_lines.specs.Listing.{lines}
+use Rattle.nap_command.specs.Failures.{exit_status, refusal_text, told_text}
+use Rattle.nap_command.specs.Devices.{Devices, reading_of}
+
+-- The stream that a command reads.
+
+-- a space, a tab, CR or LF
+abbrev pub is_blank : ℕ → Bool
+is_blank b = (b == 32) || (b == 9) || (b == 13) || (b == 10)
+
+-- what hexadecimal text is without its blanks
+abbrev pub digits_of : List ℕ → List ℕ
+digits_of text = filter (λ b. not (is_blank b)) text
+
+-- the stream that the bytes of an input are: its bytes themselves, or those that its hexadecimal digits spell
+abbrev pub IsStream : Bool → List ℕ → List ℕ → Type 0
+IsStream false p stream = stream ≡ p
+IsStream true p stream = decode_of (digits_of p) ≡ Ok stream
+
+-- What a command prints.
+
+abbrev pub count_line : ℕ → List ℕ
+count_line n = codes "accepted " ++ decimal n ++ codes " entries" ++ 10 ∷ []
+
+-- the canonical stream, as lower-case digits and the end of a line with hexadecimal text
+abbrev pub canon_text : Bool → List ℕ → List ℕ
+canon_text false text = text
+canon_text true text = encode_lower text ++ 10 ∷ []
+
+-- what is printed of a page that was counted
+abbrev pub PrintsCount : Result CountSink Refusal → List ℕ → Verdict → Type 0
+PrintsCount (Ok s) q verdict.Accepted = q ≡ count_line s.count
+PrintsCount (Err r) q verdict.Refused = q ≡ refusal_text r ++ 10 ∷ []
+PrintsCount found q v = ⊥
+
+abbrev pub fault_of_text : Fault → Fault
+fault_of_text fault.Sink = fault.Memory
+fault_of_text f = f
+
+-- why a page is refused whose text was taken: where its sink failed, memory was wanting
+abbrev pub refusal_of_text : Refusal → Refusal
+refusal_of_text r = record r { fault = fault_of_text r.fault }
+
+-- The refusal is that of the stream. One for want of memory has a place where an act of the stream can lack it.
+pub record IsRefusal (c : Command) (stream : List ℕ) (r : Refusal) : Type 0 where
+  pub refused : r.fault ≢ fault.Memory → (means c.budget stream).refusal ≡ Some r
+  pub memory : r.fault ≡ fault.Memory → BreaksWithin c.budget stream r.place
+
+-- what an action prints of a stream, with its verdict: only `check` prints a refusal
+abbrev pub PrintsBy : Action → Command → List ℕ → List ℕ → Verdict → Type 0
+PrintsBy action.List c stream q verdict.Accepted = IsAccepted c.budget stream × (q ≡ lines (list_of c.budget stream))
+PrintsBy action.Check c stream q verdict.Accepted = IsAccepted c.budget stream × (q ≡ count_line (length (list_of c.budget stream)))
+PrintsBy action.Check c stream q verdict.Refused = (r : Refusal) × IsRefusal c stream r × (q ≡ refusal_text r ++ 10 ∷ [])
+PrintsBy action.Canon c stream q verdict.Accepted = (text : List ℕ) × IsCanonicalOf c.budget text stream × (q ≡ canon_text c.hex text)
+PrintsBy _ c stream q verdict.Refused = ⊥
+
+-- what a command prints of the bytes p, with its verdict
+abbrev pub Prints : Command → List ℕ → List ℕ → Verdict → Type 0
+Prints c p q v = (stream : List ℕ) × IsStream c.hex p stream × PrintsBy c.action c stream q v
+
+-- why text is not taken as hexadecimal: it is none, or there was no memory
+abbrev pub FailsToSpell : List ℕ → Failure → Type 0
+FailsToSpell text failure.Hex = IsErr (decode_of (digits_of text))
+FailsToSpell text failure.Memory = Unit {0}
+FailsToSpell text _ = ⊥
+
+-- why a command prints nothing of a stream: `list` and `canon` refuse it, or there was no memory
+abbrev pub Denies : Command → List ℕ → Failure → Type 0
+Denies c stream (failure.Refused r) = (c.action ≢ action.Check) × IsRefusal c stream r
+Denies c stream failure.Memory = Unit {0}
+Denies c stream _ = ⊥
+
+-- why a command prints nothing of the bytes p
+abbrev pub FailsOn : Command → List ℕ → Failure → Type 0
+FailsOn c p failure.Hex = (c.hex ≡ true) × IsErr (decode_of (digits_of p))
+FailsOn c p (failure.Refused r) = (stream : List ℕ) × IsStream c.hex p stream × Denies c stream (failure.Refused r)
+FailsOn c p failure.Memory = Unit {0}
+FailsOn c p _ = ⊥
+
+-- How a command ends.
+
+-- why a command that read the bytes p prints nothing
+abbrev pub Fails : Command → List ℕ → Reading → Failure → Type 0
+Fails c p input failure.Read = IsCutOff input p
+Fails c p input failure.Memory = NoneFailed input
+Fails c p input f = IsReadWhole input p × FailsOn c p f
+
+-- a command found what it prints of the bytes p
+abbrev pub Finds : Command → List ℕ → Reading → List ℕ → Verdict → Type 0
+Finds c p input q v = IsReadWhole input p × Prints c p q v
+
+-- q is a front of what a command prints of the bytes p, which is nothing where it fails
+abbrev pub IsPartly : Command → List ℕ → Reading → List ℕ → Type 0
+IsPartly c p input q =
+    ((whole : List ℕ) × (v : Verdict) × Finds c p input whole v × (take (length q) whole ≡ q)) ⊎ ((f : Failure) × Fails c p input f × (q ≡ []))
+
+-- A command that prints at its end read the bytes p and printed q, and ended so. The output failed exactly where that is
+-- how it ended.
+abbrev pub EndsWhole : Command → List ℕ → Reading → List ℕ → Bool → Result Verdict Failure → Type 0
+EndsWhole c p input q false (Ok v) = Finds c p input q v
+EndsWhole c p input q true (Ok v) = ⊥
+EndsWhole c p input q false (Err f) = (q ≡ []) × Fails c p input f
+EndsWhole c p input q true (Err (failure.Write taken)) = (taken ≡ length q) × IsPartly c p input q
+EndsWhole c p input q true (Err _) = ⊥
+
+-- how a command ends that converts a page
+abbrev pub ended_by : Result ℕ ConvertFault → Result Verdict Failure
+ended_by (Ok n) = Ok verdict.Accepted
+ended_by (Err (convert_fault.Refused r n)) = Err (failure.Refused r)
+ended_by (Err (convert_fault.Read n)) = Err failure.Read
+ended_by (Err (convert_fault.Write n)) = Err (failure.Write n)
+
+-- A command that prints as it reads converted the bytes p to q, and ended so.
+pub record EndsStreamed (c : Command) (p : List ℕ) (input : Reading) (q : List ℕ) (failed : Bool) (ended : Result Verdict Failure) : Type 0 where
+  pub converted : Result ℕ ConvertFault
+  pub converts : Converts c.budget p input q failed converted
+  pub ended_is : ended ≡ ended_by converted
+
+-- Hexadecimal text isn't converted: nothing was read, and nothing printed.
+pub record EndsExcluded (p : List ℕ) (input : Reading) (q : List ℕ) (failed : Bool) (ended : Result Verdict Failure) : Type 0 where
+  pub nothing : p ≡ []
+  pub unread : input.reads ≡ 0
+  pub none_failed : NoneFailed input
+  pub unprinted : q ≡ []
+  pub works : failed ≡ false
+  pub ended_is : ended ≡ Err failure.Excluded
+
+-- a command with or without `--stream`, and with or without `--hex`
+abbrev pub EndsBy : Bool → Bool → Command → List ℕ → Reading → List ℕ → Bool → Result Verdict Failure → Type 0
+EndsBy false hex c p input q failed ended = EndsWhole c p input q failed ended
+EndsBy true false c p input q failed ended = EndsStreamed c p input q failed ended
+EndsBy true true c p input q failed ended = EndsExcluded p input q failed ended
+
+-- a command read the bytes p and printed q, and ended so
+abbrev pub Ends : Command → List ℕ → Reading → List ℕ → Bool → Result Verdict Failure → Type 0
+Ends c p input q failed ended = EndsBy c.stream c.hex c p input q failed ended
+
+-- what is told of how a command ended: that, or that there was no memory for the line of a failure
+abbrev pub IsToldAs : Result Verdict Failure → Result Verdict Failure → Type 0
+IsToldAs ended said = (said ≡ ended) ⊎ (IsErr ended × (said ≡ Err failure.Memory))
+
+-- Standard error took e where a command ended so: all of the line, unless it failed. The exit status is of what was told.
+pub record Tells (e : List ℕ) (failed : Bool) (ended : Result Verdict Failure) (status : ℕ) : Type 0 where
+  pub said : Result Verdict Failure
+  pub told_as : IsToldAs ended said
+  pub front : take (length e) (told_text said) ≡ e
+  pub all : failed ≡ false → e ≡ told_text said
+  pub status_is : status ≡ exit_status said
+
+-- all that was printed was sent on, unless the output failed, or the command isn't done
+abbrev pub SendsOn : Result Verdict Failure → Bool → Bool → Type 0
+SendsOn ended failed sent = failed ≡ false → (sent ≡ true) ⊎ (ended ≡ Err failure.Excluded)
+
+-- A command ran from the devices before to those after, with this exit status: it read the bytes p, printed q and told e.
+pub record Ran (c : Command) (before after : Devices) (status : ℕ) : Type 0 where
+  pub p : List ℕ
+  pub q : List ℕ
+  pub e : List ℕ
+  pub ended : Result Verdict Failure
+  pub read : Consumes before.left after.left p
+  pub printed : Appends before.taken after.taken q
+  pub told : Appends before.told after.told e
+  pub few : after.reads ≤ before.reads + READS
+  pub ends : Ends c p (reading_of before after) q after.output_failed ended
+  pub sends : SendsOn ended after.output_failed after.sent
+  pub tells : Tells e after.errors_failed ended status

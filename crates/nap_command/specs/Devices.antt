@@ -1,0 +1,52 @@
+use Rattle.std.specs.Prelude.{ℕ, ◌≡◌, ◌-◌, ◌≤◌, Bool, List, Option, Result, Ok, Err, length, take}
+use Rattle.std.specs.Io.KnownBytes.{Appends}
+use Rattle.nap_list.specs.declared.device.Inlet as inlet
+use Rattle.nap_list.specs.declared.device.Outlet as outlet
+use Rattle.nap_list.specs.Reading.{Reading, NoneFailed, IsCutOff}
+use Rattle.nap_command.specs.declared.failure.Failure.{Failure}
+use Rattle.nap_command.specs.declared.failure.Failure.TheVariants as failure
+
+-- What the three devices of a command show: the bytes left in the input, those that the output took and those that
+-- standard error took, where they tell them; how often the input was read; whether the output was flushed behind its last
+-- write; and which of them failed.
+pub record Devices : Type 0 where
+  pub left : Option (List ℕ)
+  pub reads : ℕ
+  pub input_failed : Bool
+  pub taken : Option (List ℕ)
+  pub sent : Bool
+  pub output_failed : Bool
+  pub told : Option (List ℕ)
+  pub errors_failed : Bool
+
+abbrev pub devices : {I O E : Type 0} → inlet.Ghosts I → outlet.Ghosts O → outlet.Ghosts E → I → O → E → Devices
+devices i o e input output errors = record {
+  left = i.left input;
+  reads = i.calls input;
+  input_failed = i.failed input;
+  taken = o.taken output;
+  sent = o.sent output;
+  output_failed = o.failed output;
+  told = e.taken errors;
+  errors_failed = e.failed errors;
+}
+
+abbrev pub reading_of : Devices → Devices → Reading
+reading_of before after = record {
+  left = after.left;
+  failed_before = before.input_failed;
+  failed = after.input_failed;
+  reads = after.reads - before.reads;
+}
+
+-- why a reading of the bytes p came to no answer: it was cut off, or there was no memory
+abbrev pub StopsReading : Reading → List ℕ → Failure → Type 0
+StopsReading r p failure.Read = IsCutOff r p
+StopsReading r p failure.Memory = NoneFailed r
+StopsReading r p _ = ⊥
+
+-- an output that had these bytes took the whole text, or failed once it had taken so many bytes of it
+abbrev pub Takes : Option (List ℕ) → Option (List ℕ) → List ℕ → Result (Unit {0}) Failure → Type 0
+Takes old new text (Ok done) = Appends old new text
+Takes old new text (Err (failure.Write taken)) = (taken ≤ length text) × Appends old new (take taken text)
+Takes old new text (Err _) = ⊥

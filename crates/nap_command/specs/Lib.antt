@@ -1,0 +1,4 @@
+pub mod Failures
+pub mod Devices
+pub mod Commands
+pub mod Collecting

@@ -1,0 +1,227 @@
+//! What a command prints.
+ghost use Rattle.std.specs.Prelude.{◌≡◌, ◌+◌, ◌<◌, ◌≤◌, ◌^◌, ◌++◌, ◌∷◌, [], ℕ, List, true, false, Err, IfOk, length, MatchResult};
+ghost use Rattle.std.specs.Io.KnownBytes.{Consumes};
+ghost use Rattle.nap_list.specs.declared.device.TheConstants.{READS};
+ghost use Rattle.nap_list.specs.Reading.{reading};
+ghost use Rattle.nap_canon.specs.Sinking.{Begun};
+ghost use Rattle.nap_command.specs.Failures.{refusal_text, verdict_status};
+ghost use Rattle.nap_command.specs.Commands.{Fails, FailsOn, FailsToSpell, Finds, Denies, IsStream, Prints, PrintsBy, PrintsCount, canon_text, count_line, is_blank, refusal_of_text};
+
+use crate::collect::{read_input, read_stream};
+use crate::command::{Action, Command};
+use crate::failure::Failure;
+use hex::FromHexError;
+use nap_canon::CanonSink;
+use nap_lines::LineSink;
+use nap_list::{CountSink, Inlet, Outlet, Target};
+use nap_reader::{Fault, Refusal};
+use std::alloc::{AllocError, Global};
+
+/// What a printed answer says of the stream.
+#[derive(Clone, Copy, PartialEq, Eq, Drop)]
+pub enum Verdict {
+    /// It was accepted.
+    Accepted,
+    /// It was refused.
+    Refused,
+}
+
+/// What a command prints, and what that says of the stream.
+#[derive(Drop)]
+pub struct Printout {
+    /// The bytes to print.
+    pub text: Vec<u8>,
+    /// What they say of the stream.
+    pub verdict: Verdict,
+}
+
+impl Verdict {
+    /// The exit status.
+    pub fn status(self) -> u8
+        ensures { result ≡ verdict_status self }
+    {
+        match self {
+            Verdict::Accepted => 0,
+            Verdict::Refused => 1,
+        }
+    }
+}
+
+/// Whether the byte is dropped from hexadecimal text: a space, a tab, CR or LF.
+fn is_blank(byte: u8) -> bool
+    ensures { result ≡ is_blank byte }
+{
+    byte == b' ' || byte == b'\t' || byte == b'\r' || byte == b'\n'
+}
+
+/// The bytes that hexadecimal text spells, in digits of either case.
+fn bytes_of(alloc: Global, text: &[u8]) -> Result<Vec<u8>, Failure>
+    ensures { MatchResult result (λ stream. IsStream true text.now stream.items) (FailsToSpell text.now) }
+{
+    let digits: Vec<u8> = text
+        .iter()
+        .copied()
+        .filter(|byte| !is_blank(*byte))
+        .collect(alloc)?;
+    match hex::decode(alloc, digits.as_slice()) {
+        Ok(bytes) => Ok(bytes),
+        Err(FromHexError::OutOfMemory) => Err(Failure::Memory),
+        Err(_) => Err(Failure::Hex),
+    }
+}
+
+/// The line that says how many entries there are.
+fn count_line(alloc: Global, count: u64) -> Result<Vec<u8>, AllocError>
+    ensures { IfOk result (λ text. text.items ≡ count_line count) }
+{
+    let line = format!(in alloc; "accepted {count} entries\n")?;
+    Ok(line.into_bytes())
+}
+
+/// The line of lower-case digits that spells a stream.
+fn hex_line(alloc: Global, stream: &[u8]) -> Result<Vec<u8>, AllocError>
+    ensures { IfOk result (λ text. text.items ≡ canon_text true stream.now) }
+{
+    let mut line = hex::encode(alloc, stream)?;
+    line.push('\n')?;
+    Ok(line.into_bytes())
+}
+
+/// The line of a refusal.
+fn refusal_line(alloc: Global, refusal: Refusal) -> Result<Vec<u8>, AllocError>
+    ensures { IfOk result (λ text. text.items ≡ refusal_text refusal ++ 10 ∷ []) }
+{
+    let line = Failure::Refused(refusal).line(alloc)?;
+    Ok(line.into_bytes())
+}
+
+/// What `check` prints of a page that was counted.
+fn print_count(alloc: Global, found: Result<CountSink, Refusal>) -> Result<Printout, Failure>
+    ensures { MatchResult result (λ a. PrintsCount found a.text.items a.verdict) (λ f. f ≡ Failure.Memory) }
+{
+    match found {
+        Ok(sink) => Ok(Printout {
+            text: count_line(alloc, sink.count())?,
+            verdict: Verdict::Accepted,
+        }),
+        Err(refusal) => Ok(Printout {
+            text: refusal_line(alloc, refusal)?,
+            verdict: Verdict::Refused,
+        }),
+    }
+}
+
+/// Takes the canonical text of a page.
+type TextSink = CanonSink<Target<Vec<u8>>>;
+
+/// A sink that has taken no entry, and the header of its text. An outlet in memory lacks that where it fails.
+fn begun<O: Outlet + Drop>(outlet: O) -> Result<CanonSink<O>, Failure>
+    requires { O.failed outlet ≡ false }
+    ensures { MatchResult result (λ s. Begun O.Outlet outlet s × (O.failed s.outlet ≡ false)) (λ f. f ≡ Failure.Memory) }
+{
+    let sink = CanonSink::new(outlet);
+    if sink.failed() {
+        return Err(Failure::Memory);
+    }
+    Ok(sink)
+}
+
+/// What `canon` prints of a page whose text was taken. The text lacks memory where its growth failed.
+fn print_text(
+    alloc: Global,
+    hex: bool,
+    found: Result<TextSink, Refusal>,
+) -> Result<Printout, Failure>
+    ensures { MatchResult found
+        (λ s. MatchResult result (λ a. (a.text.items ≡ canon_text hex s.outlet.writer.items) × (a.verdict ≡ Verdict.Accepted)) (λ f. f ≡ Failure.Memory))
+        (λ r. result ≡ Err (Failure.Refused (refusal_of_text r))) }
+{
+    match found {
+        Ok(sink) => {
+            let text = sink.close().into_inner();
+            Ok(Printout {
+                text: if hex {
+                    hex_line(alloc, text.as_slice())?
+                } else {
+                    text
+                },
+                verdict: Verdict::Accepted,
+            })
+        }
+        Err(
+            Refusal {
+                fault: Fault::Sink,
+                place,
+            },
+        ) => Err(Failure::Refused(Refusal {
+            fault: Fault::Memory,
+            place,
+        })),
+        Err(refusal) => Err(Failure::Refused(refusal)),
+    }
+}
+
+/// What a command prints of a stream.
+fn answer_stream(alloc: Global, command: &Command, stream: &[u8]) -> Result<Printout, Failure>
+    requires { length stream.now < 2 ^ 63 }
+    ensures { MatchResult result (λ a. PrintsBy command.now.action command.now stream.now a.text.items a.verdict) (Denies command.now stream.now) }
+{
+    let budget = command.budget;
+    match command.action {
+        Action::List => {
+            let sink = read_stream(alloc, budget, stream, LineSink::new(alloc))?;
+            Ok(Printout {
+                text: sink.into_text(),
+                verdict: Verdict::Accepted,
+            })
+        }
+        Action::Check => print_count(alloc, read_stream(alloc, budget, stream, CountSink::new())),
+        Action::Canon => {
+            let found = read_stream(alloc, budget, stream, begun(Target::new(Vec::new(alloc)))?);
+            print_text(alloc, command.hex, found)
+        }
+    }
+}
+
+/// What a command prints of hexadecimal text.
+pub fn answer_text(alloc: Global, command: &Command, text: &[u8]) -> Result<Printout, Failure>
+    requires small { length text.now < 2 ^ 63 }
+    requires hex { command.now.hex ≡ true }
+    ensures { MatchResult result (λ a. Prints command.now text.now a.text.items a.verdict) (FailsOn command.now text.now) }
+{
+    let stream = bytes_of(alloc, text)?;
+    answer_stream(alloc, command, stream.as_slice())
+}
+
+/// What a command prints of the bytes that an input gives, of which none is kept.
+pub fn answer_input<I: Inlet>(
+    alloc: Global,
+    command: &Command,
+    input: &mut I,
+) -> Result<Printout, Failure>
+    requires calls { I.calls input.old < 2 ^ 63 }
+    requires bytes { command.now.hex ≡ false }
+    ensures few { I.calls input.new ≤ I.calls input.old + READS }
+    ensures found { let seen = reading I.Inlet input.old input.new in
+        (p : List ℕ) × Consumes (I.left input.old) (I.left input.new) p
+        × MatchResult result (λ a. Finds command.now p seen a.text.items a.verdict) (Fails command.now p seen) }
+{
+    let budget = command.budget;
+    match command.action {
+        Action::List => {
+            let sink = read_input(alloc, budget, input, LineSink::new(alloc))??;
+            Ok(Printout {
+                text: sink.into_text(),
+                verdict: Verdict::Accepted,
+            })
+        }
+        Action::Check => {
+            let found = read_input(alloc, budget, input, CountSink::new())?;
+            print_count(alloc, found)
+        }
+        Action::Canon => {
+            let found = read_input(alloc, budget, input, begun(Target::new(Vec::new(alloc)))?)?;
+            print_text(alloc, false, found)
+        }
+    }
+}

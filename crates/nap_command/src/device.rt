@@ -1,0 +1,55 @@
+//! Whole inputs and whole outputs.
+ghost use Rattle.std.specs.Prelude.{◌≡◌, ◌+◌, ◌^◌, ◌<◌, ◌≤◌, ◌||◌, ℕ, List, true, IfOk, is_err, length, MatchResult};
+ghost use Rattle.std.specs.Io.KnownBytes.{Consumes};
+ghost use Rattle.nap_list.specs.declared.device.TheConstants.{READS};
+ghost use Rattle.nap_list.specs.Reading.{IsReadWhole, reading};
+ghost use Rattle.nap_command.specs.Devices.{StopsReading, Takes};
+
+use crate::failure::Failure;
+use nap_list::{Inlet, Outlet, READS};
+use std::alloc::Global;
+
+/// The most bytes of one read.
+const ROOM: usize = 65_536;
+
+/// Reads an input to its end.
+pub fn read_whole<I: Inlet>(alloc: Global, input: &mut I) -> Result<Vec<u8>, Failure>
+    requires { I.calls input.old < 2 ^ 63 }
+    ensures read { let seen = reading I.Inlet input.old input.new in
+        (p : List ℕ) × Consumes (I.left input.old) (I.left input.new) p
+        × MatchResult result (λ bytes. (bytes.items ≡ p) × IsReadWhole seen p) (StopsReading seen p) }
+    ensures few { I.calls input.new ≤ I.calls input.old + READS }
+    ensures small { IfOk result (λ bytes. length bytes.items < 2 ^ 63) }
+{
+    let mut bytes = Vec::new(alloc);
+    let mut room = [0; ROOM];
+    for _ in 0..READS {
+        let Ok(count) = input.read(&mut room) else {
+            return Err(Failure::Read);
+        };
+        if count == 0 {
+            return Ok(bytes);
+        }
+        bytes.extend_from_slice(&room[..count])?;
+    }
+    Err(Failure::Read)
+}
+
+/// Writes a whole text, and flushes the output.
+pub fn write_whole<O: Outlet>(output: &mut O, text: &[u8]) -> Result<(), Failure>
+    ensures takes { Takes (O.taken output.old) (O.taken output.new) text.now result }
+    ensures failed { O.failed output.new ≡ (O.failed output.old || is_err result) }
+    ensures sent { IfOk result (λ done. O.sent output.new ≡ true) }
+{
+    let mut taken = 0;
+    while taken < text.len() {
+        let Ok(count) = output.write(&text[taken..]) else {
+            return Err(Failure::Write(taken as u64));
+        };
+        taken += count;
+    }
+    match output.flush() {
+        Ok(()) => Ok(()),
+        Err(_) => Err(Failure::Write(taken as u64)),
+    }
+}

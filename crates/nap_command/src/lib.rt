@@ -1,0 +1,16 @@
+//! The commands of the program: what each reads, prints and tells, and its exit status.
+#![tactic(auto)]
+
+mod answer;
+mod collect;
+mod command;
+mod device;
+mod execution;
+mod failure;
+
+pub use answer::{Printout, Verdict, answer_input, answer_text};
+pub use collect::{read_input, read_stream};
+pub use command::{Action, Command};
+pub use device::{read_whole, write_whole};
+pub use execution::{execute, tell};
+pub use failure::Failure;

@@ -1,3 +1,0 @@
-//! Lines of entries.
-mod line_sink;
-mod lines;

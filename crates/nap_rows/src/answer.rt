@@ -1,0 +1,130 @@
+//! What the libraries say of a stream.
+use crate::notation::MOST;
+use crate::trouble::{Trouble, tell};
+use nap_codes::Left;
+use nap_lines::line_of;
+use nap_list::{Entry, ListSink, Sink};
+use nap_reader::{Budget, Fault, Reader, Refusal};
+use std::alloc::{AllocError, Global};
+
+/// All that a reader says of a stream.
+#[derive(PartialEq, Drop)]
+pub struct Answer {
+    /// The entries before the end, or before what is refused.
+    pub list: Vec<Entry>,
+    /// Why the stream is refused, if it is.
+    pub refusal: Option<Refusal>,
+    /// Whether it was refused before its end.
+    pub early: bool,
+    /// How many bytes were taken.
+    pub fed: u64,
+    /// How many turns there were.
+    pub turns: u64,
+    /// How much was charged.
+    pub charged: u64,
+}
+
+/// Feeds a piece. Once a stream is refused, each further piece is.
+fn feed<S: Sink>(alloc: Global, reader: &mut Reader<S>, piece: &[u8]) -> Result<(), Trouble> {
+    if piece.len() > MOST || reader.fed() > MOST as u64 {
+        return tell(alloc, "there are too many bytes");
+    }
+    let before = reader.refused();
+    let fed = reader.fed();
+    let answer = reader.feed(piece);
+    if answer.err() != reader.refused() {
+        return tell(alloc, "the answer isn't the refusal that is kept");
+    }
+    if before.is_some() && (reader.refused() != before || reader.fed() != fed) {
+        return tell(alloc, "a refusal didn't stay");
+    }
+    Ok(())
+}
+
+/// What a reader into this sink says of a stream in these pieces, and the sink.
+fn read_into<S: Sink + Drop>(
+    alloc: Global,
+    mut reader: Reader<S>,
+    pieces: &[&[u8]],
+) -> Result<(S, Answer), Trouble> {
+    for piece in pieces {
+        feed(alloc, &mut reader, piece)?;
+    }
+    if reader.refused().is_some() {
+        feed(alloc, &mut reader, b"\x0F")?;
+    }
+    let early = reader.refused().is_some();
+    let (fed, turns, charged) = (reader.fed(), reader.turns(), reader.charged());
+    let (sink, refusal) = match reader.finish() {
+        Ok(sink) => (sink, None),
+        Err(stopped) => (stopped.sink, Some(stopped.refusal)),
+    };
+    let answer = Answer {
+        list: Vec::new(alloc),
+        refusal,
+        early,
+        fed,
+        turns,
+        charged,
+    };
+    Ok((sink, answer))
+}
+
+/// What a reader says of a stream in these pieces.
+#[tactic(auto, unfolding(nap_list::specs::State::walk))]
+pub fn answer_in(alloc: Global, budget: Budget, pieces: &[&[u8]]) -> Result<Answer, Trouble> {
+    let reader = Reader::new(alloc, budget, ListSink::new(alloc));
+    let (sink, answer) = read_into(alloc, reader, pieces)?;
+    Ok(Answer {
+        list: sink.into_list(),
+        ..answer
+    })
+}
+
+/// Each byte in a piece of its own, with empty pieces between where that is wanted.
+pub fn single_bytes<'a>(
+    alloc: Global,
+    bytes: &'a [u8],
+    empty: bool,
+) -> Result<Vec<&'a [u8]>, AllocError> {
+    let mut pieces: Vec<&'a [u8]> = Vec::new(alloc);
+    for index in 0..bytes.len() {
+        if empty {
+            pieces.push(&bytes[index..index])?;
+        }
+        pieces.push(&bytes[index..=index])?;
+    }
+    Ok(pieces)
+}
+
+/// The lines of a list, each with its end.
+pub fn lines_of(alloc: Global, list: &[Entry]) -> Result<String, AllocError> {
+    let mut lines = String::new(alloc);
+    for entry in list {
+        lines.push_str(&line_of(alloc, entry)?)?;
+        lines.push('\n')?;
+    }
+    Ok(lines)
+}
+
+/// Why a stream is refused, as a row has it.
+pub fn reason(alloc: Global, refusal: Refusal) -> Result<String, AllocError> {
+    let place = refusal.place;
+    match refusal.fault {
+        Fault::LeftOut(left) => left_out(alloc, left, place),
+        fault => format!(in alloc; "{} {} at {place}", fault.number(), fault.name()),
+    }
+}
+
+/// The same of a code that is left out, whose name has hyphens in the place of spaces.
+fn left_out(alloc: Global, left: Left, place: u64) -> Result<String, AllocError> {
+    let words = left.to_string(alloc)?;
+    let mut name = String::new(alloc);
+    for word in words.split(' ') {
+        if !name.is_empty() {
+            name.push('-')?;
+        }
+        name.push_str(word)?;
+    }
+    format!(in alloc; "6 LeftOut {name} at {place}")
+}

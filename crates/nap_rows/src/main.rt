@@ -1,0 +1,67 @@
+//! Checks tables of streams against what the libraries say of each. Its arguments name the tables, a file each.
+//!
+//! A row is a line `STREAM | LIST | CANONICAL` of a stream that is accepted, or `STREAM | LIST | refused 10 Outside at 3` of
+//! one that is refused, with the entries before that. A line that begins with `#` is a comment, an empty one is nothing.
+//!
+//! STREAM and CANONICAL are bytes: hexadecimal digits, texts in quotes as `"A"`, and groups in brackets. `40*7` is seven times
+//! 40, `(26 52)*3` three times 26 52. CANONICAL is `-` where the row says nothing of it. LIST has the lines of the entries, with
+//! `;` between: `LINE *3` stands for three such lines, and the word `0,0*3` for three such words.
+//!
+//! A fourth field has more, with `,` between: `budget N` (else the usual one), `charged N` (else 0), `turns N` (else as many as
+//! bytes, where nothing is charged), `fed N` bytes taken, `form1 BYTES` (the text in form 1), `plain` and `not plain`. `charged -`
+//! and `turns -` stand for any number.
+#![tactic(auto)]
+
+mod answer;
+mod notation;
+mod row;
+mod table;
+mod trial;
+mod trouble;
+
+use std::process::ExitCode;
+use std::rt::{Env, Files};
+use std::{env, io};
+use table::{Tally, check_file};
+use trouble::Trouble;
+
+/// Checks the tables of these files, and prints each row that disagrees.
+fn check_all(rt: &(impl Files + Print + AllocGlobal), names: &[String]) -> Result<Tally, Trouble> {
+    let mut tally = Tally::default();
+    for name in names {
+        check_file(rt, name, &mut tally)?;
+    }
+    Ok(tally)
+}
+
+/// Prints how the checks ended, and answers the exit status.
+fn conclude(rt: &(impl Print + Eprint), checked: Result<Tally, Trouble>) -> io::Result<u8> {
+    match checked {
+        Ok(tally) if tally.wrong > 0 => {
+            println!(rt; "{} rows disagree", tally.wrong)?;
+            Ok(1)
+        }
+        Ok(_) => {
+            println!(rt; "every row agrees")?;
+            Ok(0)
+        }
+        Err(Trouble::Told(text)) => {
+            eprintln!(rt; "{text}")?;
+            Ok(1)
+        }
+        Err(Trouble::Memory) => {
+            eprintln!(rt; "no memory")?;
+            Ok(3)
+        }
+        Err(Trouble::Output) => {
+            eprintln!(rt; "standard output failed")?;
+            Ok(3)
+        }
+    }
+}
+
+fn main(rt: HostRuntime) -> io::Result<ExitCode> {
+    let names: Vec<String> = env::args(&rt)?.skip(1).collect(rt.alloc())?;
+    let status = conclude(&rt, check_all(&rt, &names))?;
+    Ok(ExitCode::from(status))
+}

@@ -1,0 +1,5 @@
+//! Tests of the libraries that need more than a stream: values, calls, lists that are not legal, devices and sinks that fail.
+#![tactic(auto)]
+
+#[cfg(test)]
+mod tests;

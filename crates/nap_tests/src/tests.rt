@@ -1,0 +1,22 @@
+//! Values, calls and devices by hand, with the answers that the profile gives.
+mod canon_sinks;
+mod canonical;
+mod codes;
+mod commands;
+mod conversion;
+mod devices;
+mod drawing;
+mod drawing_sinks;
+mod faltering;
+mod growth;
+mod known;
+mod lines;
+mod lists;
+mod pairs;
+mod reading;
+mod reading_pairs;
+mod reading_sinks;
+mod samples;
+mod sinks;
+mod states;
+mod values;

@@ -1,0 +1,128 @@
+//! Devices that give and take a few bytes, and fail.
+use super::faltering::{End, Giver, Taker};
+use nap_list::{DeviceFault, Inlet, Outlet, Source, Target};
+use std::alloc::Global;
+use std::io::{ErrorKind, Read, Write};
+use std::process::Abort;
+
+/// Any fault is told in the same way.
+const FAULTS: [ErrorKind; 2] = [ErrorKind::Other, ErrorKind::Interrupted];
+
+const FAILED: Result<usize, DeviceFault> = Err(DeviceFault);
+
+/// What a read answers, the room behind it, and how often the source was read and whether it has failed.
+type ReadRow = (Result<usize, DeviceFault>, [u8; 4], u64, bool);
+
+/// Each read in turn is as its row has it. Gives the reader back.
+fn reads<R: Read + Drop>(rt: &impl Abort, reader: R, rows: &[ReadRow]) -> R {
+    let mut room = [0; 4];
+    let mut source = Source::new(reader);
+    for row in rows {
+        let answer = source.read(&mut room);
+        assert_eq!(rt; (answer, room, source.calls(), source.failed()), *row);
+    }
+    source.into_inner()
+}
+
+#[test]
+fn a_source_counts_its_reads(rt: HostRuntime) {
+    let rest = reads(
+        &rt,
+        b"\x0E\x26".as_slice(),
+        &[
+            (Ok(2), [0x0E, 0x26, 0, 0], 1, false),
+            (Ok(0), [0x0E, 0x26, 0, 0], 2, false),
+        ],
+    );
+    assert!(rt; rest.is_empty());
+}
+
+#[test]
+fn a_source_tells_a_failure_and_reads_no_more(rt: HostRuntime) {
+    for fault in FAULTS {
+        let giver = Giver {
+            fault,
+            ..Giver::new(b"\x01\x03", 1, 2)
+        };
+        let giver = reads(
+            &rt,
+            giver,
+            &[
+                (Ok(1), [1, 0, 0, 0], 1, false),
+                (FAILED, [1, 0, 0, 0], 2, true),
+                (Ok(1), [3, 0, 0, 0], 3, true),
+                (Ok(0), [3, 0, 0, 0], 4, true),
+            ],
+        );
+        assert_eq!(rt; giver.reads, 4);
+    }
+}
+
+/// A piece that is written, or none for a flush, what the call answers, and whether the target has failed behind it.
+type CallRow<'a> = (Option<&'a [u8]>, Result<usize, DeviceFault>, bool);
+
+/// Each call in turn is as its row has it. Gives the writer back.
+fn takes<W: Write + Drop>(rt: &impl Abort, writer: W, rows: &[CallRow]) -> W {
+    let mut target = Target::new(writer);
+    for (piece, answer, failed) in rows {
+        let took = match piece {
+            Some(piece) => target.write(piece),
+            None => match target.flush() {
+                Ok(()) => Ok(0),
+                Err(fault) => Err(fault),
+            },
+        };
+        assert_eq!(rt; (took, target.failed()), (*answer, *failed));
+    }
+    target.into_inner()
+}
+
+#[test]
+fn a_target_gives_its_bytes_to_the_writer(rt: HostRuntime) {
+    let kept = takes(
+        &rt,
+        Vec::new(rt.alloc()),
+        &[
+            (Some(b""), Ok(0), false),
+            (Some(b"\x0E\x26"), Ok(2), false),
+            (None, Ok(0), false),
+        ],
+    );
+    assert_eq!(rt; kept.as_slice(), b"\x0E\x26".as_slice());
+}
+
+fn taker(alloc: Global, fault: ErrorKind) -> Taker {
+    Taker {
+        fault,
+        good_flushes: 1,
+        ..Taker::new(alloc, 1, 1, End::ClosesOnce)
+    }
+}
+
+#[test]
+fn a_target_that_takes_nothing_has_failed(rt: HostRuntime) {
+    for fault in FAULTS {
+        let taker = takes(
+            &rt,
+            taker(rt.alloc(), fault),
+            &[
+                (Some(b"\x0E\x26"), Ok(1), false),
+                (Some(b"\x26"), FAILED, true),
+                (Some(b"\x26"), FAILED, true),
+            ],
+        );
+        assert_eq!(rt; taker.writes, 3);
+    }
+}
+
+#[test]
+fn a_flush_reaches_the_writer_once(rt: HostRuntime) {
+    for fault in FAULTS {
+        let taker = takes(
+            &rt,
+            taker(rt.alloc(), fault),
+            &[(None, Ok(0), false), (None, FAILED, true)],
+        );
+        assert_eq!(rt; taker.flushes, 2);
+    }
+}

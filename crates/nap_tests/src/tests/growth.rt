@@ -1,0 +1,150 @@
+//! Pages of each kind, where any growth of memory may be refused: who runs this test refuses one after another.
+use nap_canon::{CanonFault, ConvertFault, canon, convert, normalise};
+use nap_list::{ListSink, Source, Target};
+use nap_reader::{Budget, Fault, Reader, Refusal, read_all};
+use std::alloc::Global;
+use std::io;
+use std::io::Write;
+use std::process::Abort;
+
+const POINT: &[u8] = b"\x0E!_&R@@@@@@@";
+
+const CIRCLE: &[u8] = b"\x0E!_.@@@@@@@@I@@@@@@@\x7F@@@@@@@";
+
+// Takes the bytes that are expected, and no others. It asks for no memory.
+#[derive(Drop)]
+struct Expecting<'a> {
+    rest: &'a [u8],
+}
+
+impl Write for Expecting<'_> {
+    fn write(&mut self, buf: &[u8]) -> io::Result<usize> {
+        match self.rest.split_at_checked(buf.len()) {
+            Some((front, rest)) if front == buf => {
+                self.rest = rest;
+                Ok(buf.len())
+            }
+            _ => Err(io::ErrorKind::Other.into()),
+        }
+    }
+
+    fn flush(&mut self) -> io::Result<()> {
+        Ok(())
+    }
+}
+
+// Memory was wanting, at a byte of the page or at its end.
+fn lacks(rt: &impl Abort, bytes: &[u8], refusal: Refusal) {
+    assert_eq!(rt; refusal.fault, Fault::Memory);
+    assert!(rt; refusal.place <= bytes.len() as u64);
+}
+
+// The page has so many entries, or the first of them and a refusal that stays.
+#[tactic(auto, unfolding(nap_list::specs::State::walk))]
+fn reads(rt: &impl Abort, alloc: Global, bytes: &[u8], entries: usize) {
+    assert!(rt; bytes.len() < 1 << 32);
+    match read_all(alloc, Budget::usual(), bytes) {
+        Ok(list) => assert_eq!(rt; list.len(), entries),
+        Err(refusal) => lacks(rt, bytes, refusal),
+    }
+    let mut reader = Reader::new(alloc, Budget::usual(), ListSink::new(alloc));
+    if let Err(refusal) = reader.feed(bytes) {
+        lacks(rt, bytes, refusal);
+        assert_eq!(rt; reader.feed(b"\x00"), Err(refusal));
+    }
+    let kept = reader.into_sink().into_list();
+    if let Ok(list) = read_all(alloc, Budget::usual(), bytes) {
+        let front = list.as_slice().get(..kept.len());
+        assert!(rt; front == Some(kept.as_slice()));
+    }
+    assert!(rt; kept.len() <= entries);
+}
+
+// The page has this canonical stream, or there is no memory for it.
+fn writes(rt: &impl Abort, alloc: Global, bytes: &[u8], want: &[u8]) {
+    assert!(rt; bytes.len() < 1 << 32);
+    match normalise(alloc, Budget::usual(), bytes) {
+        Ok(text) => assert!(rt; text.as_slice() == want),
+        Err(refusal) => lacks(rt, bytes, refusal),
+    }
+    if let Ok(list) = read_all(alloc, Budget::usual(), bytes) {
+        match canon(alloc, &list) {
+            Ok(text) => assert!(rt; text.as_slice() == want),
+            Err(fault) => assert_eq!(rt; fault, CanonFault::Memory),
+        }
+    }
+}
+
+// What goes out is the canonical stream, or a first part of it where the page is refused for want of memory.
+fn streams(rt: &impl Abort, alloc: Global, bytes: &[u8], want: &[u8]) {
+    let output = Target::new(Expecting { rest: want });
+    let (output, answer) = convert(alloc, &mut Source::new(bytes), output, Budget::usual());
+    let Expecting { rest } = output.into_inner();
+    let out = want.len().saturating_sub(rest.len()) as u64;
+    match answer {
+        Ok(written) => {
+            assert!(rt; rest.is_empty());
+            assert_eq!(rt; written, out);
+        }
+        Err(ConvertFault::Refused { refusal, written }) => {
+            lacks(rt, bytes, refusal);
+            assert_eq!(rt; written, out);
+        }
+        Err(fault) => assert_eq!(rt; fault, ConvertFault::Write { written: 0 }),
+    }
+}
+
+fn survives(rt: &impl Abort, alloc: Global, bytes: &[u8], want: &[u8], entries: usize) {
+    reads(rt, alloc, bytes, entries);
+    writes(rt, alloc, bytes, want);
+    streams(rt, alloc, bytes, want);
+}
+
+#[test]
+fn short_pages_survive_want_of_memory(rt: HostRuntime) {
+    let alloc = rt.alloc();
+    for (bytes, want, entries) in [
+        (b"\x0E&R@@".as_slice(), POINT, 1),
+        (b"\x0E.@@@I@@\x7F@@", CIRCLE, 1),
+        (b"\x1B@!\x0E&R\x1BE\x1B/z\x1D!@@", POINT, 1),
+        (
+            b"\x1BA!\x0E&R\x1BCA\x1BE",
+            b"\x0E!_&R@@@@@@@\x1BCA\x1BE".as_slice(),
+            3,
+        ),
+        (
+            b"\x0E$P@@\x1BCA!@&I\x1BE(R@@",
+            b"\x0E!_\x1BCA&I@@@@@@@\x1BE*P@@@@@@@R@@@@@@@",
+            4,
+        ),
+        (
+            b"\x19A\x1DB\x1B({C",
+            b"\x0E!_\x19A\x1DB\x1B+{\x1DC\x1B+}",
+            3,
+        ),
+    ] {
+        survives(&rt, alloc, bytes, want, entries);
+    }
+}
+
+#[test]
+fn a_large_shape_survives_want_of_memory(rt: HostRuntime) {
+    let mut page = [0x40; 2_004];
+    let mut want = [0x40; 16_012];
+    page[..4].copy_from_slice(b"\x0E!@4");
+    want[..4].copy_from_slice(b"\x0E!_6");
+    survives(&rt, rt.alloc(), &page, &want, 1);
+}
+
+#[test]
+fn a_full_store_survives_want_of_memory(rt: HostRuntime) {
+    let alloc = rt.alloc();
+    let Ok(mut page) = Vec::with_capacity(alloc, 1_048_581) else {
+        return;
+    };
+    let taken = page.extend_from_slice(b"\x1B@!").is_ok()
+        && page.resize(1_048_579, 0x41).is_ok()
+        && page.extend_from_slice(b"\x1BE").is_ok();
+    assert!(rt; taken);
+    survives(&rt, alloc, page.as_slice(), b"\x0E!_", 0);
+}

@@ -1,0 +1,226 @@
+//! How often each code and each fault comes on all pairs of bytes, as another reading of the standard has it.
+use nap_codes::{Code, CodeFault, Lexer, Step};
+use nap_values::Word;
+use std::alloc::{AllocError, Global};
+use std::test::Fail;
+
+/// A code or a fault, or none where the bytes end within a code.
+type Answer = Option<Result<Code, CodeFault>>;
+
+/// How often an answer comes on pairs alone, behind `0E` and behind `1B`, and the sum of the bytes that spell it.
+#[derive(Drop)]
+struct Tally {
+    answer: Answer,
+    times: [u32; 3],
+    bytes: u32,
+}
+
+impl Tally {
+    fn count(&mut self, column: usize, spelled: u32) {
+        if let Some(times) = self.times.get_mut(column) {
+            *times = times.saturating_add(1);
+        }
+        self.bytes = self.bytes.saturating_add(spelled);
+    }
+
+    fn row(&self, alloc: Global) -> Result<String, AllocError> {
+        let answer = match self.answer {
+            Some(Ok(code)) => format!(in alloc; "{code:?}")?,
+            Some(Err(fault)) => format!(in alloc; "fault {fault:?}")?,
+            None => String::from_str(alloc, "half a code")?,
+        };
+        let [alone, behind_0e, behind_1b] = self.times;
+        let bytes = self.bytes;
+        format!(in alloc; "{answer} | {alone} {behind_0e} {behind_1b} | {bytes}")
+    }
+}
+
+/// Counts the answer once more.
+fn take(
+    tallies: &mut Vec<Tally>,
+    answer: Answer,
+    column: usize,
+    spelled: u32,
+) -> Result<(), AllocError> {
+    for tally in &mut *tallies {
+        if tally.answer == answer {
+            tally.count(column, spelled);
+            return Ok(());
+        }
+    }
+    let mut tally = Tally {
+        answer,
+        times: [0; 3],
+        bytes: 0,
+    };
+    tally.count(column, spelled);
+    tallies.push(tally)?;
+    Ok(())
+}
+
+/// The code that this one is counted as: one byte stands for all of its range.
+fn kind(code: Code) -> Code {
+    match code {
+        Code::Char(set, _) => Code::Char(set, 0),
+        Code::Operand(_) => Code::Operand(Word::ZERO),
+        Code::DefMacro { show, .. } => Code::DefMacro { name: 0, show },
+        Code::DefGlyph(_) => Code::DefGlyph(0),
+        Code::Repeat(_) => Code::Repeat(Word::ZERO),
+        _ => code,
+    }
+}
+
+/// Counts the answers on these bytes, up to a fault.
+fn count(tallies: &mut Vec<Tally>, column: usize, bytes: &[u8]) -> Result<(), AllocError> {
+    let mut lexer = Lexer::new();
+    let mut spelled: u32 = 0;
+    for byte in bytes {
+        spelled = spelled.saturating_add(u32::from(*byte));
+        match lexer.step(*byte) {
+            Step::More => {}
+            Step::Code(code) => {
+                take(tallies, Some(Ok(kind(code))), column, spelled)?;
+                spelled = 0;
+            }
+            Step::Fault(fault) => return take(tallies, Some(Err(fault)), column, spelled),
+        }
+    }
+    if !lexer.at_rest() {
+        take(tallies, None, column, 0)?;
+    }
+    Ok(())
+}
+
+#[test]
+fn pairs_of_bytes_count_as_the_standard_has_them(rt: HostRuntime) -> Result<(), Fail> {
+    let alloc = rt.alloc();
+    let mut tallies = Vec::new(alloc);
+    for first in 0..=255_u8 {
+        for second in 0..=255_u8 {
+            count(&mut tallies, 0, &[first, second])?;
+            count(&mut tallies, 1, &[0x0E, first, second])?;
+            count(&mut tallies, 2, &[0x1B, first, second])?;
+        }
+    }
+    for tally in &tallies {
+        let row = tally.row(alloc)?;
+        assert!(rt; ROWS.lines().any(|line| line == row.as_str()), "{row}");
+    }
+    assert_eq!(rt; tallies.len(), ROWS.lines().count());
+    Ok(())
+}
+
+/// An answer, how often it comes on pairs alone, behind `0E` and behind `1B`, and the sum of the bytes that spell it.
+const ROWS: &str = "\
+Char(Primary, 0) | 36096 96 2016 | 3037536\n\
+Char(Supplementary, 0) | 96 96 96 | 27696\n\
+Char(Mosaic, 0) | 96 96 96 | 28464\n\
+Op(Reset) | 1 373 0 | 11968\n\
+Op(Domain) | 1 373 0 | 12342\n\
+Op(Text) | 1 373 0 | 12716\n\
+Op(Texture) | 1 373 0 | 13090\n\
+Op(PointSetAbs) | 1 373 0 | 13464\n\
+Op(PointSetRel) | 1 373 0 | 13838\n\
+Op(PointAbs) | 1 373 0 | 14212\n\
+Op(PointRel) | 1 373 0 | 14586\n\
+Op(LineAbs) | 1 373 0 | 14960\n\
+Op(LineRel) | 1 373 0 | 15334\n\
+Op(SetLineAbs) | 1 373 0 | 15708\n\
+Op(SetLineRel) | 1 373 0 | 16082\n\
+Op(ArcOutlined) | 1 373 0 | 16456\n\
+Op(ArcFilled) | 1 373 0 | 16830\n\
+Op(SetArcOutlined) | 1 373 0 | 17204\n\
+Op(SetArcFilled) | 1 373 0 | 17578\n\
+Op(RectOutlined) | 1 373 0 | 17952\n\
+Op(RectFilled) | 1 373 0 | 18326\n\
+Op(SetRectOutlined) | 1 373 0 | 18700\n\
+Op(SetRectFilled) | 1 373 0 | 19074\n\
+Op(PolyOutlined) | 1 373 0 | 19448\n\
+Op(PolyFilled) | 1 373 0 | 19822\n\
+Op(SetPolyOutlined) | 1 373 0 | 20196\n\
+Op(SetPolyFilled) | 1 373 0 | 20570\n\
+Op(Field) | 1 373 0 | 20944\n\
+Op(SetColor) | 1 373 0 | 22440\n\
+Op(Wait) | 1 373 0 | 22814\n\
+Op(SelectColor) | 1 373 0 | 23188\n\
+Op(Blink) | 1 373 0 | 23562\n\
+Operand(Word(0)) | 64 23872 0 | 2285888\n\
+Shifted | 756 66286 558 | 1010900\n\
+Designated(0, Primary) | 0 0 2 | 270\n\
+Designated(0, Supplementary) | 0 0 2 | 386\n\
+Designated(0, Pdi) | 0 0 2 | 312\n\
+Designated(0, Mosaic) | 0 0 2 | 388\n\
+Designated(0, Macros) | 0 0 2 | 382\n\
+Designated(0, Drcs) | 0 0 2 | 384\n\
+Designated(1, Primary) | 0 0 2 | 272\n\
+Designated(1, Supplementary) | 0 0 2 | 388\n\
+Designated(1, Pdi) | 0 0 2 | 314\n\
+Designated(1, Mosaic) | 0 0 2 | 390\n\
+Designated(1, Macros) | 0 0 2 | 384\n\
+Designated(1, Drcs) | 0 0 2 | 386\n\
+Designated(2, Primary) | 0 0 2 | 274\n\
+Designated(2, Supplementary) | 0 0 2 | 390\n\
+Designated(2, Pdi) | 0 0 2 | 316\n\
+Designated(2, Mosaic) | 0 0 2 | 392\n\
+Designated(2, Macros) | 0 0 2 | 386\n\
+Designated(2, Drcs) | 0 0 2 | 388\n\
+Designated(3, Primary) | 0 0 2 | 276\n\
+Designated(3, Supplementary) | 0 0 2 | 392\n\
+Designated(3, Pdi) | 0 0 2 | 318\n\
+Designated(3, Mosaic) | 0 0 2 | 394\n\
+Designated(3, Macros) | 0 0 2 | 388\n\
+Designated(3, Drcs) | 0 0 2 | 390\n\
+Step(Apb) | 377 374 23 | 6192\n\
+Step(Apf) | 377 374 23 | 6966\n\
+Step(Apd) | 377 374 23 | 7740\n\
+Step(Apu) | 377 374 23 | 8514\n\
+Step(Apr) | 377 374 23 | 10062\n\
+Step(Aph) | 377 374 23 | 23220\n\
+Bell | 377 374 23 | 5418\n\
+Clear | 377 374 23 | 9288\n\
+Fill | 5656 5611 601 | 164604\n\
+Named(Small) | 1 1 256 | 26058\n\
+Named(Medium) | 1 1 256 | 26316\n\
+Named(Normal) | 1 1 256 | 26574\n\
+Named(Tall) | 1 1 256 | 26832\n\
+Named(Double) | 1 1 256 | 27348\n\
+Reverse(true) | 1 1 256 | 25542\n\
+Reverse(false) | 1 1 256 | 25800\n\
+Underline(true) | 1 1 256 | 29928\n\
+Underline(false) | 1 1 256 | 30186\n\
+Wrap(true) | 1 1 256 | 28896\n\
+Wrap(false) | 1 1 256 | 29154\n\
+Scroll(true) | 1 1 256 | 29412\n\
+Scroll(false) | 1 1 256 | 29670\n\
+BlinkMark(true) | 1 1 256 | 27090\n\
+BlinkMark(false) | 1 1 256 | 31218\n\
+Cursor(Flash) | 1 1 256 | 30444\n\
+Cursor(Steady) | 1 1 256 | 30702\n\
+Cursor(Off) | 1 1 256 | 30960\n\
+ToEol | 1 1 256 | 25284\n\
+DefMacro { name: 0, show: false } | 0 0 96 | 16368\n\
+DefMacro { name: 0, show: true } | 0 0 96 | 16464\n\
+DefGlyph(0) | 0 0 96 | 16656\n\
+DefMask(A) | 0 0 1 | 160\n\
+DefMask(B) | 0 0 1 | 161\n\
+DefMask(C) | 0 0 1 | 162\n\
+DefMask(D) | 0 0 1 | 163\n\
+End | 1 1 256 | 24768\n\
+Repeat(Word(0)) | 0 0 64 | 12320\n\
+fault EighthBit | 48768 48384 37376 | 26806976\n\
+fault BadEscape | 86 86 22984 | 2020782\n\
+fault ShiftAlone | 64 64 0 | 5440\n\
+fault BadArgument | 32 32 284 | 41002\n\
+fault LeftOut(Can) | 377 374 23 | 18576\n\
+fault LeftOut(Sdc) | 377 374 23 | 20124\n\
+fault LeftOut(Nsr) | 377 374 23 | 23994\n\
+fault LeftOut(Deft) | 1 1 256 | 23994\n\
+fault LeftOut(Unprotect) | 1 1 256 | 31476\n\
+fault LeftOut(Edc1) | 1 1 256 | 27864\n\
+fault LeftOut(Edc2) | 1 1 256 | 28122\n\
+fault LeftOut(Edc3) | 1 1 256 | 28380\n\
+fault LeftOut(Edc4) | 1 1 256 | 28638\n\
+fault LeftOut(IncrementalPoint) | 1 373 0 | 21318\n\
+fault LeftOut(IncrementalLine) | 1 373 0 | 21692\n\
+fault LeftOut(IncrementalPoly) | 1 373 0 | 22066\n\
+half a code | 593 581 100 | 0";
