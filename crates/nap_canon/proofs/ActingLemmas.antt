@@ -19,7 +19,8 @@ use Rattle.nap_reader.specs.declared.fault.Refusal.{Refusal}
 use Rattle.nap_reader.specs.Bodies.{Mode, between, no_names, body_of}
 use Rattle.nap_reader.specs.Course as course
 use Rattle.nap_reader.specs.Course.{onward}
-use Rattle.nap_reader.specs.Stream.{Placed, Machine, Front, Outcome, bytes_of, words_of, run_length, run_limit, refusal, after_drawing, drawn_front, closed_front, run_front, opcode_front, charged, shown_front, place_at, front_by, front_in, front, left_of, outcome_from, placed_from, start_machine, begun, ended_by}
+use Rattle.nap_draw.specs.Limits.{run_limit}
+use Rattle.nap_reader.specs.Stream.{Placed, Machine, Front, Outcome, bytes_of, words_of, run_length, refusal, after_drawing, drawn_front, closed_front, run_front, opcode_front, charged, shown_front, place_at, front_by, front_in, front, left_of, outcome_from, placed_from, start_machine, begun, ended_by}
 use Rattle.nap_reader.proofs.PublicLaws.{front_after_front}
 use Rattle.nap_canon.specs.Acting.{Acting, acting_at, acting_in, acting_behind, acting_within, opcodes_of, ActsUnderEightAndFour}
 use Rattle.nap_canon.specs.Laws.{PlainOperandLengths}

@@ -131,19 +131,29 @@ next_broke {E = E} o s t e (Err x) failed bytes still = (refl, bytes.failed, bro
 
 -- what a sink puts behind what it has put
 
+only_write : (fault : SinkFault) → (IsErrOf {T = Unit {0}} (Err fault) faults.Memory → ⊥) → IsErrOf {T = Unit {0}} (Err fault) faults.Write
+only_write faults.Memory never = absurd (never refl)
+only_write faults.Write never = refl
+
+-- a sink that works behind what it took worked before
+worked : {O : Type 0} (o : outlet.Ghosts O) (s t : Canonical O) (d : List Entry) → Took o s d t → o.failed t.outlet ≡ false → o.failed s.outlet ≡ false
+worked o s t d took works = sym took.bytes.failed ∙ works
+
 module _ {O : Type 0} (o : outlet.Ghosts O) where
   -- one entry more of a list
   pub put_next : (s t u : Canonical O) (whole rest list : List Entry) (x : Entry) → Putting (canon_shows o) s t whole list → list ≡ x ∷ rest →
-      PutsNext o t x u (Ok tt) → Putting (canon_shows o) s u whole rest
+      o.failed t.outlet ≡ false → PutsNext o t x u (Ok tt) → Putting (canon_shows o) s u whole rest
   unfolding walk
-  put_next s t u whole rest list x putting is next =
-      put_goes (canon_shows o) s t u whole rest list x (took_more o) putting is next.0 next.0.state (λ failed. absurd (false≢true (sym next.1 ∙ failed))) refl
+  put_next s t u whole rest list x putting is works next =
+      put_goes (canon_shows o) s t u whole rest list x (took_more o) putting is next.0 next.0.state (λ failed. absurd (false≢true (sym next.1 ∙ failed)))
+      (λ failed. absurd (false≢true (sym works ∙ failed)))
 
   pub next_one : (s t u : Canonical O) (whole rest list : List Entry) (x : Entry) (putting : Putting (canon_shows o) s t whole list) (is : list ≡ x ∷ rest)
-      (next : PutsNext o t x u (Ok tt)) → length (put_next s t u whole rest list x putting is next).done ≡ length putting.done + 1
+      (works : o.failed t.outlet ≡ false) (next : PutsNext o t x u (Ok tt)) → length (put_next s t u whole rest list x putting is works next).done ≡ length putting.done + 1
   unfolding put_next walk
-  next_one s t u whole rest list x putting is next =
-      goes_one (canon_shows o) s t u whole rest list x (took_more o) putting is next.0 next.0.state (λ failed. absurd (false≢true (sym next.1 ∙ failed))) refl
+  next_one s t u whole rest list x putting is works next =
+      goes_one (canon_shows o) s t u whole rest list x (took_more o) putting is next.0 next.0.state (λ failed. absurd (false≢true (sym next.1 ∙ failed)))
+      (λ failed. absurd (false≢true (sym works ∙ failed)))
 
   -- the next entry of a list broke, behind so many
   pub some_broke : (s t u : Canonical O) (whole rest list : List Entry) (x y : Entry) (n : ℕ) (fault : SinkFault) (putting : Putting (canon_shows o) s t whole list) →
@@ -165,25 +175,31 @@ module _ {O : Type 0} (o : outlet.Ghosts O) where
       o.failed t.outlet ≡ false → y ≡ x → PutsNext o t y u (Err fault) → Put {A = Unit {0}} (canon_shows o) whole s u (Err fault)
   put_broke s t u whole rest list x y faults.Memory putting is works same next = let bad : ⊥ = cc (next.0) in absurd bad
   put_broke s t u whole rest list x y faults.Write putting is works same next =
-      put_stops (canon_shows o) (Unit {0}) s t u whole rest list x faults.Write (took_broke o) putting is (λ memory. let bad : ⊥ = cc in absurd bad)
+      put_stops (canon_shows o) (Unit {0}) s t u whole rest list x faults.Write (took_broke o) (λ s t d e f a b. absurd b) putting is (λ memory. let bad : ⊥ = cc in absurd bad)
       (λ _ _. subst (λ (e : Entry). Broke o t [] e u) same next.2) (λ _ failed. absurd (false≢true (sym works ∙ failed))) (λ _. next.1) (λ memory. let bad : ⊥ = cc in absurd bad)
+      (λ _. refl) (λ _. refl)
 
   -- the first entry of a list broke
   pub first_broke : (s t : Canonical O) (whole : List Entry) (x : Entry) (list : List Entry) (fault : SinkFault) → whole ≡ x ∷ list → (IsErrOf {T = Unit {0}} (Err fault) faults.Memory → ⊥) → (IsErrOf {T = Unit {0}} (Err fault) faults.Write → o.failed t.outlet ≡ true) →
       (IsErrOf {T = Unit {0}} (Err fault) faults.Write → o.failed s.outlet ≡ false → Broke o s [] x t) → (IsErrOf {T = Unit {0}} (Err fault) faults.Write → o.failed s.outlet ≡ true → t ≡ s) →
       Put {A = Unit {0}} (canon_shows o) whole s t (Err fault)
   first_broke s t whole x list fault is memory write broke still =
-      put_stops (canon_shows o) (Unit {0}) s s t whole list whole x fault (took_broke o) (put_begins (canon_shows o) s whole (took_none o s)) is
-      (λ is. absurd (memory is)) broke still write (λ is. absurd (memory is))
+      put_stops (canon_shows o) (Unit {0}) s s t whole list whole x fault (took_broke o) (λ s t d e f a b. absurd b) (put_begins (canon_shows o) s whole (took_none o s)) is
+      (λ is. absurd (memory is)) broke still write (λ is. absurd (memory is)) (λ _. only_write fault memory) (λ _. only_write fault memory)
 
   -- a list was put behind an entry
   pub put_behind : (s t u : Canonical O) (x : Entry) (list : List Entry) (r : Result (Unit {0}) SinkFault) → Took o s (x ∷ []) t → o.failed t.outlet ≡ false →
       Put (canon_shows o) list t u r → Put (canon_shows o) (x ∷ list) s u r
   put_behind s t u x list (Ok _) first works put =
       let took : Took o s (x ∷ list) u = took_more o s t u (x ∷ []) list first put.0 in
-      (took, took.state, λ _. put.2 works)
-  put_behind s t u x list (Err faults.Memory) first works put = absurd (false≢true (put.2 refl).grows)
-  put_behind s t u x list (Err faults.Write) first works put = (by put.0, put.1, λ memory. let bad : ⊥ = cc in absurd bad)
+      (took, took.state, λ _. put.2 works, λ failed. absurd (false≢true (sym (worked o s t (x ∷ []) first works) ∙ failed)))
+  put_behind s t u x list (Err faults.Memory) first works put = absurd (put.2 refl).wants
+  put_behind s t u x list (Err faults.Write) first works put = (
+    by put.0,
+    put.1,
+    λ memory. let bad : ⊥ = cc in absurd bad,
+    λ failed. absurd (false≢true (sym (worked o s t (x ∷ []) first works) ∙ failed)),
+  )
     where
       by : ((o.failed t.outlet ≡ true) × (u ≡ t)) ⊎ Breaks (Broke o) t list u → ((o.failed s.outlet ≡ true) × (u ≡ s)) ⊎ Breaks (Broke o) s (x ∷ list) u
       by (inl (failed, same)) = absurd (false≢true (sym works ∙ failed))
@@ -198,10 +214,11 @@ module _ {O : Type 0} (o : outlet.Ghosts O) where
       PutUpTo (canon_shows o) whole s t (Err (record { taken = 0; fault = fault }))
   first_halts s t whole x list fault is memory write broke still =
       let h = canon_shows o in
-      put_halts h s s t whole list whole x 0 fault (took_broke o) (put_begins h s whole (took_none o s)) (begins_none h s whole (took_none o s)) (λ _. refl) is
-      (λ is. absurd (memory is)) broke still write (λ is. absurd (memory is))
+      put_halts h s s t whole list whole x 0 fault (took_broke o) (λ s t d e f a b. absurd b) (put_begins h s whole (took_none o s)) (begins_none h s whole (took_none o s)) (λ _. refl) is
+      (λ is. absurd (memory is)) broke still write (λ is. absurd (memory is)) (λ _. only_write fault memory) (λ _. only_write fault memory)
 
-  module _ (s t u : Canonical O) (whole : List Entry) (x : Entry) (list : List Entry) (is : whole ≡ x ∷ list) (first : Took o s (x ∷ []) t) where
+  module _ (s t u : Canonical O) (whole : List Entry) (x : Entry) (list : List Entry) (is : whole ≡ x ∷ list) (first : Took o s (x ∷ []) t)
+      (works : o.failed t.outlet ≡ false) where
     -- the others broke behind so many
     pub some_behind : (n : ℕ) → PutsSome o t list u (Err n) → PutUpTo (canon_shows o) whole s u (Err (record { taken = n + 1; fault = faults.Write }))
     some_behind n some =
@@ -216,12 +233,13 @@ module _ {O : Type 0} (o : outlet.Ghosts O) where
           }),
           λ _. some.1,
           λ memory. let bad : ⊥ = cc in absurd bad,
+          λ failed. absurd (false≢true (sym (worked o s t (x ∷ []) first works) ∙ failed)),
         )
 
     pub all_behind : PutsSome o t list u (Ok tt) → PutUpTo (canon_shows o) whole s u (Ok tt)
     all_behind all =
         let took : Took o s whole u = subst (λ (list : List Entry). Took o s list u) (sym is) (took_more o s t u (x ∷ []) list first all.0) in
-        (took, took.state, λ _. all.1)
+        (took, took.state, λ _. all.1, λ failed. absurd (false≢true (sym (worked o s t (x ∷ []) first works) ∙ failed)))
 
   pub some_less : (t u : Canonical O) (list : List Entry) (n : ℕ) → PutsSome o t list u (Err n) → n < length list
   some_less t u list n some =

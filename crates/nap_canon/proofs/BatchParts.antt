@@ -19,6 +19,10 @@ use Rattle.nap_canon.proofs.BatchRuns.{lines_like_ink}
 
 module _ {O : Type 0} (o : outlet.Ghosts O) (s t u : Canonical O) (whole list part rest : List Entry) (putting : Putting (canon_shows o) s t whole list)
     (is : list ≡ part ++ rest) (works : o.failed t.outlet ≡ false) where
+  -- the sink worked before
+  began : o.failed s.outlet ≡ true → ⊥
+  began failed = false≢true (sym works ∙ (ap (λ (x : Canonical O). o.failed x.outlet) (putting.none failed).1 ∙ failed))
+
   -- one part more
   pub part_put : Put {A = Unit {0}} (canon_shows o) part t u (Ok tt) → Putting (canon_shows o) s u whole rest
   part_put put =
@@ -29,16 +33,17 @@ module _ {O : Type 0} (o : outlet.Ghosts O) (s t u : Canonical O) (whole list pa
         taken = took;
         state = took.state;
         same = λ failed. absurd (false≢true (sym (put.2 works) ∙ failed));
-        grows = refl;
+        none = λ failed. absurd (began failed);
       }
 
   -- an entry of the next part broke
   pub part_broke : (fault : SinkFault) (like : List Entry) → like ≡ part → Put {A = Unit {0}} (canon_shows o) like t u (Err fault) → Put {A = Unit {0}} (canon_shows o) whole s u (Err fault)
-  part_broke faults.Memory like same put = absurd (false≢true (put.2 refl).grows)
+  part_broke faults.Memory like same put = absurd (put.2 refl).wants
   part_broke faults.Write like same put = (
     by (subst (λ (list : List Entry). ((o.failed t.outlet ≡ true) × (u ≡ t)) ⊎ Breaks (Broke o) t list u) same put.0),
     put.1,
     λ memory. let bad : ⊥ = cc in absurd bad,
+    λ failed. absurd (began failed),
   )
     where
       by : ((o.failed t.outlet ≡ true) × (u ≡ t)) ⊎ Breaks (Broke o) t part u → ((o.failed s.outlet ≡ true) × (u ≡ s)) ⊎ Breaks (Broke o) s whole u

@@ -18,7 +18,7 @@ use Rattle.nap_list.specs.declared.state.Drawing.{Drawing}
 use Rattle.nap_list.specs.declared.state.State.{State}
 use Rattle.nap_list.specs.State.{walk, ink_of}
 use Rattle.nap_list.specs.Putting.{Put, point_on, lines_on}
-use Rattle.nap_reader.specs.Stream.{run_limit}
+use Rattle.nap_draw.specs.Limits.{run_limit}
 use Rattle.nap_canon.specs.declared.form.Form.{Form}
 use Rattle.nap_canon.specs.declared.form.Form.TheVariants.{Two}
 use Rattle.nap_canon.specs.declared.tail.Tail.{Tail}
@@ -254,7 +254,7 @@ module _ {O S : Type 0} (o : outlet.Ghosts O) (view : S → Sending) (a b : S) (
         tail = tail ∙ run_grows ∙ sym (front_tail ps list are run.room);
         state = state ∙ sym joins.state;
       } in
-      (took, took.state, λ _. bytes.failed ∙ works)
+      (took, took.state, λ _. bytes.failed ∙ works, λ failed. absurd (false≢true (sym works ∙ failed)))
 
   -- what was taken up to the cut
   cut_grows : (n : ℕ) → CutAfter (λ x bytes broke y. Sends (view x) bytes broke (view y)) a (points_bytes ps) n b → Grows (shown o s) (take n (points_bytes ps)) (shown o t)
@@ -294,7 +294,7 @@ module _ {O S : Type 0} (o : outlet.Ghosts O) (view : S → Sending) (a b : S) (
         failed = failed;
         state = state ∙ sym joins.state;
       } in
-      (inr (p.front, p.next, p.rest, p.parts, broke), λ _. failed, λ memory. let bad : ⊥ = cc in absurd bad)
+      (inr (p.front, p.next, p.rest, p.parts, broke), λ _. failed, λ memory. (let bad : ⊥ = cc in absurd bad), λ before. absurd (false≢true (sym works ∙ before)))
 
   -- what a writer answers of them
 

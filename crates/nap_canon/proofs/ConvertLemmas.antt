@@ -1,4 +1,5 @@
-use Rattle.std.proofs.Common.{ℕ, ◌≡◌, ◌≢◌, ◌⊎◌, Bool, true, false, List, [], ◌∷◌, ◌++◌, Some, None, Result, Ok, Err, length, take, drop, refl, ap, sym, subst, ◌∙◌, inl, inr, append-nil, append_assoc, arith}
+use Rattle.std.proofs.Common.{ℕ, ◌≡◌, ◌≢◌, ◌⊎◌, ◌||◌, Bool, true, false, List, [], ◌∷◌, ◌++◌, Some, None, Result, Ok, Err, length, take, drop, refl, ap, sym, subst, ◌∙◌, inl, inr, append-nil, append_assoc, arith}
+use Rattle.std.proofs.lemmas.Bool.{false≢true}
 use Rattle.std.proofs.lemmas.List.{take-append-drop}
 use Rattle.std.specs.Io.KnownBytes.{Appends, Keeps}
 use Rattle.std.proofs.KnownBytes.{Appends-kept, Consumes-nil}
@@ -11,15 +12,16 @@ use Rattle.nap_list.specs.declared.device.Outlet as outlet
 use Rattle.nap_list.specs.declared.entry.Entry.{Entry}
 use Rattle.nap_list.specs.declared.state.State.{State}
 use Rattle.nap_list.specs.declared.sink.Sink.{Ghosts}
+use Rattle.nap_list.specs.Flushing.{FlushedOnce, flushed}
 use Rattle.nap_list.specs.Reading.{Reading, NoneFailed, IsCutOff, IsReadWhole, reading}
 use Rattle.nap_list.specs.State.{start, walk, after}
 use Rattle.nap_reader.specs.declared.fault.Refusal.{Refusal}
 use Rattle.nap_reader.specs.declared.feeding.FeedFault.{FeedFault}
 use Rattle.nap_reader.specs.declared.feeding.FeedFault.TheVariants as feed_fault
-use Rattle.nap_reader.specs.Breaking.{cause_of, BreaksInRun, TookFront}
+use Rattle.nap_reader.specs.Breaking.{cause_of, BreaksInRun, LacksWithin, TookFront}
 use Rattle.nap_reader.specs.declared.reader.Reader.{Reader}
 use Rattle.nap_reader.specs.Feeding.{Feeds, LastRead}
-use Rattle.nap_reader.specs.Laws.{BreaksAmong}
+use Rattle.nap_reader.specs.Laws.{BreaksAmong, WantsSome}
 use Rattle.nap_reader.specs.Standing.{Answers, AnswersBy, IsKnown, IsTaken, Stands, budget_of, left_of, refusal_of, sink_of}
 use Rattle.nap_reader.specs.Stream.{Outcome, begun, means, ended_by}
 use Rattle.nap_reader.proofs.PublicLaws.{begun_comes_first, end_breaks_among, fed_breaks_among, more_bytes_keep_entries}
@@ -27,7 +29,7 @@ use Rattle.nap_canon.specs.declared.conversion.ConvertFault.{ConvertFault}
 use Rattle.nap_canon.specs.declared.conversion.ConvertFault.TheVariants as fault
 use Rattle.nap_canon.specs.Concluding.{Concludes, answer_of}
 use Rattle.nap_canon.specs.Converting.{StopsAtOnce, count_of, IsFrontOf, RefusesBy, Converts}
-use Rattle.nap_canon.specs.Sinking.{Canonical, sending, shown, bytes_of, bytes_behind, Sends, Grows, Begun, Took, Broke}
+use Rattle.nap_canon.specs.Sinking.{Canonical, sending, shown, bytes_of, bytes_behind, Sends, Writes, Grows, Begun, Took, Broke}
 use Rattle.nap_canon.specs.SinkLaws.{grows_more}
 use Rattle.nap_canon.specs.Streams.{list_of}
 use Rattle.nap_canon.specs.Text.{header, begun_tail, written, tail_after, pieces, entry_pieces, text}
@@ -107,7 +109,8 @@ module _ {O : Type 0} (o : outlet.Ghosts O) (w : O) (s : Canonical O) (begins : 
     pub concluded : (t : Canonical O) (fed : Result (Unit {0}) FeedFault) (u : O) (answer : Result ℕ ConvertFault) → Leaves t fed → Keeps (o.taken t.outlet) (o.taken u) →
         (o.failed t.outlet ≡ true → o.failed u ≡ true) → Concludes t.written fed (o.failed u) answer →
         (q : List ℕ) × Appends (o.taken w) (o.taken u) q × Converts budget p seen q (o.failed u) answer × IsFrontOf (text (begun budget before).entries) q
-    concluded t fed u answer (q, out, right) keeps fails ends = (q, Appends-kept _ _ _ q out.grows.taken keeps, at (o.failed u) refl ends, out.written)
+        × Writes (sending o w 0) (shown o t)
+    concluded t fed u answer (q, out, right) keeps fails ends = (q, Appends-kept _ _ _ q out.grows.taken keeps, at (o.failed u) refl ends, out.written, out.grows.writes)
       where
         works_on : (b : Bool) → o.failed t.outlet ≡ b → o.failed u ≡ false → b ≡ false
         works_on false is whole = refl
@@ -158,9 +161,14 @@ module _ {O : Type 0} (o : outlet.Ghosts O) (w : O) (s : Canonical O) (begins : 
     -- Reading broke: memory was wanting, or a write failed.
     module _ (g : Ghosts (Canonical O)) (took_is : (t : Canonical O) (d : List Entry) → g.took s d t → Took o s d t)
         (broke_is : (t : Canonical O) (d : List Entry) (e : Entry) → g.broke s d e t → Broke o s d e t) (failed_is : g.failed s ≡ o.failed s.outlet)
-        (t : Canonical O) (r : Refusal) (known : List Entry) (end : Outcome) (among : BreaksAmong g s budget p known end t r) (none_failed : NoneFailed seen)
+        (wants_none : (d : List Entry) → g.wants s d → ⊥) (t : Canonical O) (r : Refusal) (known : List Entry) (end : Outcome) (among : BreaksAmong g s budget p known end t r) (none_failed : NoneFailed seen)
         (first : IsFrontOf (begun budget before).entries known) (in_whole : IsFrontOf end.entries (list_of budget p))
         (left : (q : List ℕ) → IsFrontOf q (text end.entries) → IsReadWhole seen p ⊎ IsFrontOf q (text (begun budget p).entries)) where
+      -- the sink wants no memory
+      own : LacksWithin budget p r.place ⊎ WantsSome g s end.entries → LacksWithin budget p r.place
+      own (inl reader) = reader
+      own (inr (some, rest, parts, wants)) = absurd (wants_none some wants)
+
       lacks : cause_of r.fault ≡ memory → TookFront g s known among.from.more t memory → Leaves t (Err (feed_fault.Refused r))
       lacks is (taken, rest, parts, took) =
           let d = known ++ taken in
@@ -170,7 +178,7 @@ module _ {O : Type 0} (o : outlet.Ghosts O) (w : O) (s : Canonical O) (begins : 
           (front_trans (begun budget before).entries known d first (taken, refl)) (λ count. (
             count,
             subst (RefusesBy budget p seen (text d) r) (sym is)
-                (record { none_failed = none_failed; place = among.place; taken = d; front = d_whole; text = refl }),
+                (record { none_failed = none_failed; place = own (among.wants is); taken = d; front = d_whole; text = refl }),
           ))
 
       breaks : TookFront g s known among.from.more t device → Leaves t (Err (feed_fault.Refused r))
@@ -201,6 +209,25 @@ module _ {O : Type 0} (o : outlet.Ghosts O) (w : O) (s : Canonical O) (begins : 
       pub leaves_broken : cause_of r.fault ≢ stream → Leaves t (Err (feed_fault.Refused r))
       leaves_broken broke = at (cause_of r.fault) refl broke among.from.part
 
+-- An output that was written to the end is flushed once, where no write failed.
+
+module _ {O : Type 0} (o : outlet.Ghosts O) (law : (x : O) → o.write_failed x ≡ true → o.failed x ≡ true) (w : O) (works : o.failed w ≡ false) where
+  unfailed : o.write_failed w ≡ false
+  unfailed = by_flag (o.write_failed w) refl
+    where
+      by_flag : (b : Bool) → o.write_failed w ≡ b → o.write_failed w ≡ false
+      by_flag true h = absurd (false≢true (sym works ∙ law w h))
+      by_flag false h = h
+
+  pub flushed_once : (t : Canonical O) (u : O) → Writes (sending o w 0) (shown o t) → o.flushes u ≡ flushed (o.failed t.outlet) (o.flushes t.outlet) →
+      o.write_failed u ≡ o.write_failed t.outlet → FlushedOnce o w u
+  flushed_once t u wrote flushes kept =
+      let failed : o.failed t.outlet ≡ wrote.fails = wrote.failed ∙ ap (λ (b : Bool). b || wrote.fails) works in
+      let write_failed : o.write_failed t.outlet ≡ wrote.fails = wrote.write_failed ∙ ap (λ (b : Bool). b || wrote.fails) unfailed in
+      flushes
+      ∙ ap (λ (b : Bool). flushed b (o.flushes t.outlet)) (failed ∙ sym (kept ∙ write_failed))
+      ∙ ap (flushed (o.write_failed u)) wrote.flushes
+
 -- What a reader shows.
 
 module _ {S : Type 0} {g : Ghosts S} (reader : Reader S g) (s : S) (p : List ℕ) (h : Stands reader s p) where
@@ -221,12 +248,13 @@ means_refused budget p r is = ap (ended_by (begun budget p) (length p)) is
 
 module _ {O : Type 0} (o : outlet.Ghosts O) (w : O) (s : Canonical O) (begins : Begun o w s) (g : Ghosts (Canonical O))
     (took_is : (t : Canonical O) (d : List Entry) → g.took s d t → Took o s d t)
-    (broke_is : (t : Canonical O) (d : List Entry) (e : Entry) → g.broke s d e t → Broke o s d e t) (failed_is : g.failed s ≡ o.failed s.outlet) where
+    (broke_is : (t : Canonical O) (d : List Entry) (e : Entry) → g.broke s d e t → Broke o s d e t) (failed_is : g.failed s ≡ o.failed s.outlet)
+    (wants_none : (d : List Entry) → g.wants s d → ⊥) where
   -- the header was not written
   pub header_fails : {I : Type 0} (i : inlet.Ghosts I) (input : I) (reader : Reader (Canonical O) g) → Stands reader s [] → refusal_of reader ≡ None → o.failed s.outlet ≡ true →
       (u : O) (answer : Result ℕ ConvertFault) → Keeps (o.taken s.outlet) (o.taken u) → o.failed u ≡ true → Concludes s.written (Ok tt) (o.failed u) answer →
       (q : List ℕ) × Appends (o.taken w) (o.taken u) q × Converts (budget_of reader) [] (reading i input input) q (o.failed u) answer
-      × StopsAtOnce i (budget_of reader) [] input input q
+      × StopsAtOnce i (budget_of reader) [] input input q × Writes (sending o w 0) (shown o s)
   header_fails i input reader h none fails u answer keeps failed ends =
       let sent : Sends (sending o w 0) header true (shown o s) = subst (λ (broke : Bool). Sends (sending o w 0) header broke (shown o s)) fails begins.begins in
       let q = take sent.part header in
@@ -258,6 +286,7 @@ module _ {O : Type 0} (o : outlet.Ghosts O) (w : O) (s : Canonical O) (begins : 
           };
           written = λ some. absurd (omega (arith, some));
         },
+        sent.grows.writes,
       )
 
   module _ (works : o.failed s.outlet ≡ false) {I : Type 0} (i : inlet.Ghosts I) (initial final : I) (old new : Reader (Canonical O) g) (p : List ℕ) (same : budget_of new ≡ budget_of old) where
@@ -284,7 +313,7 @@ module _ {O : Type 0} (o : outlet.Ghosts O) (w : O) (s : Canonical O) (begins : 
             let (n, within, stops) = h.stops in
             let among = fed_breaks_among g s budget h.last.before h.last.last n (sink_of new) (left_of new) r within broke stops in
             let here = subst (λ (bytes : List ℕ). BreaksAmong g s budget bytes (begun budget h.last.before).entries (begun budget bytes) (sink_of new) r) (sym h.last.parts) among in
-            leaves_broken o w s begins works budget p (reading i initial final) h.last.before (first_of h.last) g took_is broke_is failed_is (sink_of new) r
+            leaves_broken o w s begins works budget p (reading i initial final) h.last.before (first_of h.last) g took_is broke_is failed_is wants_none (sink_of new) r
             (begun budget h.last.before).entries (begun budget p) here h.ends.0 (front_refl (begun budget h.last.before).entries) (begun_comes_first budget p)
             (λ q front. inr front) broke
 
@@ -318,7 +347,7 @@ module _ {O : Type 0} (o : outlet.Ghosts O) (w : O) (s : Canonical O) (begins : 
           broken other =
               let budget = budget_of old in
               let among = end_breaks_among g s budget p t r known.refusal (subst (λ (b : ℕ). BreaksInRun g s b p t r) same (broke other)) in
-              leaves_broken o w s begins works budget p (reading i initial final) h.last.before (first_of h.last) g took_is broke_is failed_is t r (begun budget p).entries
+              leaves_broken o w s begins works budget p (reading i initial final) h.last.before (first_of h.last) g took_is broke_is failed_is wants_none t r (begun budget p).entries
               (means budget p) among h.ends.0.none_failed (first_of h.last) (front_refl (list_of budget p)) (λ q front. inl h.ends.0) other
 
           at : (cause : Cause) → cause_of r.fault ≡ cause → Ends h.last t (Err (feed_fault.Refused r))
@@ -333,10 +362,12 @@ module _ {O : Type 0} (o : outlet.Ghosts O) (w : O) (s : Canonical O) (begins : 
     pub finished : (last : LastRead i (budget_of old) p initial final) (t : Canonical O) (fed : Result (Unit {0}) FeedFault) (u : O) (answer : Result ℕ ConvertFault) (budget : ℕ) →
         budget_of old ≡ budget → Ends last t fed → Keeps (o.taken t.outlet) (o.taken u) → (o.failed t.outlet ≡ true → o.failed u ≡ true) → Concludes t.written fed (o.failed u) answer →
         (q : List ℕ) × Appends (o.taken w) (o.taken u) q × Converts budget p (reading i initial final) q (o.failed u) answer × StopsAtOnce i budget p initial final q
+        × Writes (sending o w 0) (shown o t)
     finished last t fed u answer budget is leaves keeps fails ends =
         let k = concluded o w s begins works (budget_of old) p (reading i initial final) last.before (first_of last) t fed u answer leaves keeps fails ends in (
           k.0,
           k.1,
           subst (λ (b : ℕ). Converts b p (reading i initial final) k.0 (o.failed u) answer) is k.2,
           subst (λ (b : ℕ). StopsAtOnce i b p initial final k.0) is (record { last = last; written = λ _. k.3 }),
+          k.4,
         )

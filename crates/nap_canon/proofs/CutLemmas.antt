@@ -12,7 +12,7 @@ use Rattle.nap_canon.specs.SinkLaws.{sends_more, sends_cut}
 in_parts : (bytes : List ℕ) (n : ℕ) → n < length bytes → (take n bytes ++ slice_index bytes n ∷ []) ++ drop (n + 1) bytes ≡ bytes
 in_parts bytes n less = ap (λ (front : List ℕ). front ++ drop (n + 1) bytes) (sym (take_more bytes n 0 less)) ∙ take-append-drop (n + 1) bytes
 
-pub or_true : (b : Bool) → (b || true) ≡ true
+or_true : (b : Bool) → (b || true) ≡ true
 or_true true = refl
 or_true false = refl
 
@@ -23,8 +23,18 @@ appends_none (Some xs) None kept = absurd kept
 appends_none (Some xs) (Some ys) kept = kept ∙ sym (append-nil xs)
 
 -- none of a byte was taken
-pub none_taken : {O : Type 0} (o : outlet.Ghosts O) (t u : O) (n : ℕ) (byte : ℕ) → Keeps (o.taken t) (o.taken u) → o.failed u ≡ true → TakesPart (sending o t n) (byte ∷ []) (sending o u n)
-none_taken o t u n byte kept failed = record { part = 0; less = omega arith; grows = record { taken = appends_none (o.taken t) (o.taken u) kept; count = omega arith }; failed = failed }
+pub none_taken : {O : Type 0} (o : outlet.Ghosts O) (t u : O) (n : ℕ) (byte : ℕ) → Keeps (o.taken t) (o.taken u) → o.failed u ≡ (o.failed t || true) →
+    o.write_failed u ≡ (o.write_failed t || true) → o.flushes u ≡ o.flushes t → TakesPart (sending o t n) (byte ∷ []) (sending o u n)
+none_taken o t u n byte kept failed write_failed flushes = record {
+  part = 0;
+  less = omega arith;
+  grows = record {
+    taken = appends_none (o.taken t) (o.taken u) kept;
+    count = omega arith;
+    writes = record { fails = true; failed = failed; write_failed = write_failed; flushes = flushes };
+  };
+  failed = failed ∙ or_true (o.failed t);
+}
 
 -- a failure behind so many bytes is one amid them all
 pub cut_sends : {S : Type 0} (view : S → Sending) (s t : S) (bytes : List ℕ) (n : ℕ) → CutAfter (λ x bytes broke y. Sends (view x) bytes broke (view y)) s bytes n t →

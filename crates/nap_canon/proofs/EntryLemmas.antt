@@ -21,7 +21,7 @@ use Rattle.nap_list.specs.declared.entry.Entry.{Entry}
 use Rattle.nap_list.specs.declared.entry.Entry.TheVariants as entries
 use Rattle.nap_list.specs.declared.state.Drawing.{Drawing}
 use Rattle.nap_list.specs.declared.state.State.{State}
-use Rattle.nap_list.specs.declared.points.TheConstants.{SHAPE_POINTS}
+use Rattle.nap_list.specs.Limits.{points_limit}
 use Rattle.nap_list.specs.Entry.{held, ink_values, hand_values, colour_alone, pen_alone}
 use Rattle.nap_list.specs.Range.{IsAddress, InRange, PenInRange, ColourInRange, InkInRange, HandInRange, AreaInRange}
 use Rattle.nap_list.specs.Known.{is_known}
@@ -31,7 +31,7 @@ use Rattle.nap_draw.specs.declared.work.Work.{Work}
 use Rattle.nap_draw.specs.Geometry.{arc_points, poly_points}
 use Rattle.nap_draw.specs.Rule as rule
 use Rattle.nap_draw.specs.Rule.{Drawn}
-use Rattle.nap_reader.specs.Stream.{run_limit}
+use Rattle.nap_draw.specs.Limits.{run_limit}
 use Rattle.nap_canon.specs.Text.{tail_after}
 use Rattle.nap_canon.specs.declared.form.Form.{Form}
 use Rattle.nap_canon.specs.declared.form.Form.TheVariants as forms
@@ -104,7 +104,7 @@ opcode_draws budget gl saved s e byte bytes size op named operands few by =
     (opcode_acts budget gl (held_work saved s e) byte bytes op (entry_drawn saved s e) named operands.carriers (omega (arith, operands.size_is, few)) by)
 
 arc_acts : (budget : ℕ) (gl : GSet) (saved : OperandLengths) (s : State) (filled : Bool) (p q r : Coordinates) (rs : List Coordinates) (ink : Ink) →
-    All IsInSquare (p ∷ q ∷ r ∷ rs) → length (p ∷ q ∷ r ∷ rs) ≤ SHAPE_POINTS →
+    All IsInSquare (p ∷ q ∷ r ∷ rs) → length (p ∷ q ∷ r ∷ rs) ≤ points_limit →
     Acts budget gl (work_at saved (holding s (entries.Arc filled (p ∷ q ∷ r ∷ rs) ink))) (spelled forms.Two (taking s.drawing (ink_values ink)) (entries.Arc filled (p ∷ q ∷ r ∷ rs) ink))
     (entries.Arc filled (p ∷ q ∷ r ∷ rs) ink ∷ []) (work_at saved (after s (entries.Arc filled (p ∷ q ∷ r ∷ rs) ink)))
 arc_acts budget gl saved s false p q r rs ink all few =
@@ -123,7 +123,7 @@ arc_acts budget gl saved s true p q r rs ink all few =
     (rules.shape_rule saved (holding s e) (rule.arc_on true) arc_points p q (r ∷ rs) first others (omega (arith, few)) (rules.arc_leads p q r rs))
 
 poly_acts : (budget : ℕ) (gl : GSet) (saved : OperandLengths) (s : State) (filled : Bool) (p q : Coordinates) (qs : List Coordinates) (ink : Ink) →
-    All IsInSquare (p ∷ q ∷ qs) → length (p ∷ q ∷ qs) ≤ SHAPE_POINTS →
+    All IsInSquare (p ∷ q ∷ qs) → length (p ∷ q ∷ qs) ≤ points_limit →
     Acts budget gl (work_at saved (holding s (entries.Poly filled (p ∷ q ∷ qs) ink))) (spelled forms.Two (taking s.drawing (ink_values ink)) (entries.Poly filled (p ∷ q ∷ qs) ink))
     (entries.Poly filled (p ∷ q ∷ qs) ink ∷ []) (work_at saved (after s (entries.Poly filled (p ∷ q ∷ qs) ink)))
 poly_acts budget gl saved s false p q qs ink all few =

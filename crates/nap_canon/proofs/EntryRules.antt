@@ -16,7 +16,7 @@ use Rattle.nap_list.specs.declared.entry.Entry.{Entry}
 use Rattle.nap_list.specs.declared.entry.Entry.TheVariants as entries
 use Rattle.nap_list.specs.declared.state.Drawing.{Drawing}
 use Rattle.nap_list.specs.declared.state.State.{State}
-use Rattle.nap_list.specs.declared.points.TheConstants.{SHAPE_POINTS}
+use Rattle.nap_list.specs.Limits.{steps_limit}
 use Rattle.nap_list.specs.Range.{IsAddress}
 use Rattle.nap_list.specs.Known.{is_known, setting}
 use Rattle.nap_list.specs.State.{walk, with_colour}
@@ -86,18 +86,18 @@ unfolding steps_from
 length-steps p [] = refl
 length-steps p (q ∷ qs) = ap suc (length-steps q qs)
 
-few_steps : (n : ℕ) → n ≤ SHAPE_POINTS - 1 → nat_lt (SHAPE_POINTS - 1) n ≡ false
+few_steps : (n : ℕ) → n ≤ steps_limit → nat_lt steps_limit n ≡ false
 few_steps n few = grind (arith, nat_tests)
 
 -- an arc or a polygon
 pub shape_rule : (saved : OperandLengths) (s : State) (entry : Drawing → List Coordinates → Entry) (points : Coordinates → List Displacement → Option (List Coordinates))
-    (p q : Coordinates) (qs : List Coordinates) → IsInSquare p → All IsInSquare (q ∷ qs) → length (q ∷ qs) ≤ SHAPE_POINTS - 1 →
+    (p q : Coordinates) (qs : List Coordinates) → IsInSquare p → All IsInSquare (q ∷ qs) → length (q ∷ qs) ≤ steps_limit →
     ((ms : List Displacement) → reached p ms ≡ Some (q ∷ qs) → points p ms ≡ Some (p ∷ q ∷ qs)) →
     shape_from_point (work_at saved s) (words_of (shape_bytes (p ∷ q ∷ qs))) entry points ≡ Ok (drawn (work_at saved s) (entry s.drawing (p ∷ q ∷ qs) ∷ []))
 unfolding steps_from
 shape_rule saved s entry points p q qs inside all few lead =
     let ms : List Displacement = steps_from p (q ∷ qs) in
-    let some : nat_lt (SHAPE_POINTS - 1) (length ms) ≡ false = few_steps (length ms) (omega (arith, few, length-steps p (q ∷ qs))) in
+    let some : nat_lt steps_limit (length ms) ≡ false = few_steps (length ms) (omega (arith, few, length-steps p (q ∷ qs))) in
     let there : points p ms ≡ Some (p ∷ q ∷ qs) = lead ms (steps_lead p (q ∷ qs) inside all) in
     rw (shape_read p (q ∷ qs) inside all, some, point_there p inside, there) refl
 

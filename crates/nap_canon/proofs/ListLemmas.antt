@@ -11,7 +11,8 @@ use Rattle.nap_list.specs.Entry.{held}
 use Rattle.nap_list.specs.Range.{InRange, AllInRange}
 use Rattle.nap_list.specs.State.{start, taking, after, walk, Fits, AllFit, Legal}
 use Rattle.nap_draw.specs.Rule.{start_domain, start_work}
-use Rattle.nap_reader.specs.Stream.{Placed, Machine, start_machine, run_limit, placed_from, means}
+use Rattle.nap_draw.specs.Limits.{run_limit}
+use Rattle.nap_reader.specs.Stream.{Placed, Machine, start_machine, placed_from, means}
 use Rattle.nap_canon.specs.declared.command.Command.{Command}
 use Rattle.nap_canon.specs.declared.command.Command.TheVariants as commands
 use Rattle.nap_canon.specs.declared.form.Form.{Form}

@@ -15,7 +15,8 @@ use Rattle.nap_list.specs.declared.entry.Entry.{Entry}
 use Rattle.nap_list.specs.State.{walk}
 use Rattle.nap_draw.specs.declared.work.Work.{Work}
 use Rattle.nap_draw.specs.Rule.{Drawn, rule, drawn}
-use Rattle.nap_reader.specs.Stream.{Placed, Machine, is_operand_byte, run_limit, placed_from}
+use Rattle.nap_draw.specs.Limits.{run_limit}
+use Rattle.nap_reader.specs.Stream.{Placed, Machine, is_operand_byte, placed_from}
 use Rattle.nap_canon.specs.Spelling.{Piece, opcode, group, primary, control}
 use Rattle.nap_canon.specs.declared.tail.Tail.{Tail}
 use Rattle.nap_canon.specs.declared.tail.Tail.TheVariants.{Apart}

@@ -6,7 +6,8 @@ use Rattle.nap_codes.specs.declared.opcode.Opcode.{Opcode}
 use Rattle.nap_codes.specs.Front as codes
 use Rattle.nap_reader.specs.Bodies.{between}
 use Rattle.nap_reader.specs.Laws.{IsRun}
-use Rattle.nap_reader.specs.Stream.{Placed, Machine, bytes_of, words_of, run_limit, placed_from}
+use Rattle.nap_draw.specs.Limits.{run_limit}
+use Rattle.nap_reader.specs.Stream.{Placed, Machine, bytes_of, words_of, placed_from}
 
 -- bytes with their places
 

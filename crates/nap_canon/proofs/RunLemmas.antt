@@ -14,7 +14,8 @@ use Rattle.nap_draw.specs.declared.work.Work.{Work}
 use Rattle.nap_draw.specs.Joining.{CanJoin, IsWhole}
 use Rattle.nap_draw.specs.Rule.{Drawn, rule}
 use Rattle.nap_draw.proofs.PublicLaws.{runs_join}
-use Rattle.nap_reader.specs.Stream.{run_limit, placed_from}
+use Rattle.nap_draw.specs.Limits.{run_limit}
+use Rattle.nap_reader.specs.Stream.{placed_from}
 use Rattle.nap_canon.specs.declared.tail.Tail.{Tail}
 use Rattle.nap_canon.specs.declared.tail.Tail.TheVariants.{Apart, InRun}
 use Rattle.nap_canon.specs.Spelling.{Piece, group}

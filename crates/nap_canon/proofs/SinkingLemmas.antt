@@ -21,12 +21,13 @@ counted_on n count k small is = omega arith
 -- one write takes a part of the rest
 pub takes_more : {O : Type 0} (o : outlet.Ghosts O) (s : Sending) (t u : O) (n k i count : ℕ) (xs : List ℕ) → TakesAll s (take i xs) (sending o t n) →
     count ≤ length (drop i xs) → Appends (o.taken t) (o.taken u) (take count (drop i xs)) → o.failed u ≡ (o.failed t || false) →
-    n ≤ 2 ^ 64 - 1 → k ≡ min (n + count) (2 ^ 64 - 1) → TakesAll s (take (i + count) xs) (sending o u k)
-takes_more o s t u n k i count xs so_far few appended failed small counted =
+    o.write_failed u ≡ (o.write_failed t || false) → o.flushes u ≡ o.flushes t → n ≤ 2 ^ 64 - 1 → k ≡ min (n + count) (2 ^ 64 - 1) → TakesAll s (take (i + count) xs) (sending o u k)
+takes_more o s t u n k i count xs so_far few appended failed write_failed flushes small counted =
     let piece : List ℕ = take count (drop i xs) in
     let more : Grows (sending o t n) piece (sending o u k) = record {
       taken = appended;
       count = counted_on n count k small counted ∙ ap (λ (l : ℕ). n + min l (2 ^ 64 - 1 - n)) (sym (length-take-le count (drop i xs) few));
+      writes = record { fails = false; failed = failed; write_failed = write_failed; flushes = flushes };
     } in
     record {
       grows = subst (λ (bytes : List ℕ). Grows s bytes (sending o u k)) (sym (take-add i count xs)) (grows_more s (sending o t n) (sending o u k) (take i xs) piece so_far.grows more);

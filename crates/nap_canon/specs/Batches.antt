@@ -24,7 +24,7 @@ use Rattle.nap_canon.specs.Text.{is_joined, entry_pieces}
 
 -- a canonical sink, as any sink shows
 abbrev pub canon_shows : {O : Type 0} → outlet.Ghosts O → SinkShows (Canonical O)
-canon_shows o = shows (λ s. s.state) (λ s. false) (λ s. o.failed s.outlet) (Took o) (Broke o)
+canon_shows o = shows (λ s. s.state) (λ s d. ⊥) (λ s. o.failed s.outlet) (Took o) (Broke o)
 
 -- the colour stands: a direct one is that of mode 0 too
 abbrev pub ColourStands : Drawing → Type 0

@@ -4,7 +4,7 @@ use Rattle.nap_list.specs.declared.device.Inlet as inlet
 use Rattle.nap_list.specs.declared.entry.Entry.{Entry}
 use Rattle.nap_list.specs.Reading.{Reading, NoneFailed, IsCutOff, IsReadWhole}
 use Rattle.nap_reader.specs.declared.fault.Refusal.{Refusal}
-use Rattle.nap_reader.specs.Breaking.{cause_of, BreaksWithin}
+use Rattle.nap_reader.specs.Breaking.{cause_of, LacksWithin}
 use Rattle.nap_reader.specs.Feeding.{LastRead}
 use Rattle.nap_reader.specs.Stream.{begun, means}
 use Rattle.nap_canon.specs.declared.conversion.ConvertFault.{ConvertFault}
@@ -35,10 +35,10 @@ pub record RefusesStream (budget : ℕ) (p : List ℕ) (seen : Reading) (q : Lis
   pub text : q ≡ text (list_of budget p)
   pub left : IsReadWhole seen p ⊎ ((begun budget p).refusal ≡ Some r)
 
--- There was no memory, where there can be none, and q is the text of a front of the entries.
+-- There was no memory, where the reader itself can lack it, and q is the text of a front of the entries.
 pub record LacksMemory (budget : ℕ) (p : List ℕ) (seen : Reading) (q : List ℕ) (r : Refusal) : Type 0 where
   pub none_failed : NoneFailed seen
-  pub place : BreaksWithin budget p r.place
+  pub place : LacksWithin budget p r.place
   pub taken : List Entry
   pub front : IsFrontOf taken (list_of budget p)
   pub text : q ≡ text taken

@@ -5,7 +5,7 @@ use Rattle.nap_list.specs.declared.entry.Entry.{Entry}
 use Rattle.nap_list.specs.declared.state.State.{State}
 use Rattle.nap_list.specs.Entry.{held}
 use Rattle.nap_list.specs.State.{start, taking, after}
-use Rattle.nap_reader.specs.Stream.{run_limit}
+use Rattle.nap_draw.specs.Limits.{run_limit}
 use Rattle.nap_canon.specs.declared.form.Form.{Form}
 use Rattle.nap_canon.specs.declared.form.Form.TheVariants as forms
 use Rattle.nap_canon.specs.declared.tail.Run.{Run}

@@ -57,6 +57,7 @@ impl<O: Outlet + Drop> CanonSink<O> {
         ensures took { OnOk result (Took O.Outlet self.old (entry.now ∷ []) self.new) }
         ensures after { OnOk result (self.new.state ≡ after self.old.state entry.now) }
         ensures memory { IsErrOf result SinkFault.Memory → ⊥ }
+        ensures refuses { O.failed self.old.outlet ≡ true → IsErrOf result SinkFault.Write }
         ensures write { IsErrOf result SinkFault.Write → O.failed self.new.outlet ≡ true }
         ensures only_write { O.failed self.new.outlet ≡ true → IsErrOf result SinkFault.Write }
         ensures state { IsErrOf result SinkFault.Write → self.new.state ≡ self.old.state }
@@ -100,7 +101,7 @@ impl<O: Outlet + Drop> CanonSink<O> {
 impl<O: Outlet + Drop> Sink for CanonSink<O> {
     ghost state = { λ s. s.state };
 
-    ghost grows = { λ s. false };
+    ghost wants = { λ s d. ⊥ };
 
     ghost failed = { λ s. O.failed s.outlet };
 
@@ -167,9 +168,11 @@ impl<O: Outlet + Drop> Sink for CanonSink<O> {
         }
     }
 
-    ghost took_none = { λ s. took_none O.Outlet s };
+    ghost took_none = { λ s. took_none _ s };
 
-    ghost took_more = { λ s t u d e. took_more O.Outlet s t u d e };
+    ghost took_more = { λ s t u d e. took_more _ s t u d e };
 
-    ghost took_broke = { λ s t u d e x. took_broke O.Outlet s t u d e x };
+    ghost wants_more = { λ s t d e f a b. absurd b };
+
+    ghost took_broke = { λ s t u d e x. took_broke _ s t u d e x };
 }

@@ -1,7 +1,8 @@
 //! Converts a stream into its canonical one as it is read.
 ghost use Rattle.std.specs.Prelude.{◌≡◌, ◌+◌, ◌^◌, ◌<◌, ◌≤◌, ℕ, List, true, false};
 ghost use Rattle.std.specs.Io.KnownBytes.{Appends, Consumes, Keeps};
-ghost use Rattle.nap_list.specs.declared.device.TheConstants.{READS};
+ghost use Rattle.nap_list.specs.Flushing.{FlushedOnce, flushed};
+ghost use Rattle.nap_list.specs.Limits.{reads_limit};
 ghost use Rattle.nap_list.specs.Reading.{reading};
 ghost use Rattle.nap_canon.specs.Converting.{Converts, StopsAtOnce};
 ghost use Rattle.nap_canon.specs.Concluding.{Concludes};
@@ -48,6 +49,8 @@ fn conclude<O: Outlet + Drop>(
     ensures taken { Keeps (O.taken sink.outlet) (O.taken result.0) }
     ensures failed { O.failed sink.outlet ≡ true → O.failed result.0 ≡ true }
     ensures sent { O.failed result.0 ≡ false → O.sent result.0 ≡ true }
+    ensures flushes { O.flushes result.0 ≡ flushed (O.failed sink.outlet) (O.flushes sink.outlet) }
+    ensures write_failed { O.write_failed result.0 ≡ O.write_failed sink.outlet }
     ensures answer { Concludes sink.written fed (O.failed result.0) result.1 }
 {
     let written = sink.written();
@@ -74,12 +77,13 @@ pub fn convert<I: Inlet, O: Outlet + Drop>(
 ) -> (O, Result<u64, ConvertFault>)
     requires calls { I.calls input.old < 2 ^ 63 }
     requires works { O.failed output ≡ false }
-    ensures few { I.calls input.new ≤ I.calls input.old + READS }
+    ensures few { I.calls input.new ≤ I.calls input.old + reads_limit }
     ensures sent { O.failed result.0 ≡ false → O.sent result.0 ≡ true }
     ensures converts { let seen = reading I.Inlet input.old input.new in
         (p : List ℕ) × (q : List ℕ) × Consumes (I.left input.old) (I.left input.new) p × Appends (O.taken output) (O.taken result.0) q
         × Converts budget p seen q (O.failed result.0) result.1
-        × StopsAtOnce I.Inlet budget p input.old input.new q }
+        × StopsAtOnce I.Inlet budget p input.old input.new q
+        × FlushedOnce O.Outlet output result.0 }
 {
     let mut reader = Reader::new(alloc, budget, CanonSink::new(output));
     if reader.sink().failed() {

@@ -38,10 +38,9 @@ impl<O: Outlet + Drop> ByteSink for Output<O> {
         Ok(())
     }
 
-    ghost sent_none = { λ s. sends_none (sending O.Outlet s.outlet s.written) };
+    ghost sent_none = { λ s. sends_none _ };
 
-    ghost sent_more = { λ s t u a b broke. sends_more (sending O.Outlet s.outlet s.written) (sending O.Outlet t.outlet t.written)
-        (sending O.Outlet u.outlet u.written) a b broke };
+    ghost sent_more = { λ s t u a b broke. sends_more _ _ _ a b broke };
 
-    ghost sent_cut = { λ s t a b. sends_cut (sending O.Outlet s.outlet s.written) (sending O.Outlet t.outlet t.written) a b };
+    ghost sent_cut = { λ s t a b. sends_cut _ _ a b };
 }

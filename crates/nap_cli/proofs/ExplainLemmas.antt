@@ -5,7 +5,7 @@ use Rattle.clap.specs.declared.error.kind.ErrorKind.TheVariants as kind
 use Rattle.nap_command.specs.declared.failure.Failure.{Failure}
 use Rattle.nap_command.specs.declared.failure.Failure.TheVariants as failure
 use Rattle.nap_command.specs.Devices.{Takes}
-use Rattle.nap_cli.specs.Explaining.{Explains, Outputs, ShowsHelp, ShowsText, WantsMemory}
+use Rattle.nap_cli.specs.Explaining.{Explains, FlushesOnce, Outputs, ShowsHelp, ShowsText, WantsMemory}
 
 -- words of any kind, where memory is wanting
 
@@ -33,11 +33,11 @@ explains_help kind.DisplayVersion before after status n h = h
 explains_help _ before after status n h = absurd (n (λ e. let bad : ⊥ = cc in bad, λ e. let bad : ⊥ = cc in bad))
 
 -- help that the output didn't take
-pub shows_failing : (before after : Outputs) (text : List ℕ) (f : Failure) → Takes before.taken after.taken text (Err f) → after.failed ≡ (before.failed || true) →
+pub shows_failing : (before after : Outputs) (text : List ℕ) (f : Failure) → Takes before.taken after.taken text (Err f) → after.failed ≡ (before.failed || true) → FlushesOnce before after →
     ShowsText before after text (Err f)
-shows_failing before after text (failure.Write n) h e = (h, e ∙ or-true before.failed)
-shows_failing before after text failure.Excluded h e = absurd h
-shows_failing before after text failure.Read h e = absurd h
-shows_failing before after text failure.Hex h e = absurd h
-shows_failing before after text (failure.Refused r) h e = absurd h
-shows_failing before after text failure.Memory h e = absurd h
+shows_failing before after text (failure.Write n) h e once = (h, e ∙ or-true before.failed, once)
+shows_failing before after text failure.Excluded h e once = absurd h
+shows_failing before after text failure.Read h e once = absurd h
+shows_failing before after text failure.Hex h e once = absurd h
+shows_failing before after text (failure.Refused r) h e once = absurd h
+shows_failing before after text failure.Memory h e once = absurd h

@@ -2,7 +2,7 @@ use Rattle.std.proofs.Common.{◌≡◌, ◌≢◌, ◌≤◌, ◌<◌, ◌^◌,
 use Rattle.std.specs.Bool.{MatchBool}
 use Rattle.std.specs.Str.Parse.{IsNumeral, ParsesBool, ParsesUnsigned, digits_value, without_leading_plus}
 use Rattle.clap.specs.Words.{Text}
-use Rattle.nap_reader.specs.declared.budget.TheConstants.Budget.{MOST}
+use Rattle.nap_reader.specs.Budgets.{most_budget}
 use Rattle.nap_cli.specs.CommandLine.{IsBudget, flag_text}
 use Rattle.nap_cli.proofs.CommandLineLemmas.{none_or_some}
 
@@ -25,13 +25,13 @@ abbrev IsNumber : Text → ℕ → Type 0
 IsNumber t n = (IsNumeral 10 (without_leading_plus t) × (digits_value 10 (without_leading_plus t) < 2 ^ 32)) × (n ≡ digits_value 10 (without_leading_plus t))
 
 -- a number that was read is that of its digits
-pub number_read : (o : Option Text) (n : ℕ) → (o ≡ None → Some n ≡ None) → ((t : Text) → o ≡ Some t → IsNumber t n) → n ≤ MOST →
+pub number_read : (o : Option Text) (n : ℕ) → (o ≡ None → Some n ≡ None) → ((t : Text) → o ≡ Some t → IsNumber t n) → n ≤ most_budget →
     (t : Text) × (o ≡ Some t) × IsBudget t n
 number_read None n none value most = absurd (none_or_some n (sym (none refl)))
 number_read (Some t) n none value most = let h = value t refl in (t, refl, (h.0.0, sym h.1, most))
 
 -- a budget is the number that was read
-pub number_same : (o : Option Text) (m : ℕ) → ((t : Text) → o ≡ Some t → IsNumber t m) → (t : Text) (n : ℕ) → o ≡ Some t → IsBudget t n → m ≤ MOST
+pub number_same : (o : Option Text) (m : ℕ) → ((t : Text) → o ≡ Some t → IsNumber t m) → (t : Text) (n : ℕ) → o ≡ Some t → IsBudget t n → m ≤ most_budget
 number_same o m value t n is h = omega (arith, h.1, h.2, (value t is).1)
 
 flag_isnt : (b : Bool) → (flag_text b ≢ codes "true") × (flag_text b ≢ codes "false") → ⊥

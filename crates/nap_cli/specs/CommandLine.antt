@@ -5,11 +5,12 @@ use Rattle.clap.specs.declared.error.kind.ErrorKind.{ErrorKind}
 use Rattle.clap.specs.declared.error.kind.ErrorKind.TheVariants as kind
 use Rattle.clap.specs.declared.builder.ArgAction.TheVariants.{SetTrue}
 use Rattle.clap.specs.declared.builder.value_parser.ValueParser.TheVariants.{Signed}
-use Rattle.nap_reader.specs.declared.budget.TheConstants.Budget.{MOST, USUAL}
+use Rattle.nap_reader.specs.Budgets.{most_budget, usual_budget}
 use Rattle.nap_command.specs.declared.command.Action.{Action}
 use Rattle.nap_command.specs.declared.command.Action.TheVariants as action
 use Rattle.nap_command.specs.declared.command.Command.{Command}
 use Rattle.nap_command.specs.Devices.{Devices}
+use Rattle.nap_list.specs.declared.device.Inlet as inlet
 use Rattle.nap_command.specs.Commands.{Ran}
 use Rattle.nap_cli.specs.Explaining.{Explains, Unread, outputs_of}
 
@@ -24,7 +25,7 @@ abbrev pub budget_rule : Text → Rule
 budget_rule usual = record (new_rule (codes "budget")) {
   long = Some (codes "budget");
   value_names = 1;
-  parser = Some (Signed (pos 0) (pos MOST));
+  parser = Some (Signed (pos 0) (pos most_budget));
   defaults = usual ∷ [];
 }
 
@@ -53,7 +54,7 @@ command_line_by usual =
 
 -- the command line, with the usual budget where none is given
 abbrev pub command_line : App
-command_line = command_line_by (decimal USUAL)
+command_line = command_line_by (decimal usual_budget)
 
 abbrev pub action_name : Action → Text
 action_name action.List = codes "list"
@@ -68,7 +69,7 @@ flag_text false = codes "false"
 -- a text of decimal digits, behind a plus or not, that write this number of bytes, which is a budget
 abbrev pub IsBudget : Text → ℕ → Type 0
 IsBudget text n =
-    IsNumeral 10 (without_leading_plus text) × (digits_value 10 (without_leading_plus text) ≡ n) × (n ≤ MOST)
+    IsNumeral 10 (without_leading_plus text) × (digits_value 10 (without_leading_plus text) ≡ n) × (n ≤ most_budget)
 
 -- only `canon` has `--stream`
 abbrev pub ChoosesStream : Action → List Row → Bool → Type 0
@@ -95,9 +96,9 @@ abbrev pub IsFault : List Text → ErrorKind → Type 0
 IsFault words k =
     (k ≡ kind.OutOfMemory) ⊎ (IsAmong k (fault_of command_line words) ⊎ ((k ≡ kind.MissingSubcommand) × ((c : Command) → Says words c → ⊥)))
 
--- The program ran from the devices before to those after: the command that the words say; or none, and then nothing was
--- read, and what clap finds in the words was told.
-abbrev pub Answers : List Text → Devices → Devices → ℕ → Type 0
-Answers words before after status =
-    ((c : Command) × Says words c × Ran c before after status)
+-- The program ran on an input, from the devices before to those after: the command that the words say; or none, and then
+-- nothing was read, and what clap finds in the words was told.
+abbrev pub Answers : {I : Type 0} → inlet.Ghosts I → List Text → I → I → Devices → Devices → ℕ → Type 0
+Answers i words start end before after status =
+    ((c : Command) × Says words c × Ran i c start end before after status)
     ⊎ ((k : ErrorKind) × IsFault words k × Unread before after × Explains k (outputs_of before) (outputs_of after) status)

@@ -1,8 +1,9 @@
-use Rattle.std.specs.Prelude.{ℕ, ◌≡◌, ◌⊎◌, Bool, true, List, Option, Result, Ok, Err}
+use Rattle.std.specs.Prelude.{ℕ, ◌≡◌, ◌⊎◌, Bool, true, false, List, Option, Result, Ok, Err}
 use Rattle.std.specs.Io.KnownBytes.{Appends}
 use Rattle.clap.specs.declared.error.kind.ErrorKind.{ErrorKind}
 use Rattle.clap.specs.declared.error.kind.ErrorKind.TheVariants as kind
 use Rattle.nap_list.specs.declared.device.Outlet as outlet
+use Rattle.nap_list.specs.Flushing.{flushed}
 use Rattle.nap_command.specs.declared.answer.Verdict.{Verdict}
 use Rattle.nap_command.specs.declared.answer.Verdict.TheVariants as verdict
 use Rattle.nap_command.specs.declared.failure.Failure.{Failure}
@@ -11,11 +12,13 @@ use Rattle.nap_command.specs.Devices.{Devices, Takes}
 use Rattle.nap_command.specs.Commands.{Tells}
 
 -- What the two outputs of a command show: the bytes that they took, where they tell them; whether the one was flushed
--- behind its last write; and which of them failed.
+-- behind its last write, and how often it was flushed; which of them failed, and whether a write of the one did.
 pub record Outputs : Type 0 where
   pub taken : Option (List ℕ)
   pub sent : Bool
   pub failed : Bool
+  pub write_failed : Bool
+  pub flushes : ℕ
   pub told : Option (List ℕ)
   pub errors_failed : Bool
 
@@ -24,12 +27,22 @@ outputs o e output errors = record {
   taken = o.taken output;
   sent = o.sent output;
   failed = o.failed output;
+  write_failed = o.write_failed output;
+  flushes = o.flushes output;
   told = e.taken errors;
   errors_failed = e.failed errors;
 }
 
 abbrev pub outputs_of : Devices → Outputs
-outputs_of d = record { taken = d.taken; sent = d.sent; failed = d.output_failed; told = d.told; errors_failed = d.errors_failed }
+outputs_of d = record {
+  taken = d.taken;
+  sent = d.sent;
+  failed = d.output_failed;
+  write_failed = d.write_failed;
+  flushes = d.flushes;
+  told = d.told;
+  errors_failed = d.errors_failed;
+}
 
 -- the input is as it was
 pub record Unread (before after : Devices) : Type 0 where
@@ -42,12 +55,18 @@ pub record Unprinted (before after : Outputs) : Type 0 where
   pub taken : after.taken ≡ before.taken
   pub sent : after.sent ≡ before.sent
   pub failed : after.failed ≡ before.failed
+  pub write_failed : after.write_failed ≡ before.write_failed
+  pub flushes : after.flushes ≡ before.flushes
+
+-- the output was flushed once, where no write failed
+abbrev pub FlushesOnce : Outputs → Outputs → Type 0
+FlushesOnce before after = before.write_failed ≡ false → after.flushes ≡ flushed after.write_failed before.flushes
 
 -- The output took help, which has this text, and the command ended so: all was taken and sent on; or the output failed,
 -- and had taken the first bytes; or there was no memory for the text.
 abbrev pub ShowsText : Outputs → Outputs → List ℕ → Result Verdict Failure → Type 0
-ShowsText before after text (Ok verdict.Accepted) = Takes before.taken after.taken text (Ok tt) × (after.failed ≡ before.failed) × (after.sent ≡ true)
-ShowsText before after text (Err (failure.Write taken)) = Takes before.taken after.taken text (Err (failure.Write taken)) × (after.failed ≡ true)
+ShowsText before after text (Ok verdict.Accepted) = Takes before.taken after.taken text (Ok tt) × (after.failed ≡ before.failed) × (after.sent ≡ true) × FlushesOnce before after
+ShowsText before after text (Err (failure.Write taken)) = Takes before.taken after.taken text (Err (failure.Write taken)) × (after.failed ≡ true) × FlushesOnce before after
 ShowsText before after text (Err failure.Memory) = Unprinted before after
 ShowsText before after text _ = ⊥
 

@@ -48,7 +48,7 @@ pub fn run<I: Inlet, O: Outlet + Drop, E: Outlet>(
     requires calls { I.calls input.old < 2 ^ 63 }
     requires works { O.failed output ≡ false }
     ensures { let seen = devices I.Inlet O.Outlet E.Outlet in
-        Answers (map string_bytes words.now) (seen input.old output errors.old) (seen input.new result.0 errors.new) result.1 }
+        Answers I.Inlet (map string_bytes words.now) input.old input.new (seen input.old output errors.old) (seen input.new result.0 errors.new) result.1 }
 {
     match parse(alloc, words) {
         Ok(command) => execute(alloc, &command, input, output, errors),

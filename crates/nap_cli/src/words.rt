@@ -2,6 +2,7 @@
 ghost use Rattle.std.specs.Prelude.{◌≡◌, ◌≢◌, ◌⊎◌, Bool, false, IfErr, IfOk, MatchOption, decimal, map, string_bytes};
 ghost use Rattle.clap.specs.Words.{app_of, found_of, kind_of, rows_of};
 ghost use Rattle.clap.specs.declared.builder.command.Command.TheViews.{out-Command as fields_of};
+ghost use Rattle.nap_reader.specs.Budgets.{usual_budget};
 ghost use Rattle.nap_cli.specs.CommandLine.{Chooses, ChoosesStream, IsFault, Says, action_name, canon_app, command_app, command_line_by};
 
 use clap::error::ErrorKind;
@@ -82,7 +83,7 @@ struct BudgetTexts {
 
 impl BudgetTexts {
     fn new(alloc: Global) -> Result<BudgetTexts, AllocError>
-        ensures { IfOk result (λ texts. string_bytes texts.usual ≡ decimal Budget.USUAL) }
+        ensures { IfOk result (λ texts. string_bytes texts.usual ≡ decimal usual_budget) }
     {
         Ok(BudgetTexts {
             usual: Budget::USUAL.to_string(alloc)?,

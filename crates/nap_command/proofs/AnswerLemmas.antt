@@ -1,16 +1,17 @@
-use Rattle.std.proofs.Common.{ℕ, ◌≡◌, Bool, true, false, List, [], ◌++◌, Option, Some, Result, Ok, Err, refl, ap, sym, subst, ◌∙◌, arith}
+use Rattle.std.proofs.Common.{ℕ, ◌≡◌, ◌⊎◌, ◌+◌, ◌^◌, ◌≤◌, Bool, true, false, List, [], ◌++◌, length, Option, Some, Result, Ok, Err, refl, ap, sym, subst, ◌∙◌, inl, inr, length-append, arith}
 use Rattle.std.specs.Prelude.{MatchResult}
 use Rattle.std.specs.Io.KnownBytes.{Appends}
 use Rattle.nap_list.specs.declared.count_sink.CountSink.{CountSink}
 use Rattle.nap_list.specs.declared.device.Outlet as outlet
 use Rattle.nap_list.specs.declared.entry.Entry.{Entry}
 use Rattle.nap_list.specs.declared.sink.Sink.{Ghosts}
-use Rattle.nap_list.specs.Counting.{Counts}
+use Rattle.nap_list.specs.Counting.{Counts, Uncounted}
 use Rattle.nap_list.specs.Reading.{Reading, IsReadWhole}
 use Rattle.nap_reader.specs.declared.fault.Fault.{Fault}
 use Rattle.nap_reader.specs.declared.fault.Fault.TheVariants as fault
 use Rattle.nap_reader.specs.declared.fault.Refusal.{Refusal}
-use Rattle.nap_reader.specs.Breaking.{cause_of}
+use Rattle.nap_reader.specs.Breaking.{cause_of, LacksWithin}
+use Rattle.nap_reader.specs.Stream.{means}
 use Rattle.nap_canon.specs.Sinking.{Begun, Canonical, Took}
 use Rattle.nap_canon.specs.Streams.{list_of}
 use Rattle.nap_canon.specs.Text.{text}
@@ -23,19 +24,28 @@ use Rattle.nap_command.specs.declared.command.Action.TheVariants as action
 use Rattle.nap_command.specs.declared.command.Command.{Command}
 use Rattle.nap_command.specs.declared.failure.Failure.{Failure}
 use Rattle.nap_command.specs.declared.failure.Failure.TheVariants as failure
-use Rattle.nap_command.specs.Collecting.{Collects, IsRead, RefusedBy}
-use Rattle.nap_command.specs.Commands.{Denies, Fails, Finds, IsRefusal, PrintsBy, PrintsCount, canon_text, count_line, refusal_of_text}
+use Rattle.nap_command.specs.Collecting.{Collects, IsRead, LacksMemoryFor, RefusedBy}
+use Rattle.nap_command.specs.Commands.{Denies, Fails, Finds, IsRefusal, LacksToCount, PrintsBy, PrintsCount, canon_text, count_line, refusal_of_text}
 
 true_isnt : false ≡ true → ⊥
 true_isnt h = let bad : ⊥ = cc in bad
 
 -- A page was counted.
 module _ (g : Ghosts CountSink) (s : CountSink) (none : s.count ≡ 0) (took_is : (t : CountSink) (d : List Entry) → g.took s d t → Counts s d t)
-    (sound : (t : CountSink) → g.failed t ≡ false) (c : Command) (p : List ℕ) (check : c.action ≡ action.Check) where
-  refused : (f : Fault) (place : ℕ) → RefusedBy g c.budget p (record { fault = f; place = place }) (cause_of f) → IsRefusal c p (record { fault = f; place = place })
-  refused fault.Memory place h = record { refused = λ no. absurd (no refl); memory = λ _. h }
+    (wants_is : (d : List Entry) → g.wants s d → Uncounted s d) (sound : (t : CountSink) → g.failed t ≡ false) (c : Command) (p : List ℕ) (check : c.action ≡ action.Check) where
+  refused : (f : Fault) (place : ℕ) → RefusedBy g s c.budget p (record { fault = f; place = place }) (cause_of f) → IsRefusal c p (record { fault = f; place = place })
+  refused fault.Memory place h = record { refused = λ no. absurd (no refl); memory = λ _. h.0 }
   refused fault.Sink place (h, (t, failed)) = absurd (true_isnt (sym (sound t) ∙ failed))
   refused f place h = record { refused = λ _. h; memory = λ is. let bad : ⊥ = cc in absurd bad }
+
+  uncounted : (place : ℕ) → LacksMemoryFor g s c.budget p place → LacksWithin c.budget p place ⊎ (2 ^ 64 ≤ length (means c.budget p).entries)
+  uncounted place (inl own) = inl own
+  uncounted place (inr (first, rest, parts, wants)) = inr (let all = ap length parts in omega (arith, wants_is first wants, none, all, length-append first rest))
+
+  wanting : (f : Fault) (place : ℕ) → RefusedBy g s c.budget p (record { fault = f; place = place }) (cause_of f) → LacksToCount c p (record { fault = f; place = place })
+  wanting fault.Memory place h = λ _. uncounted place h.1
+  wanting fault.Sink place (h, (t, failed)) = absurd (true_isnt (sym (sound t) ∙ failed))
+  wanting f place h = λ is. let bad : ⊥ = cc in absurd bad
 
   counted : (found : Result CountSink Refusal) (q : List ℕ) (v : Verdict) → Collects g s c.budget p found → PrintsCount found q v → PrintsBy action.Check c p q v
   counted (Ok t) q verdict.Accepted h is = (
@@ -44,7 +54,13 @@ module _ (g : Ghosts CountSink) (s : CountSink) (none : s.count ≡ 0) (took_is 
   )
   counted (Ok t) q verdict.Refused h is = absurd is
   counted (Err r) q verdict.Accepted h is = absurd is
-  counted (Err r) q verdict.Refused h is = (r, refused r.fault r.place h, is)
+  counted (Err r) q verdict.Refused h is = (r, refused r.fault r.place h, wanting r.fault r.place h, is)
+
+  pub prints_count : (found : Result CountSink Refusal) (result : Result Printout Failure) → IsRead g s c.budget p found →
+      MatchResult result (λ a. PrintsCount found a.text.items a.verdict) (λ f. f ≡ failure.Memory) →
+      MatchResult result (λ a. PrintsBy action.Check c p a.text.items a.verdict) (Denies c p)
+  prints_count found (Ok a) h is = counted found a.text.items a.verdict h.collects is
+  prints_count found (Err f) h is = rw is tt
 
   -- and its bytes were read
   pub finds_count : (seen : Reading) (found : Result CountSink Refusal) (result : Result Printout Failure) → c.hex ≡ false → IsReadWhole seen p → IsRead g s c.budget p found →
@@ -64,9 +80,9 @@ module _ {O : Type 0} (o : outlet.Ghosts O) (w : O) (s : Canonical O) (begins : 
       subst (λ (a : Option (List ℕ)). Appends a (Some (items t.outlet)) (text d)) (tells w) (subst (λ (b : Option (List ℕ)). Appends (o.taken w) b (text d)) (tells t.outlet) taken) in
       told ∙ ap (λ (bytes : List ℕ). bytes ++ text d) empty
 
-  lacks : (f : Fault) (place : ℕ) → RefusedBy g c.budget p (record { fault = f; place = place }) (cause_of f) →
+  lacks : (f : Fault) (place : ℕ) → RefusedBy g s c.budget p (record { fault = f; place = place }) (cause_of f) →
       IsRefusal c p (refusal_of_text (record { fault = f; place = place }))
-  lacks fault.Memory place h = record { refused = λ no. absurd (no refl); memory = λ _. h }
+  lacks fault.Memory place h = record { refused = λ no. absurd (no refl); memory = λ _. h.0 }
   lacks fault.Sink place (h, (t, failed)) = record { refused = λ no. absurd (no refl); memory = λ _. h }
   lacks f place h = record { refused = λ _. h; memory = λ is. let bad : ⊥ = cc in absurd bad }
 

@@ -1,8 +1,9 @@
-use Rattle.std.proofs.Common.{◌≡◌, ◌∙◌, ◌||◌, Bool, false, ℕ, ◌+◌, ◌-◌, List, Option, take, drop, take-add, length, length-drop, arith, subst, sym}
+use Rattle.std.proofs.Common.{◌≡◌, ◌∙◌, ◌||◌, Bool, true, false, ℕ, ◌+◌, ◌-◌, ◌^◌, min, List, Option, take, drop, take-add, length, length-drop, arith, refl, ap, subst, sym}
 use Rattle.std.proofs.lemmas.List.{take_all}
 use Rattle.std.specs.Io.KnownBytes.{Appends}
-use Rattle.std.proofs.Math.Bool.{or-false}
+use Rattle.std.proofs.Math.Bool.{or-false, or-true}
 use Rattle.std.proofs.KnownBytes.{Appends-trans}
+use Rattle.nap_list.specs.Flushing.{flushed}
 
 -- what a write takes of the rest joins what was taken before it
 pub taken_more : (a b c : Option (List ℕ)) (i n : ℕ) (xs : List ℕ) → Appends a b (take i xs) → Appends b c (take n (drop i xs)) → Appends a c (take (i + n) xs)
@@ -11,6 +12,20 @@ taken_more a b c i n xs h k = subst (Appends a c) (sym (take-add i n xs)) (Appen
 -- the piece from i on is the rest
 pub rest_of : (i : ℕ) (xs : List ℕ) → take (length xs - i) (drop i xs) ≡ drop i xs
 rest_of i xs = take_all (length xs - i) (drop i xs) (omega (arith, length-drop i xs))
+
+-- an output that hasn't failed has no failed write
+pub none_written_amiss : (wrote failed : Bool) → (wrote ≡ true → failed ≡ true) → failed ≡ false → wrote ≡ false
+none_written_amiss false failed law works = refl
+none_written_amiss true failed law works = let bad = sym (law refl) ∙ works in cc
+
+-- a failed write, behind which nothing is flushed
+pub unflushed : (was now : Bool) (n m k : ℕ) → now ≡ (was || true) → k ≡ m → m ≡ n → k ≡ flushed now n
+unflushed was now n m k fails same kept = subst (λ (b : Bool). k ≡ flushed b n) (sym (fails ∙ or-true was)) (same ∙ kept)
+
+-- a flush behind writes that didn't fail
+pub flushed_behind : (first was now : Bool) (n m k : ℕ) → first ≡ false → was ≡ first → now ≡ was → k ≡ min (m + 1) (2 ^ 64 - 1) → m ≡ n → k ≡ flushed now n
+flushed_behind first was now n m k none before after more kept =
+    subst (λ (b : Bool). k ≡ flushed b n) (sym (after ∙ (before ∙ none))) (more ∙ ap (λ (i : ℕ). min (i + 1) (2 ^ 64 - 1)) kept)
 
 -- a call that doesn't fail leaves the flag
 pub flag_stays : (first before after : Bool) → before ≡ first → after ≡ (before || false) → after ≡ first

@@ -1,4 +1,4 @@
-use Rattle.std.specs.Prelude.{ℕ, ◌≡◌, ◌≢◌, ◌⊎◌, ◌==◌, ◌||◌, ◌+◌, ◌≤◌, not, Bool, true, false, List, [], ◌∷◌, ◌++◌, length, take, filter, codes, decimal, Some, Result, Ok, Err, IsErr}
+use Rattle.std.specs.Prelude.{ℕ, ◌≡◌, ◌≢◌, ◌⊎◌, ◌==◌, ◌||◌, ◌+◌, ◌^◌, ◌≤◌, not, Bool, true, false, List, [], ◌∷◌, ◌++◌, length, take, filter, codes, decimal, Some, Result, Ok, Err, IsErr}
 use Rattle.std.specs.Io.KnownBytes.{Appends, Consumes}
 use Rattle.hex.specs.Hex.{decode_of, encode_lower}
 use Rattle.nap_list.specs.declared.count_sink.CountSink.{CountSink}
@@ -6,17 +6,19 @@ use Rattle.nap_reader.specs.declared.fault.Fault.{Fault}
 use Rattle.nap_reader.specs.declared.fault.Fault.TheVariants as fault
 use Rattle.nap_reader.specs.declared.fault.Refusal.{Refusal}
 use Rattle.nap_reader.specs.Stream.{means}
-use Rattle.nap_reader.specs.Breaking.{BreaksWithin}
+use Rattle.nap_reader.specs.Breaking.{BreaksWithin, LacksWithin}
 use Rattle.nap_canon.specs.declared.conversion.ConvertFault.{ConvertFault}
 use Rattle.nap_canon.specs.declared.conversion.ConvertFault.TheVariants as convert_fault
-use Rattle.nap_canon.specs.Converting.{Converts}
+use Rattle.nap_canon.specs.Converting.{Converts, StopsAtOnce}
 use Rattle.nap_canon.specs.Streams.{IsAccepted, list_of, IsCanonicalOf}
 use Rattle.nap_command.specs.declared.answer.Verdict.{Verdict}
 use Rattle.nap_command.specs.declared.answer.Verdict.TheVariants as verdict
 use Rattle.nap_command.specs.declared.command.Action.{Action}
 use Rattle.nap_command.specs.declared.command.Action.TheVariants as action
 use Rattle.nap_command.specs.declared.command.Command.{Command}
-use Rattle.nap_list.specs.declared.device.TheConstants.{READS}
+use Rattle.nap_list.specs.Flushing.{flushed}
+use Rattle.nap_list.specs.Limits.{reads_limit}
+use Rattle.nap_list.specs.declared.device.Inlet as inlet
 use Rattle.nap_list.specs.Reading.{Reading, NoneFailed, IsCutOff, IsReadWhole}
 use Rattle.nap_command.specs.declared.failure.Failure.{Failure}
 use Rattle.nap_command.specs.declared.failure.Failure.TheVariants as failure
@@ -68,11 +70,15 @@ pub record IsRefusal (c : Command) (stream : List ℕ) (r : Refusal) : Type 0 wh
   pub refused : r.fault ≢ fault.Memory → (means c.budget stream).refusal ≡ Some r
   pub memory : r.fault ≡ fault.Memory → BreaksWithin c.budget stream r.place
 
+-- Where there is no memory for a count, the reader itself lacks it, or 64 bits can't hold the number of the entries.
+abbrev pub LacksToCount : Command → List ℕ → Refusal → Type 0
+LacksToCount c stream r = r.fault ≡ fault.Memory → LacksWithin c.budget stream r.place ⊎ (2 ^ 64 ≤ length (means c.budget stream).entries)
+
 -- what an action prints of a stream, with its verdict: only `check` prints a refusal
 abbrev pub PrintsBy : Action → Command → List ℕ → List ℕ → Verdict → Type 0
 PrintsBy action.List c stream q verdict.Accepted = IsAccepted c.budget stream × (q ≡ lines (list_of c.budget stream))
 PrintsBy action.Check c stream q verdict.Accepted = IsAccepted c.budget stream × (q ≡ count_line (length (list_of c.budget stream)))
-PrintsBy action.Check c stream q verdict.Refused = (r : Refusal) × IsRefusal c stream r × (q ≡ refusal_text r ++ 10 ∷ [])
+PrintsBy action.Check c stream q verdict.Refused = (r : Refusal) × IsRefusal c stream r × LacksToCount c stream r × (q ≡ refusal_text r ++ 10 ∷ [])
 PrintsBy action.Canon c stream q verdict.Accepted = (text : List ℕ) × IsCanonicalOf c.budget text stream × (q ≡ canon_text c.hex text)
 PrintsBy _ c stream q verdict.Refused = ⊥
 
@@ -157,6 +163,17 @@ EndsBy true true c p input q failed ended = EndsExcluded p input q failed ended
 abbrev pub Ends : Command → List ℕ → Reading → List ℕ → Bool → Result Verdict Failure → Type 0
 Ends c p input q failed ended = EndsBy c.stream c.hex c p input q failed ended
 
+-- A command that prints as it reads reads nothing behind a failed write or a refusal.
+abbrev pub StreamsAtOnce : {I : Type 0} → inlet.Ghosts I → Command → List ℕ → I → I → List ℕ → Type 0
+StreamsAtOnce i c p start end q = c.stream ≡ true → c.hex ≡ false → StopsAtOnce i c.budget p start end q
+
+-- how often an output was flushed, so often before, by a command with or without `--stream`, and with or without `--hex`:
+-- once, where no write failed; and not at all where both exclude each other
+abbrev pub flushed_by : Bool → Bool → Bool → ℕ → ℕ
+flushed_by false hex write_failed n = flushed write_failed n
+flushed_by true false write_failed n = flushed write_failed n
+flushed_by true true write_failed n = n
+
 -- what is told of how a command ended: that, or that there was no memory for the line of a failure
 abbrev pub IsToldAs : Result Verdict Failure → Result Verdict Failure → Type 0
 IsToldAs ended said = (said ≡ ended) ⊎ (IsErr ended × (said ≡ Err failure.Memory))
@@ -173,8 +190,9 @@ pub record Tells (e : List ℕ) (failed : Bool) (ended : Result Verdict Failure)
 abbrev pub SendsOn : Result Verdict Failure → Bool → Bool → Type 0
 SendsOn ended failed sent = failed ≡ false → (sent ≡ true) ⊎ (ended ≡ Err failure.Excluded)
 
--- A command ran from the devices before to those after, with this exit status: it read the bytes p, printed q and told e.
-pub record Ran (c : Command) (before after : Devices) (status : ℕ) : Type 0 where
+-- A command ran on an input, from the devices before to those after, with this exit status: it read the bytes p, printed q
+-- and told e.
+pub record Ran {I : Type 0} (i : inlet.Ghosts I) (c : Command) (start end : I) (before after : Devices) (status : ℕ) : Type 0 where
   pub p : List ℕ
   pub q : List ℕ
   pub e : List ℕ
@@ -182,7 +200,9 @@ pub record Ran (c : Command) (before after : Devices) (status : ℕ) : Type 0 wh
   pub read : Consumes before.left after.left p
   pub printed : Appends before.taken after.taken q
   pub told : Appends before.told after.told e
-  pub few : after.reads ≤ before.reads + READS
+  pub few : after.reads ≤ before.reads + reads_limit
   pub ends : Ends c p (reading_of before after) q after.output_failed ended
+  pub stops : StreamsAtOnce i c p start end q
   pub sends : SendsOn ended after.output_failed after.sent
+  pub flushes : after.flushes ≡ flushed_by c.stream c.hex after.write_failed before.flushes
   pub tells : Tells e after.errors_failed ended status

@@ -8,7 +8,7 @@ use Rattle.nap_command.specs.declared.failure.Failure.TheVariants as failure
 
 -- What the three devices of a command show: the bytes left in the input, those that the output took and those that
 -- standard error took, where they tell them; how often the input was read; whether the output was flushed behind its last
--- write; and which of them failed.
+-- write, and how often it was flushed; which of them failed, and whether a write of the output did.
 pub record Devices : Type 0 where
   pub left : Option (List ℕ)
   pub reads : ℕ
@@ -16,6 +16,8 @@ pub record Devices : Type 0 where
   pub taken : Option (List ℕ)
   pub sent : Bool
   pub output_failed : Bool
+  pub write_failed : Bool
+  pub flushes : ℕ
   pub told : Option (List ℕ)
   pub errors_failed : Bool
 
@@ -27,6 +29,8 @@ devices i o e input output errors = record {
   taken = o.taken output;
   sent = o.sent output;
   output_failed = o.failed output;
+  write_failed = o.write_failed output;
+  flushes = o.flushes output;
   told = e.taken errors;
   errors_failed = e.failed errors;
 }

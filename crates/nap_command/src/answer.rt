@@ -1,7 +1,7 @@
 //! What a command prints.
 ghost use Rattle.std.specs.Prelude.{◌≡◌, ◌+◌, ◌<◌, ◌≤◌, ◌^◌, ◌++◌, ◌∷◌, [], ℕ, List, true, false, Err, IfOk, length, MatchResult};
 ghost use Rattle.std.specs.Io.KnownBytes.{Consumes};
-ghost use Rattle.nap_list.specs.declared.device.TheConstants.{READS};
+ghost use Rattle.nap_list.specs.Limits.{reads_limit};
 ghost use Rattle.nap_list.specs.Reading.{reading};
 ghost use Rattle.nap_canon.specs.Sinking.{Begun};
 ghost use Rattle.nap_command.specs.Failures.{refusal_text, verdict_status};
@@ -201,7 +201,7 @@ pub fn answer_input<I: Inlet>(
 ) -> Result<Printout, Failure>
     requires calls { I.calls input.old < 2 ^ 63 }
     requires bytes { command.now.hex ≡ false }
-    ensures few { I.calls input.new ≤ I.calls input.old + READS }
+    ensures few { I.calls input.new ≤ I.calls input.old + reads_limit }
     ensures found { let seen = reading I.Inlet input.old input.new in
         (p : List ℕ) × Consumes (I.left input.old) (I.left input.new) p
         × MatchResult result (λ a. Finds command.now p seen a.text.items a.verdict) (Fails command.now p seen) }

@@ -2,7 +2,7 @@
 ghost use Rattle.std.specs.Prelude.{◌≡◌, ◌+◌, ◌-◌, ◌<◌, ◌≤◌, ◌^◌, ℕ, List, false, length};
 ghost use Rattle.std.specs.Io.KnownBytes.{Consumes};
 ghost use Rattle.nap_list.specs.State.{start};
-ghost use Rattle.nap_list.specs.declared.device.TheConstants.{READS};
+ghost use Rattle.nap_list.specs.Limits.{reads_limit};
 ghost use Rattle.nap_list.specs.Reading.{reading};
 ghost use Rattle.nap_command.specs.Collecting.{IsCollected, IsRead, IsReadOut};
 
@@ -44,7 +44,7 @@ pub fn read_input<I: Inlet, S: Sink + Drop>(
     requires calls { I.calls input.old < 2 ^ 63 }
     requires start { S.state sink ≡ start }
     requires works { S.failed sink ≡ false }
-    ensures few { I.calls input.new ≤ I.calls input.old + READS }
+    ensures few { I.calls input.new ≤ I.calls input.old + reads_limit }
     ensures collected { let seen = reading I.Inlet input.old input.new in
         (p : List ℕ) × Consumes (I.left input.old) (I.left input.new) p × IsCollected S.Sink sink budget p seen result }
 {

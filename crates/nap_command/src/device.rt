@@ -1,7 +1,8 @@
 //! Whole inputs and whole outputs.
-ghost use Rattle.std.specs.Prelude.{◌≡◌, ◌+◌, ◌^◌, ◌<◌, ◌≤◌, ◌||◌, ℕ, List, true, IfOk, is_err, length, MatchResult};
+ghost use Rattle.std.specs.Prelude.{◌≡◌, ◌+◌, ◌^◌, ◌<◌, ◌≤◌, ◌||◌, ℕ, List, true, false, IfOk, is_err, length, MatchResult};
 ghost use Rattle.std.specs.Io.KnownBytes.{Consumes};
-ghost use Rattle.nap_list.specs.declared.device.TheConstants.{READS};
+ghost use Rattle.nap_list.specs.Flushing.{FlushedOnce};
+ghost use Rattle.nap_list.specs.Limits.{reads_limit};
 ghost use Rattle.nap_list.specs.Reading.{IsReadWhole, reading};
 ghost use Rattle.nap_command.specs.Devices.{StopsReading, Takes};
 
@@ -18,7 +19,7 @@ pub fn read_whole<I: Inlet>(alloc: Global, input: &mut I) -> Result<Vec<u8>, Fai
     ensures read { let seen = reading I.Inlet input.old input.new in
         (p : List ℕ) × Consumes (I.left input.old) (I.left input.new) p
         × MatchResult result (λ bytes. (bytes.items ≡ p) × IsReadWhole seen p) (StopsReading seen p) }
-    ensures few { I.calls input.new ≤ I.calls input.old + READS }
+    ensures few { I.calls input.new ≤ I.calls input.old + reads_limit }
     ensures small { IfOk result (λ bytes. length bytes.items < 2 ^ 63) }
 {
     let mut bytes = Vec::new(alloc);
@@ -40,6 +41,7 @@ pub fn write_whole<O: Outlet>(output: &mut O, text: &[u8]) -> Result<(), Failure
     ensures takes { Takes (O.taken output.old) (O.taken output.new) text.now result }
     ensures failed { O.failed output.new ≡ (O.failed output.old || is_err result) }
     ensures sent { IfOk result (λ done. O.sent output.new ≡ true) }
+    ensures flushes { O.write_failed output.old ≡ false → FlushedOnce O.Outlet output.old output.new }
 {
     let mut taken = 0;
     while taken < text.len() {

@@ -1,10 +1,11 @@
 //! A command on its input and its outputs.
 ghost use Rattle.std.specs.Prelude.{◌≡◌, ◌+◌, ◌<◌, ◌≤◌, ◌^◌, ℕ, List, true, false, Err, MatchResult};
 ghost use Rattle.std.specs.Io.KnownBytes.{Appends, Consumes};
-ghost use Rattle.nap_list.specs.declared.device.TheConstants.{READS};
+ghost use Rattle.nap_list.specs.Flushing.{FlushedOnce};
+ghost use Rattle.nap_list.specs.Limits.{reads_limit};
 ghost use Rattle.nap_list.specs.Reading.{reading};
 ghost use Rattle.nap_command.specs.Devices.{devices};
-ghost use Rattle.nap_command.specs.Commands.{Ends, EndsWhole, Fails, Finds, Ran, SendsOn, Tells};
+ghost use Rattle.nap_command.specs.Commands.{Ends, EndsWhole, Fails, Finds, Ran, SendsOn, StreamsAtOnce, Tells, flushed_by};
 
 use crate::answer::{Printout, Verdict, answer_input, answer_text};
 use crate::command::Command;
@@ -34,7 +35,7 @@ pub fn tell<E: Outlet>(alloc: Global, failure: Failure, errors: &mut E) -> u8
 /// What a command prints of its input.
 fn find<I: Inlet>(alloc: Global, command: &Command, input: &mut I) -> Result<Printout, Failure>
     requires { I.calls input.old < 2 ^ 63 }
-    ensures few { I.calls input.new ≤ I.calls input.old + READS }
+    ensures few { I.calls input.new ≤ I.calls input.old + reads_limit }
     ensures found { let seen = reading I.Inlet input.old input.new in
         (p : List ℕ) × Consumes (I.left input.old) (I.left input.new) p
         × MatchResult result (λ a. Finds command.now p seen a.text.items a.verdict) (Fails command.now p seen) }
@@ -56,11 +57,12 @@ fn perform<I: Inlet, O: Outlet>(
 ) -> Result<Verdict, Failure>
     requires calls { I.calls input.old < 2 ^ 63 }
     requires works { O.failed output.old ≡ false }
-    ensures few { I.calls input.new ≤ I.calls input.old + READS }
+    ensures few { I.calls input.new ≤ I.calls input.old + reads_limit }
     ensures ends { let seen = reading I.Inlet input.old input.new in
         (p : List ℕ) × (q : List ℕ) × Consumes (I.left input.old) (I.left input.new) p × Appends (O.taken output.old) (O.taken output.new) q
         × EndsWhole command.now p seen q (O.failed output.new) result }
     ensures sends { O.failed output.new ≡ false → O.sent output.new ≡ true }
+    ensures flushes { FlushedOnce O.Outlet output.old output.new }
 {
     match find(alloc, command, input) {
         Ok(answer) => match write_whole(output, answer.text.as_slice()) {
@@ -84,11 +86,12 @@ fn stream<I: Inlet, O: Outlet + Drop>(
     requires streams { command.now.stream ≡ true }
     requires calls { I.calls input.old < 2 ^ 63 }
     requires works { O.failed output ≡ false }
-    ensures few { I.calls input.new ≤ I.calls input.old + READS }
+    ensures few { I.calls input.new ≤ I.calls input.old + reads_limit }
     ensures ends { let seen = reading I.Inlet input.old input.new in
         (p : List ℕ) × (q : List ℕ) × Consumes (I.left input.old) (I.left input.new) p × Appends (O.taken output) (O.taken result.0) q
-        × Ends command.now p seen q (O.failed result.0) result.1 }
+        × Ends command.now p seen q (O.failed result.0) result.1 × StreamsAtOnce I.Inlet command.now p input.old input.new q }
     ensures sends { SendsOn result.1 (O.failed result.0) (O.sent result.0) }
+    ensures flushes { O.flushes result.0 ≡ flushed_by command.now.stream command.now.hex (O.write_failed result.0) (O.flushes output) }
 {
     if command.hex {
         return (output, Err(Failure::Excluded));
@@ -112,11 +115,12 @@ fn act<I: Inlet, O: Outlet + Drop>(
 ) -> (O, Result<Verdict, Failure>)
     requires calls { I.calls input.old < 2 ^ 63 }
     requires works { O.failed output ≡ false }
-    ensures few { I.calls input.new ≤ I.calls input.old + READS }
+    ensures few { I.calls input.new ≤ I.calls input.old + reads_limit }
     ensures ends { let seen = reading I.Inlet input.old input.new in
         (p : List ℕ) × (q : List ℕ) × Consumes (I.left input.old) (I.left input.new) p × Appends (O.taken output) (O.taken result.0) q
-        × Ends command.now p seen q (O.failed result.0) result.1 }
+        × Ends command.now p seen q (O.failed result.0) result.1 × StreamsAtOnce I.Inlet command.now p input.old input.new q }
     ensures sends { SendsOn result.1 (O.failed result.0) (O.sent result.0) }
+    ensures flushes { O.flushes result.0 ≡ flushed_by command.now.stream command.now.hex (O.write_failed result.0) (O.flushes output) }
 {
     if command.stream {
         return stream(alloc, command, input, output);
@@ -137,7 +141,7 @@ pub fn execute<I: Inlet, O: Outlet + Drop, E: Outlet>(
     requires calls { I.calls input.old < 2 ^ 63 }
     requires works { O.failed output ≡ false }
     ensures { let seen = devices I.Inlet O.Outlet E.Outlet in
-        Ran command.now (seen input.old output errors.old) (seen input.new result.0 errors.new) result.1 }
+        Ran I.Inlet command.now input.old input.new (seen input.old output errors.old) (seen input.new result.0 errors.new) result.1 }
 {
     let (output, ended) = act(alloc, command, input, output);
     match ended {

@@ -91,7 +91,7 @@ module _ {S : Type 0} (g : Ghosts S) where
     refl,
     (d, is, inr put.0),
     λ e. (let bad : ⊥ = cc in absurd bad),
-    λ clear failed. let bad : ⊥ = cc ((put.2 refl).same failed) in absurd bad,
+    λ clear failed. let bad : ⊥ = cc ((put.2 refl).works, failed) in absurd bad,
   )
   does_stop clears by w s t d sink_faults.Write is put = (refl, (d, is, put.0), λ _. put.1 refl, λ clear failed. refl)
 
@@ -115,7 +115,7 @@ module _ {S : Type 0} (g : Ghosts S) where
   obeys_stop by w s t d e is some put = record { does = does_stop quiet by w s t d e is put; wants = wanting e put; gives = λ _. subst GivesSome (sym is) some }
     where
       wanting : (e : SinkFault) → Put {S = S} {A = Unit {0}} g d.entries s t (Err e) → IsErrOf {T = Unit {0}} (Err (fault_of e)) faults.Memory → WantsBy g by s t
-      wanting sink_faults.Memory put _ = subst (λ (by : Result Drawn DrawFault). WantsBy g by s t) (sym is) (record { grows = (put.2 refl).grows; stops = put.0 })
+      wanting sink_faults.Memory put _ = subst (λ (by : Result Drawn DrawFault). WantsBy g by s t) (sym is) (record { wants = (put.2 refl).wants; stops = put.0 })
       wanting sink_faults.Write put e = let bad : ⊥ = cc in absurd bad
 
   -- nothing is put

@@ -1,6 +1,6 @@
 use Rattle.std.proofs.Common.{◌-◌, ◌≡◌, ℕ, ◌+◌, ◌/◌, List, [], ◌∷◌, ◌++◌, map, Bool, true, false, cond, eqb, ltb, ◌<◌, ◌≤◌, length, arith, Option, Some, None, IsSome, Result, Ok, Err, refl, sym, subst, ap, ◌∙◌}
 use Rattle.std.specs.Option.{option_map, option_and_then, option_or}
-use Rattle.nap_list.specs.declared.points.TheConstants.{SHAPE_POINTS}
+use Rattle.nap_list.specs.Limits.{steps_limit}
 use Rattle.nap_values.specs.Coordinates.{Coordinates, Displacement, point_at}
 use Rattle.nap_codes.specs.declared.opcode.Opcode.{Opcode}
 use Rattle.nap_codes.specs.declared.opcode.Opcode.TheVariants as opcodes
@@ -156,11 +156,11 @@ some_fit work [] f each = fault_fits work faults.Missing
 some_fit work (x ∷ xs) f each = each (x ∷ xs) (omega arith)
 
 -- and one that isn't too long
-few_fit : (work : Work) (ms : List Displacement) (f : List Displacement → Result Drawn DrawFault) → (length ms ≤ SHAPE_POINTS - 1 → IsFitting work (f ms)) →
+few_fit : (work : Work) (ms : List Displacement) (f : List Displacement → Result Drawn DrawFault) → (length ms ≤ steps_limit → IsFitting work (f ms)) →
     IsFitting work (and_then (few_of ms) f)
-few_fit work ms f each = at (ltb (SHAPE_POINTS - 1) (length ms)) refl
+few_fit work ms f each = at (ltb steps_limit (length ms)) refl
   where
-    at : (b : Bool) → ltb (SHAPE_POINTS - 1) (length ms) ≡ b → IsFitting work (and_then (cond b (Err faults.ManyPoints) (Ok ms)) f)
+    at : (b : Bool) → ltb steps_limit (length ms) ≡ b → IsFitting work (and_then (cond b (Err faults.ManyPoints) (Ok ms)) f)
     at true many = fault_fits work faults.ManyPoints
     at false few = each (grind (arith, nat_tests))
 
@@ -172,8 +172,8 @@ one_fits work entry (Some x) fits = fits x refl
 
 module _ (work : Work) (entry : Drawing → List Coordinates → Entry) (points : Coordinates → List Displacement → Option (List Coordinates))
     (holds : (d : Drawing) (ps : List Coordinates) → Holds (held (entry d ps)) d) (comes : (d : Drawing) (ps : List Coordinates) (t : State) → Comes t (entry d ps))
-    (made : (d : Drawing) (p : Coordinates) (ms : List Displacement) (ps : List Coordinates) → 0 < length ms → length ms ≤ SHAPE_POINTS - 1 → points p ms ≡ Some ps → WellMade (entry d ps)) where
-  shape_fits : (p : Coordinates) (ms : List Displacement) → 0 < length ms → length ms ≤ SHAPE_POINTS - 1 → IsFitting work (draws_one work entry (points p ms))
+    (made : (d : Drawing) (p : Coordinates) (ms : List Displacement) (ps : List Coordinates) → 0 < length ms → length ms ≤ steps_limit → points p ms ≡ Some ps → WellMade (entry d ps)) where
+  shape_fits : (p : Coordinates) (ms : List Displacement) → 0 < length ms → length ms ≤ steps_limit → IsFitting work (draws_one work entry (points p ms))
   shape_fits p ms some few =
       let d = work.state.drawing in
       one_fits work entry (points p ms) (λ ps is. single_fits work (entry d ps) (holds d ps) (made d p ms ps some few is) (comes d ps work.state))
@@ -182,7 +182,7 @@ module _ (work : Work) (entry : Drawing → List Coordinates → Entry) (points 
   shape_pen_fits run =
       some_fit work (moves_of work run) _ (λ ms some. few_fit work ms _ (λ few. each_fits work (pen_point work.state.drawing.pen) _ (λ p. shape_fits p ms some few)))
 
-  point_fits : (o : Option Coordinates) (ms : List Displacement) → 0 < length ms → length ms ≤ SHAPE_POINTS - 1 →
+  point_fits : (o : Option Coordinates) (ms : List Displacement) → 0 < length ms → length ms ≤ steps_limit →
       IsFitting work (draws_one work entry (option_and_then (λ p. points p ms) o))
   point_fits None ms some few = fault_fits work faults.Outside
   point_fits (Some p) ms some few = shape_fits p ms some few

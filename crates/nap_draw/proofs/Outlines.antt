@@ -17,7 +17,7 @@ use Rattle.nap_draw.specs.declared.shapes.Shape.TheVariants as outlines
 use Rattle.nap_draw.specs.declared.work.Work.{Work}
 use Rattle.nap_draw.specs.Rule.{moves_of, shape_from_pen, and_then, some_of, few_of, first_of, pen_point, draws_one}
 use Rattle.nap_draw.specs.Doing.{pen_moved, outline, shape_end, shape_on, shape_points}
-use Rattle.nap_list.specs.declared.points.TheConstants.{SHAPE_POINTS}
+use Rattle.nap_list.specs.Limits.{points_limit, steps_limit}
 use Rattle.nap_draw.specs.Geometry.{onward, reached, round, arc_points, poly_points}
 
 -- all of it is there
@@ -40,21 +40,21 @@ mapped_some : {A B : Type 0} (f : A → B) (o : Option A) (y : B) → option_map
 mapped_some f None y is = let bad : ⊥ = cc in absurd bad
 mapped_some f (Some x) y is = (x, refl, cc)
 
-pub poly_made : (p : Coordinates) (ms : List Displacement) (ps : List Coordinates) → 0 < length ms → length ms ≤ SHAPE_POINTS - 1 → poly_points p ms ≡ Some ps →
-    (2 ≤ length ps) × (length ps ≤ SHAPE_POINTS)
+pub poly_made : (p : Coordinates) (ms : List Displacement) (ps : List Coordinates) → 0 < length ms → length ms ≤ steps_limit → poly_points p ms ≡ Some ps →
+    (2 ≤ length ps) × (length ps ≤ points_limit)
 poly_made p ms ps some few is =
     let made = mapped_some (λ qs. p ∷ qs) (reached p ms) ps is in
     let n = reached_length p ms made.0 made.1 in
     let l = ap length made.2 in
     (omega (arith, n, l), omega (arith, n, l))
 
-pub round_length : (p : Coordinates) (qs : List Coordinates) → 0 < length qs → length qs ≤ SHAPE_POINTS - 1 → (3 ≤ length (round (p ∷ qs))) × (length (round (p ∷ qs)) ≤ SHAPE_POINTS)
+pub round_length : (p : Coordinates) (qs : List Coordinates) → 0 < length qs → length qs ≤ steps_limit → (3 ≤ length (round (p ∷ qs))) × (length (round (p ∷ qs)) ≤ points_limit)
 round_length p [] some few = absurd (omega arith)
 round_length p (q ∷ []) some few = (omega arith, omega arith)
 round_length p (q ∷ r ∷ qs) some few = (omega arith, omega arith)
 
-pub arc_made : (p : Coordinates) (ms : List Displacement) (ps : List Coordinates) → 0 < length ms → length ms ≤ SHAPE_POINTS - 1 → arc_points p ms ≡ Some ps →
-    (3 ≤ length ps) × (length ps ≤ SHAPE_POINTS)
+pub arc_made : (p : Coordinates) (ms : List Displacement) (ps : List Coordinates) → 0 < length ms → length ms ≤ steps_limit → arc_points p ms ≡ Some ps →
+    (3 ≤ length ps) × (length ps ≤ points_limit)
 arc_made p ms ps some few is =
     let made = mapped_some (λ qs. round (p ∷ qs)) (reached p ms) ps is in
     let n = reached_length p ms made.0 made.1 in
@@ -67,7 +67,7 @@ holds_shape outlines.Arc filled d ps = record { pen = tt; pel = refl; colour = r
 holds_shape outlines.Poly filled d ps = record { pen = tt; pel = refl; colour = refl; texture = refl; text = tt }
 
 -- a shape through these points is well made
-pub shape_made : (shape : Shape) (filled : Bool) (d : Drawing) (p : Coordinates) (ps : List Coordinates) → 0 < length ps → length ps ≤ SHAPE_POINTS - 1 →
+pub shape_made : (shape : Shape) (filled : Bool) (d : Drawing) (p : Coordinates) (ps : List Coordinates) → 0 < length ps → length ps ≤ steps_limit →
     WellMade (shape_on shape filled d (outline shape (p ∷ ps)))
 shape_made outlines.Arc filled d p ps some few = round_length p ps some few
 shape_made outlines.Poly filled d p ps some few = (omega arith, omega arith)
@@ -101,11 +101,11 @@ shape_leaves outlines.Arc filled s p ps mode =
     round_there p (q ∷ r ∷ rs) = last_there p (q ∷ r ∷ rs) s.drawing p
 shape_leaves outlines.Poly filled s p ps mode = left_by s (shape_on outlines.Poly filled s.drawing (p ∷ ps)) (holds_shape outlines.Poly filled s.drawing (p ∷ ps)) mode
 
-few_ok : (ms : List Displacement) → length ms ≤ SHAPE_POINTS - 1 → few_of ms ≡ Ok ms
-few_ok ms few = let test : ltb (SHAPE_POINTS - 1) (length ms) ≡ false = grind (arith, nat_tests) in rw test refl
+few_ok : (ms : List Displacement) → length ms ≤ steps_limit → few_of ms ≡ Ok ms
+few_ok ms few = let test : ltb steps_limit (length ms) ≡ false = grind (arith, nat_tests) in rw test refl
 
-few_not : (ms : List Displacement) → SHAPE_POINTS - 1 < length ms → few_of ms ≡ Err ManyPoints
-few_not ms many = let test : ltb (SHAPE_POINTS - 1) (length ms) ≡ true = grind (arith, nat_tests) in rw test refl
+few_not : (ms : List Displacement) → steps_limit < length ms → few_of ms ≡ Err ManyPoints
+few_not ms many = let test : ltb steps_limit (length ms) ≡ true = grind (arith, nat_tests) in rw test refl
 
 -- the points of a shape, by those that follow the first
 
@@ -123,18 +123,18 @@ module _ (work : Work) (entry : Drawing → List Coordinates → Entry) (points 
       at [] none = refl
       at (m ∷ ms) none = absurd (omega arith)
 
-  pub pen_many : (run : List ℕ) → SHAPE_POINTS - 1 < length (moves_of work run) → shape_from_pen work run entry points ≡ Err ManyPoints
+  pub pen_many : (run : List ℕ) → steps_limit < length (moves_of work run) → shape_from_pen work run entry points ≡ Err ManyPoints
   pen_many run many = at (moves_of work run) many
     where
-      at : (ms : List Displacement) → SHAPE_POINTS - 1 < length ms → and_then (some_of ms) (λ ms. and_then (few_of ms) (λ ms. and_then (pen_point work.state.drawing.pen) (λ p. draws_one work entry (points p ms)))) ≡ Err ManyPoints
+      at : (ms : List Displacement) → steps_limit < length ms → and_then (some_of ms) (λ ms. and_then (few_of ms) (λ ms. and_then (pen_point work.state.drawing.pen) (λ p. draws_one work entry (points p ms)))) ≡ Err ManyPoints
       at [] many = absurd (omega arith)
       at (m ∷ ms) many = ap (λ ms. and_then ms (λ ms. and_then (pen_point work.state.drawing.pen) (λ p. draws_one work entry (points p ms)))) (few_not (m ∷ ms) many)
 
-  pub pen_few : (run : List ℕ) → 0 < length (moves_of work run) → length (moves_of work run) ≤ SHAPE_POINTS - 1 →
+  pub pen_few : (run : List ℕ) → 0 < length (moves_of work run) → length (moves_of work run) ≤ steps_limit →
       shape_from_pen work run entry points ≡ and_then (pen_point work.state.drawing.pen) (λ p. draws_one work entry (points p (moves_of work run)))
   pen_few run some few = at (moves_of work run) some few
     where
-      at : (ms : List Displacement) → 0 < length ms → length ms ≤ SHAPE_POINTS - 1 →
+      at : (ms : List Displacement) → 0 < length ms → length ms ≤ steps_limit →
           and_then (some_of ms) (λ ms. and_then (few_of ms) (λ ms. and_then (pen_point work.state.drawing.pen) (λ p. draws_one work entry (points p ms))))
           ≡ and_then (pen_point work.state.drawing.pen) (λ p. draws_one work entry (points p ms))
       at [] some few = absurd (omega arith)
@@ -148,14 +148,14 @@ module _ (work : Work) (entry : Drawing → List Coordinates → Entry) (points 
   point_missing (m ∷ []) few = refl
   point_missing (m ∷ n ∷ ms) few = absurd (omega arith)
 
-  pub point_many : (xs ms : List Displacement) (m : Displacement) → xs ≡ m ∷ ms → SHAPE_POINTS - 1 < length ms →
+  pub point_many : (xs ms : List Displacement) (m : Displacement) → xs ≡ m ∷ ms → steps_limit < length ms →
       and_then (first_of xs) (λ (m, ms). and_then (few_of ms) (λ ms. draws_one work entry (option_and_then (λ p. points p ms) (point_at m)))) ≡ Err ManyPoints
   point_many xs [] m is many = absurd (omega arith)
   point_many xs (n ∷ ms) m is many =
       ap (λ xs. and_then (first_of xs) (λ (m, ms). and_then (few_of ms) (λ ms. draws_one work entry (option_and_then (λ p. points p ms) (point_at m))))) is
       ∙ ap (λ ms. and_then ms (λ ms. draws_one work entry (option_and_then (λ p. points p ms) (point_at m)))) (few_not (n ∷ ms) many)
 
-  pub point_few : (xs ms : List Displacement) (m : Displacement) → xs ≡ m ∷ ms → 0 < length ms → length ms ≤ SHAPE_POINTS - 1 →
+  pub point_few : (xs ms : List Displacement) (m : Displacement) → xs ≡ m ∷ ms → 0 < length ms → length ms ≤ steps_limit →
       and_then (first_of xs) (λ (m, ms). and_then (few_of ms) (λ ms. draws_one work entry (option_and_then (λ p. points p ms) (point_at m)))) ≡
       draws_one work entry (option_and_then (λ p. points p ms) (point_at m))
   point_few xs [] m is some few = absurd (omega arith)

@@ -1,4 +1,4 @@
-use Rattle.std.specs.Prelude.{◌≡◌, ◌≢◌, Bool, true, List, [], Result, Ok, Err, IfOk}
+use Rattle.std.specs.Prelude.{◌≡◌, ◌≢◌, Bool, List, [], Result, Ok, Err, IfOk}
 use Rattle.nap_list.specs.declared.entry.Entry.{Entry}
 use Rattle.nap_list.specs.declared.sink.Sink.{Ghosts}
 use Rattle.nap_list.specs.Putting.{Stops}
@@ -20,9 +20,9 @@ Acts g clears by w v s t (Err fault) = (v ≡ w) × DrawsBy g.took g.broke g.fai
 abbrev pub told : Bool → Bool
 told clears = clears
 
--- there was no memory for one of these entries, in a sink that takes some
+-- there was no memory for one of these entries, where it may be wanting for them
 pub record WantsEntry {S : Type 0} (g : Ghosts S) (list : List Entry) (s t : S) : Type 0 where
-  pub grows : g.grows s ≡ true
+  pub wants : g.wants s list
   pub stops : Stops g.took s list t
 
 -- the same of the entries that a rule gives

@@ -8,3 +8,4 @@ pub mod Acts
 pub mod Doing
 pub mod Joining
 pub mod Laws
+pub mod Limits

@@ -18,7 +18,7 @@ use Rattle.nap_list.specs.declared.attribute.Area.TheVariants as areas
 use Rattle.nap_list.specs.declared.entry.Entry.{Entry}
 use Rattle.nap_list.specs.declared.entry.Entry.TheVariants as entries
 use Rattle.nap_list.specs.declared.state.Drawing.{Drawing}
-use Rattle.nap_list.specs.declared.points.TheConstants.{SHAPE_POINTS}
+use Rattle.nap_list.specs.Limits.{steps_limit}
 use Rattle.nap_list.specs.declared.state.State.{State}
 use Rattle.nap_list.specs.Known.{is_known, setting}
 use Rattle.nap_list.specs.Putting.{point_on}
@@ -144,7 +144,7 @@ first_of (x ∷ y ∷ ys) = Ok (x, y ∷ ys)
 
 -- at most as many displacements as lead on to all the points that a shape may have (our profile)
 abbrev pub few_of : List Displacement → Result (List Displacement) DrawFault
-few_of ms = if nat_lt (SHAPE_POINTS - 1) (length ms) then Err faults.ManyPoints else Ok ms
+few_of ms = if nat_lt steps_limit (length ms) then Err faults.ManyPoints else Ok ms
 
 -- a shape from the pen on
 abbrev pub shape_from_pen : Work → List ℕ → (Drawing → List Coordinates → Entry) → (Coordinates → List Displacement → Option (List Coordinates)) → Result Drawn DrawFault

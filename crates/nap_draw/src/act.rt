@@ -1,6 +1,7 @@
 //! An opcode acts on its whole run, as the PDI opcodes have it.
 ghost use Rattle.std.specs.Prelude.{◌≡◌, ◌≤◌, ◌≢◌, length, true, false, OnOk, IfOk, IfErr, IsErrOf};
 ghost use Rattle.nap_list.specs.Agreement.{StatesAgree};
+ghost use Rattle.nap_draw.specs.Limits.{run_limit};
 ghost use Rattle.nap_draw.specs.Rule.{rule, IsDrawn};
 ghost use Rattle.nap_draw.specs.Draws.{Draws};
 ghost use Rattle.nap_draw.specs.Acts.{Acts, told};
@@ -28,7 +29,7 @@ pub fn apply<S: Sink>(
     sink: &mut S,
 ) -> Result<Effects, DrawFault>
     requires agrees { StatesAgree work.now.state (S.state sink.old) }
-    requires few { length run.now ≤ RUN_LIMIT }
+    requires few { length run.now ≤ run_limit }
     requires drawn { IsDrawn op }
     ensures draws { Draws S.took S.broke S.failed (rule work.now op run.now) sink.old sink.new result }
     ensures agree { IfOk result (λ effects. StatesAgree effects.work.state (S.state sink.new)) }
@@ -54,7 +55,7 @@ impl Work {
         sink: &mut S,
     ) -> Result<bool, DrawFault>
         requires agrees { StatesAgree self.old.state (S.state sink.old) }
-        requires few { length run.now ≤ RUN_LIMIT }
+        requires few { length run.now ≤ run_limit }
         requires drawn { IsDrawn op }
         ensures acts { Acts S.Sink told (rule self.old op run.now) self.old self.new sink.old sink.new result }
         ensures failed { IsErrOf result DrawFault.Sink → S.failed sink.new ≡ true }

@@ -1,6 +1,9 @@
 //! Laws of the rules, over their definitions alone.
+ghost use Rattle.std.specs.Prelude.{◌≡◌};
 ghost use Rattle.nap_draw.specs.Laws.{RuleFits, CodeFits, DrawnValuesAreInRange, CodeValuesAreInRange, OpcodesAreDrawn, WholeOperandFirst, NoOperands};
 ghost use Rattle.nap_draw.specs.Joining.{RunsJoin};
+ghost use Rattle.nap_draw.specs.Limits.{run_limit};
+ghost use Rattle.nap_draw.specs.declared.act.TheConstants.{RUN_LIMIT};
 
 /// The entries of an opcode fit where the states agree, which they do again after it.
 pub fn rule_fits()
@@ -40,4 +43,9 @@ pub fn no_operands()
 /// An opcode with a run of whole operands, and the same opcode with one more run, do what it does with both runs as one.
 pub fn runs_join()
     ensures { RunsJoin }
+{}
+
+/// The limit is that of our profile: 16,384 operand bytes of one opcode.
+pub fn limits()
+    ensures { RUN_LIMIT ≡ run_limit }
 {}

@@ -1,6 +1,7 @@
 //! ARC and POLYGON, and their SET forms.
 ghost use Rattle.std.specs.Prelude.{◌≡◌, ◌-◌, ◌<◌, ◌≤◌, ◌∷◌, Some, length, OnOk, IfOk, slice_get};
 ghost use Rattle.nap_list.specs.Agreement.{StatesAgree};
+ghost use Rattle.nap_list.specs.Limits.{steps_limit};
 ghost use Rattle.nap_draw.specs.Geometry.{round};
 ghost use Rattle.nap_draw.specs.Rule.{draws_one, shape_from_pen, shape_from_point};
 ghost use Rattle.nap_draw.specs.Doing.{Does, quiet, outline, shape_end, shape_entry, shape_on, shape_points};
@@ -90,7 +91,7 @@ impl Work {
     ) -> Result<(), DrawFault>
         requires agrees { StatesAgree self.old.state (S.state sink.old) }
         requires some { 0 < length points.now }
-        requires few { length points.now ≤ SHAPE_POINTS - 1 }
+        requires few { length points.now ≤ steps_limit }
         ensures { Does S.Sink quiet (draws_one self.old (shape_on shape filled) (Some (outline shape (from ∷ points.now)))) self.old self.new sink.old sink.new result }
     {
         let outline = shape.outline(alloc, from, points)?;
@@ -130,7 +131,7 @@ impl Shape {
 
     /// The points of the shape that goes through these.
     fn outline(self, alloc: Global, from: Point, points: &[Point]) -> Result<Points, AllocError>
-        requires { length points.now ≤ SHAPE_POINTS - 1 }
+        requires { length points.now ≤ steps_limit }
         ensures { IfOk result (λ made. made ≡ outline self (from ∷ points.now)) }
     {
         let mut made = trace(alloc, from, points)?;
@@ -144,7 +145,7 @@ impl Shape {
 
 /// The point, and those that follow.
 fn trace(alloc: Global, from: Point, points: &[Point]) -> Result<Points, AllocError>
-    requires { length points.now ≤ SHAPE_POINTS - 1 }
+    requires { length points.now ≤ steps_limit }
     ensures { IfOk result (λ made. made ≡ from ∷ points.now) }
 {
     let mut made = Points::with_capacity(alloc, points.len() + 2)?;

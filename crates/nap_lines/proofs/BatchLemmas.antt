@@ -216,28 +216,32 @@ text_written set hand all others first n old mid new bytes room is one front end
 -- What a sink of lines answers, which took so many entries of a batch.
 
 abbrev pub lines_shows : SinkShows Listed
-lines_shows = shows (λ s. s.state) (λ s. true) (λ s. false) Lists (λ s d e t. ⊥)
+lines_shows = shows (λ s. s.state) (λ s d. Unit {0}) (λ s. false) Lists (λ s d e t. ⊥)
+
+-- the device of a sink of lines never fails
+never : {A : Type 0} → false ≡ true → A
+never failed = let bad : ⊥ = cc in absurd bad
 
 pub all_listed : (s t : Listed) (list : List Entry) (n : ℕ) → length list ≤ n → Lists s (take n list) t → Put {A = Unit {0}} lines_shows list s t (Ok tt)
 all_listed s t list n most took =
     let all : Lists s list t = subst (λ (l : List Entry). Lists s l t) (take_all n list most) took in
-    (all, all.state, λ _. refl)
+    (all, all.state, λ _. refl, never)
 
-pub some_listed : (s t : Listed) (list : List Entry) (n : ℕ) → n < length list → Lists s (take n list) t → StopsAfter Lists s list n t
+pub some_listed : (s t : Listed) (list : List Entry) (n : ℕ) → n < length list → Lists s (take n list) t → StopsAfter lines_shows s list n t
 some_listed s t list n less took = by (drop n list) (sym (take-append-drop n list))
   where
     size : length (take n list) ≡ n
     size = length-take-le n list (omega arith)
 
-    by : (rest : List Entry) → list ≡ take n list ++ rest → StopsAfter Lists s list n t
+    by : (rest : List Entry) → list ≡ take n list ++ rest → StopsAfter lines_shows s list n t
     by [] is = absurd (omega (arith, size, ap length is, length-append (take n list) []))
-    by (x ∷ rest) is = record { front = take n list; next = x; rest = rest; parts = is; count = size; taken = took }
+    by (x ∷ rest) is = record { front = take n list; next = x; rest = rest; parts = is; count = size; taken = took; wants = tt }
 
 pub batch_put : (s t : Listed) (list : List Entry) (n : ℕ) → n < length list → Lists s (take n list) t → Put {A = Unit {0}} lines_shows list s t (Err Memory)
 batch_put s t list n less took =
     let stop = some_listed s t list n less took in
-    ((stop.front, stop.next, stop.rest, stop.parts, stop.taken), λ write. let bad : ⊥ = cc in absurd bad, λ _. record { grows = refl; same = λ failed. let bad : ⊥ = cc in absurd bad })
+    ((stop.front, stop.next, stop.rest, stop.parts, stop.taken), λ write. let bad : ⊥ = cc in absurd bad, λ _. record { wants = tt; works = refl }, never)
 
 pub batch_put_up_to : (s t : Listed) (list : List Entry) (n : ℕ) → n < length list → Lists s (take n list) t → PutUpTo lines_shows list s t (Err (record { taken = n; fault = Memory }))
 batch_put_up_to s t list n less took =
-    (some_listed s t list n less took, λ write. let bad : ⊥ = cc in absurd bad, λ _. record { grows = refl; same = λ failed. let bad : ⊥ = cc in absurd bad })
+    (some_listed s t list n less took, λ write. let bad : ⊥ = cc in absurd bad, λ _. refl, never)

@@ -1,5 +1,5 @@
 //! A sink that makes the lines of its entries.
-ghost use Rattle.std.specs.Prelude.{◌≡◌, [], true, false};
+ghost use Rattle.std.specs.Prelude.{◌≡◌, [], false};
 ghost use Rattle.nap_list.specs.State.{start};
 ghost use Rattle.nap_lines.specs.Listing.{Lists, lists_more, lists_none};
 
@@ -53,7 +53,7 @@ impl LineSink {
 impl Sink for LineSink {
     ghost state = { λ s. s.state };
 
-    ghost grows = { λ s. true };
+    ghost wants = { λ s d. Unit {0} };
 
     ghost failed = { λ s. false };
 
@@ -100,6 +100,8 @@ impl Sink for LineSink {
     ghost took_none = { λ s. lists_none s };
 
     ghost took_more = { λ s t u d e a b. lists_more s t u d e a b };
+
+    ghost wants_more = { λ s t d e f a b. tt {0} };
 
     ghost took_broke = { λ s t u d e x a b. absurd b };
 }

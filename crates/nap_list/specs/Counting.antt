@@ -1,4 +1,4 @@
-use Rattle.std.proofs.Common.{ℕ, ◌≡◌, ◌+◌, List, [], ◌∷◌, ◌++◌, length, refl, ap, ◌∙◌, length-append, arith}
+use Rattle.std.proofs.Common.{ℕ, ◌≡◌, ◌+◌, ◌^◌, ◌≤◌, List, [], ◌∷◌, ◌++◌, length, refl, ap, ◌∙◌, length-append, arith}
 use Rattle.nap_list.specs.declared.count_sink.CountSink.{CountSink}
 use Rattle.nap_list.specs.declared.entry.Entry.{Entry}
 use Rattle.nap_list.specs.declared.state.State.{State}
@@ -8,6 +8,10 @@ use Rattle.nap_list.specs.State.{after, walk}
 pub record Counts (s : CountSink) (d : List Entry) (t : CountSink) : Type 0 where
   pub count : t.count ≡ s.count + length d
   pub state : t.state ≡ walk s.state d
+
+-- the count of these entries would pass the greatest of 64 bits
+abbrev pub Uncounted : CountSink → List Entry → Type 0
+Uncounted s d = 2 ^ 64 ≤ s.count + length d
 
 -- What the trait asks of it.
 
@@ -31,3 +35,10 @@ counts_more s t u d e first second = record {
   where
     more : (a b c i j k : ℕ) → c ≡ a + b → j ≡ i + a → k ≡ j + b → k ≡ i + c
     more a b c i j k all one two = omega arith
+
+pub uncounted_more : (s t : CountSink) (d e f : List Entry) → Counts s d t → Uncounted t e → Uncounted s (d ++ (e ++ f))
+uncounted_more s t d e f first wants =
+    more (length d) (length e) (length f) (length (e ++ f)) (length (d ++ (e ++ f))) (2 ^ 64) s.count t.count (length-append e f) (length-append d (e ++ f)) first.count wants
+  where
+    more : (a b c i j m k n : ℕ) → i ≡ b + c → j ≡ a + i → n ≡ k + a → m ≤ n + b → m ≤ k + j
+    more a b c i j m k n both all one two = omega arith

@@ -6,8 +6,11 @@ pub record Reading (R : Type 0) : Type 0 where
   pub calls : ℕ
   pub failed : Bool
 
--- a writer of bytes, whether a write or a flush has failed, and whether it was flushed behind its last write
+-- a writer of bytes, whether a write and whether a flush has failed, whether it was flushed behind its last write, and how
+-- often it was flushed
 pub record Writing (W : Type 0) : Type 0 where
   pub writer : W
-  pub failed : Bool
+  pub write_failed : Bool
+  pub flush_failed : Bool
   pub sent : Bool
+  pub flushes : ℕ

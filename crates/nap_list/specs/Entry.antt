@@ -2,7 +2,6 @@ use Rattle.std.specs.Prelude.{ℕ, ◌≤◌, length, Some, None, ⊤}
 use Rattle.nap_values.specs.Coordinates.{Displacement}
 use Rattle.nap_codes.specs.declared.control.TextStep.{TextStep}
 use Rattle.nap_codes.specs.declared.control.TextStep.TheVariants.{Aps}
-use Rattle.nap_list.specs.declared.points.TheConstants.{SHAPE_POINTS}
 use Rattle.nap_list.specs.declared.attribute.Pen.{Pen}
 use Rattle.nap_list.specs.declared.attribute.Colour.{Colour}
 use Rattle.nap_list.specs.declared.attribute.Ink.{Ink}
@@ -10,6 +9,7 @@ use Rattle.nap_list.specs.declared.attribute.Hand.{Hand}
 use Rattle.nap_list.specs.declared.attribute.Held.{Held}
 use Rattle.nap_list.specs.declared.entry.Entry.{Entry}
 use Rattle.nap_list.specs.declared.entry.Entry.TheVariants as entries
+use Rattle.nap_list.specs.Limits.{points_limit}
 
 -- no value
 abbrev pub nothing : Held
@@ -64,8 +64,8 @@ StepMade _ = ⊤
 
 -- the number of points and the codes are in range
 abbrev pub WellMade : Entry → Type 0
-WellMade (entries.Arc filled points ink) = (3 ≤ length points) × (length points ≤ SHAPE_POINTS)
-WellMade (entries.Poly filled points ink) = (2 ≤ length points) × (length points ≤ SHAPE_POINTS)
+WellMade (entries.Arc filled points ink) = (3 ≤ length points) × (length points ≤ points_limit)
+WellMade (entries.Poly filled points ink) = (2 ≤ length points) × (length points ≤ points_limit)
 WellMade (entries.Char set code hand) = IsCode code
 WellMade (entries.TextMove step hand) = StepMade step
 WellMade (entries.GlyphStart code) = IsCode code

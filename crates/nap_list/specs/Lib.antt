@@ -1,7 +1,9 @@
 pub mod Agreement
 pub mod Device
 pub mod Entry
+pub mod Flushing
 pub mod Laws
+pub mod Limits
 pub mod Propositions
 pub mod Range
 pub mod Reading

@@ -17,13 +17,13 @@ use Rattle.nap_list.specs.State.{walk, ink_of}
 -- what a sink shows: the members of the trait, apart from it
 pub record SinkShows (S : Type 0) : Type 1 where
   pub state : S → State
-  pub grows : S → Bool
+  pub wants : S → List Entry → Type 0
   pub failed : S → Bool
   pub took : S → List Entry → S → Type 0
   pub broke : S → List Entry → Entry → S → Type 0
 
-abbrev pub shows : {S : Type 0} → (S → State) → (S → Bool) → (S → Bool) → (S → List Entry → S → Type 0) → (S → List Entry → Entry → S → Type 0) → SinkShows S
-shows state grows failed took broke = record { state = state; grows = grows; failed = failed; took = took; broke = broke }
+abbrev pub shows : {S : Type 0} → (S → State) → (S → List Entry → Type 0) → (S → Bool) → (S → List Entry → S → Type 0) → (S → List Entry → Entry → S → Type 0) → SinkShows S
+shows state wants failed took broke = record { state = state; wants = wants; failed = failed; took = took; broke = broke }
 
 -- a front of the list was taken, and the next entry wasn't
 abbrev pub Stops : {S : Type 0} → (S → List Entry → S → Type 0) → S → List Entry → S → Type 0
@@ -39,16 +39,24 @@ PutsAll took broke failed list s t (Ok _) = took s list t
 PutsAll took broke failed list s t (Err faults.Memory) = Stops took s list t
 PutsAll took broke failed list s t (Err faults.Write) = ((failed s ≡ true) × (t ≡ s)) ⊎ Breaks broke s list t
 
--- memory was wanted, in a sink that takes some, and its device is as it was
-pub record Short {S : Type 0} (h : SinkShows S) (s t : S) : Type 0 where
-  pub grows : h.grows s ≡ true
-  pub same : h.failed t ≡ true → t ≡ s
+-- memory was wanted, where it may be wanting for these entries, and its device hasn't failed
+pub record Short {S : Type 0} (h : SinkShows S) (list : List Entry) (s t : S) : Type 0 where
+  pub wants : h.wants s list
+  pub works : h.failed t ≡ false
+
+-- a sink whose device had failed was put nothing
+abbrev pub PutsNone : {S : Type 0} → SinkShows S → List Entry → S → S → Type 0
+PutsNone h list s t = h.failed s ≡ true → (list ≡ []) × (t ≡ s)
+
+-- a sink whose device had failed took nothing, and says so
+abbrev pub Refuses : {S : Type 0} → SinkShows S → S → S → SinkFault → Type 0
+Refuses h s t fault = h.failed s ≡ true → (fault ≡ faults.Write) × (t ≡ s)
 
 -- the list was put: all of it was taken, or a front of it up to the entry that wasn't
 abbrev pub Put : {S A : Type 0} → (h : SinkShows S) → List Entry → S → S → Result A SinkFault → Type 0
-Put h list s t (Ok _) = h.took s list t × (h.state t ≡ walk (h.state s) list) × (h.failed s ≡ false → h.failed t ≡ false)
+Put h list s t (Ok _) = h.took s list t × (h.state t ≡ walk (h.state s) list) × (h.failed s ≡ false → h.failed t ≡ false) × PutsNone h list s t
 Put h list s t (Err fault) = PutsAll {A = Unit {0}} h.took h.broke h.failed list s t (Err fault) × (fault ≡ faults.Write → h.failed t ≡ true)
-    × (fault ≡ faults.Memory → Short h s t)
+    × (fault ≡ faults.Memory → Short h list s t) × Refuses h s t fault
 
 -- how far a list is put
 pub record Putting {S : Type 0} (h : SinkShows S) (s t : S) (whole rest : List Entry) : Type 0 where
@@ -57,16 +65,17 @@ pub record Putting {S : Type 0} (h : SinkShows S) (s t : S) (whole rest : List E
   pub taken : h.took s done t
   pub state : h.state t ≡ walk (h.state s) done
   pub same : h.failed t ≡ true → t ≡ s
-  pub grows : h.grows t ≡ h.grows s
+  pub none : h.failed s ≡ true → (done ≡ []) × (t ≡ s)
 
--- so many entries of the list were taken, and the next one wasn't
-pub record StopsAfter {S : Type 0} (took : S → List Entry → S → Type 0) (s : S) (list : List Entry) (n : ℕ) (t : S) : Type 0 where
+-- so many entries of the list were taken, and the next one wasn't, up to which memory may be wanting
+pub record StopsAfter {S : Type 0} (h : SinkShows S) (s : S) (list : List Entry) (n : ℕ) (t : S) : Type 0 where
   pub front : List Entry
   pub next : Entry
   pub rest : List Entry
   pub parts : list ≡ front ++ next ∷ rest
   pub count : length front ≡ n
-  pub taken : took s front t
+  pub taken : h.took s front t
+  pub wants : h.wants s (front ++ next ∷ [])
 
 -- so many entries of the list were taken, and the next one broke
 pub record BreaksAfter {S : Type 0} (broke : S → List Entry → Entry → S → Type 0) (s : S) (list : List Entry) (n : ℕ) (t : S) : Type 0 where
@@ -79,14 +88,14 @@ pub record BreaksAfter {S : Type 0} (broke : S → List Entry → Entry → S �
 
 -- where the putting of a list halts
 abbrev pub HaltsAfter : {S : Type 0} → SinkShows S → List Entry → S → S → ℕ → SinkFault → Type 0
-HaltsAfter h list s t n faults.Memory = StopsAfter h.took s list n t
+HaltsAfter h list s t n faults.Memory = StopsAfter h s list n t
 HaltsAfter h list s t n faults.Write = ((h.failed s ≡ true) × (t ≡ s) × (n ≡ 0)) ⊎ BreaksAfter h.broke s list n t
 
 -- the list was put, or so many of its entries
 abbrev pub PutUpTo : {S : Type 0} → (h : SinkShows S) → List Entry → S → S → Result (Unit {0}) TextFault → Type 0
 PutUpTo h list s t (Ok x) = Put {A = Unit {0}} h list s t (Ok x)
 PutUpTo h list s t (Err stop) = HaltsAfter h list s t stop.taken stop.fault × (stop.fault ≡ faults.Write → h.failed t ≡ true)
-    × (stop.fault ≡ faults.Memory → Short h s t)
+    × (stop.fault ≡ faults.Memory → h.failed t ≡ false) × (h.failed s ≡ true → (stop.fault ≡ faults.Write) × (t ≡ s) × (stop.taken ≡ 0))
 
 -- The lists that are put at once.
 

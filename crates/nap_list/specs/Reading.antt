@@ -1,7 +1,7 @@
 use Rattle.std.specs.Prelude.{ℕ, ◌≡◌, ◌⊎◌, ◌+◌, ◌-◌, ◌<◌, ◌≤◌, Bool, true, List, Option, length}
 use Rattle.std.specs.Io.KnownBytes.{IsAtEnd}
 use Rattle.nap_list.specs.declared.device.Inlet as inlet
-use Rattle.nap_list.specs.declared.device.TheConstants.{READS}
+use Rattle.nap_list.specs.Limits.{reads_limit}
 
 -- What an input shows of having been read for a while: the bytes left, whether it failed before and by now, and how
 -- often it was read since.
@@ -32,8 +32,8 @@ pub record ReadFailed (r : Reading) (p : List ℕ) : Type 0 where
 -- the input was read as often as it may be, no read failed, and p has as many bytes or more
 pub record ReadTooOften (r : Reading) (p : List ℕ) : Type 0 where
   pub none_failed : NoneFailed r
-  pub often : r.reads ≡ READS
-  pub gave : READS ≤ length p
+  pub often : r.reads ≡ reads_limit
+  pub gave : reads_limit ≤ length p
 
 -- reading came to an end before the input did
 abbrev pub IsCutOff : Reading → List ℕ → Type 0

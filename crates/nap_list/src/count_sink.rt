@@ -1,7 +1,8 @@
 //! A sink that counts.
-ghost use Rattle.std.specs.Prelude.{◌≡◌, ◌+◌, true, false, MatchResult};
-ghost use Rattle.nap_list.specs.State.{Fits, after, start};
-ghost use Rattle.nap_list.specs.Counting.{Counts, counts_more, counts_none};
+ghost use Rattle.std.specs.Prelude.{◌≡◌, ◌+◌, ◌^◌, ◌<◌, ◌≤◌, false, length, MatchResult};
+ghost use Rattle.nap_list.specs.State.{AllFit, Fits, after, start};
+ghost use Rattle.nap_list.specs.Counting.{Counts, Uncounted, counts_more, counts_none, uncounted_more};
+ghost use Rattle.nap_list.specs.Putting.{text_in};
 
 use crate::attribute::Hand;
 use crate::entry::Entry;
@@ -37,16 +38,44 @@ impl CountSink {
 
     /// Goes on by as many entries, of which the last leaves what all of them leave.
     #[inline(always)]
-    fn advance(&mut self, entries: usize, last: &Entry) -> Result<(), SinkFault>
-        requires { Fits self.old.state last.now }
-        ensures { MatchResult result (λ _. self.new ≡ record { count = self.old.count + entries; state = after self.old.state last.now }) (λ fault. (fault ≡ SinkFault.Memory) × (self.new ≡ self.old)) }
+    fn go_on(&mut self, entries: usize, last: &Entry)
+        requires fits { Fits self.old.state last.now }
+        requires room { self.old.count + entries < 2 ^ 64 }
+        ensures { self.new ≡ record { count = self.old.count + entries; state = after self.old.state last.now } }
     {
         let CountSink { count, state } = self;
-        let Some(more) = count.checked_add(entries as u64) else {
-            return Err(SinkFault::Memory);
-        };
         state.step(last);
-        *count = more;
+        *count += entries as u64;
+    }
+
+    /// Goes on by the characters of a text.
+    #[inline(always)]
+    fn go_on_by_text(&mut self, set: CharSet, codes: &[u8], hand: &Hand)
+        requires fits { AllFit self.old.state (text_in set hand.now codes.now) }
+        requires room { self.old.count + length codes.now < 2 ^ 64 }
+        ensures { Counts self.old (text_in set hand.now codes.now) self.new }
+    {
+        let Some((code, _)) = codes.split_last() else {
+            return;
+        };
+        let last = Entry::Char {
+            set,
+            code: *code,
+            hand: *hand,
+        };
+        self.go_on(codes.len(), &last);
+    }
+
+    /// Goes on by as many entries, of which the last leaves what all of them leave, where the count can hold them.
+    #[inline(always)]
+    fn advance(&mut self, entries: usize, last: &Entry) -> Result<(), SinkFault>
+        requires { Fits self.old.state last.now }
+        ensures { MatchResult result (λ _. self.new ≡ record { count = self.old.count + entries; state = after self.old.state last.now }) (λ fault. (fault ≡ SinkFault.Memory) × (2 ^ 64 ≤ self.old.count + entries) × (self.new ≡ self.old)) }
+    {
+        if u64::MAX - self.count < entries as u64 {
+            return Err(SinkFault::Memory);
+        }
+        self.go_on(entries, last);
         Ok(())
     }
 }
@@ -54,7 +83,7 @@ impl CountSink {
 impl Sink for CountSink {
     ghost state = { λ s. s.state };
 
-    ghost grows = { λ s. true };
+    ghost wants = { λ s d. Uncounted s d };
 
     ghost failed = { λ s. false };
 
@@ -97,23 +126,23 @@ impl Sink for CountSink {
     }
 
     fn put_text(&mut self, set: CharSet, codes: &[u8], hand: &Hand) -> Result<(), TextFault> {
-        let Some((code, _)) = codes.split_last() else {
-            return Ok(());
-        };
-        let last = Entry::Char {
-            set,
-            code: *code,
-            hand: *hand,
-        };
-        match self.advance(codes.len(), &last) {
-            Ok(()) => Ok(()),
-            Err(fault) => Err(TextFault { taken: 0, fault }),
+        let room = (u64::MAX - self.count) as usize;
+        let fit = &codes[..codes.len().min(room)];
+        self.go_on_by_text(set, fit, hand);
+        if fit.len() < codes.len() {
+            return Err(TextFault {
+                taken: fit.len(),
+                fault: SinkFault::Memory,
+            });
         }
+        Ok(())
     }
 
     ghost took_none = { λ s. counts_none s };
 
     ghost took_more = { λ s t u d e a b. counts_more s t u d e a b };
+
+    ghost wants_more = { λ s t d e f a b. uncounted_more s t d e f a b };
 
     ghost took_broke = { λ s t u d e x a b. absurd b };
 }

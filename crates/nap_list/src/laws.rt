@@ -1,6 +1,11 @@
 //! Laws of states, walks and legal lists, as contracts of functions that do nothing.
+ghost use Rattle.std.specs.Prelude.{◌≡◌};
 ghost use Rattle.nap_list.specs.Laws.{WalksJoin, FitsJoin, StartAgrees, TakingNothing, LegalNeverBreaks};
 ghost use Rattle.nap_list.specs.Agreement.{AgreeingFits};
+ghost use Rattle.nap_list.specs.Limits.{points_limit, reads_limit, known_limit};
+ghost use Rattle.nap_list.specs.declared.device.TheConstants.{READS};
+ghost use Rattle.nap_list.specs.declared.known.TheConstants.{KNOWN};
+ghost use Rattle.nap_list.specs.declared.points.TheConstants.{SHAPE_POINTS};
 
 /// A walk goes on from where the list before it leads.
 pub fn walks_join()
@@ -31,4 +36,11 @@ pub fn taking_nothing()
 /// No index is one where a legal list goes wrong.
 pub fn legal_never_breaks()
     ensures { LegalNeverBreaks }
+{}
+
+/// The limits are those of our profile: 2,001 points, 1,048,576 reads and 16 known colours of the map.
+pub fn limits()
+    ensures points { SHAPE_POINTS ≡ points_limit }
+    ensures reads { READS ≡ reads_limit }
+    ensures known { KNOWN ≡ known_limit }
 {}

@@ -57,8 +57,8 @@ pub trait Sink {
     /// The state that the next entry has to fit.
     ghost state: { Self → State };
 
-    /// Whether it takes memory for entries.
-    ghost grows: { Self → Bool };
+    /// Memory may be wanting for these entries.
+    ghost wants: { Self → List Entry → Type 0 };
 
     /// Whether its device has failed.
     ghost failed: { Self → Bool };
@@ -69,14 +69,15 @@ pub trait Sink {
     /// The second sink comes from the first by taking the list, and then a failure amid the entry.
     ghost broke: { Self → List Entry → Entry → Self → Type 0 };
 
-    /// Takes one entry. An error takes none, though a device that fails may have got a part of what stands for it.
+    /// Takes one entry. An error takes none, though a device that fails may have got a part of what stands for it. A sink
+    /// whose device has failed takes nothing more.
     fn put(&mut self, entry: Entry) -> Result<(), SinkFault>
         requires { Fits (state self.old) entry }
         ensures took { OnOk result (took self.old (entry ∷ []) self.new) }
         ensures after { OnOk result (state self.new ≡ after (state self.old) entry) }
         ensures memory { IsErrOf result SinkFault.Memory → self.new ≡ self.old }
-        ensures wants { IsErrOf result SinkFault.Memory → grows self.old ≡ true }
-        ensures grows { grows self.new ≡ grows self.old }
+        ensures wants { IsErrOf result SinkFault.Memory → wants self.old (entry ∷ []) }
+        ensures refuses { failed self.old ≡ true → IsErrOf result SinkFault.Write }
         ensures write { IsErrOf result SinkFault.Write → failed self.new ≡ true }
         ensures only_write { failed self.new ≡ true → IsErrOf result SinkFault.Write }
         ensures state { IsErrOf result SinkFault.Write → state self.new ≡ state self.old }
@@ -86,7 +87,7 @@ pub trait Sink {
     /// Takes a point at each of the points, drawn with the values that stand.
     fn put_points(&mut self, points: &[Point], drawing: &Drawing) -> Result<(), SinkFault>
         requires { AllFit (state self.old) (map (point_on drawing.now) points.now) }
-        ensures { Put (shows state grows failed took broke) (map (point_on drawing.now) points.now) self.old self.new result }
+        ensures { Put (shows state wants failed took broke) (map (point_on drawing.now) points.now) self.old self.new result }
     {
         for at in points {
             self.put(Entry::Point {
@@ -106,7 +107,7 @@ pub trait Sink {
         drawing: &Drawing,
     ) -> Result<(), SinkFault>
         requires { AllFit (state self.old) (lines_on drawing.now from points.now) }
-        ensures { Put (shows state grows failed took broke) (lines_on drawing.now from points.now) self.old self.new result }
+        ensures { Put (shows state wants failed took broke) (lines_on drawing.now from points.now) self.old self.new result }
     {
         let mut from = from;
         for to in points {
@@ -124,7 +125,7 @@ pub trait Sink {
     /// tells how many it took.
     fn put_text(&mut self, set: CharSet, codes: &[u8], hand: &Hand) -> Result<(), TextFault>
         requires { AllFit (state self.old) (text_in set hand.now codes.now) }
-        ensures { PutUpTo (shows state grows failed took broke) (text_in set hand.now codes.now) self.old self.new result }
+        ensures { PutUpTo (shows state wants failed took broke) (text_in set hand.now codes.now) self.old self.new result }
     {
         let mut pen = hand.pen;
         let mut taken = 0;
@@ -148,6 +149,9 @@ pub trait Sink {
 
     /// One list was taken after another.
     ghost took_more: { (s t u : Self) (d e : List Entry) → took s d t → took t e u → took s (d ++ e) u };
+
+    /// What is wanted behind a list that was taken is wanted for all that is put.
+    ghost wants_more: { (s t : Self) (d e f : List Entry) → took s d t → wants t e → wants s (d ++ (e ++ f)) };
 
     /// A failure came after a list was taken.
     ghost took_broke: { (s t u : Self) (d e : List Entry) (x : Entry) → took s d t → broke t e x u → broke s (d ++ e) x u };
@@ -190,7 +194,7 @@ impl ListSink {
 impl Sink for ListSink {
     ghost state = { λ s. walk start s };
 
-    ghost grows = { λ s. true };
+    ghost wants = { λ s d. Unit {0} };
 
     ghost failed = { λ s. false };
 
@@ -207,6 +211,8 @@ impl Sink for ListSink {
     ghost took_none = { λ s. sym (append-nil s) };
 
     ghost took_more = { λ s t u d e a b. b ∙ (ap (λ (list : List Entry). list ++ e) a ∙ append_assoc s d e) };
+
+    ghost wants_more = { λ s t d e f a b. tt {0} };
 
     ghost took_broke = { λ s t u d e x a b. absurd b };
 }

@@ -24,7 +24,7 @@ use Rattle.nap_reader.specs.Stream.{Placed, Machine, Outcome, Unfinished, nothin
 use Rattle.nap_reader.specs.Breaking.{cause_of, BreaksFrom, TakesPart, TookFront, TookPart}
 use Rattle.nap_reader.specs.Holding.{Holding, IsHeld, Continues, ContinuesPast, BreaksPast, BreaksNext, BreaksInBody, BreaksSome, ReachesBy}
 use Rattle.nap_reader.proofs.HeldLemmas.{half_read_pauses}
-use Rattle.nap_reader.proofs.LeadsLemmas.{TookMore, TookBroke, by_front, leads_on, leads_to_fault, wants_part, fails_part}
+use Rattle.nap_reader.proofs.LeadsLemmas.{TookMore, TookBroke, WantsMore, by_front, leads_on, leads_to_fault, wants_part, fails_part}
 use Rattle.nap_reader.proofs.ReadingLemmas.{if_err_by, nothing_yet, reaches, reaches_refusal}
 use Rattle.nap_reader.proofs.StreamLemmas.{outcome_from-front, outcome_from-left}
 
@@ -77,28 +77,30 @@ module _ {S : Type 0} (g : Ghosts S) (s : S) (known : List Entry) (o : Outcome) 
   known_taken : g.took s known t
   known_taken = subst (λ (es : List Entry). g.took s es t) k.done k.continues.taken
 
-  pub code_breaks : (u : S) → TookMore g → TookBroke g → (fault : DrawFault) →
+  pub code_breaks : (u : S) → TookMore g → TookBroke g → WantsMore g → (fault : DrawFault) →
       draws.DrawsBy g.took g.broke g.failed by t u fault (draws.cause_of fault) →
       (fault ≡ draw_faults.Memory → WantsBy g by t u) →
       (fault ≡ draw_faults.Sink → GivesSome by) →
       cause_of (draw_fault fault) ≢ stream → BreaksPast g s known o u (cause_of (draw_fault fault))
-  code_breaks u more broken draw_faults.Memory (drawn, is, part) wants gives broke =
+  code_breaks u more broken law draw_faults.Memory (drawn, is, part) wants gives broke =
       let want = subst (λ (r : Result Drawn DrawFault). WantsBy g r t u) is (wants refl) in
       record {
         more = drawn.entries;
         some = λ none. not_empty want.stops.0 want.stops.1 want.stops.2 (sym want.stops.3 ∙ none);
         adds = (adds_drawn drawn is).0;
         unrefused = (adds_drawn drawn is).1;
+        wants = λ _. subst (λ (es : List Entry). g.wants s (known ++ es)) (append-nil drawn.entries) (law s t known drawn.entries [] known_taken want.wants);
         part = wants_part g s t u known drawn.entries known_taken more part;
       }
-  code_breaks u more broken draw_faults.Sink (drawn, is, part) wants gives broke = record {
+  code_breaks u more broken law draw_faults.Sink (drawn, is, part) wants gives broke = record {
     more = drawn.entries;
     some = subst GivesSome is (gives refl);
     adds = (adds_drawn drawn is).0;
     unrefused = (adds_drawn drawn is).1;
+    wants = λ is. let bad : ⊥ = cc in absurd bad;
     part = fails_part g s t u known drawn.entries known_taken broken k.continues.clear part;
   }
-  code_breaks u more broken _ drew wants gives broke = absurd (broke refl)
+  code_breaks u more broken law _ drew wants gives broke = absurd (broke refl)
 
 -- the answer of a code that acts by a rule, and what is latched by it
 module _ {S A B E : Type 0} (g : Ghosts S) (clears : A → Bool) (t u : S) (h : Holding) (x : Placed) (m : Machine) (by : Result Drawn DrawFault)
@@ -123,12 +125,12 @@ module _ {S A B E : Type 0} (g : Ghosts S) (clears : A → Bool) (t u : S) (h : 
           reaches_refusal g s o u h' pending latch _ err.0 (λ own.
           let r = leads_to_fault g s o t h (x ∷ pending) k u m x.place pending by acting fault did.1 own in (r.0, r.1, r.2 ∙ sym left))
 
-  pub acted_breaks : TookMore g → TookBroke g → (IsErrOf answer draw_faults.Memory → WantsBy g by t u) →
+  pub acted_breaks : TookMore g → TookBroke g → WantsMore g → (IsErrOf answer draw_faults.Memory → WantsBy g by t u) →
       (IsErrOf answer draw_faults.Sink → GivesSome by) →
       ((s : S) (o : Outcome) → (k : Continues g s o t h (x ∷ [])) → front h.machine (k.rest ++ x ∷ []) ≡ drawn_front m x.place [] by) →
       IfErr result (λ _. IfSome latch (λ r. cause_of r.fault ≢ stream → (s : S) (known : List Entry) (o : Outcome) → ContinuesPast g s known o t h (x ∷ []) →
       (r.place ≡ x.place) × BreaksSome g s known o u h (cause_of r.fault)))
-  acted_breaks more broken wants gives acting = at answer refl did ok err
+  acted_breaks more broken law wants gives acting = at answer refl did ok err
     where
       unrefused : (P : E → Type 0) (r : Result B E) → IsOk r → IfErr r P
       unrefused P (Ok b) done = tt
@@ -144,7 +146,7 @@ module _ {S A B E : Type 0} (g : Ghosts S) (clears : A → Bool) (t u : S) (h : 
           rw err.0
           (λ broke s known o k. (
             refl,
-            inl (code_breaks g s known o t h x k m by (acting s o k.continues) u more broken fault did.1
+            inl (code_breaks g s known o t h x k m by (acting s o k.continues) u more broken law fault did.1
                 (λ memory. wants (same ∙ ap Err memory)) (λ device. gives (same ∙ ap Err device)) broke),
           )))
 

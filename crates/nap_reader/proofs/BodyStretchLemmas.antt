@@ -13,7 +13,8 @@ use Rattle.nap_draw.specs.Draws.{fault_of, stream}
 use Rattle.nap_reader.specs.declared.reader.OpenRun.{OpenRun}
 use Rattle.nap_reader.specs.declared.reader.Reader.{Reader}
 use Rattle.nap_reader.specs.Faults.{draw_fault}
-use Rattle.nap_reader.specs.Stream.{Placed, Outcome, bytes_of, all_at, is_operand_byte, refusal, run_limit}
+use Rattle.nap_draw.specs.Limits.{run_limit}
+use Rattle.nap_reader.specs.Stream.{Placed, Outcome, bytes_of, all_at, is_operand_byte, refusal}
 use Rattle.nap_reader.specs.Breaking.{cause_of}
 use Rattle.nap_reader.specs.Holding.{Continues, Holding, StopsInFront, TakesFront, frames_left, holding_of, machine_of}
 use Rattle.nap_reader.proofs.PlaceLemmas.{IsAt}

@@ -9,8 +9,9 @@ use Rattle.nap_reader.specs.declared.fault.Refusal.{Refusal}
 use Rattle.nap_reader.specs.declared.body.OpenBody.{OpenBody}
 use Rattle.nap_reader.specs.declared.reader.OpenRun.{OpenRun}
 use Rattle.nap_reader.specs.Stream as model
-use Rattle.nap_reader.specs.Stream.{Machine, Outcome, Unfinished, is_operand_byte, run_limit, refusal, placed_from, begun, with_run}
-use Rattle.nap_reader.specs.Breaking.{cause_of, closed_by, TookPart, IsCharged, CanBreakAt, BreaksAt, BreaksFrom, BreaksWith, BreaksInRun}
+use Rattle.nap_draw.specs.Limits.{run_limit}
+use Rattle.nap_reader.specs.Stream.{Machine, Outcome, Unfinished, is_operand_byte, refusal, placed_from, begun, with_run}
+use Rattle.nap_reader.specs.Breaking.{cause_of, closed_by, TookPart, IsCharged, WantsMemory, CanBreakAt, CanLackAt, BreaksAt, BreaksFrom, BreaksWith, BreaksInRun}
 use Rattle.nap_reader.specs.Holding.{Holding, Continues, ContinuesPast, BreaksPast, BreaksInBody, BreaksSome, ClosesInto}
 use Rattle.nap_reader.proofs.EndLemmas.{open_place_is, run_still, body_open}
 use Rattle.nap_reader.proofs.LeadsLemmas.{leads_entries, leads_taken, leads_unrefused, leads_machine, leads_more}
@@ -33,6 +34,7 @@ growth_breaks g s budget p b t h open_run no_body is word few k =
     inr (record {
       place = refl;
       brings = inl (word, rw (open_place_is g s (begun budget p) t h k open_run no_body is) refl);
+      wants = λ _. inl (inl (word, rw (open_place_is g s (begun budget p) t h k open_run no_body is) refl));
       part = inl (record {
         more = more.0;
         unrefused = leads_unrefused g s (begun budget (p ++ b ∷ [])) t _ joined;
@@ -69,6 +71,7 @@ brings_breaks g s budget p b t r known same place h =
     inr (record {
       place = place;
       brings = inr (inl (λ none. h.some (nothing_more known h.more (sym h.adds ∙ none ∙ sym same))));
+      wants = λ is. inr (subst (g.wants s) (sym h.adds) (h.wants is));
       part = inl (record {
         more = h.more;
         adds = h.adds ∙ ap (λ (es : List Entry). es ++ h.more) same;
@@ -81,7 +84,7 @@ brings_breaks g s budget p b t r known same place h =
 pub uses_breaks : {S : Type 0} (g : Ghosts S) (s : S) (budget : ℕ) (p : List ℕ) (b : ℕ) (t : S) (r : Refusal) →
     r.place ≡ length p → IsCharged budget p b → BreaksFrom g s (begun budget p).entries (begun budget (p ++ b ∷ [])) t (cause_of r.fault) →
     BreaksAt g s budget p b t r
-uses_breaks g s budget p b t r place charged h = inr (record { place = place; brings = inr (inr (inr charged)); part = inr (charged, h) })
+uses_breaks g s budget p b t r place charged h = inr (record { place = place; brings = inr (inr (inr charged)); wants = λ _. inl (inr (inr charged)); part = inr (charged, h) })
 
 -- the entries of an open run come behind those before it
 run_more : (o : Outcome) → (es : List Entry) × ((with_run o).entries ≡ o.entries ++ es)
@@ -139,15 +142,27 @@ in_run g s budget p t r stream broke h = absurd (broke refl)
 in_run g s budget p t r memory broke h = h.1
 in_run g s budget p t r device broke h = h.1
 
+-- a body is charged, or the stream refuses nothing
+charged_or : {S : Type 0} (g : Ghosts S) (s : S) (budget : ℕ) (p : List ℕ) (b : ℕ) (t : S) (r : Refusal) →
+    BreaksWith g s budget p b t (cause_of r.fault) → IsCharged budget p b ⊎ ((begun budget (p ++ b ∷ [])).refusal ≡ None)
+charged_or g s budget p b t r (inl between) = inr between.unrefused
+charged_or g s budget p b t r (inr (charged, from)) = inl charged
+
 -- where it breaks
 pub breaks_there : {S : Type 0} (g : Ghosts S) (s : S) (budget : ℕ) (p : List ℕ) (b : ℕ) (t : S) (r : Refusal) →
     BreaksAt g s budget p b t r → CanBreakAt budget p b r.place
 breaks_there g s budget p b t r (inl (other, first, h)) = inl (other, h.place, h.part.unrefused)
-breaks_there g s budget p b t r (inr h) = inr (h.place, h.brings, at h.part)
+breaks_there g s budget p b t r (inr h) = inr (h.place, h.brings, charged_or g s budget p b t r h.part)
+
+-- whether memory was wanting to the reader itself, and where, or to its sink
+pub lacks_there : {S : Type 0} (g : Ghosts S) (s : S) (budget : ℕ) (p : List ℕ) (b : ℕ) (t : S) (r : Refusal) →
+    BreaksAt g s budget p b t r → cause_of r.fault ≡ memory → CanLackAt budget p b r.place ⊎ g.wants s (begun budget (p ++ b ∷ [])).entries
+lacks_there g s budget p b t r (inl (other, first, h)) is = inl (inl (other, h.place, h.part.unrefused))
+lacks_there g s budget p b t r (inr h) is = at (h.wants is)
   where
-    at : BreaksWith g s budget p b t (cause_of r.fault) → IsCharged budget p b ⊎ ((begun budget (p ++ b ∷ [])).refusal ≡ None)
-    at (inl between) = inr between.unrefused
-    at (inr (charged, from)) = inl charged
+    at : WantsMemory budget p b ⊎ g.wants s (begun budget (p ++ b ∷ [])).entries → CanLackAt budget p b r.place ⊎ g.wants s (begun budget (p ++ b ∷ [])).entries
+    at (inl own) = inl (inr (h.place, own, charged_or g s budget p b t r h.part))
+    at (inr sink) = inr sink
 
 -- a byte breaks that is read in a body, or behind its end
 pub in_body_breaks : {S : Type 0} (g : Ghosts S) (s : S) (budget : ℕ) (p : List ℕ) (b : ℕ) (t : S) (h : Holding) (body : OpenBody) (u : S) (r : Refusal) →
@@ -158,6 +173,7 @@ in_body_breaks g s budget p b t h body u r in_body none k place (inl next) =
     inr (record {
       place = place;
       brings = inr (inr (inl (body_open g s (begun budget p) t h k body in_body)));
+      wants = λ _. inl (inr (inl (body_open g s (begun budget p) t h k body in_body)));
       part = inl (record {
         more = next.more;
         adds = next.adds ∙ ap (λ (es : List Entry). es ++ next.more) same;

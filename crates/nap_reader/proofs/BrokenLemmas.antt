@@ -1,4 +1,4 @@
-use Rattle.std.proofs.Common.{ℕ, ◌+◌, ◌<◌, ◌≡◌, ◌≢◌, List, [], ◌∷◌, ◌++◌, length, Option, Some, None, Result, Ok, Err, take, drop, get_or, refl, ap, sym, ◌∙◌, subst, inl, inr, append-nil, length-append, arith, Bool, true, false, if◌then◌else◌}
+use Rattle.std.proofs.Common.{ℕ, ◌+◌, ◌<◌, ◌≡◌, ◌⊎◌, ◌≢◌, List, [], ◌∷◌, ◌++◌, length, Option, Some, None, Result, Ok, Err, take, drop, get_or, refl, ap, sym, ◌∙◌, subst, inl, inr, append-nil, length-append, arith, Bool, true, false, if◌then◌else◌}
 use Rattle.std.proofs.Math.Seq.{take-append-add}
 use Rattle.std.proofs.lemmas.List.{get_or-append-add}
 use Rattle.nap_list.specs.declared.entry.Entry.{Entry}
@@ -8,11 +8,11 @@ use Rattle.nap_draw.specs.declared.fault.DrawFault.{DrawFault}
 use Rattle.nap_draw.specs.Draws.{Cause, stream, memory, device}
 use Rattle.nap_draw.specs.Rule.{Drawn, rule}
 use Rattle.nap_reader.specs.declared.fault.Refusal.{Refusal}
-use Rattle.nap_reader.specs.Breaking.{cause_of, closed_by, BreaksAt, BreaksWith, BreaksBetween, BreaksFrom, TookPart, TookFront}
-use Rattle.nap_reader.specs.Laws.{BegunComesFirst, BreaksAmong, FedBreaksAmong, EndBreaksAmong}
+use Rattle.nap_reader.specs.Breaking.{cause_of, closed_by, CanLackAt, LacksWithin, BreaksAt, BreaksWith, BreaksBetween, BreaksFrom, TookPart, TookFront}
+use Rattle.nap_reader.specs.Laws.{BegunComesFirst, WantsSome, BreaksAmong, FedBreaksAmong, EndBreaksAmong}
 use Rattle.nap_reader.specs.Standing.{IsBroken, StopsBy}
 use Rattle.nap_reader.specs.Stream.{Outcome, Unfinished, nothing, half_code, open_run, open_body, is_operand_byte, begun, means, with_code, with_definition, with_drawn, with_end, with_run, with_run_by, ended_by}
-use Rattle.nap_reader.proofs.BreakingLemmas.{breaks_there}
+use Rattle.nap_reader.proofs.BreakingLemmas.{breaks_there, lacks_there}
 use Rattle.nap_reader.proofs.LawLemmas.{more_bytes_keep_entries}
 use Rattle.nap_reader.proofs.PartLemmas.{breaks_longer, breaks_more}
 use Rattle.nap_reader.proofs.StandingLemmas.{taken_all}
@@ -97,22 +97,39 @@ module _ {S : Type 0} (g : Ghosts S) (s : S) (budget : ℕ) (p : List ℕ) (b : 
   at_byte (inr h) = with_byte h.part
 
 module _ {S : Type 0} (g : Ghosts S) (s : S) (budget : ℕ) (before last : List ℕ) (i : ℕ) (t : S) (left : ℕ) (r : Refusal) (within : i < length last) where
+  -- the bytes up to the one that broke, and that
+  abbrev p : List ℕ
+  p = before ++ take i last
+
+  abbrev b : ℕ
+  b = get_or last i 0
+
+  front : take (length before + i) (before ++ last) ≡ p
+  front = take-append-add before last i
+
+  there : get_or (before ++ last) (length before + i) 0 ≡ b
+  there = get_or-append-add before last i 0
+
+  abbrev more : List Entry
+  more = (more_bytes_keep_entries budget (p ++ b ∷ []) (drop (i + 1) last)).0
+
+  all : (begun budget (before ++ last)).entries ≡ (begun budget (p ++ b ∷ [])).entries ++ more
+  all = ap (λ (q : List ℕ). (begun budget q).entries) (sym (taken_all before last i within)) ∙ (more_bytes_keep_entries budget (p ++ b ∷ []) (drop (i + 1) last)).1
+
+  lacking : CanLackAt budget p b r.place ⊎ g.wants s (begun budget (p ++ b ∷ [])).entries →
+      LacksWithin budget (before ++ last) r.place ⊎ WantsSome g s (begun budget (before ++ last)).entries
+  lacking (inl own) = inl (inl (length before + i, omega (arith, within, length-append before last), rw (front, there) own))
+  lacking (inr sink) = inr ((begun budget (p ++ b ∷ [])).entries, more, all, sink)
+
   broken_among : IsBroken g s budget (before ++ take i last) (get_or last i 0) t left r →
       BreaksAmong g s budget (before ++ last) (begun budget before).entries (begun budget (before ++ last)) t r
   broken_among h =
-      let p = before ++ take i last in
-      let b = get_or last i 0 in
-      let n = length before + i in
       let known = more_bytes_keep_entries budget before (take i last) in
-      let more = more_bytes_keep_entries budget (p ++ b ∷ []) (drop (i + 1) last) in
-      let all : (p ++ b ∷ []) ++ drop (i + 1) last ≡ before ++ last = taken_all before last i within in
-      let front : take n (before ++ last) ≡ p = take-append-add before last i in
-      let there : get_or (before ++ last) n 0 ≡ b = get_or-append-add before last i 0 in
       let from = subst (λ (es : List Entry). BreaksFrom g s es (begun budget (p ++ b ∷ [])) t (cause_of r.fault)) known.1 (at_byte g s budget p b t r h.breaks) in
       record {
-        place = inl (n, omega (arith, within, length-append before last), rw (front, there) (breaks_there g s budget p b t r h.breaks));
-        from = breaks_more g s (begun budget before).entries more.0 (begun budget (p ++ b ∷ [])) (begun budget (before ++ last)) t (cause_of r.fault)
-            (ap (λ (q : List ℕ). (begun budget q).entries) (sym all) ∙ more.1)
+        place = inl (length before + i, omega (arith, within, length-append before last), rw (front, there) (breaks_there g s budget p b t r h.breaks));
+        wants = λ is. lacking (lacks_there g s budget p b t r h.breaks is);
+        from = breaks_more g s (begun budget before).entries more (begun budget (p ++ b ∷ [])) (begun budget (before ++ last)) t (cause_of r.fault) all
             (breaks_longer g s (begun budget before).entries known.0 (begun budget (p ++ b ∷ [])) t (cause_of r.fault) from);
       }
 
@@ -132,6 +149,7 @@ end_breaks_among g s budget p t r live h =
     ap (λ (q : Option Refusal). (ended_by (begun budget p) (length p) q).entries) live ∙ end_keeps last (length p) last.refusal in
     record {
       place = inr (h.place, h.part.unrefused);
+      wants = λ _. inl (inr (h.place, h.part.unrefused));
       from = breaks_more g s (begun budget p).entries [] last (means budget p) t (cause_of r.fault) (same ∙ sym (append-nil last.entries))
           (between_from g s (begun budget p) last t (cause_of r.fault) h.part);
     }

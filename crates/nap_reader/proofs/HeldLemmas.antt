@@ -19,7 +19,8 @@ use Rattle.nap_reader.specs.Kinds.{kind_of}
 use Rattle.nap_reader.specs.Course as course
 use Rattle.nap_reader.specs.Faults.{code_fault}
 use Rattle.nap_reader.specs.Stream as model
-use Rattle.nap_reader.specs.Stream.{Placed, Machine, half_read, bytes_of, words_of, is_operand, run_length, run_limit, refusal, drawn_front, opcode_front, code_front, place_at, front_by, front_in, front}
+use Rattle.nap_draw.specs.Limits.{run_limit}
+use Rattle.nap_reader.specs.Stream.{Placed, Machine, half_read, bytes_of, words_of, is_operand, run_length, refusal, drawn_front, opcode_front, code_front, place_at, front_by, front_in, front}
 use Rattle.nap_reader.specs.Holding.{IsOpenRun}
 use Rattle.nap_reader.proofs.StreamLemmas.{bytes_of-append, words_of-append}
 

@@ -32,6 +32,10 @@ TookMore {S} g = (s t u : S) (d e : List Entry) → g.took s d t → g.took t e 
 abbrev pub TookBroke : {S : Type 0} → Ghosts S → Type 0
 TookBroke {S} g = (s t u : S) (d e : List Entry) (x : Entry) → g.took s d t → g.broke t e x u → g.broke s (d ++ e) x u
 
+-- what is wanted behind a list that was taken is wanted for all
+abbrev pub WantsMore : {S : Type 0} → Ghosts S → Type 0
+WantsMore {S} g = (s t : S) (d e f : List Entry) → g.took s d t → g.wants t e → g.wants s (d ++ (e ++ f))
+
 -- between two codes
 pub is_between : (h : Holding) (rest : List Placed) → h.open_body ≡ None → IsHeld rest h → IsHalf rest h
 is_between h rest no_body held = subst (IsHeldIn rest h) no_body held

@@ -20,7 +20,8 @@ use Rattle.nap_reader.specs.Kinds.{kind_of}
 use Rattle.nap_reader.specs.Course as course
 use Rattle.nap_reader.specs.Course.{onward, go, outcome}
 use Rattle.nap_reader.specs.Stream as model
-use Rattle.nap_reader.specs.Stream.{Placed, Machine, Unfinished, Front, Outcome, bytes_of, words_of, run_length, run_limit, drawn_front, closed_front, shown_front, code_front, place_at, front_by, after_body, bound_front, body_front_by, front_in, front, placed_from, start_machine, begun, with_drawn, with_run_by, with_run, with_definition, with_code, with_end, ended_by}
+use Rattle.nap_draw.specs.Limits.{run_limit}
+use Rattle.nap_reader.specs.Stream.{Placed, Machine, Unfinished, Front, Outcome, bytes_of, words_of, run_length, drawn_front, closed_front, shown_front, code_front, place_at, front_by, after_body, bound_front, body_front_by, front_in, front, placed_from, start_machine, begun, with_drawn, with_run_by, with_run, with_definition, with_code, with_end, ended_by}
 use Rattle.nap_reader.specs.Laws.{AcceptedIsLegal}
 use Rattle.nap_reader.proofs.KindLemmas.{KindMade, front_kind_made}
 

@@ -24,7 +24,8 @@ use Rattle.nap_reader.specs.Kinds.{kind_of}
 use Rattle.nap_reader.specs.Course as course
 use Rattle.nap_reader.specs.Course.{go, outcome, onward}
 use Rattle.nap_reader.specs.Stream as model
-use Rattle.nap_reader.specs.Stream.{Placed, Machine, Unfinished, Outcome, Front, half_read, bytes_of, words_of, is_operand, is_operand_byte, run_length, run_limit, drawn_front, closed_front, shown_front, code_front, place_at, front_by, after_body, bound_front, body_front_by, front_in, front, placed_from, start_machine, begun, with_drawn, with_run_by, with_run, with_definition, with_code, with_end, ended_by}
+use Rattle.nap_draw.specs.Limits.{run_limit}
+use Rattle.nap_reader.specs.Stream.{Placed, Machine, Unfinished, Outcome, Front, half_read, bytes_of, words_of, is_operand, is_operand_byte, run_length, drawn_front, closed_front, shown_front, code_front, place_at, front_by, after_body, bound_front, body_front_by, front_in, front, placed_from, start_machine, begun, with_drawn, with_run_by, with_run, with_definition, with_code, with_end, ended_by}
 use Rattle.nap_reader.specs.Laws.{ReadValuesAreInRange}
 use Rattle.nap_reader.proofs.KindLemmas.{KindMade, front_kind_made}
 

@@ -29,7 +29,8 @@ use Rattle.nap_reader.specs.declared.kind.Kind.TheVariants as kinds
 use Rattle.nap_reader.specs.Bodies.{between, in_body, body_of}
 use Rattle.nap_reader.specs.Kinds.{kind_of}
 use Rattle.nap_reader.specs.Faults.{code_fault, draw_fault}
-use Rattle.nap_reader.specs.Stream.{Placed, Outcome, bytes_of, is_operand, run_limit, refusal, all_at, charged, after_drawing, drawn_front, shown_front, code_front, front, start_machine, outcome_from, placed_from, begun}
+use Rattle.nap_draw.specs.Limits.{run_limit}
+use Rattle.nap_reader.specs.Stream.{Placed, Outcome, bytes_of, is_operand, refusal, all_at, charged, after_drawing, drawn_front, shown_front, code_front, front, start_machine, outcome_from, placed_from, begun}
 use Rattle.nap_reader.specs.Breaking.{cause_of}
 use Rattle.nap_reader.specs.Holding.{Holding, IsHeld, IsHalf, IsHeldBy, IsOpenRun, IsOwn, IsRefused, Continues, ReachesBy, ReachesWith, Shows, ShowsBy, frames_left, holding_of, machine_of}
 use Rattle.nap_reader.proofs.StreamLemmas.{bytes_of-append}

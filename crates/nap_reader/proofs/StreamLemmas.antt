@@ -23,7 +23,8 @@ use Rattle.nap_reader.specs.Bodies as bodies
 use Rattle.nap_reader.specs.Bodies.{Mode, between, in_body, body_of, store_limit, body_front}
 use Rattle.nap_reader.specs.Course as course
 use Rattle.nap_reader.specs.Course.{Lessens, Stays, onward, continue}
-use Rattle.nap_reader.specs.Stream.{Placed, Machine, Unfinished, Front, bytes_of, words_of, is_operand, run_length, run_limit, refusal, all_at, drawn_front, closed_front, run_front, opcode_front, shown_front, code_front, place_at, front_by, after_body, bound_front, body_front_by, front_in, front, ends_of, left_of, outcome_from, placed_from, start_machine, begun}
+use Rattle.nap_draw.specs.Limits.{run_limit}
+use Rattle.nap_reader.specs.Stream.{Placed, Machine, Unfinished, Front, bytes_of, words_of, is_operand, run_length, refusal, all_at, drawn_front, closed_front, run_front, opcode_front, shown_front, code_front, place_at, front_by, after_body, bound_front, body_front_by, front_in, front, ends_of, left_of, outcome_from, placed_from, start_machine, begun}
 use Rattle.nap_reader.proofs.BodyLemmas as settled
 use Rattle.nap_reader.proofs.BodyLemmas.{Settled, waits, ends, body_front-Settled, definition_length}
 use Rattle.nap_reader.proofs.CourseLemmas.{Falls, outcome-front, outcome-append, outcome-falls}

@@ -6,7 +6,8 @@ use Rattle.nap_list.specs.declared.sink.Sink.{Ghosts}
 use Rattle.nap_reader.specs.declared.fault.Refusal.{Refusal}
 use Rattle.nap_reader.specs.declared.reader.OpenRun.{OpenRun}
 use Rattle.nap_reader.specs.declared.reader.Reader.{Reader}
-use Rattle.nap_reader.specs.Stream.{Placed, Outcome, bytes_of, placed_from, is_operand_byte, run_limit, begun}
+use Rattle.nap_draw.specs.Limits.{run_limit}
+use Rattle.nap_reader.specs.Stream.{Placed, Outcome, bytes_of, placed_from, is_operand_byte, begun}
 use Rattle.nap_reader.specs.Holding.{Holding, Continues, holding_of, frames_left}
 use Rattle.nap_reader.specs.Breaking.{cause_of}
 use Rattle.nap_reader.specs.Standing.{Stands, StopsAt, StopsBy, left_of}

@@ -17,7 +17,7 @@ use Rattle.nap_list.specs.Putting.{HaltsAfter}
 use Rattle.nap_list.specs.Shown.{shows_of}
 use Rattle.nap_list.specs.State.{after, walk}
 use Rattle.nap_draw.specs.Codes.{char_on, text}
-use Rattle.nap_draw.specs.Draws.{fault_of, device}
+use Rattle.nap_draw.specs.Draws.{fault_of, memory, device}
 use Rattle.nap_draw.specs.Rule.{drawn}
 use Rattle.nap_reader.specs.declared.fault.Refusal.{Refusal}
 use Rattle.nap_reader.specs.declared.reader.Reader.{Reader}
@@ -32,7 +32,7 @@ use Rattle.nap_reader.proofs.CourseLemmas.{prepend-append}
 use Rattle.nap_reader.proofs.HeldLemmas.{front_code, half_read_pauses}
 use Rattle.nap_reader.proofs.StreamLemmas.{bytes_of-placed, outcome_from-front}
 use Rattle.nap_reader.proofs.PartLemmas.{was_failed}
-use Rattle.nap_reader.proofs.LeadsLemmas.{TookMore, TookBroke, is_between, fails_part, leads_more}
+use Rattle.nap_reader.proofs.LeadsLemmas.{TookMore, TookBroke, WantsMore, is_between, fails_part, leads_more}
 use Rattle.nap_reader.proofs.ReadingLemmas.{nothing_yet, rest_of_nothing, is_half, holds_half}
 use Rattle.nap_reader.proofs.BreakingLemmas.{brings_breaks}
 use Rattle.nap_reader.proofs.StandingLemmas.{stands_by}
@@ -100,9 +100,9 @@ closed_still o false known is none = ap (λ (u : Option Unfinished). (with_run_b
 
 -- Where the putting of a text halts.
 
--- so many characters were taken, and the next one wasn't, or broke
+-- so many characters were taken, and the next one wasn't, up to which memory may be wanting, or broke
 abbrev pub Halted : {S : Type 0} → Ghosts S → State → CharSet → List ℕ → ℕ → S → S → SinkFault → Type 0
-Halted g s set before b t u sink_faults.Memory = g.took t (text s set before) u
+Halted g s set before b t u sink_faults.Memory = g.took t (text s set before) u × g.wants t (text s set before ++ char_in (walk s (text s set before)) set b ∷ [])
 Halted g s set before b t u sink_faults.Write =
     ((g.failed t ≡ true) × (u ≡ t) × (before ≡ [])) ⊎ g.broke t (text s set before) (char_in (walk s (text s set before)) set b) u
 
@@ -155,7 +155,10 @@ halts_in g s set q i t u sink_faults.Memory some h =
       behind = k.behind;
       parts = k.parts;
       count = sym h.count ∙ k.count;
-      halted = subst (λ (es : List Entry). g.took t es u) k.front h.taken;
+      halted = (
+        subst (λ (es : List Entry). g.took t es u) k.front h.taken,
+        subst (λ (e : Entry). g.wants t (text s set k.before ++ e ∷ [])) k.next (subst (λ (es : List Entry). g.wants t (es ++ h.next ∷ [])) k.front h.wants),
+      );
     }
 halts_in g s set [] i t u sink_faults.Write some (inl h) = absurd (omega arith)
 halts_in g s set (b ∷ q) i t u sink_faults.Write some (inl h) = record {
@@ -237,7 +240,7 @@ module _ {S : Type 0} (g : Ghosts S) (s : S) (o : Outcome) (t : S) (h : Holding)
           ∙ append_assoc first (text (walk state (text state set halt.before)) set (halt.byte ∷ halt.behind)) behind
 
       at : (fault : SinkFault) → Halted g state set halt.before halt.byte t u fault → TookFront g s [] o.entries u (cause_of (draw_fault (fault_of fault)))
-      at sink_faults.Memory took = (first, next ∷ rest, parts, more s t u k.done (text state set halt.before) k.taken took)
+      at sink_faults.Memory (took, wants) = (first, next ∷ rest, parts, more s t u k.done (text state set halt.before) k.taken took)
       at sink_faults.Write (inl (failed, stays, empty)) =
           let none : text state set halt.before ≡ [] = ap (text state set) empty ∙ no_text state set in
           inl (
@@ -276,9 +279,10 @@ module _ {S : Type 0} (g : Ghosts S) (s : S) (budget : ℕ) (p : List ℕ) (t : 
 
   -- the next one wasn't taken, or broke
   text_breaks : (before : List ℕ) (b : ℕ) (behind : List ℕ) → All IsGraphic (before ++ b ∷ behind) → (u : S) (left : ℕ) (r : Refusal) → left ≡ h.machine.left → r.place ≡ length (p ++ before) →
+      (cause_of r.fault ≡ memory → g.wants s ((k.done ++ text h.machine.work.state set before) ++ char_in (walk h.machine.work.state (text h.machine.work.state set before)) set b ∷ [])) →
       TookPart g s (k.done ++ text h.machine.work.state set before) (char_in (walk h.machine.work.state (text h.machine.work.state set before)) set b ∷ []) u (cause_of r.fault) →
       IsBroken g s budget (p ++ before) b u left r
-  text_breaks before b behind all u left r same place part =
+  text_breaks before b behind all u left r same place wants part =
       let s' = h.machine.work.state in
       let known = k.done ++ text s' set before in
       let next = char_in (walk s' (text s' set before)) set b in
@@ -300,23 +304,29 @@ module _ {S : Type 0} (g : Ghosts S) (s : S) (budget : ℕ) (p : List ℕ) (t : 
                   ∙ ap (λ (es : List Entry). k.done ++ es) (text_more s' set before (b ∷ []) ∙ ap (λ (es : List Entry). text s' set before ++ es) (one_char (walk s' (text s' set before)) set b))
                   ∙ sym (append_assoc k.done (text s' set before) (next ∷ []));
               unrefused = ap (λ (o : Outcome). o.refusal) further;
+              wants = wants;
               part = part;
             });
         left = let is = ap (λ (o : Outcome). o.machine.left) there in omega (arith, is, same);
         charged = let is = ap (λ (o : Outcome). o.machine.left) further in omega (arith, is, same);
       }
 
-  text_broken : (q : List ℕ) → All IsGraphic q → (i : ℕ) (u : S) (fault : SinkFault) → TookMore g → TookBroke g →
+  text_broken : (q : List ℕ) → All IsGraphic q → (i : ℕ) (u : S) (fault : SinkFault) → TookMore g → TookBroke g → WantsMore g →
       (halt : HaltsIn g h.machine.work.state set q i t u fault) → (left : ℕ) → left ≡ h.machine.left → (place : ℕ) → place ≡ length p + i →
       IsBroken g s budget (p ++ halt.before) halt.byte u left (refusal (draw_fault (fault_of fault)) place)
-  text_broken q all i u sink_faults.Memory more broken halt left same place there =
+  text_broken q all i u sink_faults.Memory more broken law halt left same place there =
       let before = halt.before in
+      let front = text h.machine.work.state set before in
+      let next = char_in (walk h.machine.work.state front) set halt.byte in
+      let joined : k.done ++ ((front ++ next ∷ []) ++ []) ≡ (k.done ++ front) ++ next ∷ [] =
+      ap (λ (es : List Entry). k.done ++ es) (append-nil (front ++ next ∷ [])) ∙ sym (append_assoc k.done front (next ∷ [])) in
       text_breaks before halt.byte halt.behind (subst (All IsGraphic) halt.parts all) u left (refusal (draw_fault (fault_of sink_faults.Memory)) place) same (omega (arith, there, halt.count, length-append p before))
-      (inl (more s t u k.done (text h.machine.work.state set before) k.taken halt.halted))
-  text_broken q all i u sink_faults.Write more broken halt left same place there =
+      (λ _. subst (g.wants s) joined (law s t k.done (front ++ next ∷ []) [] k.taken halt.halted.1))
+      (inl (more s t u k.done front k.taken halt.halted.0))
+  text_broken q all i u sink_faults.Write more broken law halt left same place there =
       let before = halt.before in
       text_breaks before halt.byte halt.behind (subst (All IsGraphic) halt.parts all) u left (refusal (draw_fault (fault_of sink_faults.Write)) place) same (omega (arith, there, halt.count, length-append p before))
-      (part halt.halted)
+      (λ is. let bad : ⊥ = cc in absurd bad) (part halt.halted)
     where
       part : Halted g h.machine.work.state set halt.before halt.byte t u sink_faults.Write →
           TookPart g s (k.done ++ text h.machine.work.state set halt.before) (char_in (walk h.machine.work.state (text h.machine.work.state set halt.before)) set halt.byte ∷ []) u device
@@ -360,9 +370,9 @@ text_takes {S} {g} old new set piece q within front live no_body closed chars al
 -- one that couldn't take all of them stopped at the next one
 pub text_stops : {S : Type 0} {g : Ghosts S} (old new : Reader S g) (set : CharSet) (piece q : List ℕ) (i : ℕ) (fault : SinkFault) → length q ≤ length piece →
     take (length q) piece ≡ q → 0 < length q → old.refusal ≡ None → old.open_body ≡ None → old.open_run ≡ None → AllCharacters old.lexer set → All IsGraphic q →
-    TookMore g → TookBroke g → HaltsAfter (shows_of g) (text old.work.state set q) old.sink new.sink i fault → new.budget ≡ old.budget → new.charged ≡ old.charged →
+    TookMore g → TookBroke g → WantsMore g → HaltsAfter (shows_of g) (text old.work.state set q) old.sink new.sink i fault → new.budget ≡ old.budget → new.charged ≡ old.charged →
     new.fed ≡ old.fed + (i + 1) → StopsAt old new piece (refusal (draw_fault (fault_of fault)) (old.fed + i)) i
-text_stops {S} {g} old new set piece q i fault within is some live no_body closed chars all more broken halts budget charged fed =
+text_stops {S} {g} old new set piece q i fault within is some live no_body closed chars all more broken law halts budget charged fed =
     let less = halts_less g old.work.state set q i old.sink new.sink fault some halts in
     let halt = halts_in g old.work.state set q i old.sink new.sink fault some halts in
     let front : take i piece ≡ halt.before =
@@ -375,7 +385,7 @@ text_stops {S} {g} old new set piece q i fault within is some live no_body close
     let stops = λ (s : S) (p : List ℕ) (h : Stands old s p).
     subst (λ (q : List ℕ). IsBroken g s old.budget (p ++ q) (get_or piece i 0) new.sink (left_of new) (refusal (draw_fault (fault_of fault)) (old.fed + i))) (sym front)
     (subst (λ (b : ℕ). IsBroken g s old.budget (p ++ halt.before) b new.sink (left_of new) (refusal (draw_fault (fault_of fault)) (old.fed + i))) (sym there)
-    (text_broken g s old.budget p old.sink (holding_of old) (h.continues live) no_body closed (none_half old.lexer set chars) set (λ b graphic. (chars b graphic).1) q all i new.sink fault more broken halt
+    (text_broken g s old.budget p old.sink (holding_of old) (h.continues live) no_body closed (none_half old.lexer set chars) set (λ b graphic. (chars b graphic).1) q all i new.sink fault more broken law halt
     (left_of new) left (old.fed + i) (ap (λ (m : ℕ). m + i) (h.fed live)))) in
     record {
       within = omega (arith, less, within);

@@ -1,7 +1,6 @@
 use Rattle.std.specs.Prelude.{ℕ, suc, ◌-◌, ◌==◌, ◌&&◌, nat_le, Bool, if◌then◌else◌, List, [], ◌∷◌, get_or, set, replicate}
 use Rattle.nap_reader.specs.declared.fault.Fault.{Fault}
 use Rattle.nap_reader.specs.declared.fault.Fault.TheVariants as faults
-use Rattle.nap_reader.specs.declared.store.TheConstants.{STORE_LIMIT}
 
 -- The bodies of macros.
 
@@ -20,9 +19,9 @@ body_of names name = get_or names (name - 0x20) []
 abbrev pub bind : List (List ℕ) → ℕ → List ℕ → List (List ℕ)
 bind names name body = set names (name - 0x20) body
 
--- the most bytes of bodies in one stream
+-- the most bytes of bodies in one stream (our profile)
 abbrev pub store_limit : ℕ
-store_limit = STORE_LIMIT
+store_limit = 1048576
 
 -- what stands behind the name of a definition: no end of the body yet; a fault, with the index of the byte at which it
 -- stands; or so many bytes of the body, and then the two bytes that end it

@@ -44,23 +44,43 @@ IsCharged budget p b = (begun budget (p ++ b ∷ [])).machine.left < (begun budg
 abbrev pub UsesBody : ℕ → List ℕ → ℕ → Type 0
 UsesBody budget p b = StandsInBody (begun budget p) ⊎ IsCharged budget p b
 
+-- A byte behind p joins an open run, or uses a body: the reader may want memory of its own.
+abbrev pub WantsMemory : ℕ → List ℕ → ℕ → Type 0
+WantsMemory budget p b = Joins (begun budget p) b ⊎ UsesBody budget p b
+
 -- A byte behind p joins an open run, or brings entries: more than those of the run that it ends. Or it uses a body.
 abbrev pub Brings : ℕ → List ℕ → ℕ → Type 0
 Brings budget p b =
     Joins (begun budget p) b ⊎ ((begun budget (p ++ b ∷ [])).entries ≢ (closed_by (begun budget p) b).entries) ⊎ UsesBody budget p b
 
--- A byte behind p can break here: at the opcode whose run it ends, or at itself; where the stream itself refuses nothing,
--- but that it may refuse what comes of a body that is charged.
-abbrev pub CanBreakAt : ℕ → List ℕ → ℕ → ℕ → Type 0
-CanBreakAt budget p b place =
+-- The place of what breaks with a byte behind p: of the opcode whose run it ends, or of the byte, which is one that can
+-- break; where the stream itself refuses nothing, but that it may refuse what comes of a body that is charged.
+abbrev pub PlacedWith : (ℕ → List ℕ → ℕ → Type 0) → ℕ → List ℕ → ℕ → ℕ → Type 0
+PlacedWith Can budget p b place =
     ((is_operand_byte b ≡ false) × (open_place (begun budget p) ≡ Some place) × ((with_run (begun budget p)).refusal ≡ None))
-    ⊎ ((place ≡ length p) × Brings budget p b × (IsCharged budget p b ⊎ ((begun budget (p ++ b ∷ [])).refusal ≡ None)))
+    ⊎ ((place ≡ length p) × Can budget p b × (IsCharged budget p b ⊎ ((begun budget (p ++ b ∷ [])).refusal ≡ None)))
 
--- A whole stream can break here: where one of its bytes is read, or at the opcode that acts at its end.
-abbrev pub BreaksWithin : ℕ → List ℕ → ℕ → Type 0
-BreaksWithin budget p place =
-    ((i : ℕ) × (i < length p) × CanBreakAt budget (take i p) (slice_index p i) place)
+-- the same within a whole stream: where one of its bytes is read, or at the opcode that acts at its end
+abbrev pub PlacedWithin : (ℕ → List ℕ → ℕ → Type 0) → ℕ → List ℕ → ℕ → Type 0
+PlacedWithin Can budget p place =
+    ((i : ℕ) × (i < length p) × PlacedWith Can budget (take i p) (slice_index p i) place)
     ⊎ ((open_place (begun budget p) ≡ Some place) × ((with_run (begun budget p)).refusal ≡ None))
+
+-- a byte behind p can break here
+abbrev pub CanBreakAt : ℕ → List ℕ → ℕ → ℕ → Type 0
+CanBreakAt budget p b place = PlacedWith Brings budget p b place
+
+-- a whole stream can break here
+abbrev pub BreaksWithin : ℕ → List ℕ → ℕ → Type 0
+BreaksWithin budget p place = PlacedWithin Brings budget p place
+
+-- a reader can lack memory of its own here, with a byte behind p
+abbrev pub CanLackAt : ℕ → List ℕ → ℕ → ℕ → Type 0
+CanLackAt budget p b place = PlacedWith WantsMemory budget p b place
+
+-- the same within a whole stream
+abbrev pub LacksWithin : ℕ → List ℕ → ℕ → Type 0
+LacksWithin budget p place = PlacedWithin WantsMemory budget p place
 
 -- What a sink has then: a sink that was s took what was known, and of the entries that come next none or a front, behind
 -- which there is one that it hasn't; or that one broke.
@@ -107,9 +127,11 @@ BreaksWith g s budget p b t cause =
     ⊎ (IsCharged budget p b × BreaksFrom g s (begun budget p).entries (begun budget (p ++ b ∷ [])) t cause)
 
 -- The byte behind p breaks at its own place: what it joins or brings isn't all there, but what the run gives that it ends.
+-- Memory was wanting to the reader itself, or to its sink for these entries.
 pub record BreaksAtByte {S : Type 0} (g : Ghosts S) (s : S) (budget : ℕ) (p : List ℕ) (b : ℕ) (t : S) (r : Refusal) : Type 0 where
   pub place : r.place ≡ length p
   pub brings : Brings budget p b
+  pub wants : cause_of r.fault ≡ memory → WantsMemory budget p b ⊎ g.wants s (begun budget (p ++ b ∷ [])).entries
   pub part : BreaksWith g s budget p b t (cause_of r.fault)
 
 -- the entries of the one outcome are the first of the other's

@@ -4,7 +4,7 @@ use Rattle.nap_codes.specs.declared.code_set.CodeSets.{CodeSets}
 use Rattle.nap_codes.specs.Front as codes
 use Rattle.nap_list.specs.declared.sink.Sink.{Ghosts}
 use Rattle.nap_list.specs.declared.entry.Entry.{Entry}
-use Rattle.nap_draw.specs.Draws.{Cause, stream}
+use Rattle.nap_draw.specs.Draws.{Cause, stream, memory}
 use Rattle.nap_reader.specs.declared.fault.Fault.TheVariants as faults
 use Rattle.nap_reader.specs.declared.fault.Refusal.{Refusal}
 use Rattle.nap_reader.specs.declared.body.OpenBody.{OpenBody}
@@ -15,7 +15,8 @@ use Rattle.nap_reader.specs.Bodies.{Mode, between, in_body, BodyFront, store_lim
 use Rattle.nap_reader.specs.Framed.{unread}
 use Rattle.nap_reader.specs.Course.{prepend}
 use Rattle.nap_reader.specs.Stream as model
-use Rattle.nap_reader.specs.Stream.{Placed, Machine, Outcome, Unfinished, open_body, all_at, charged, refusal, bytes_of, words_of, is_operand, is_operand_byte, run_length, run_limit, half_read, outcome_from, begun, with_run}
+use Rattle.nap_draw.specs.Limits.{run_limit}
+use Rattle.nap_reader.specs.Stream.{Placed, Machine, Outcome, Unfinished, open_body, all_at, charged, refusal, bytes_of, words_of, is_operand, is_operand_byte, run_length, half_read, outcome_from, begun, with_run}
 use Rattle.nap_reader.specs.Breaking.{cause_of, TookPart, BreaksInRun, BreaksFrom, Begins}
 
 -- What a reader keeps between two bytes, and how it leads to what the stream means. No one sees this.
@@ -149,15 +150,17 @@ pub record ContinuesPast {S : Type 0} (g : Ghosts S) (s : S) (known : List Entry
   pub continues : Continues g s o t h pending
   pub done : continues.done ≡ known
 
--- A sink that was s has the entries that were known, and a part of those that the outcome has more: some. That has no refusal.
+-- A sink that was s has the entries that were known, and a part of those that the outcome has more: some. That has no
+-- refusal. Where memory was wanting, the sink may want it for these entries.
 pub record BreaksPast {S : Type 0} (g : Ghosts S) (s : S) (known : List Entry) (o : Outcome) (t : S) (cause : Cause) : Type 0 where
   pub more : List Entry
   pub some : more ≢ []
   pub adds : o.entries ≡ known ++ more
   pub unrefused : o.refusal ≡ None
+  pub wants : cause ≡ memory → g.wants s (known ++ more)
   pub part : TookPart g s known more t cause
 
--- The same, where there may be none.
+-- The same, where there may be none, and memory of the reader's own may be wanting.
 pub record BreaksNext {S : Type 0} (g : Ghosts S) (s : S) (known : List Entry) (o : Outcome) (t : S) (cause : Cause) : Type 0 where
   pub more : List Entry
   pub adds : o.entries ≡ known ++ more

@@ -1,4 +1,4 @@
-use Rattle.std.specs.Prelude.{◌≡◌, ◌≢◌, ◌<◌, ◌≤◌, ◌+◌, ℕ, false, List, [], ◌∷◌, ◌++◌, Some, None, All, ⊤, length, take, slice_index}
+use Rattle.std.specs.Prelude.{◌≡◌, ◌≢◌, ◌⊎◌, ◌<◌, ◌≤◌, ◌+◌, ℕ, false, List, [], ◌∷◌, ◌++◌, Some, None, All, ⊤, length, take, slice_index}
 use Rattle.nap_values.specs.Laws.{IsOperandByte}
 use Rattle.nap_codes.specs.declared.code.Code.{Code}
 use Rattle.nap_codes.specs.declared.code.Code.TheVariants as code
@@ -6,7 +6,7 @@ use Rattle.nap_codes.specs.declared.code_set.CodeSets.{CodeSets}
 use Rattle.nap_codes.specs.declared.opcode.Opcode.{Opcode}
 use Rattle.nap_codes.specs.Front as codes
 use Rattle.nap_draw.specs.Codes.{code_rule}
-use Rattle.nap_draw.specs.Draws.{stream}
+use Rattle.nap_draw.specs.Draws.{stream, memory}
 use Rattle.nap_draw.specs.Rule.{rule}
 use Rattle.nap_list.specs.declared.entry.Entry.{Entry}
 use Rattle.nap_list.specs.declared.sink.Sink.{Ghosts}
@@ -14,10 +14,11 @@ use Rattle.nap_list.specs.State.{Legal}
 use Rattle.nap_list.specs.Range.{AllInRange}
 use Rattle.nap_reader.specs.declared.fault.Refusal.{Refusal}
 use Rattle.nap_reader.specs.Bodies.{between}
-use Rattle.nap_reader.specs.Breaking.{cause_of, BreaksFrom, BreaksInRun, BreaksWithin}
+use Rattle.nap_reader.specs.Breaking.{cause_of, BreaksFrom, BreaksInRun, BreaksWithin, LacksWithin}
 use Rattle.nap_reader.specs.Course.{pause, continue, onward}
 use Rattle.nap_reader.specs.Standing.{StopsBy}
-use Rattle.nap_reader.specs.Stream.{Placed, Machine, Outcome, bytes_of, words_of, is_operand, run_limit, open_run, drawn_front, front, placed_from, outcome_from, begun, means}
+use Rattle.nap_draw.specs.Limits.{run_limit}
+use Rattle.nap_reader.specs.Stream.{Placed, Machine, Outcome, bytes_of, words_of, is_operand, open_run, drawn_front, front, placed_from, outcome_from, begun, means}
 
 -- What comes of a list is what its front gives, and then what comes of the list that stands there then.
 abbrev pub FrontAfterFront : Type 0
@@ -95,10 +96,15 @@ ReadValuesAreInRange = (budget : ℕ) (p : List ℕ) → AllInRange (begun budge
 abbrev pub BegunComesFirst : Type 0
 BegunComesFirst = (budget : ℕ) (p : List ℕ) → (more : List Entry) × ((means budget p).entries ≡ (begun budget p).entries ++ more)
 
+-- there may be no memory for some of the first entries of a list
+abbrev pub WantsSome : {S : Type 0} → Ghosts S → S → List Entry → Type 0
+WantsSome g s list = (first : List Entry) × (rest : List Entry) × (list ≡ first ++ rest) × g.wants s first
+
 -- Reading the bytes p broke where they can break. The sink has all entries that were known, and a part of those that the
--- outcome has more.
+-- outcome has more. Memory was wanting to the reader itself, or to its sink for some of the first entries.
 pub record BreaksAmong {S : Type 0} (g : Ghosts S) (s : S) (budget : ℕ) (p : List ℕ) (known : List Entry) (o : Outcome) (t : S) (r : Refusal) : Type 0 where
   pub place : BreaksWithin budget p r.place
+  pub wants : cause_of r.fault ≡ memory → LacksWithin budget p r.place ⊎ WantsSome g s o.entries
   pub from : BreaksFrom g s known o t (cause_of r.fault)
 
 -- A reader that broke in the last bytes that it was fed keeps the entries of those before.

@@ -1,5 +1,6 @@
 -- what a stream means
 pub mod Bodies
+pub mod Budgets
 pub mod Course
 pub mod Faults
 pub mod Kinds

@@ -10,13 +10,13 @@ use Rattle.nap_list.specs.declared.state.Opened.{Opened}
 use Rattle.nap_draw.specs.declared.work.Work.{Work}
 use Rattle.nap_draw.specs.declared.fault.DrawFault.{DrawFault}
 use Rattle.nap_draw.specs.Codes.{code_rule}
+use Rattle.nap_draw.specs.Limits.{run_limit}
 use Rattle.nap_draw.specs.Rule.{Drawn, rule, start_work}
 use Rattle.nap_reader.specs.declared.fault.Fault.{Fault}
 use Rattle.nap_reader.specs.declared.fault.Fault.TheVariants as faults
 use Rattle.nap_reader.specs.declared.fault.Refusal.{Refusal}
 use Rattle.nap_reader.specs.declared.kind.Kind.{Kind}
 use Rattle.nap_reader.specs.declared.kind.Kind.TheVariants as kinds
-use Rattle.nap_draw.specs.declared.act.TheConstants.{RUN_LIMIT}
 use Rattle.nap_reader.specs.Faults.{code_fault, draw_fault}
 use Rattle.nap_reader.specs.Kinds.{kind_of}
 use Rattle.nap_reader.specs.Bodies as bodies
@@ -98,10 +98,6 @@ drawn_front m place rest (Err fault) = course.refuse (refusal (draw_fault fault)
 abbrev pub closed_front : Machine → Opcode → ℕ → List Placed → List Placed → Front
 closed_front m op place run [] = course.pause (open_run op place (words_of run))
 closed_front m op place run (x ∷ xs) = drawn_front m place (x ∷ xs) (rule m.work op (words_of run))
-
--- the most operand bytes of one opcode
-abbrev pub run_limit : ℕ
-run_limit = RUN_LIMIT
 
 -- an opcode on its run, and what stands behind the run
 abbrev pub run_front : Machine → Opcode → ℕ → List Placed → List Placed → Front

@@ -1,5 +1,6 @@
 //! How much a reading may be charged.
 ghost use Rattle.std.specs.Prelude.{◌≡◌, ◌≤◌, ◌↔◌, IsSome, IfSome};
+ghost use Rattle.nap_reader.specs.Budgets.{most_budget, usual_budget};
 
 use std::marker::Model;
 
@@ -9,13 +10,13 @@ pub struct Budget(u32);
 
 impl Model for Budget {
     ghost use Rattle.std.specs.Prelude.{ℕ, ◌≤◌};
-    ghost use Rattle.nap_reader.specs.declared.budget.TheConstants.Budget.{MOST};
+    ghost use Rattle.nap_reader.specs.Budgets.{most_budget};
 
     ghost Value = { ℕ };
 
     ghost view = { λ b. b.0 };
 
-    ghost invariant = { λ b. b.0 ≤ MOST };
+    ghost invariant = { λ b. b.0 ≤ most_budget };
 
     ghost inverse = { λ n. record { 0 = n } };
 }
@@ -29,7 +30,7 @@ impl Budget {
 
     /// The budget of this many bytes.
     pub fn new(bytes: u32) -> Option<Budget>
-        ensures found { IsSome result ↔ (bytes ≤ Self.MOST) }
+        ensures found { IsSome result ↔ (bytes ≤ most_budget) }
         ensures value { IfSome result (λ budget. budget ≡ bytes) }
     {
         if bytes <= Self::MOST {
@@ -41,7 +42,7 @@ impl Budget {
 
     /// The budget of a reading for which none is chosen.
     pub fn usual() -> Budget
-        ensures { result ≡ Self.USUAL }
+        ensures { result ≡ usual_budget }
     {
         Budget(Self::USUAL)
     }
@@ -49,7 +50,7 @@ impl Budget {
     /// The budget in bytes.
     pub fn get(self) -> u32
         ensures value { result ≡ self }
-        ensures most { result ≤ Self.MOST }
+        ensures most { result ≤ most_budget }
     {
         self.0
     }

@@ -1,7 +1,7 @@
 //! Feeds a reader what an input gives.
 ghost use Rattle.std.specs.Prelude.{◌≡◌, ◌+◌, ◌*◌, ◌^◌, ◌<◌, ◌≤◌, ℕ, List, [], None, false, length};
 ghost use Rattle.std.specs.Io.KnownBytes.{Consumes};
-ghost use Rattle.nap_list.specs.declared.device.TheConstants.{READS};
+ghost use Rattle.nap_list.specs.Limits.{reads_limit};
 ghost use Rattle.nap_reader.specs.declared.feeding.FeedFault.TheVariants.{Refused};
 ghost use Rattle.nap_reader.specs.Feeding.{FailsBy, Feeds};
 ghost use Rattle.nap_reader.specs.Standing.{Stands, budget_of, fed_of, refusal_of, sink_of};
@@ -41,8 +41,8 @@ pub fn feed_from<I: Inlet, S: Sink>(
     requires new { fed_of reader.old ≡ 0 }
     requires unrefused { refusal_of reader.old ≡ None }
     requires room { 0 < length room.old }
-    requires small { READS * length room.old < 2 ^ 63 }
-    ensures few { I.calls input.new ≤ I.calls input.old + READS }
+    requires small { reads_limit * length room.old < 2 ^ 63 }
+    ensures few { I.calls input.new ≤ I.calls input.old + reads_limit }
     ensures budget { budget_of reader.new ≡ budget_of reader.old }
     ensures more { I.calls input.old ≤ I.calls input.new }
     ensures feeds { (p : List ℕ) × Consumes (I.left input.old) (I.left input.new) p

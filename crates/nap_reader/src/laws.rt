@@ -1,5 +1,10 @@
 //! Laws of what a stream means, which no call can break.
+ghost use Rattle.std.specs.Prelude.{◌≡◌};
 ghost use Rattle.nap_reader.specs.Laws.{AcceptedIsLegal, BegunComesFirst, CodeActs, EndBreaksAmong, FedBreaksAmong, FrontAfterFront, MoreBytesKeepEntries, MoreBytesKeepRefusal, PiecesAgree, ReadValuesAreInRange, RunActs, RunWaits};
+ghost use Rattle.nap_reader.specs.Bodies.{store_limit};
+ghost use Rattle.nap_reader.specs.Budgets.{most_budget, usual_budget};
+ghost use Rattle.nap_reader.specs.declared.budget.TheConstants.Budget.{MOST, USUAL};
+ghost use Rattle.nap_reader.specs.declared.store.TheConstants.{STORE_LIMIT};
 
 use nap_list::Sink;
 
@@ -57,4 +62,11 @@ pub fn fed_breaks_among<S: Sink>()
 /// A reader that broke at the opcode that acts at the end of a stream leaves a part of the entries of the stream.
 pub fn end_breaks_among<S: Sink>()
     ensures { EndBreaksAmong S.Sink }
+{}
+
+/// The limits are those of our profile: 1,048,576 bytes of bodies; budgets up to 67,108,864, of which 1,048,576 is usual.
+pub fn limits()
+    ensures store { STORE_LIMIT ≡ store_limit }
+    ensures most { MOST ≡ most_budget }
+    ensures usual { USUAL ≡ usual_budget }
 {}

@@ -1,6 +1,7 @@
 //! The operand bytes at the front of a piece, and the words that they carry.
 ghost use Rattle.std.specs.Prelude.{All, map, take, ◌≡◌, ◌-◌, ◌≤◌, ◌%◌, ◌++◌, true, false, length, vec_len, MatchOption};
-ghost use Rattle.nap_reader.specs.Stream.{is_operand_byte, run_limit};
+ghost use Rattle.nap_draw.specs.Limits.{run_limit};
+ghost use Rattle.nap_reader.specs.Stream.{is_operand_byte};
 
 use crate::prefix::prefix_from;
 use nap_draw::RUN_LIMIT;

@@ -11,8 +11,9 @@ ghost use Rattle.nap_reader.specs.Faults.{draw_fault};
 ghost use Rattle.nap_codes.specs.Laws.{IsGraphic};
 ghost use Rattle.nap_reader.specs.Stored.{part_at};
 ghost use Rattle.nap_reader.specs.Bodies.{store_limit};
-ghost use Rattle.nap_reader.specs.Stream.{all_at, is_operand_byte, refusal, run_limit};
-ghost use Rattle.nap_reader.specs.declared.budget.TheConstants.Budget.{MOST};
+ghost use Rattle.nap_reader.specs.Stream.{all_at, is_operand_byte, refusal};
+ghost use Rattle.nap_draw.specs.Limits.{run_limit};
+ghost use Rattle.nap_reader.specs.Budgets.{most_budget};
 
 use crate::body::{OpenBody, ends_body};
 use crate::budget::Budget;
@@ -63,7 +64,7 @@ pub struct Reader<S: Sink> {
     ghost short: { vec_len run ≤ run_limit },
     ghost rule: { HasRule open_run } by { HasRule-prop open_run },
     ghost within: { charged ≤ budget },
-    ghost small: { charged ≤ MOST },
+    ghost small: { charged ≤ most_budget },
     ghost named: { HasName open_body } by { HasName-prop open_body },
     ghost framed: { FramesIn (length store.bytes) frames.stack.items },
     ghost turned: { turns + length (unread store.bytes frames.stack.items) ≡ fed + charged },
@@ -585,7 +586,7 @@ impl<S: Sink> Reader<S> {
     /// What is left to charge.
     fn left(&self) -> u64
         ensures left { result ≡ left_of self.now }
-        ensures most { result + self.now.charged ≤ MOST }
+        ensures most { result + self.now.charged ≤ most_budget }
     {
         u64::from(self.budget.get()) - self.charged
     }
@@ -718,7 +719,11 @@ impl<S: Sink> Reader<S> {
 
     /// How many bytes were taken, from the input or from a macro's body.
     pub fn turns(&self) -> u64
-        ensures { result ≡ turns_of self.now }
+        ensures count { result ≡ turns_of self.now }
+        ensures within { result ≤ fed_of self.now + charged_of self.now }
+        ensures fed { fed_of self.now ≤ result }
+        // What is charged was read to its end, unless the stream is refused.
+        ensures all { (s : S) (p : List ℕ) → Stands self.now s p → refusal_of self.now ≡ None → result ≡ fed_of self.now + charged_of self.now }
     {
         self.turns
     }
@@ -745,7 +750,7 @@ fn present(
 ) -> Result<(), Refused>
     requires some { span.start < span.end }
     requires counted { count + span.start ≡ span.end }
-    requires most { count + charged.old ≤ MOST }
+    requires most { count + charged.old ≤ most_budget }
     ensures shown { OnOk result ((charged.new ≡ charged.old + count) × (latch.new ≡ latch.old) × ((bytes : List ℕ) → unread bytes frames.new.stack.items ≡ all_at place (part_at bytes span) ++ unread bytes frames.old.stack.items)) }
     ensures wants { IfErr result (λ _. latch.new ≡ Some (refusal Fault.Memory place)) }
     ensures uncharged { IfErr result (λ _. charged.new ≡ charged.old) }

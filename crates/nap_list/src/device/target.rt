@@ -1,5 +1,6 @@
 //! A writer of `std` as an outlet.
-ghost use Rattle.std.specs.Prelude.{◌≡◌, false};
+ghost use Rattle.std.specs.Prelude.{◌≡◌, ◌||◌, Bool, false};
+ghost use Rattle.std.proofs.Common.{ap};
 
 use crate::device::{DeviceFault, Outlet};
 use std::io::Write;
@@ -9,8 +10,10 @@ use std::marker::Model;
 #[derive(Drop)]
 pub struct Target<W> {
     writer: W,
-    failed: bool,
+    write_failed: bool,
+    flush_failed: bool,
     sent: bool,
+    flushes: u64,
 }
 
 impl<W> Model for Target<W> {
@@ -18,18 +21,20 @@ impl<W> Model for Target<W> {
 
     ghost Value = { Writing W };
 
-    ghost view = { λ t. record { writer = t.writer; failed = t.failed; sent = t.sent } };
+    ghost view = { λ t. record { writer = t.writer; write_failed = t.write_failed; flush_failed = t.flush_failed; sent = t.sent; flushes = t.flushes } };
 }
 
 impl<W: Write> Target<W> {
     /// The writer, which hasn't been written.
     pub fn new(writer: W) -> Target<W>
-        ensures { result ≡ record { writer = writer; failed = false; sent = false } }
+        ensures { result ≡ record { writer = writer; write_failed = false; flush_failed = false; sent = false; flushes = 0 } }
     {
         Target {
             writer,
-            failed: false,
+            write_failed: false,
+            flush_failed: false,
             sent: false,
+            flushes: 0,
         }
     }
 
@@ -45,26 +50,31 @@ impl<W: Write> Target<W> {
 impl<W: Write> Outlet for Target<W> {
     ghost taken = { λ t. W.contents t.writer };
 
-    ghost failed = { λ t. t.failed };
+    ghost failed = { λ t. t.write_failed || t.flush_failed };
+
+    ghost write_failed = { λ t. t.write_failed };
 
     ghost sent = { λ t. t.sent };
+
+    ghost flushes = { λ t. t.flushes };
 
     fn write(&mut self, piece: &[u8]) -> Result<usize, DeviceFault> {
         self.sent = false;
         match self.writer.write(piece) {
             Ok(0) if !piece.is_empty() => {
-                self.failed = true;
+                self.write_failed = true;
                 Err(DeviceFault)
             }
             Ok(count) => Ok(count),
             Err(_) => {
-                self.failed = true;
+                self.write_failed = true;
                 Err(DeviceFault)
             }
         }
     }
 
     fn flush(&mut self) -> Result<(), DeviceFault> {
+        self.flushes = self.flushes.saturating_add(1);
         match self.writer.flush() {
             Ok(()) => {
                 self.sent = true;
@@ -72,13 +82,15 @@ impl<W: Write> Outlet for Target<W> {
             }
             Err(_) => {
                 self.sent = false;
-                self.failed = true;
+                self.flush_failed = true;
                 Err(DeviceFault)
             }
         }
     }
 
     fn failed(&self) -> bool {
-        self.failed
+        self.write_failed || self.flush_failed
     }
+
+    ghost fails_by_write = { λ t failed. ap (λ (b : Bool). b || t.flush_failed) failed };
 }

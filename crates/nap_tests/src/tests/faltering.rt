@@ -177,7 +177,7 @@ impl Faltering {
 impl Sink for Faltering {
     ghost state = { λ s. walk start s.list };
 
-    ghost grows = { λ s. true };
+    ghost wants = { λ s d. Unit {0} };
 
     ghost failed = { λ s. s.failed };
 
@@ -206,6 +206,8 @@ impl Sink for Faltering {
     ghost took_none = { λ s. sym (append-nil s.list) };
 
     ghost took_more = { λ s t u d e a b. b ∙ (ap (λ (list : List Entry). list ++ e) a ∙ append_assoc s.list d e) };
+
+    ghost wants_more = { λ s t d e f a b. tt {0} };
 
     ghost took_broke = { λ s t u d e x a b. b ∙ (ap (λ (list : List Entry). list ++ e) a ∙ append_assoc s.list d e) };
 }

@@ -5,8 +5,8 @@ use Rattle.nap_list.specs.Reading.{reading}
 use Rattle.nap_reader.specs.declared.feeding.FeedFault.TheVariants as feed_fault
 use Rattle.nap_canon.specs.Concluding.{Concludes}
 use Rattle.nap_canon.specs.Converting.{Converts, StopsAtOnce}
-use Rattle.nap_canon.specs.Sinking.{Canonical}
-use Rattle.nap_canon.proofs.ConvertLemmas.{Ends, end_leaves, fed_leaves, finished, header_fails, whole_leaves}
+use Rattle.nap_canon.specs.Sinking.{Canonical, Writes, sending, shown}
+use Rattle.nap_canon.proofs.ConvertLemmas.{Ends, end_leaves, fed_leaves, finished, flushed_once, header_fails, whole_leaves}
 use Rattle.nap_canon.proofs.conversion.convert.Goals as goal
 
 -- the header was not written
@@ -22,7 +22,7 @@ returns-then-failed-clause-converts g c =
     let there : c.into_sink.result ≡ s = c.into_sink.ensures.now ∙ c.new-reader.ensures.sink in
     let fails : O.failed c.into_sink.result.outlet ≡ true =
     subst (λ (t : Canonical _). O.failed t.outlet ≡ true) (c.sink.ensures.now ∙ sym c.into_sink.ensures.now) (sym c.failed.ensures ∙ c.if-failed.true) in
-    let h = header_fails O c.args.output s c.new.ensures _ (λ t d k. k) (λ t d e k. k) refl I input reader c.new-reader.ensures.stands c.new-reader.ensures.unrefused
+    let h = header_fails O c.args.output s c.new.ensures _ (λ t d k. k) (λ t d e k. k) refl (λ d k. k) I input reader c.new-reader.ensures.stands c.new-reader.ensures.unrefused
     (ap (λ (t : Canonical _). O.failed t.outlet) (sym there) ∙ fails) u answer
     (subst (λ (t : Canonical _). Keeps (O.taken t.outlet) (O.taken u)) there c.conclude.ensures.taken) (c.conclude.ensures.failed fails)
     (subst (λ (t : Canonical _). Concludes t.written (Ok tt) (O.failed u) answer) there c.conclude.ensures.answer) in (
@@ -32,6 +32,8 @@ returns-then-failed-clause-converts g c =
       h.1,
       subst (λ (budget : ℕ). Converts budget [] (reading I input input) h.0 (O.failed u) answer) c.new-reader.ensures.budget h.2,
       subst (λ (budget : ℕ). StopsAtOnce I budget [] input input h.0) c.new-reader.ensures.budget h.3,
+      flushed_once O g.met.O.Outlet.fails_by_write c.args.output c.requires.works c.into_sink.result u (subst (λ (t : Canonical _). Writes (sending O c.args.output 0) (shown O t)) (sym there) h.4)
+          c.conclude.ensures.flushes c.conclude.ensures.write_failed,
     )
 
 -- all was read, and nothing refused
@@ -51,10 +53,10 @@ returns-in-Ok-finish-clause-converts g c =
     let t = c.in-Ok-finish.sink in
     let end = c.conclude-in-Ok-finish in
     let same = c.feed_from.ensures.budget in
-    let leaves = whole_leaves O c.args.output s c.new.ensures _ (λ t d k. k) (λ t d e k. k) refl works I input rest old new p same h t (c.in-Ok-finish.ensures.ok s p h.stands) in
-    let k = finished O c.args.output s c.new.ensures _ (λ t d k. k) (λ t d e k. k) refl works I input rest old new p same h.last t (Ok tt) end.result.0 end.result.1 c.args.budget
+    let leaves = whole_leaves O c.args.output s c.new.ensures _ (λ t d k. k) (λ t d e k. k) refl (λ d k. k) works I input rest old new p same h t (c.in-Ok-finish.ensures.ok s p h.stands) in
+    let k = finished O c.args.output s c.new.ensures _ (λ t d k. k) (λ t d e k. k) refl (λ d k. k) works I input rest old new p same h.last t (Ok tt) end.result.0 end.result.1 c.args.budget
     c.new-reader.ensures.budget leaves end.ensures.taken end.ensures.failed end.ensures.answer in
-    (p, k.0, read, k.1, k.2, k.3)
+    (p, k.0, read, k.1, k.2, k.3, flushed_once O g.met.O.Outlet.fails_by_write c.args.output c.requires.works t end.result.0 k.4 end.ensures.flushes end.ensures.write_failed)
 
 -- the stream is refused at its end
 pub returns-in-Err-finish-clause-converts : goal.returns-in-Err-finish-clause-converts
@@ -74,11 +76,11 @@ returns-in-Err-finish-clause-converts g c =
     let fed = Err (feed_fault.Refused stopped.refusal) in
     let end = c.conclude-in-Err-finish in
     let same = c.feed_from.ensures.budget in
-    let leaves = end_leaves O c.args.output s c.new.ensures _ (λ t d k. k) (λ t d e k. k) refl works I input rest old new p same h stopped.sink stopped.refusal
+    let leaves = end_leaves O c.args.output s c.new.ensures _ (λ t d k. k) (λ t d e k. k) refl (λ d k. k) works I input rest old new p same h stopped.sink stopped.refusal
     (λ own. c.in-Err-finish.ensures.err own s p h.stands) (λ other. c.in-Err-finish.ensures.breaks h.ends.1 other s p h.stands) in
-    let k = finished O c.args.output s c.new.ensures _ (λ t d k. k) (λ t d e k. k) refl works I input rest old new p same h.last stopped.sink fed end.result.0 end.result.1
+    let k = finished O c.args.output s c.new.ensures _ (λ t d k. k) (λ t d e k. k) refl (λ d k. k) works I input rest old new p same h.last stopped.sink fed end.result.0 end.result.1
     c.args.budget c.new-reader.ensures.budget leaves end.ensures.taken end.ensures.failed end.ensures.answer in
-    (p, k.0, read, k.1, k.2, k.3)
+    (p, k.0, read, k.1, k.2, k.3, flushed_once O g.met.O.Outlet.fails_by_write c.args.output c.requires.works stopped.sink end.result.0 k.4 end.ensures.flushes end.ensures.write_failed)
 
 -- the stream is refused before its end, or the input failed
 pub returns-in-Err-clause-converts : goal.returns-in-Err-clause-converts
@@ -97,8 +99,8 @@ returns-in-Err-clause-converts g c =
     let fed = Err c.in-Err.fault in
     let end = c.conclude-in-Err in
     let same = c.feed_from.ensures.budget in
-    let leaves = subst (λ (t : Canonical g.row.O.Denot). Ends O c.args.output s c.new.ensures _ (λ t d k. k) (λ t d e k. k) refl works I input rest old new p same h.last t fed)
-    (sym c.into_sink-in-Err.ensures.now) (fed_leaves O c.args.output s c.new.ensures _ (λ t d k. k) (λ t d e k. k) refl works I input rest old new p same c.in-Err.fault h) in
-    let k = finished O c.args.output s c.new.ensures _ (λ t d k. k) (λ t d e k. k) refl works I input rest old new p same h.last c.into_sink-in-Err.result fed end.result.0
+    let leaves = subst (λ (t : Canonical g.row.O.Denot). Ends O c.args.output s c.new.ensures _ (λ t d k. k) (λ t d e k. k) refl (λ d k. k) works I input rest old new p same h.last t fed)
+    (sym c.into_sink-in-Err.ensures.now) (fed_leaves O c.args.output s c.new.ensures _ (λ t d k. k) (λ t d e k. k) refl (λ d k. k) works I input rest old new p same c.in-Err.fault h) in
+    let k = finished O c.args.output s c.new.ensures _ (λ t d k. k) (λ t d e k. k) refl (λ d k. k) works I input rest old new p same h.last c.into_sink-in-Err.result fed end.result.0
     end.result.1 c.args.budget c.new-reader.ensures.budget leaves end.ensures.taken end.ensures.failed end.ensures.answer in
-    (p, k.0, read, k.1, k.2, k.3)
+    (p, k.0, read, k.1, k.2, k.3, flushed_once O g.met.O.Outlet.fails_by_write c.args.output c.requires.works c.into_sink-in-Err.result end.result.0 k.4 end.ensures.flushes end.ensures.write_failed)

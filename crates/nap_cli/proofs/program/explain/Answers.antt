@@ -3,6 +3,7 @@ use Rattle.std.proofs.KnownBytes.{Appends-nil}
 use Rattle.std.proofs.Math.Bool.{or-false}
 use Rattle.clap.specs.Values.{kind_of}
 use Rattle.nap_command.specs.declared.answer.Verdict.TheVariants as verdict
+use Rattle.nap_cli.specs.Explaining.{outputs}
 use Rattle.nap_cli.proofs.ExplainLemmas.{explains_help, explains_memory, shows_failing}
 use Rattle.nap_cli.proofs.OptionLemmas.{true_or_false}
 use Rattle.nap_cli.proofs.program.explain.Goals as goal
@@ -10,7 +11,7 @@ use Rattle.nap_cli.proofs.program.explain.Goals as goal
 pub returns-in_default : goal.returns-in_default
 returns-in_default g c =
     let t = c.tell.ensures in
-    explains_memory (kind_of c.args.error) _ _ _ (record { unprinted = record { taken = refl; sent = refl; failed = refl }; e = t.0; told = t.1; tells = t.2 })
+    explains_memory (kind_of c.args.error) _ _ _ (record { unprinted = record { taken = refl; sent = refl; failed = refl; write_failed = refl; flushes = refl }; e = t.0; told = t.1; tells = t.2 })
 
 pub returns-in-Ok-write_whole : goal.returns-in-Ok-write_whole
 returns-in-Ok-write_whole g c =
@@ -19,7 +20,7 @@ returns-in-Ok-write_whole g c =
       text = c.as_bytes-2.result.now;
       e = [];
       ended = Ok verdict.Accepted;
-      shown = (write.takes, write.failed ∙ or-false _, write.sent);
+      shown = (write.takes, write.failed ∙ or-false _, write.sent, write.flushes);
       told = Appends-nil (g.E.Outlet.taken c.args.errors.now);
       tells = record { said = Ok verdict.Accepted; told_as = inl refl; front = refl; all = λ _. refl; status_is = refl };
     })
@@ -28,11 +29,13 @@ pub returns : goal.returns
 returns g c =
     let write = c.in-Err.ensures in
     let t = c.tell-told.ensures in
-    explains_help (kind_of c.args.error) _ _ _ (λ h. true_or_false c.use_stderr.result c.if-use_stderr.false (c.use_stderr.ensures.1 h)) (record {
+    let before = outputs g.O.Outlet g.E.Outlet c.args.output c.args.errors.now in
+    let after = outputs g.O.Outlet g.E.Outlet c.write_whole-2.new.output c.tell-told.new.errors in
+    explains_help (kind_of c.args.error) before after _ (λ h. true_or_false c.use_stderr.result c.if-use_stderr.false (c.use_stderr.ensures.1 h)) (record {
       text = c.as_bytes-2.result.now;
       e = t.0;
       ended = Err c.in-Err.fault;
-      shown = shows_failing _ _ c.as_bytes-2.result.now c.in-Err.fault write.takes write.failed;
+      shown = shows_failing before after c.as_bytes-2.result.now c.in-Err.fault write.takes write.failed write.flushes;
       told = t.1;
       tells = t.2;
     })

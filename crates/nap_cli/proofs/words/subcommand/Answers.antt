@@ -4,7 +4,7 @@ use Rattle.clap.specs.Words.{app_of, new_app, rule_of, with_rule}
 use Rattle.clap.specs.Simple.{app_of_fields}
 use Rattle.clap.specs.declared.builder.command.Command.TheViews.{out-Command as fields_of}
 use Rattle.clap.specs.declared.builder.value_parser.ValueParser.TheVariants.{Signed}
-use Rattle.nap_reader.specs.declared.budget.TheConstants.Budget.{MOST}
+use Rattle.nap_reader.specs.Budgets.{most_budget}
 use Rattle.nap_cli.specs.CommandLine.{budget_rule, hex_rule}
 use Rattle.nap_cli.proofs.words.subcommand.Goals as goal
 
@@ -12,7 +12,7 @@ pub returns-clause-app : goal.returns-clause-app
 returns-clause-app c =
     let hex_is : rule_of c.help-hex.result ≡ hex_rule = search rules in
     let usual_is : c.as_str.result.now ≡ string_bytes c.args.texts.now.usual = search rules in
-    let range_is : c.range.result ≡ Signed (pos 0) (pos MOST) = search rules in
+    let range_is : c.range.result ≡ Signed (pos 0) (pos most_budget) = search rules in
     let budget_is : rule_of c.help-budget.result ≡ budget_rule (string_bytes c.args.texts.now.usual) = search rules in
     let start_is : app_of c.after_help.result ≡ new_app c.args.name.now = ap app_of_fields c.after_help.ensures ∙ (ap app_of_fields c.about.ensures ∙ c.new-4.ensures.app) in
     let first_is : app_of c.in_ok-arg.field-0 ≡ with_rule (new_app c.args.name.now) hex_rule = c.in_ok-arg.ensures.shape (search rules) ∙ ap₂ with_rule start_is hex_is in

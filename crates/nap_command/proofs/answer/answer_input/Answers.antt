@@ -11,7 +11,7 @@ returns-in_ok-found-in-Check-clause-found g c =
     let seen = reading g.I.Inlet c.args.input.now c.read_input-in-Check.new.input in (
       h.0,
       h.1,
-      finds_count _ c.new-in-Check.result (ap (λ (t : CountSink). t.count) c.new-in-Check.ensures) (λ t d k. k) (λ t. refl) c.args.command.now h.0 c.in-Check.is seen c.in_ok-found-in-Check.found c.print_count.result c.requires.bytes
+      finds_count _ c.new-in-Check.result (ap (λ (t : CountSink). t.count) c.new-in-Check.ensures) (λ t d k. k) (λ d k. k) (λ t. refl) c.args.command.now h.0 c.in-Check.is seen c.in_ok-found-in-Check.found c.print_count.result c.requires.bytes
           h.2.0 h.2.1 c.print_count.ensures,
     )
 

@@ -1,7 +1,7 @@
 use Rattle.std.proofs.Common.{◌≡◌, ◌+◌, ◌-◌, ◌++◌, ◌∙◌, ℕ, Err, refl, ap, subst, arith}
 use Rattle.std.proofs.KnownBytes.{Consumes-trans}
 use Rattle.std.proofs.lemmas.Result.{err_from_is_err_and}
-use Rattle.nap_list.specs.declared.device.TheConstants.{READS}
+use Rattle.nap_list.specs.Limits.{reads_limit}
 use Rattle.nap_list.specs.Reading.{reading}
 use Rattle.nap_reader.specs.Breaking.{cause_of}
 use Rattle.nap_reader.specs.declared.feeding.FeedFault.{FeedFault}
@@ -30,9 +30,9 @@ returns-in_err-read_out-in-Err-Refused-clause-collected g c =
     let fails = subst (λ (f : FeedFault). FailsBy (g.S.Sink.failed (sink_of new)) (Err f)) refused.field-0-is (refused.ensures.fails (ap g.S.Sink.failed c.new-reader.ensures.sink ∙ c.requires.works)) in
     let (more, rest, out) = c.in_err-read_out-in-Err-Refused.ensures.read in
     let few = reads_few I old new s p start mid refused.refusal h c.feed_from.ensures.budget fails.0 more in
-    let most = READS - (c.calls.result - c.calls-before.result) in
+    let most = reads_limit - (c.calls.result - c.calls-before.result) in
     let reads : I.calls end - I.calls start ≡ (I.calls mid - I.calls start) + (I.calls end - I.calls mid) = omega (arith, refused.ensures.more, c.read_out.ensures.more) in
-    let all : most + (I.calls mid - I.calls start) ≡ READS = omega (arith, c.calls.ensures, c.calls-before.ensures, refused.ensures.few, refused.ensures.more) in
+    let all : most + (I.calls mid - I.calls start) ≡ reads_limit = omega (arith, c.calls.ensures, c.calls-before.ensures, refused.ensures.few, refused.ensures.more) in
     let cut = cut_off (reading I start mid) (reading I mid end) (reading I start end) p more few h.ends.0 refl refl refl refl reads most all
     c.in_err-read_out-in-Err-Refused.field-0.0 out in
     let e = err_from_is_err_and c.from_residual.result c.from_residual.ensures.1 in
@@ -61,6 +61,6 @@ returns-clause-collected g c =
       Consumes-trans _ _ _ p more read rest,
       (
         read_whole (reading I start mid) (reading I mid end) (reading I start end) p more few h.ends.0 refl refl refl refl reads out,
-        record { collects = subst (λ (budget : ℕ). RefusedBy g.S.Sink budget (p ++ more) r (cause_of r.fault)) c.new-reader.ensures.budget why },
+        record { collects = subst (λ (budget : ℕ). RefusedBy g.S.Sink s budget (p ++ more) r (cause_of r.fault)) c.new-reader.ensures.budget why },
       ),
     )

@@ -24,4 +24,4 @@ returns-in_err-feed g c =
     let refused = refused_behind new s budget [] stream [] i r stops.within (c.feed.ensures.budget ∙ c.new-reader.ensures.budget) c.in_err-feed.ensures.answered
     (c.feed.ensures.stands s [] stands) there (λ is. c.in_err-feed.ensures.failed unrefused (device_fault r.fault is)) in
     let e = err_from_is_err_and c.from_residual.result c.from_residual.ensures.1 in
-    rw (e.1, e.2) (record { collects = subst (λ (p : List ℕ). RefusedBy S budget p r (cause_of r.fault)) (append-nil stream) refused })
+    rw (e.1, e.2) (record { collects = subst (λ (p : List ℕ). RefusedBy S s budget p r (cause_of r.fault)) (append-nil stream) refused })

@@ -16,4 +16,6 @@ loop-taken-preserved g c =
       sent = taken_more _ _ _ i n text c.loop-taken.invariant.sent
           (subst (λ (xs : List ℕ). Appends (O.taken c.loop-taken.output) (O.taken c.write.new.self) (take n xs)) (rest_of i text) c.in-Ok.ensures.bytes);
       flag = c.in-Ok.ensures.failed ∙ (or-false (O.failed c.loop-taken.output) ∙ c.loop-taken.invariant.flag);
+      wrote = c.in-Ok.ensures.write_failed ∙ (or-false (O.write_failed c.loop-taken.output) ∙ c.loop-taken.invariant.wrote);
+      flushes = c.in-Ok.ensures.flushes ∙ c.loop-taken.invariant.flushes;
     }

@@ -18,7 +18,9 @@ returns-in-Ok g c =
       told = Appends-nil (g.E.Outlet.taken c.args.errors.now);
       few = c.act-output.ensures.few;
       ends = subst (Ends c.args.command.now h.0 _ h.1 _) c.in-Ok.is h.4;
+      stops = h.5;
       sends = subst (λ (ended : Result Verdict Failure). SendsOn ended (g.O.Outlet.failed c.act-output.result.0) (g.O.Outlet.sent c.act-output.result.0)) c.in-Ok.is c.act-output.ensures.sends;
+      flushes = c.act-output.ensures.flushes;
       tells = record { said = Ok c.in-Ok.verdict; told_as = inl refl; front = refl; all = λ _. refl; status_is = c.status.ensures };
     }
 
@@ -36,6 +38,8 @@ returns-in-Err g c =
       told = t.1;
       few = c.act-output.ensures.few;
       ends = subst (Ends c.args.command.now h.0 _ h.1 _) c.in-Err.is h.4;
+      stops = h.5;
       sends = subst (λ (ended : Result Verdict Failure). SendsOn ended (g.O.Outlet.failed c.act-output.result.0) (g.O.Outlet.sent c.act-output.result.0)) c.in-Err.is c.act-output.ensures.sends;
+      flushes = c.act-output.ensures.flushes;
       tells = t.2;
     }

@@ -1,6 +1,7 @@
 use Rattle.std.proofs.Common.{◌≡◌, ◌∙◌, ◌||◌, ℕ, List, Bool, false, true, Err, ap, subst, sym}
 use Rattle.nap_command.specs.Devices.{Takes}
 use Rattle.nap_command.proofs.CommandLemmas.{ends_after, ends_amid}
+use Rattle.nap_command.proofs.DeviceLemmas.{none_written_amiss}
 use Rattle.nap_command.proofs.execution.perform.Goals as goal
 
 pub returns-in-Ok : goal.returns-in-Ok
@@ -15,6 +16,7 @@ returns-in-Ok g c =
     record {
       few = c.find.ensures.few;
       ends = (h.0, k.0, h.1, k.1, k.2);
+      flushes = write.flushes (none_written_amiss _ _ (g.met.O.Outlet.fails_by_write c.args.output.now) c.requires.works);
       sends = λ works. let bad : false ≡ true = sym works ∙ (write.failed ∙ ap (λ (x : Bool). x || true) c.requires.works) in cc;
     }
 

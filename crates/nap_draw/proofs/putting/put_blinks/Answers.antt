@@ -41,7 +41,7 @@ loop-group-preserved g c =
       finite = tt;
       size = steps.0 ∙ inv.size;
       putting = put_goes (shows_of g.S.Sink) _ _ _ _ _ _ c.blink_of.result g.met.S.Sink.took_more inv.putting (blink_left c.args.domain.single _ c.args.drawing.now.colour (chunks_rest c.loop-group.group-iterator) c.in-Some.group.now rest c.blink_of.result inv.size steps.1.0 steps.1.1 steps.1.2 c.blink_of.ensures)
-          put.took put.after put.only_write put.grows;
+          put.took put.after put.only_write put.refuses;
     }
 
 pub returns-in_err-put : goal.returns-in_err-put
@@ -51,8 +51,8 @@ returns-in_err-put g c =
     let put = c.in_err-put.ensures in
     let rest = chunks_rest c.next.new.self in
     let fault = err_from_is_err_and c.from_residual.result c.from_residual.ensures.1 in
-    rw (fault.1, fault.2) (put_stops (shows_of g.S.Sink) (Unit {0}) _ _ _ _ _ _ c.blink_of.result _ g.met.S.Sink.took_broke inv.putting (blink_left c.args.domain.single _ c.args.drawing.now.colour (chunks_rest c.loop-group.group-iterator) c.in-Some.group.now rest c.blink_of.result inv.size steps.1.0 steps.1.1 steps.1.2 c.blink_of.ensures)
-    put.memory put.broke put.still put.write put.wants)
+    rw (fault.1, fault.2) (put_stops (shows_of g.S.Sink) (Unit {0}) _ _ _ _ _ _ c.blink_of.result _ g.met.S.Sink.took_broke g.met.S.Sink.wants_more inv.putting (blink_left c.args.domain.single _ c.args.drawing.now.colour (chunks_rest c.loop-group.group-iterator) c.in-Some.group.now rest c.blink_of.result inv.size steps.1.0 steps.1.1 steps.1.2 c.blink_of.ensures)
+    put.memory put.broke put.still put.write put.wants put.only_write put.refuses)
 
 pub returns : goal.returns
 returns g c =

@@ -33,7 +33,7 @@ loop-preserved g c =
       most = omega arith;
       all = inv.all;
       putting = put_goes (shows_of g.S.Sink) _ _ _ _ _ _ (Char c.args.last.set c.args.last.code hand) g.met.S.Sink.took_more inv.putting (copies_turn c.args.last hand c.args.count c.loop.counter less)
-          put.took put.after put.only_write put.grows;
+          put.took put.after put.only_write put.refuses;
     }
 
 pub returns-in_err-put : goal.returns-in_err-put
@@ -43,8 +43,8 @@ returns-in_err-put g c =
     let hand : Hand = record c.args.hand { pen = c.loop.pen } in
     let less : c.loop.counter < c.args.count = omega (arith, inv.all) in
     let fault = err_from_is_err_and c.from_residual.result c.from_residual.ensures.1 in
-    rw (fault.1, fault.2) (put_stops (shows_of g.S.Sink) (Unit {0}) _ _ _ _ _ _ (Char c.args.last.set c.args.last.code hand) _ g.met.S.Sink.took_broke inv.putting
-    (copies_turn c.args.last hand c.args.count c.loop.counter less) put.memory put.broke put.still put.write put.wants)
+    rw (fault.1, fault.2) (put_stops (shows_of g.S.Sink) (Unit {0}) _ _ _ _ _ _ (Char c.args.last.set c.args.last.code hand) _ g.met.S.Sink.took_broke g.met.S.Sink.wants_more inv.putting
+    (copies_turn c.args.last hand c.args.count c.loop.counter less) put.memory put.broke put.still put.write put.wants put.only_write put.refuses)
 
 pub returns : goal.returns
 returns g c =

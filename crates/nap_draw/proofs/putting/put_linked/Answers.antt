@@ -26,7 +26,7 @@ loop-to-preserved g c =
     rw c.after-at.ensures (record {
       last = linked_last c.args.figure c.loop-to.last c.loop-to.at c.to-item.result _ rest left ∙ inv.last;
       putting = put_goes (shows_of g.S.Sink) _ _ _ _ _ _ c.entry.result g.met.S.Sink.took_more inv.putting
-          (linked_left c.args.figure c.args.drawing.now c.loop-to.at c.to-item.result _ rest c.entry.result left c.entry.ensures) put.took put.after put.only_write put.grows;
+          (linked_left c.args.figure c.args.drawing.now c.loop-to.at c.to-item.result _ rest c.entry.result left c.entry.ensures) put.took put.after put.only_write put.refuses;
     })
 
 pub returns-in_err-put-clause-put : goal.returns-in_err-put-clause-put
@@ -34,9 +34,9 @@ returns-in_err-put-clause-put g c =
     let put = c.in_err-put.ensures in
     let left = drop_at c.args.points.now c.loop-to.to-index c.to-item.result (omega arith) c.to-item.is in
     let fault = err_from_is_err_and c.from_residual.result c.from_residual.ensures.1 in
-    rw (fault.1, fault.2) (put_stops (shows_of g.S.Sink) (Option Span) _ _ _ _ _ _ c.entry.result _ g.met.S.Sink.took_broke c.loop-to.invariant.putting
+    rw (fault.1, fault.2) (put_stops (shows_of g.S.Sink) (Option Span) _ _ _ _ _ _ c.entry.result _ g.met.S.Sink.took_broke g.met.S.Sink.wants_more c.loop-to.invariant.putting
     (linked_left c.args.figure c.args.drawing.now c.loop-to.at c.to-item.result _ (drop (c.loop-to.to-index + 1) c.args.points.now) c.entry.result left c.entry.ensures)
-    put.memory put.broke put.still put.write put.wants)
+    put.memory put.broke put.still put.write put.wants put.only_write put.refuses)
 
 pub returns : goal.returns
 returns g c =

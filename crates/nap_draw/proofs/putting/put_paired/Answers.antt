@@ -45,7 +45,7 @@ loop-pair-preserved g c =
       size = steps.0 ∙ inv.size;
       last = paired_last c.loop-pair.last c.index-pair-0.result c.index-pair-1.result _ rest left ∙ inv.last;
       putting = put_goes (shows_of g.S.Sink) _ _ _ _ _ _ c.entry.result g.met.S.Sink.took_more inv.putting
-          (paired_left c.args.figure c.args.drawing.now c.index-pair-0.result c.index-pair-1.result _ rest c.entry.result left c.entry.ensures) put.took put.after put.only_write put.grows;
+          (paired_left c.args.figure c.args.drawing.now c.index-pair-0.result c.index-pair-1.result _ rest c.entry.result left c.entry.ensures) put.took put.after put.only_write put.refuses;
     }
 
 pub returns-in_err-put-clause-put : goal.returns-in_err-put-clause-put
@@ -56,8 +56,8 @@ returns-in_err-put-clause-put g c =
     let rest = chunks_exact_rest c.next.new.self in
     let left = two_of c.in-Some.pair.now (chunks_exact_rest c.loop-pair.pair-iterator) rest c.index-pair-0.result c.index-pair-1.result (steps.1.1 ∙ inv.size) c.index-pair-0.is c.index-pair-1.is steps.1.0 in
     let fault = err_from_is_err_and c.from_residual.result c.from_residual.ensures.1 in
-    rw (fault.1, fault.2) (put_stops (shows_of g.S.Sink) (Option Span) _ _ _ _ _ _ c.entry.result _ g.met.S.Sink.took_broke inv.putting
-    (paired_left c.args.figure c.args.drawing.now c.index-pair-0.result c.index-pair-1.result _ rest c.entry.result left c.entry.ensures) put.memory put.broke put.still put.write put.wants)
+    rw (fault.1, fault.2) (put_stops (shows_of g.S.Sink) (Option Span) _ _ _ _ _ _ c.entry.result _ g.met.S.Sink.took_broke g.met.S.Sink.wants_more inv.putting
+    (paired_left c.args.figure c.args.drawing.now c.index-pair-0.result c.index-pair-1.result _ rest c.entry.result left c.entry.ensures) put.memory put.broke put.still put.write put.wants put.only_write put.refuses)
 
 pub returns : goal.returns
 returns g c =

@@ -44,8 +44,8 @@ loop-code-preserved g c =
     let list = text_in set (hand_of d) codes in
     record {
       taken = ap (λ n. n + 1) inv.taken;
-      putting = put_next o s t u list _ _ x inv.putting left next;
-      count = next_one o s t u list _ _ x inv.putting left next ∙ ap (λ n. n + 1) inv.count;
+      putting = put_next o s t u list _ _ x inv.putting left inv.works next;
+      count = next_one o s t u list _ _ x inv.putting left inv.works next ∙ ap (λ n. n + 1) inv.count;
       works = next.1;
       same = ap (λ (v : State). v.drawing) c.in-Ok.ensures.0.state
           ∙ char_stays t.state set (get_or codes i 0) (subst ColourStands (sym inv.same) c.requires.colour) (ap (λ (d : Drawing). d.pen) inv.same ∙ c.requires.pen)

@@ -39,7 +39,7 @@ loop-to-preserved g c =
     let inv = c.loop-to.invariant in
     let next : PutsNext o t (line_on d from to) u (Ok tt) = subst (λ (e : Entry). PutsNext o t e u (Ok tt)) (line_values_stay s.state t.state from to inv.apart) c.in_ok-next_line.ensures in
     record {
-      putting = put_next o s t u (lines_on d c.args.from points) _ _ (line_on d from to) inv.putting (lines_left d from to points c.loop-to.to-index (omega arith) c.to-item.is) next;
+      putting = put_next o s t u (lines_on d c.args.from points) _ _ (line_on d from to) inv.putting (lines_left d from to points c.loop-to.to-index (omega arith) c.to-item.is) inv.works next;
       works = next.1;
       apart = subst (λ (v : State). PensApart s.state v) (sym c.in_ok-next_line.ensures.0.state) (line_apart s.state t.state from to inv.apart c.requires.colour c.requires.last);
     }

@@ -38,7 +38,7 @@ loop-at-preserved g c =
     let inv = c.loop-at.invariant in
     let next : PutsNext o t (f at) u (Ok tt) = subst (λ (e : Entry). PutsNext o t e u (Ok tt)) (point_values_stay s.state t.state at inv.apart) c.in_ok-next_point.ensures in
     record {
-      putting = put_next o s t u (map f points) _ _ (f at) inv.putting (left_at f points c.loop-at.at-index at (omega arith) c.at-item.is) next;
+      putting = put_next o s t u (map f points) _ _ (f at) inv.putting (left_at f points c.loop-at.at-index at (omega arith) c.at-item.is) inv.works next;
       works = next.1;
       apart = subst (λ (v : State). PensApart s.state v) (sym c.in_ok-next_point.ensures.0.state) (point_apart s.state t.state at inv.apart c.requires.colour c.requires.last);
     }

@@ -6,7 +6,7 @@ use Rattle.nap_list.specs.State.{AllFit, hand_of}
 use Rattle.nap_list.specs.Putting.{text_in}
 use Rattle.nap_list.proofs.Counted.{text_count}
 use Rattle.nap_canon.specs.Batches.{PutsSome}
-use Rattle.nap_canon.proofs.BatchLemmas.{nothing_put, no_items, first_halts, some_behind, all_behind, some_less}
+use Rattle.nap_canon.proofs.BatchLemmas.{nothing_put, no_items, first_halts, some_behind, all_behind, some_less, works_on}
 use Rattle.nap_canon.proofs.BatchTexts.{text_like, text_tail}
 use Rattle.nap_canon.proofs.canon_sink.CanonSinkSink.put_text.Goals as goal
 
@@ -45,7 +45,7 @@ returns-in-Ok g c =
     let first = c.in_default-put_ref.ensures in
     let rest : List Entry = text_in set (record hand { pen = After }) others in
     let like : text_in set (hand_of t.state.drawing) others ≡ rest = text_like s.state t.state set code hand first.after others in
-    all_behind o s t u (text_in set hand c.args.codes.now) (Char set code hand) rest (ap (text_in set hand) c.in-Some.ensures.cases.0) first.took
+    all_behind o s t u (text_in set hand c.args.codes.now) (Char set code hand) rest (ap (text_in set hand) c.in-Some.ensures.cases.0) first.took (works_on _ first.only_write)
     (subst (λ (list : List Entry). PutsSome o t list u (Ok tt)) like c.in-Ok.ensures)
 
 pub overflow_add-result : goal.overflow_add-result
@@ -73,5 +73,5 @@ returns g c =
     let n = c.in-Err-text_on.taken in
     let rest : List Entry = text_in set (record hand { pen = After }) others in
     let like : text_in set (hand_of t.state.drawing) others ≡ rest = text_like s.state t.state set code hand first.after others in
-    some_behind o s t u (text_in set hand c.args.codes.now) (Char set code hand) rest (ap (text_in set hand) c.in-Some.ensures.cases.0) first.took n
+    some_behind o s t u (text_in set hand c.args.codes.now) (Char set code hand) rest (ap (text_in set hand) c.in-Some.ensures.cases.0) first.took (works_on _ first.only_write) n
     (subst (λ (list : List Entry). PutsSome o t list u (Err n)) like c.in-Err-text_on.ensures)

@@ -2,7 +2,7 @@ use Rattle.std.proofs.Common.{◌≤◌, ℕ, List, arith, subst, ◌∙◌, tak
 use Rattle.std.specs.Prelude.{slice_index}
 use Rattle.std.specs.Io.KnownBytes.{Appends}
 use Rattle.nap_canon.specs.Sinking.{sending}
-use Rattle.nap_canon.proofs.CutLemmas.{none_taken, or_true}
+use Rattle.nap_canon.proofs.CutLemmas.{none_taken}
 use Rattle.nap_canon.proofs.SinkingLemmas.{takes_more, rest_of}
 use Rattle.nap_canon.proofs.output.OutputByteSink.take_counted.Goals as goal
 
@@ -19,6 +19,8 @@ loop-taken-preserved g c =
           c.loop-taken.self.written c.saturating_add-self.result i count bytes c.loop-taken.invariant.sent few
           (subst (λ (xs : List ℕ). Appends (O.taken c.loop-taken.self.outlet) (O.taken c.write.new.self) (take count xs)) (rest_of i bytes) c.in-Ok.ensures.bytes)
           c.in-Ok.ensures.failed
+          c.in-Ok.ensures.write_failed
+          c.in-Ok.ensures.flushes
           (omega arith)
           c.saturating_add-self.ensures;
     }
@@ -31,5 +33,6 @@ returns-in-Err g c =
       less = c.loop-taken-test.true;
       mid = at.self;
       front = at.invariant.sent;
-      next = none_taken g.O.Outlet at.self.outlet c.write.new.self at.self.written (slice_index bytes at.taken) c.in-Err.ensures.bytes (c.in-Err.ensures.failed ∙ or_true (g.O.Outlet.failed at.self.outlet));
+      next = none_taken g.O.Outlet at.self.outlet c.write.new.self at.self.written (slice_index bytes at.taken) c.in-Err.ensures.bytes
+          c.in-Err.ensures.failed c.in-Err.ensures.write_failed c.in-Err.ensures.flushes;
     }

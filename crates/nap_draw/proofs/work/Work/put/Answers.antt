@@ -10,4 +10,4 @@ pub returns : goal.returns
 returns g c =
     let put = c.put.ensures in
     let laws = g.met.S.Sink in
-    put_one (shows_of g.S.Sink) c.args.sink.now c.put.new.self c.args.entry c.put.result (laws.took_none c.args.sink.now) laws.took_more laws.took_broke put.took put.after put.memory put.wants put.grows put.write put.only_write put.broke put.still
+    put_one (shows_of g.S.Sink) c.args.sink.now c.put.new.self c.args.entry c.put.result (laws.took_none c.args.sink.now) laws.took_more laws.took_broke laws.wants_more put.took put.after put.memory put.wants put.refuses put.write put.only_write put.broke put.still

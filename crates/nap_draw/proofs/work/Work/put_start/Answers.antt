@@ -18,7 +18,7 @@ returns-in_err-put g c =
     let is = with_end c.args.self.now start (start_of c.args.what) c.if-is_none.ensures c.start_of-start.ensures in
     let fault = err_from_is_err_and c.from_residual.result c.from_residual.ensures.1 in
     rw (fault.1, fault.2) (subst (λ (list : List Entry). Put {A = Unit {0}} g.S.Sink list s c.put-2.new.self (Err c.in_err-put.field-0.0)) is
-    (put_stops (shows_of g.S.Sink) (Unit {0}) s s c.put-2.new.self whole (start ∷ []) whole entries.DefEnd _ laws.took_broke (put_begins (shows_of g.S.Sink) s whole (laws.took_none s)) refl put.memory put.broke put.still put.write put.wants))
+    (put_stops (shows_of g.S.Sink) (Unit {0}) s s c.put-2.new.self whole (start ∷ []) whole entries.DefEnd _ laws.took_broke laws.wants_more (put_begins (shows_of g.S.Sink) s whole (laws.took_none s)) refl put.memory put.broke put.still put.write put.wants put.only_write put.refuses))
 
 pub returns : goal.returns
 returns g c =
@@ -31,6 +31,6 @@ returns g c =
     let put = c.put-3.ensures in
     let is = with_end c.args.self.now start (start_of c.args.what) c.if-is_none.ensures c.start_of-start.ensures in
     let begun : Putting g.S.Sink s t whole (start ∷ []) =
-    put_goes (shows_of g.S.Sink) s s t whole (start ∷ []) whole entries.DefEnd laws.took_more (put_begins (shows_of g.S.Sink) s whole (laws.took_none s)) refl first.took first.after first.only_write first.grows in
+    put_goes (shows_of g.S.Sink) s s t whole (start ∷ []) whole entries.DefEnd laws.took_more (put_begins (shows_of g.S.Sink) s whole (laws.took_none s)) refl first.took first.after first.only_write first.refuses in
     subst (λ (list : List Entry). Put g.S.Sink list s c.put-3.new.self c.put-3.result) is
-    (put_last (shows_of g.S.Sink) s t c.put-3.new.self whole start c.put-3.result laws.took_more laws.took_broke begun put.took put.after put.memory put.wants put.grows put.write put.only_write put.broke put.still)
+    (put_last (shows_of g.S.Sink) s t c.put-3.new.self whole start c.put-3.result laws.took_more laws.took_broke laws.wants_more begun put.took put.after put.memory put.wants put.refuses put.write put.only_write put.broke put.still)

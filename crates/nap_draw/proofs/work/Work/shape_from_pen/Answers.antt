@@ -2,7 +2,7 @@ use Rattle.std.proofs.Common.{◌-◌, ◌<◌, ◌≤◌, List, [], ◌∷◌, 
 use Rattle.std.specs.Option.{option_map}
 use Rattle.std.proofs.lemmas.Result.{err_from_is_err_and}
 use Rattle.nap_values.specs.Coordinates.{Coordinates}
-use Rattle.nap_list.specs.declared.points.TheConstants.{SHAPE_POINTS}
+use Rattle.nap_list.specs.Limits.{steps_limit}
 use Rattle.nap_draw.specs.declared.fault.DrawFault.{DrawFault}
 use Rattle.nap_draw.specs.Geometry.{reached}
 use Rattle.nap_draw.specs.Rule.{and_then, moves_of, draws_one}
@@ -26,7 +26,7 @@ pub returns-in_err-from : goal.returns-in_err-from
 returns-in_err-from g c =
     let w = c.args.self.now in
     let some : 0 < length (moves_of w c.args.run.now) = omega (arith, c.count-count.ensures, c.if-count-eq0.false) in
-    let few : length (moves_of w c.args.run.now) ≤ SHAPE_POINTS - 1 = omega (arith, c.count-count.ensures, c.if-count-gt-MOST_STEPS.false) in
+    let few : length (moves_of w c.args.run.now) ≤ steps_limit = omega (arith, c.count-count.ensures, c.if-count-gt-MOST_STEPS.false) in
     let fault = err_from_is_err_and c.from_residual.result c.from_residual.ensures.1 in
     let by = pen_few w (shape_on c.args.shape c.args.filled) (shape_points c.args.shape) c.args.run.now some few
     ∙ ap (λ (r : Result Coordinates DrawFault). and_then r (λ p. draws_one w (shape_on c.args.shape c.args.filled) (shape_points c.args.shape p (moves_of w c.args.run.now)))) (sym c.in_err-from.ensures) in
@@ -39,7 +39,7 @@ returns-in_err-steps_into g c =
     let p = c.in_ok-from.from in
     let on = shape_on c.args.shape c.args.filled in
     let some : 0 < length (moves_of w c.args.run.now) = omega (arith, c.count-count.ensures, c.if-count-eq0.false) in
-    let few : length (moves_of w c.args.run.now) ≤ SHAPE_POINTS - 1 = omega (arith, c.count-count.ensures, c.if-count-gt-MOST_STEPS.false) in
+    let few : length (moves_of w c.args.run.now) ≤ steps_limit = omega (arith, c.count-count.ensures, c.if-count-gt-MOST_STEPS.false) in
     let fault = err_from_is_err_and c.from_residual-in_err-steps_into.result c.from_residual-in_err-steps_into.ensures.1 in
     let by = pen_few w (shape_on c.args.shape c.args.filled) (shape_points c.args.shape) c.args.run.now some few
     ∙ (ap (λ (r : Result Coordinates DrawFault). and_then r (λ p. draws_one w on (shape_points c.args.shape p (moves_of w c.args.run.now)))) (sym c.in_ok-from.ensures) ∙ ap (draws_one w on) (outlined c.args.shape p ms)) in
@@ -64,7 +64,7 @@ returns g c =
     let p = c.in_ok-from.from in
     let on = shape_on c.args.shape c.args.filled in
     let some : 0 < length (moves_of w c.args.run.now) = omega (arith, c.count-count.ensures, c.if-count-eq0.false) in
-    let few : length (moves_of w c.args.run.now) ≤ SHAPE_POINTS - 1 = omega (arith, c.count-count.ensures, c.if-count-gt-MOST_STEPS.false) in
+    let few : length (moves_of w c.args.run.now) ≤ steps_limit = omega (arith, c.count-count.ensures, c.if-count-gt-MOST_STEPS.false) in
     let by = pen_few w (shape_on c.args.shape c.args.filled) (shape_points c.args.shape) c.args.run.now some few
     ∙ (ap (λ (r : Result Coordinates DrawFault). and_then r (λ p. draws_one w on (shape_points c.args.shape p (moves_of w c.args.run.now)))) (sym c.in_ok-from.ensures) ∙ ap (draws_one w on) (outlined c.args.shape p ms)) in
     let all = c.in_ok-steps_into.ensures ∙ ap Some (sym c.deref.ensures.value) in

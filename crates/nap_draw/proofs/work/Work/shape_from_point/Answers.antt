@@ -3,7 +3,7 @@ use Rattle.std.specs.Option.{option_map, option_and_then}
 use Rattle.std.proofs.lemmas.Result.{err_from_is_err_and}
 use Rattle.nap_values.specs.Coordinates.{Coordinates, point_at}
 use Rattle.nap_values.specs.Operands.{multi_of}
-use Rattle.nap_list.specs.declared.points.TheConstants.{SHAPE_POINTS}
+use Rattle.nap_list.specs.Limits.{steps_limit}
 use Rattle.nap_draw.specs.Operands.{moves}
 use Rattle.nap_draw.specs.Geometry.{reached}
 use Rattle.nap_draw.specs.Rule.{moves_of, draws_one}
@@ -34,7 +34,7 @@ returns-then-count-gt-MOST_STEPS g c =
     let more = run_some k c.min.result run c.split_at.result.1.now c.split_at.ensures.back some in
     let m = multi_of c.split_at.result.0.now in
     let cut : moves_of w run ≡ m ∷ ms = moves_turn k c.min.result run c.split_at.result.0.now c.split_at.result.1.now kk more n c.split_at.ensures.front c.split_at.ensures.back in
-    let many : SHAPE_POINTS - 1 < length ms = omega (arith, c.count-count.ensures, c.if-count-gt-MOST_STEPS.true) in
+    let many : steps_limit < length ms = omega (arith, c.count-count.ensures, c.if-count-gt-MOST_STEPS.true) in
     does_refused g.S.Sink c.args.sink.now (g.met.S.Sink.took_none c.args.sink.now) quiet _ _ _ refl (point_many c.args.self.now (shape_on c.args.shape c.args.filled) (shape_points c.args.shape) (moves_of w run) ms m cut many)
 
 pub multi-requires-clause-some : goal.multi-requires-clause-some
@@ -65,7 +65,7 @@ returns-in_default g c =
     let more = run_some k c.min.result run c.split_at.result.1.now c.split_at.ensures.back some in
     let m = multi_of c.split_at.result.0.now in
     let cut : moves_of w run ≡ m ∷ ms = moves_turn k c.min.result run c.split_at.result.0.now c.split_at.result.1.now kk more n c.split_at.ensures.front c.split_at.ensures.back in
-    let few : length ms ≤ SHAPE_POINTS - 1 = omega (arith, c.count-count.ensures, c.if-count-gt-MOST_STEPS.false) in
+    let few : length ms ≤ steps_limit = omega (arith, c.count-count.ensures, c.if-count-gt-MOST_STEPS.false) in
     let out = sym (c.point.ensures ∙ ap point_at c.multi.ensures) ∙ c.in_default.is in
     does_refused g.S.Sink c.args.sink.now (g.met.S.Sink.took_none c.args.sink.now) quiet _ _ _ refl
     (point_few c.args.self.now (shape_on c.args.shape c.args.filled) (shape_points c.args.shape) (moves_of w run) ms m cut some few ∙ ap (λ (o : Option Coordinates). draws_one w on (option_and_then (λ p. shape_points c.args.shape p ms) o)) out)
@@ -83,7 +83,7 @@ returns-in_err-steps_into g c =
     let more = run_some k c.min.result run c.split_at.result.1.now c.split_at.ensures.back some in
     let m = multi_of c.split_at.result.0.now in
     let cut : moves_of w run ≡ m ∷ ms = moves_turn k c.min.result run c.split_at.result.0.now c.split_at.result.1.now kk more n c.split_at.ensures.front c.split_at.ensures.back in
-    let few : length ms ≤ SHAPE_POINTS - 1 = omega (arith, c.count-count.ensures, c.if-count-gt-MOST_STEPS.false) in
+    let few : length ms ≤ steps_limit = omega (arith, c.count-count.ensures, c.if-count-gt-MOST_STEPS.false) in
     let p = c.in-Some.from in
     let here = sym (c.point.ensures ∙ ap point_at c.multi.ensures) ∙ c.in-Some.is in
     let by = point_few w on (shape_points c.args.shape) (moves_of w run) ms m cut some few
@@ -116,7 +116,7 @@ returns g c =
     let more = run_some k c.min.result run c.split_at.result.1.now c.split_at.ensures.back some in
     let m = multi_of c.split_at.result.0.now in
     let cut : moves_of w run ≡ m ∷ ms = moves_turn k c.min.result run c.split_at.result.0.now c.split_at.result.1.now kk more n c.split_at.ensures.front c.split_at.ensures.back in
-    let few : length ms ≤ SHAPE_POINTS - 1 = omega (arith, c.count-count.ensures, c.if-count-gt-MOST_STEPS.false) in
+    let few : length ms ≤ steps_limit = omega (arith, c.count-count.ensures, c.if-count-gt-MOST_STEPS.false) in
     let p = c.in-Some.from in
     let here = sym (c.point.ensures ∙ ap point_at c.multi.ensures) ∙ c.in-Some.is in
     let by = point_few w on (shape_points c.args.shape) (moves_of w run) ms m cut some few

@@ -18,15 +18,15 @@ loop-at-preserved g c =
     let f = point_on c.args.drawing.now in
     let put = c.in_ok-put.ensures in
     put_goes (shows_of g.Self.Sink) _ _ _ _ _ _ (f c.at-item.result) g.met.Self.Sink.took_more c.loop-at.invariant (left_at f c.args.points.now c.loop-at.at-index c.at-item.result (omega arith) c.at-item.is)
-    put.took put.after put.only_write put.grows
+    put.took put.after put.only_write put.refuses
 
 pub returns-in_err-put : goal.returns-in_err-put
 returns-in_err-put g c =
     let f = point_on c.args.drawing.now in
     let put = c.in_err-put.ensures in
     let fault = err_from_is_err_and c.from_residual.result c.from_residual.ensures.1 in
-    rw (fault.1, fault.2) (put_stops (shows_of g.Self.Sink) (Unit {0}) _ _ _ _ _ _ (f c.at-item.result) _ g.met.Self.Sink.took_broke c.loop-at.invariant
-    (left_at f c.args.points.now c.loop-at.at-index c.at-item.result (omega arith) c.at-item.is) put.memory put.broke put.still put.write put.wants)
+    rw (fault.1, fault.2) (put_stops (shows_of g.Self.Sink) (Unit {0}) _ _ _ _ _ _ (f c.at-item.result) _ g.met.Self.Sink.took_broke g.met.Self.Sink.wants_more c.loop-at.invariant
+    (left_at f c.args.points.now c.loop-at.at-index c.at-item.result (omega arith) c.at-item.is) put.memory put.broke put.still put.write put.wants put.only_write put.refuses)
 
 pub returns : goal.returns
 returns g c = put_ends (shows_of g.Self.Sink) _ _ _ _ (tt {0}) c.loop-at.invariant (left_end (point_on c.args.drawing.now) c.args.points.now c.loop-at.at-index (omega arith))

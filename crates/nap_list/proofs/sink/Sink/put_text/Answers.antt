@@ -23,8 +23,8 @@ returns-in-Err g c =
     let put = c.in-Err.ensures in
     let hand : Hand = record c.args.hand.now { pen = c.loop-code.pen } in
     let left = text_left c.args.set hand c.args.codes.now c.loop-code.code-index (omega arith) in
-    put_halts (shows_of g.Self.Sink) _ _ _ _ _ _ (Char c.args.set (get_or c.args.codes.now c.loop-code.code-index 0) hand) c.loop-code.taken c.in-Err.fault g.met.Self.Sink.took_broke
-    inv.putting inv.count inv.first left put.memory put.broke put.still put.write put.wants
+    put_halts (shows_of g.Self.Sink) _ _ _ _ _ _ (Char c.args.set (get_or c.args.codes.now c.loop-code.code-index 0) hand) c.loop-code.taken c.in-Err.fault g.met.Self.Sink.took_broke g.met.Self.Sink.wants_more
+    inv.putting inv.count inv.first left put.memory put.broke put.still put.write put.wants put.only_write put.refuses
 
 pub loop-code-preserved : goal.loop-code-preserved
 loop-code-preserved g c =
@@ -37,8 +37,8 @@ loop-code-preserved g c =
     let more = g.met.Self.Sink.took_more in
     record {
       taken = ap (λ n. n + 1) inv.taken;
-      putting = put_goes h _ _ _ _ _ _ x more inv.putting left put.took put.after put.only_write put.grows;
-      count = goes_one h _ _ _ _ _ _ x more inv.putting left put.took put.after put.only_write put.grows ∙ ap (λ n. n + 1) inv.count;
+      putting = put_goes h _ _ _ _ _ _ x more inv.putting left put.took put.after put.only_write put.refuses;
+      count = goes_one h _ _ _ _ _ _ x more inv.putting left put.took put.after put.only_write put.refuses ∙ ap (λ n. n + 1) inv.count;
       first = λ failed. let bad : ⊥ = cc (put.only_write failed) in absurd bad;
     }
 

@@ -57,5 +57,5 @@ returns-in-Err-clause-stops g c =
     (rw c.from.ensures (
       c.in-Err.short.taken,
       text_stops old _ c.in-Some.set piece q c.in-Err.short.taken c.in-Err.short.fault front.0 front.1 some c.requires.live c.requires.between c.requires.closed
-          ((c.characters.ensures c.in-Some.set).0 c.in-Some.is) c.graphic_bytes-text.ensures.graphic g.met.S.Sink.took_more g.met.S.Sink.took_broke c.in-Err.ensures.put.0 refl refl refl,
+          ((c.characters.ensures c.in-Some.set).0 c.in-Some.is) c.graphic_bytes-text.ensures.graphic g.met.S.Sink.took_more g.met.S.Sink.took_broke g.met.S.Sink.wants_more c.in-Err.ensures.put.0 refl refl refl,
     )))

@@ -55,7 +55,7 @@ returns-in-Some-clause-breaks g c =
     let at = character_front r.lexer c.args.byte c.in-Some.set char in
     let code = code.Char c.in-Some.set c.args.byte in
     acted_breaks g.S.Sink quiet r.sink c.text-put.new.sink (holding_of r) x (record (machine_of r) { sets = r.lexer.sets }) (code_rule r.work code) c.text-put.new.self c.text-put.result c.latched.result c.latched.new.latch r.refusal
-    c.text-put.ensures.acts c.latched.ensures.ok c.latched.ensures.err g.met.S.Sink.took_more g.met.S.Sink.took_broke c.text-put.ensures.memory c.text-put.ensures.gives
+    c.text-put.ensures.acts c.latched.ensures.ok c.latched.ensures.err g.met.S.Sink.took_more g.met.S.Sink.took_broke g.met.S.Sink.wants_more c.text-put.ensures.memory c.text-put.ensures.gives
     (λ s o k. acts g.S.Sink s o r.sink (holding_of r) c.requires.between c.requires.closed x [] k code 1 r.lexer.sets at.0 at.1 code refl)
 
 pub returns-in-Some-clause-placed : goal.returns-in-Some-clause-placed
@@ -95,7 +95,7 @@ returns-in-Some-format_effector-clause-breaks g c =
     let code = code.Step c.in-Some-format_effector.step in
     let at = alone_front r.lexer c.args.byte code is.0 c.in-Some-format_effector.ensures.front in
     acted_breaks g.S.Sink quiet r.sink c.control-moved.new.sink (holding_of r) x (record (machine_of r) { sets = r.lexer.sets }) (code_rule r.work code) c.control-moved.new.self c.control-moved.result c.latched-in-Some-format_effector.result c.latched-in-Some-format_effector.new.latch r.refusal
-    c.control-moved.ensures.acts c.latched-in-Some-format_effector.ensures.ok c.latched-in-Some-format_effector.ensures.err g.met.S.Sink.took_more g.met.S.Sink.took_broke c.control-moved.ensures.memory c.control-moved.ensures.gives
+    c.control-moved.ensures.acts c.latched-in-Some-format_effector.ensures.ok c.latched-in-Some-format_effector.ensures.err g.met.S.Sink.took_more g.met.S.Sink.took_broke g.met.S.Sink.wants_more c.control-moved.ensures.memory c.control-moved.ensures.gives
     (λ s o k. acts g.S.Sink s o r.sink (holding_of r) c.requires.between c.requires.closed x [] k code 1 r.lexer.sets at.0 at.1 code refl)
 
 pub returns-then-is_shift-clause-reaches : goal.returns-then-is_shift-clause-reaches

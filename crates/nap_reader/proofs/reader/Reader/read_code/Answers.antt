@@ -107,7 +107,7 @@ returns-in-Acts-clause-breaks g c =
     let step = code_of _ r.lexer c.args.byte c.in-Code.code c.step.new.self c.in-Code.ensures.steps in
     let code = c.in-Acts.code in
     acted_breaks g.S.Sink quiet r.sink c.control-acted.new.sink (holding_of r) x (record (machine_of r) { sets = step.1 }) (code_rule r.work code) c.control-acted.new.self c.control-acted.result c.latched.result c.latched.new.latch r.refusal
-    c.control-acted.ensures.acts c.latched.ensures.ok c.latched.ensures.err g.met.S.Sink.took_more g.met.S.Sink.took_broke c.control-acted.ensures.memory c.control-acted.ensures.gives
+    c.control-acted.ensures.acts c.latched.ensures.ok c.latched.ensures.err g.met.S.Sink.took_more g.met.S.Sink.took_broke g.met.S.Sink.wants_more c.control-acted.ensures.memory c.control-acted.ensures.gives
     (λ s o k. acts g.S.Sink s o r.sink (holding_of r) c.requires.between c.requires.closed x [] k c.in-Code.code step.0 step.1 step.2 step.3 code (sym c.in-Acts.ensures))
 
 pub call-requires-clause-named : goal.call-requires-clause-named
@@ -165,7 +165,7 @@ returns-in-Binds-clause-breaks g c =
     let show = c.in-Binds.show in
     let is = binds_code c.in-Code.code name show (sym c.in-Binds.ensures) in
     acted_breaks g.S.Sink quiet r.sink c.control-opened.new.sink (holding_of r) x (record (machine_of r) { sets = step.1; mode = in_body name show }) (code_rule r.work c.in-Code.code) c.control-opened.new.self c.control-opened.result c.latched-in-Binds.result c.latched-in-Binds.new.latch r.refusal
-    c.control-opened.ensures.acts c.latched-in-Binds.ensures.ok c.latched-in-Binds.ensures.err g.met.S.Sink.took_more g.met.S.Sink.took_broke c.control-opened.ensures.memory c.control-opened.ensures.gives
+    c.control-opened.ensures.acts c.latched-in-Binds.ensures.ok c.latched-in-Binds.ensures.err g.met.S.Sink.took_more g.met.S.Sink.took_broke g.met.S.Sink.wants_more c.control-opened.ensures.memory c.control-opened.ensures.gives
     (λ s o k. defines g.S.Sink s o r.sink (holding_of r) c.requires.between c.requires.closed x [] k c.in-Code.code step.0 step.1 step.2 step.3 name show (sym c.in-Binds.ensures)
     ∙ ap (λ (code : Code). drawn_front (record (machine_of r) { sets = step.1; mode = in_body name show }) c.args.place [] (code_rule r.work code)) (sym is))
 
