@@ -42,7 +42,7 @@ fn feed<S: Sink>(alloc: Global, reader: &mut Reader<S>, piece: &[u8]) -> Result<
 }
 
 /// What a reader into this sink says of a stream in these pieces, and the sink.
-fn read_into<S: Sink + Drop>(
+pub fn read_into<S: Sink + Drop>(
     alloc: Global,
     mut reader: Reader<S>,
     pieces: &[&[u8]],
@@ -107,8 +107,16 @@ pub fn lines_of(alloc: Global, list: &[Entry]) -> Result<String, AllocError> {
     Ok(lines)
 }
 
+/// How a stream ended, as a row has it.
+pub fn ended(alloc: Global, refusal: Option<Refusal>) -> Result<String, AllocError> {
+    match refusal {
+        None => String::from_str(alloc, "accepted"),
+        Some(refusal) => reason(alloc, refusal),
+    }
+}
+
 /// Why a stream is refused, as a row has it.
-pub fn reason(alloc: Global, refusal: Refusal) -> Result<String, AllocError> {
+fn reason(alloc: Global, refusal: Refusal) -> Result<String, AllocError> {
     let place = refusal.place;
     match refusal.fault {
         Fault::LeftOut(left) => left_out(alloc, left, place),

@@ -4,17 +4,19 @@
 //! one that is refused, with the entries before that. A line that begins with `#` is a comment, an empty one is nothing.
 //!
 //! STREAM and CANONICAL are bytes: hexadecimal digits, texts in quotes as `"A"`, and groups in brackets. `40*7` is seven times
-//! 40, `(26 52)*3` three times 26 52. CANONICAL is `-` where the row says nothing of it. LIST has the lines of the entries, with
-//! `;` between: `LINE *3` stands for three such lines, and the word `0,0*3` for three such words.
+//! 40, `(26 52)*3` three times 26 52. LIST has the lines of the entries, with `;` between: `LINE *3` stands for three such lines,
+//! and the word `0,0*3` for three such words. LIST or CANONICAL is `-` where the row says nothing of it.
 //!
 //! A fourth field has more, with `,` between: `budget N` (else the usual one), `charged N` (else 0), `turns N` (else as many as
 //! bytes, where nothing is charged), `fed N` bytes taken, `form1 BYTES` (the text in form 1), `plain` and `not plain`. `charged -`
-//! and `turns -` stand for any number.
+//! and `turns -` stand for any number. `stops` and `breaks` say where sinks and outlets with little room stop the reading.
 #![tactic(auto)]
 
 mod answer;
 mod notation;
+mod outlets;
 mod row;
+mod stops;
 mod table;
 mod trial;
 mod trouble;

@@ -4,6 +4,17 @@ use crate::trouble::{Trouble, tell};
 use nap_reader::Budget;
 use std::alloc::Global;
 
+/// Where a sink stops the reading.
+#[derive(Clone, Copy, Drop)]
+pub struct Stop {
+    /// The place that the refusal tells.
+    pub place: u64,
+    /// How many bytes were taken before it came, if it didn't come at the end.
+    pub fed: Option<u64>,
+    /// How many turns there were then.
+    pub turns: Option<u64>,
+}
+
 /// How a stream ends.
 #[derive(Drop)]
 pub enum Ending<'a> {
@@ -28,6 +39,10 @@ pub struct More {
     pub form1: Option<Vec<u8>>,
     /// Whether the stream is plain, if the row says so.
     pub plain: Option<bool>,
+    /// Where a sink that takes no entry, one, two and so on stops the reading.
+    pub stops: Vec<Stop>,
+    /// Where an outlet that takes no byte, one, two and so on stops it.
+    pub breaks: Vec<u64>,
     /// Whether the turns may be any number.
     any_turns: bool,
 }
@@ -37,8 +52,8 @@ pub struct More {
 pub struct Row<'a> {
     /// Its bytes.
     pub stream: Vec<u8>,
-    /// The lines of its entries, each with its end.
-    pub lines: String,
+    /// The lines of its entries, each with its end, if the row says which.
+    pub lines: Option<String>,
     /// How it ends.
     pub ending: Ending<'a>,
     /// What else is wanted.
@@ -84,6 +99,49 @@ fn counted<'a>(alloc: Global, word: &'a str) -> Result<(&'a str, u64), Trouble> 
     Ok((word, times))
 }
 
+/// Where the reading stops: `PLACE/TAKEN/TURNS`, of which TURNS may be left out, and TAKEN where it stops at the end.
+fn stop_of(alloc: Global, word: &str) -> Result<Stop, Trouble> {
+    let mut parts = word.split('/');
+    let place = number(alloc, parts.next().unwrap_or(""))?;
+    let Some(fed) = parts.next() else {
+        return Ok(Stop {
+            place,
+            fed: None,
+            turns: None,
+        });
+    };
+    let fed = Some(number(alloc, fed)?);
+    let turns = match parts.next() {
+        Some(turns) => Some(number(alloc, turns)?),
+        None => fed,
+    };
+    Ok(Stop { place, fed, turns })
+}
+
+fn stops_of(alloc: Global, text: &str) -> Result<Vec<Stop>, Trouble> {
+    let mut stops = Vec::new(alloc);
+    for word in text.split_whitespace() {
+        let (word, times) = counted(alloc, word)?;
+        let stop = stop_of(alloc, word)?;
+        for _ in 0..times {
+            stops.push(stop)?;
+        }
+    }
+    Ok(stops)
+}
+
+fn places_of(alloc: Global, text: &str) -> Result<Vec<u64>, Trouble> {
+    let mut places = Vec::new(alloc);
+    for word in text.split_whitespace() {
+        let (word, times) = counted(alloc, word)?;
+        let place = number(alloc, word)?;
+        for _ in 0..times {
+            places.push(place)?;
+        }
+    }
+    Ok(places)
+}
+
 /// Appends a line. Of its words `W*3` is three times W, and `*3` has the line three times.
 fn push_lines(alloc: Global, lines: &mut String, text: &str) -> Result<(), Trouble> {
     let mut line = String::new(alloc);
@@ -108,8 +166,11 @@ fn push_lines(alloc: Global, lines: &mut String, text: &str) -> Result<(), Troub
     Ok(())
 }
 
-/// The lines of a list, each with its end.
-fn lines_of(alloc: Global, text: &str) -> Result<String, Trouble> {
+/// The lines of a list, each with its end, or none where it is `-`.
+fn lines_of(alloc: Global, text: &str) -> Result<Option<String>, Trouble> {
+    if text.trim() == "-" {
+        return Ok(None);
+    }
     let mut lines = String::new(alloc);
     for part in text.split(';') {
         let line = part.trim();
@@ -117,7 +178,7 @@ fn lines_of(alloc: Global, text: &str) -> Result<String, Trouble> {
             push_lines(alloc, &mut lines, line)?;
         }
     }
-    Ok(lines)
+    Ok(Some(lines))
 }
 
 fn ending_of<'a>(alloc: Global, text: &'a str) -> Result<Ending<'a>, Trouble> {
@@ -133,7 +194,7 @@ fn ending_of<'a>(alloc: Global, text: &'a str) -> Result<Ending<'a>, Trouble> {
 
 impl More {
     /// What is wanted where a row says nothing else.
-    fn usual() -> More {
+    fn usual(alloc: Global) -> More {
         More {
             budget: Budget::usual(),
             charged: Some(0),
@@ -141,6 +202,8 @@ impl More {
             fed: None,
             form1: None,
             plain: None,
+            stops: Vec::new(alloc),
+            breaks: Vec::new(alloc),
             any_turns: false,
         }
     }
@@ -160,13 +223,15 @@ impl More {
             "form1" => self.form1 = Some(bytes_of(alloc, rest)?),
             "plain" if rest.is_empty() => self.plain = Some(true),
             "not" if rest == "plain" => self.plain = Some(false),
+            "stops" => self.stops = stops_of(alloc, rest)?,
+            "breaks" => self.breaks = places_of(alloc, rest)?,
             _ => return Err(Trouble::Told(format!(in alloc; "`{text}` says nothing")?)),
         }
         Ok(())
     }
 
     fn parse(alloc: Global, text: &str) -> Result<More, Trouble> {
-        let mut more = More::usual();
+        let mut more = More::usual(alloc);
         for part in text.split(',') {
             if !part.trim().is_empty() {
                 more.add(alloc, part)?;

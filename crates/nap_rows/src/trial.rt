@@ -1,7 +1,9 @@
 //! What is checked of a row.
-use crate::answer::{Answer, answer_in, lines_of, reason, single_bytes};
+use crate::answer::{Answer, answer_in, ended, lines_of, single_bytes};
+use crate::outlets::check_outlets;
 use crate::row::{Ending, Row};
-use crate::trouble::{Trouble, same_bytes, same_count, same_lines, same_text, tell};
+use crate::stops::check_stops;
+use crate::trouble::{Trouble, of, same_bytes, same_count, same_lines, same_text, tell};
 use nap_canon::{ConvertFault, canon, canon_form1, convert, is_plain, normalise};
 use nap_lines::LineSink;
 use nap_list::{Entry, Source, Target};
@@ -14,27 +16,20 @@ const SHORT: usize = 64;
 /// A stream with more turns is read less often.
 const LONG: u64 = 20_000;
 
-/// Names what is being compared.
-fn of<T>(alloc: Global, name: &str, outcome: Result<T, Trouble>) -> Result<T, Trouble> {
-    match outcome {
-        Ok(value) => Ok(value),
-        Err(trouble) => Err(trouble.of(alloc, name)),
-    }
-}
-
 /// The list of an answer, or why the stream is refused, is what the row wants.
 fn check_answer(alloc: Global, row: &Row<'_>, answer: &Answer) -> Result<(), Trouble> {
     let wanted = match row.ending {
         Ending::Accepted(_) => "accepted",
         Ending::Refused(reason) => reason,
     };
-    let came = match answer.refusal {
-        None => String::from_str(alloc, "accepted")?,
-        Some(refusal) => reason(alloc, refusal)?,
-    };
-    same_text(alloc, wanted, &came)?;
-    let lines = lines_of(alloc, &answer.list)?;
-    of(alloc, "list", same_lines(alloc, &row.lines, &lines))
+    same_text(alloc, wanted, &ended(alloc, answer.refusal)?)?;
+    match &row.lines {
+        Some(wanted) => {
+            let lines = lines_of(alloc, &answer.list)?;
+            of(alloc, "list", same_lines(alloc, wanted, &lines))
+        }
+        None => Ok(()),
+    }
 }
 
 /// The counts of an answer are what the row wants.
@@ -117,19 +112,17 @@ fn check_whole(alloc: Global, row: &Row<'_>, answer: &Answer) -> Result<(), Trou
 }
 
 /// A sink of lines has those of the list.
-fn check_lines(alloc: Global, row: &Row<'_>) -> Result<(), Trouble> {
+fn check_lines(alloc: Global, row: &Row<'_>, list: &[Entry]) -> Result<(), Trouble> {
     let mut reader = Reader::new(alloc, row.more.budget, LineSink::new(alloc));
     let _ = reader.feed(&row.stream);
     let sink = match reader.finish() {
         Ok(sink) => sink,
         Err(stopped) => stopped.sink,
     };
-    let text = sink.into_text();
-    of(
-        alloc,
-        "sink of lines",
-        same_bytes(alloc, row.lines.as_bytes(), &text),
-    )
+    let wanted = lines_of(alloc, list)?;
+    let came = sink.into_text();
+    let compared = same_bytes(alloc, wanted.as_bytes(), &came);
+    of(alloc, "sink of lines", compared)
 }
 
 /// What is converted from memory to memory: the bytes, and how that ended.
@@ -194,9 +187,12 @@ fn check_plain(alloc: Global, list: &[Entry], bytes: &[u8]) -> Result<(), Troubl
     same_count(alloc, bytes.len() as u64, answer.turns)
 }
 
-/// The canonical stream has the same list, and is its own canonical stream.
+/// The canonical stream has the same list, is its own canonical stream, and is what outlets with any room take.
 fn check_canonical(alloc: Global, row: &Row<'_>, answer: &Answer) -> Result<(), Trouble> {
     let text = canonical_of(alloc, row, answer)?;
+    if answer.turns <= LONG {
+        check_outlets(alloc, row, &text)?;
+    }
     of(
         alloc,
         "the canonical stream",
@@ -242,8 +238,9 @@ pub fn check(alloc: Global, row: &Row<'_>) -> Result<(), Trouble> {
     check_kind(alloc, row)?;
     check_cuts(alloc, row, &answer)?;
     check_whole(alloc, row, &answer)?;
+    check_stops(alloc, row, &answer)?;
     if answer.turns <= LONG {
-        check_lines(alloc, row)?;
+        check_lines(alloc, row, &answer.list)?;
     }
     match answer.refusal {
         Some(refusal) if answer.turns <= LONG => check_refused(alloc, row, refusal),

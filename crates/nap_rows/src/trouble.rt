@@ -41,6 +41,14 @@ impl Trouble {
     }
 }
 
+/// Names what is being compared.
+pub fn of<T>(alloc: Global, name: &str, outcome: Result<T, Trouble>) -> Result<T, Trouble> {
+    match outcome {
+        Ok(value) => Ok(value),
+        Err(trouble) => Err(trouble.of(alloc, name)),
+    }
+}
+
 /// This text is what is wrong.
 pub fn tell<T>(alloc: Global, text: &str) -> Result<T, Trouble> {
     Err(Trouble::Told(String::from_str(alloc, text)?))

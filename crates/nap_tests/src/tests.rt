@@ -1,22 +1,14 @@
-//! Values, calls and devices by hand, with the answers that the profile gives.
-mod canon_sinks;
-mod canonical;
+//! Values, calls, lists and devices by hand, with the answers that the profile gives.
+mod characters;
 mod codes;
-mod commands;
-mod conversion;
 mod devices;
 mod drawing;
 mod drawing_sinks;
-mod faltering;
-mod growth;
 mod known;
 mod lines;
 mod lists;
 mod pairs;
-mod reading;
-mod reading_pairs;
-mod reading_sinks;
-mod samples;
+mod rows;
 mod sinks;
 mod states;
 mod values;

@@ -1,11 +1,15 @@
 //! Calls that draw, with the answers that no stream shows.
 ghost use Rattle.std.specs.Prelude.{IsTrue};
+ghost use Rattle.nap_list.specs.Entry.{IsCode};
+ghost use Rattle.nap_draw.specs.Codes.{IsMade};
 ghost use Rattle.nap_draw.specs.Rule.{IsDrawn};
 
-use super::samples::{arc, letter, point, poly, word, words};
-use nap_codes::{CharSet, Code, Opcode};
-use nap_draw::{DrawFault, RUN_LIMIT, Work, apply, control, text};
-use nap_list::{Entry, ListSink, Pen, Points};
+use super::rows::same;
+use nap_codes::{CharSet, Code, Opcode, TextStep};
+use nap_draw::{DrawFault, Effects, RUN_LIMIT, Work, apply, control, text};
+use nap_fixtures::samples::{letter, word, words};
+use nap_list::{Entry, ListSink, Pen};
+use nap_values::Word;
 use std::alloc::{AllocError, Global};
 use std::process::Abort;
 use std::test::Fail;
@@ -22,22 +26,31 @@ pub fn has_rule(op: Opcode) -> bool
     }
 }
 
-/// What opcodes in turn give, up to the first that is refused.
-#[derive(Drop)]
-struct Answer {
-    work: Work,
-    /// Whether the last of them cleared all macros.
-    clears: bool,
-    list: Vec<Entry>,
-    fault: Option<DrawFault>,
+fn is_code(code: u8) -> bool
+    ensures { IsTrue result → IsCode code }
+{
+    0x20 <= code && code <= 0x7F
 }
 
-/// What the opcodes give from the start on, the operands of each as the bytes of a stream, with one room for all.
+/// Whether the bytes in the code are codes of a G set.
+pub fn is_made(code: &Code) -> bool
+    ensures { IsTrue result → IsMade code.now }
+{
+    match *code {
+        Code::Char(_, code) => is_code(code),
+        Code::DefGlyph(code) => is_code(code),
+        Code::Step(TextStep::Aps(a, b)) => is_code(a) && is_code(b),
+        _ => true,
+    }
+}
+
+/// What opcodes in turn give from the start on, with one room for all: the work, whether the last of them cleared all macros, and the
+/// entries. Nothing where one is refused.
 fn answer_to(
     rt: &impl Abort,
     alloc: Global,
     opcodes: &[(Opcode, &[u8])],
-) -> Result<Answer, AllocError> {
+) -> Result<Option<(Effects, Vec<Entry>)>, AllocError> {
     let mut work = Work::start();
     let mut clears = false;
     let mut room = Vec::new(alloc);
@@ -49,180 +62,136 @@ fn answer_to(
         assert!(rt; run.len() <= RUN_LIMIT);
         match work.act(alloc, &mut room, op, &run, &mut sink) {
             Ok(cleared) => clears = cleared,
-            Err(fault) => {
-                return Ok(Answer {
-                    work,
-                    clears: false,
-                    list: sink.into_list(),
-                    fault: Some(fault),
-                });
-            }
+            Err(_) => return Ok(None),
         }
     }
-    Ok(Answer {
-        work,
-        clears,
-        list: sink.into_list(),
-        fault: None,
-    })
+    Ok(Some((Effects { work, clears }, sink.into_list())))
 }
 
-/// This many displacements of eight words, each by one unit to the right and up.
-fn units(alloc: Global, count: usize) -> Result<Vec<u8>, AllocError> {
-    let mut bytes = Vec::new(alloc);
-    for _ in 0..count {
-        bytes.extend_from_slice(b"@@@@@@@I")?;
+/// The lengths of operands that stand, and those that are saved; none where an opcode was refused.
+fn lengths_of(answer: &Option<(Effects, Vec<Entry>)>) -> [u8; 4] {
+    match answer {
+        Some((Effects { work, .. }, _)) => [
+            work.domain.multi(),
+            work.domain.single(),
+            work.saved.multi(),
+            work.saved.single(),
+        ],
+        None => [0; 4],
     }
-    Ok(bytes)
-}
-
-/// The points from one to the other, one unit to the right and up each time.
-fn diagonal(alloc: Global, from: u32, to: u32) -> Result<Points, AllocError> {
-    let mut points = Points::new(alloc);
-    for side in from..=to {
-        points.push(point(side, side))?;
-    }
-    Ok(points)
-}
-
-/// The opcode gives this shape on so many displacements of one unit.
-fn gives_shape(
-    rt: &impl Abort,
-    alloc: Global,
-    op: Opcode,
-    count: usize,
-    shape: Entry,
-) -> Result<(), AllocError> {
-    let operands = units(alloc, count)?;
-    let opcodes = [(Opcode::Domain, b"_".as_slice()), (op, &operands)];
-    let answer = answer_to(rt, alloc, &opcodes)?;
-    assert_eq!(rt; answer.fault, None, "by {op:?}");
-    assert_eq!(rt; answer.list.as_slice(), [shape].as_slice(), "by {op:?}");
-    Ok(())
-}
-
-#[test]
-fn the_longest_shapes(rt: HostRuntime) -> Result<(), Fail> {
-    let alloc = rt.alloc();
-    assert_eq!(rt; RUN_LIMIT, 16_384);
-    let polygon = poly(false, diagonal(alloc, 0, 2_000)?);
-    gives_shape(&rt, alloc, Opcode::PolyOutlined, 2_000, polygon)?;
-    let bow = arc(true, diagonal(alloc, 1, 2_001)?);
-    gives_shape(&rt, alloc, Opcode::SetArcFilled, 2_001, bow)?;
-    Ok(())
 }
 
 #[test]
 fn lengths_after_a_reset(rt: HostRuntime) -> Result<(), Fail> {
     let alloc = rt.alloc();
     for (bytes, want) in [
-        (b"".as_slice(), (8, 4)),
-        (b"@", (8, 4)),
-        (b"~\x7f", (8, 4)),
-        (b"A", (3, 1)),
-        (b"\x7f", (3, 1)),
+        (b"".as_slice(), [8, 4, 3, 1]),
+        (b"@", [8, 4, 3, 1]),
+        (b"~\x7f", [8, 4, 3, 1]),
+        (b"A", [3, 1, 3, 1]),
+        (b"\x7f", [3, 1, 3, 1]),
     ] {
+        // DOMAIN sets the longest ones before it.
         let opcodes = [(Opcode::Domain, b"_".as_slice()), (Opcode::Reset, bytes)];
         let answer = answer_to(&rt, alloc, &opcodes)?;
-        let (domain, saved) = (answer.work.domain, answer.work.saved);
-        assert_eq!(rt; answer.fault, None, "by {bytes:?}");
-        assert_eq!(rt; (domain.multi(), domain.single()), want, "by {bytes:?}");
-        assert_eq!(rt; (saved.multi(), saved.single()), (3, 1), "by {bytes:?}");
+        let lengths = lengths_of(&answer);
+        assert!(rt; lengths == want, "by {bytes:?}");
     }
     Ok(())
 }
 
-#[test]
-fn macros_are_cleared_by_one_bit(rt: HostRuntime) -> Result<(), Fail> {
-    let alloc = rt.alloc();
-    for (op, bytes, want) in [
-        (Opcode::Reset, b"".as_slice(), false),
-        (Opcode::Reset, b"@", false),
-        (Opcode::Reset, b"P", false),
-        (Opcode::Reset, b"\x7f@", false),
-        (Opcode::Reset, b"@o", false),
-        (Opcode::Reset, b"@P", true),
-        (Opcode::Reset, b"A\x7f", true),
-        (Opcode::Text, b"@P", false),
-    ] {
-        let answer = answer_to(&rt, alloc, &[(op, bytes)])?;
-        assert_eq!(rt; answer.fault, None, "by {op:?} {bytes:?}");
-        assert_eq!(rt; answer.clears, want, "by {op:?} {bytes:?}");
-    }
-    Ok(())
-}
-
-#[test]
+/// What RESET does to a copy of a work at the start, with its entries; and whether that work stays as it was.
 #[tactic(auto, unfolding(nap_list::specs::State::walk))]
+fn effects_of_a_reset(alloc: Global, run: &[Word]) -> Option<(Effects, Vec<Entry>, bool)> {
+    if run.len() > RUN_LIMIT {
+        return None;
+    }
+    let work = Work::start();
+    let mut sink = ListSink::new(alloc);
+    let Ok(effects) = apply(alloc, &work, Opcode::Reset, run, &mut sink) else {
+        return None;
+    };
+    Some((effects, sink.into_list(), work == Work::start()))
+}
+
+#[test]
 fn the_effects_of_an_opcode(rt: HostRuntime) -> Result<(), Fail> {
     let alloc = rt.alloc();
     let run = words(alloc, b"AP")?;
-    assert!(&rt; run.len() <= RUN_LIMIT);
-    let work = Work::start();
-    let mut sink = ListSink::new(alloc);
-    let Ok(effects) = apply(alloc, &work, Opcode::Reset, &run, &mut sink) else {
-        assert!(&rt; false, "the opcode is refused");
-        return Ok(());
+    let found = match (
+        effects_of_a_reset(alloc, &run),
+        answer_to(&rt, alloc, &[(Opcode::Reset, b"AP")])?,
+    ) {
+        (Some((effects, list, kept)), Some((others, other_list))) => [
+            kept,
+            effects.clears,
+            effects == others,
+            list.as_slice() == other_list.as_slice(),
+        ],
+        _ => [false; 4],
     };
-    assert!(&rt; work == Work::start());
-    assert!(&rt; effects.clears);
-    let answer = answer_to(&rt, alloc, &[(Opcode::Reset, b"AP")])?;
-    assert!(&rt; effects.work == answer.work);
-    let list = sink.into_list();
-    assert_eq!(&rt; list.as_slice(), answer.list.as_slice());
+    assert!(&rt; found == [true; 4]);
     Ok(())
 }
 
 #[test]
 #[tactic(auto, unfolding(nap_list::specs::State::walk))]
 fn a_work_that_is_kept(rt: HostRuntime) -> Result<(), Fail> {
-    let alloc = rt.alloc();
     let start = Work::start();
-    let mut sink = ListSink::new(alloc);
+    let mut sink = ListSink::new(rt.alloc());
     let Ok(typed) = text(&start, CharSet::Primary, 0x41, &mut sink) else {
         assert!(&rt; false, "the letter wasn't taken");
         return Ok(());
     };
-    assert!(&rt; start == Work::start());
-    assert_eq!(&rt; typed.state.drawing.pen, Pen::After);
     let Ok(reversed) = control(&typed, &Code::Reverse(true), &mut sink) else {
         assert!(&rt; false, "the flag wasn't set");
         return Ok(());
     };
+    assert!(&rt; start == Work::start());
+    assert!(&rt; typed.state.drawing.pen == Pen::After);
     assert!(&rt; !typed.state.drawing.text.reverse);
     assert!(&rt; reversed.state.drawing.text.reverse);
     let list = sink.into_list();
-    assert_eq!(&rt; list.as_slice(), [letter(Pen::Start)].as_slice());
+    assert!(&rt; list.as_slice() == [letter(Pen::Start)].as_slice());
     Ok(())
 }
 
-#[test]
+/// Whether a code that is no control is taken behind a letter, leaves the work as it was, and has no entry.
 #[tactic(auto, unfolding(nap_list::specs::State::walk))]
-fn codes_that_are_no_controls(rt: HostRuntime) -> Result<(), Fail> {
-    let alloc = rt.alloc();
+fn does_nothing(alloc: Global, code: &Code) -> bool {
+    if !is_made(code) {
+        return false;
+    }
     let mut work = Work::start();
     let mut sink = ListSink::new(alloc);
-    let typed = work.text(CharSet::Primary, 0x41, &mut sink).is_ok();
-    assert!(&rt; typed);
+    let Ok(()) = work.text(CharSet::Primary, 0x41, &mut sink) else {
+        return false;
+    };
     let before = work.copy();
-    let opcode = work.control(&Code::Op(Opcode::PointAbs), &mut sink).is_ok();
-    assert!(&rt; opcode && work == before);
-    let operand = work.control(&Code::Operand(word(18)), &mut sink).is_ok();
-    assert!(&rt; operand && work == before);
-    let list = sink.into_list();
-    assert_eq!(&rt; list.as_slice(), [letter(Pen::Start)].as_slice());
-    Ok(())
+    let Ok(()) = work.control(code, &mut sink) else {
+        return false;
+    };
+    work == before && sink.into_list().as_slice() == [letter(Pen::Start)].as_slice()
+}
+
+#[test]
+fn codes_that_are_no_controls(rt: HostRuntime) {
+    assert!(rt; does_nothing(rt.alloc(), &Code::Op(Opcode::PointAbs)));
+    assert!(rt; does_nothing(rt.alloc(), &Code::Operand(word(18))));
 }
 
 #[test]
 fn faults_have_texts(rt: HostRuntime) -> Result<(), Fail> {
     let alloc = rt.alloc();
-    for (fault, want) in [
-        (DrawFault::Missing, "an operand is missing"),
-        (DrawFault::PenUnknown, "the pen's place isn't known"),
-        (DrawFault::Memory, "no memory"),
+    for (fault, row) in [
+        (DrawFault::Missing, "Missing | an operand is missing"),
+        (
+            DrawFault::PenUnknown,
+            "PenUnknown | the pen's place isn't known",
+        ),
+        (DrawFault::Memory, "Memory | no memory"),
     ] {
-        assert_eq!(rt; format!(in alloc; "{fault}")?.as_str(), want);
+        same(&rt, &format!(in alloc; "{fault}")?, row);
     }
     Ok(())
 }

@@ -102,12 +102,23 @@ fn pairs_of_bytes_count_as_the_standard_has_them(rt: HostRuntime) -> Result<(), 
             count(&mut tallies, 2, &[0x1B, first, second])?;
         }
     }
-    for tally in &tallies {
-        let row = tally.row(alloc)?;
-        assert!(rt; ROWS.lines().any(|line| line == row.as_str()), "{row}");
+    let mut left = tallies.len();
+    for row in ROWS.lines() {
+        assert!(rt; has(alloc, &tallies, row)?, "{row}");
+        left = left.wrapping_sub(1);
     }
-    assert_eq!(rt; tallies.len(), ROWS.lines().count());
+    assert!(rt; left == 0);
     Ok(())
+}
+
+/// Whether one of the tallies is this row's.
+fn has(alloc: Global, tallies: &[Tally], row: &str) -> Result<bool, AllocError> {
+    for tally in tallies {
+        if tally.row(alloc)?.as_str() == row {
+            return Ok(true);
+        }
+    }
+    Ok(false)
 }
 
 /// An answer, how often it comes on pairs alone, behind `0E` and behind `1B`, and the sum of the bytes that spell it.

@@ -1,10 +1,10 @@
 //! The states that entries leave.
-use super::samples::{
+use nap_codes::{CursorKind, Mask, Size, TextStep};
+use nap_fixtures::samples::{
     AFTER_RESET, AT_START, BY_THREE, BY_TWO, address, arc, at, blink, blink_end, blink_mark, blue,
     clear, dot, dot_in, dot_with, hand, letter, line, look, map, middle, part, point, poly,
     quarter, rect, red, reset, size, text_move, texture, through, word,
 };
-use nap_codes::{CursorKind, Mask, Size, TextStep};
 use nap_list::{Base, CharSize, Colour, Drawing, Entry, Known, Origin, Pen, State, TextLook};
 use nap_values::{Grb, Move, Word};
 use std::process::Abort;
@@ -21,7 +21,7 @@ fn pen_after(entry: &Entry) -> Option<Pen> {
 /// Each entry leaves this pen, from the start on.
 fn leave(rt: &impl Abort, rows: &[(Entry, Pen)]) {
     for (entry, pen) in rows {
-        assert_eq!(rt; pen_after(entry), Some(*pen), "{entry:?}");
+        assert!(rt; pen_after(entry) == Some(*pen), "{entry:?}");
     }
 }
 
@@ -30,14 +30,16 @@ fn a_shape_leaves_the_pen_on_it(rt: HostRuntime) -> Result<(), Fail> {
     let alloc = rt.alloc();
     let way = [quarter(), middle(), middle()];
     let across = point(4_194_304, 1_048_576);
+    let arc = arc(false, through(alloc, &way)?);
+    let polygon = poly(true, through(alloc, &way)?);
     leave(
         &rt,
         &[
             (dot(middle()), Pen::At(middle())),
             (line(quarter(), middle()), Pen::At(middle())),
-            (arc(false, through(alloc, &way)?), Pen::At(middle())),
+            (arc, Pen::At(middle())),
             (rect(false, quarter(), middle()), Pen::At(across)),
-            (poly(true, through(alloc, &way)?), Pen::At(quarter())),
+            (polygon, Pen::At(quarter())),
         ],
     );
     Ok(())
@@ -201,20 +203,25 @@ fn a_reset_chooses_colours_by_its_code(rt: HostRuntime) {
     assert!(rt; left == [Some(own), Some(two), Some(three)]);
 }
 
+/// Whether the entry needs no other value than those of the start.
+fn stands(entry: Entry) -> bool {
+    Drawing::start().stands(&entry)
+}
+
 #[test]
 fn values_stand_where_each_is_the_same(rt: HostRuntime) {
-    let start = Drawing::start();
-    let small = size(65_536, 65_536);
-    for (entry, stands) in [
-        (dot(middle()), true),
-        (dot_in(middle(), BY_TWO), false),
-        (dot_with(middle(), small, AT_START), false),
-        (line(quarter(), middle()), true),
-        (letter(Pen::Start), true),
-        (letter(Pen::After), false),
-        (clear(Pen::Start), true),
-        (Entry::Bell, true),
-    ] {
-        assert_eq!(rt; start.stands(&entry), stands, "{entry:?}");
-    }
+    let found = [
+        stands(dot(middle())),
+        stands(line(quarter(), middle())),
+        stands(letter(Pen::Start)),
+        stands(clear(Pen::Start)),
+        stands(Entry::Bell),
+    ];
+    assert!(rt; found == [true; 5]);
+    let found = [
+        stands(dot_in(middle(), BY_TWO)),
+        stands(dot_with(middle(), size(65_536, 65_536), AT_START)),
+        stands(letter(Pen::After)),
+    ];
+    assert!(rt; found == [false; 3]);
 }

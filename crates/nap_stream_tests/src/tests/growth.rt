@@ -35,8 +35,7 @@ impl Write for Expecting<'_> {
 
 // Memory was wanting, at a byte of the page or at its end.
 fn lacks(rt: &impl Abort, bytes: &[u8], refusal: Refusal) {
-    assert_eq!(rt; refusal.fault, Fault::Memory);
-    assert!(rt; refusal.place <= bytes.len() as u64);
+    assert!(rt; refusal.fault == Fault::Memory && refusal.place <= bytes.len() as u64);
 }
 
 // The page has so many entries, or the first of them and a refusal that stays.
@@ -44,13 +43,13 @@ fn lacks(rt: &impl Abort, bytes: &[u8], refusal: Refusal) {
 fn reads(rt: &impl Abort, alloc: Global, bytes: &[u8], entries: usize) {
     assert!(rt; bytes.len() < 1 << 32);
     match read_all(alloc, Budget::usual(), bytes) {
-        Ok(list) => assert_eq!(rt; list.len(), entries),
+        Ok(list) => assert!(rt; list.len() == entries),
         Err(refusal) => lacks(rt, bytes, refusal),
     }
     let mut reader = Reader::new(alloc, Budget::usual(), ListSink::new(alloc));
     if let Err(refusal) = reader.feed(bytes) {
         lacks(rt, bytes, refusal);
-        assert_eq!(rt; reader.feed(b"\x00"), Err(refusal));
+        assert!(rt; reader.feed(b"\x00") == Err(refusal));
     }
     let kept = reader.into_sink().into_list();
     if let Ok(list) = read_all(alloc, Budget::usual(), bytes) {
@@ -70,7 +69,7 @@ fn writes(rt: &impl Abort, alloc: Global, bytes: &[u8], want: &[u8]) {
     if let Ok(list) = read_all(alloc, Budget::usual(), bytes) {
         match canon(alloc, &list) {
             Ok(text) => assert!(rt; text.as_slice() == want),
-            Err(fault) => assert_eq!(rt; fault, CanonFault::Memory),
+            Err(fault) => assert!(rt; fault == CanonFault::Memory),
         }
     }
 }
@@ -83,14 +82,13 @@ fn streams(rt: &impl Abort, alloc: Global, bytes: &[u8], want: &[u8]) {
     let out = want.len().saturating_sub(rest.len()) as u64;
     match answer {
         Ok(written) => {
-            assert!(rt; rest.is_empty());
-            assert_eq!(rt; written, out);
+            assert!(rt; rest.is_empty() && written == out);
         }
         Err(ConvertFault::Refused { refusal, written }) => {
             lacks(rt, bytes, refusal);
-            assert_eq!(rt; written, out);
+            assert!(rt; written == out);
         }
-        Err(fault) => assert_eq!(rt; fault, ConvertFault::Write { written: 0 }),
+        Err(fault) => assert!(rt; fault == ConvertFault::Write { written: 0 }),
     }
 }
 

@@ -1,10 +1,4 @@
-//! Readers, writers and sinks that give or take little at a call, and fail.
-ghost use Rattle.std.specs.Prelude.{◌≡◌, ◌++◌, [], List, true};
-ghost use Rattle.std.proofs.Common.{sym, ap, ◌∙◌, append-nil, append_assoc};
-ghost use Rattle.nap_list.specs.State.{start, walk};
-ghost use Rattle.nap_list.specs.declared.entry.Entry.{Entry};
-
-use nap_list::{Entry, ListSink, Sink, SinkFault};
+//! Readers and writers that give or take little at a call, and fail.
 use std::alloc::Global;
 use std::io;
 use std::io::{ErrorKind, Read, Write};
@@ -12,14 +6,20 @@ use std::io::{ErrorKind, Read, Write};
 /// Gives its bytes, so many at a read. It fails once, at this read from 1. Counts its reads.
 #[derive(Drop)]
 pub struct Giver<'a> {
+    /// Those that are left.
     pub bytes: &'a [u8],
+    /// The most that a read gives.
     pub most: usize,
+    /// The read that fails, 0 for none.
     pub bad: u64,
+    /// How it fails.
     pub fault: ErrorKind,
+    /// The reads so far.
     pub reads: u64,
 }
 
 impl Giver<'_> {
+    /// Gives these bytes, so many at a read, and fails at this read.
     pub fn new<'a>(bytes: &'a [u8], most: usize, bad: u64) -> Giver<'a> {
         Giver {
             bytes,
@@ -48,12 +48,16 @@ impl Read for Giver<'_> {
 /// Gives this many NULs, so many at a read. Counts its reads.
 #[derive(Drop)]
 pub struct Nuls {
+    /// How many are left.
     pub left: usize,
+    /// The most that a read gives.
     pub most: usize,
+    /// The reads so far.
     pub reads: u64,
 }
 
 impl Nuls {
+    /// Gives so many, so many at a read.
     pub fn new(left: usize, most: usize) -> Nuls {
         Nuls {
             left,
@@ -74,8 +78,9 @@ impl Read for Nuls {
 }
 
 /// What a writer does once it has no more room.
-#[derive(Clone, Copy, PartialEq, Eq, Debug, Drop)]
+#[derive(Clone, Copy, Drop)]
 pub enum End {
+    /// Fails at each write.
     Fails,
     /// Takes no byte, without a fault.
     Closes,
@@ -86,18 +91,28 @@ pub enum End {
 /// Takes bytes while there is room, so many at a write. So many flushes are done, and further ones fail. Counts both, and the bytes that the last flush found.
 #[derive(Drop)]
 pub struct Taker {
+    /// The bytes that it took.
     pub kept: Vec<u8>,
+    /// How many more it has room for.
     pub room: usize,
+    /// The most that a write takes.
     pub most: usize,
+    /// What it does without room.
     pub end: End,
+    /// How many flushes are done.
     pub good_flushes: u64,
+    /// How it fails.
     pub fault: ErrorKind,
+    /// The writes so far.
     pub writes: u64,
+    /// The flushes so far.
     pub flushes: u64,
+    /// How many bytes the last flush found.
     pub sent: usize,
 }
 
 impl Taker {
+    /// Takes so many bytes, so many at a write, and then does this. Its flushes are done.
     pub fn new(alloc: Global, room: usize, most: usize, end: End) -> Taker {
         Taker {
             kept: Vec::new(alloc),
@@ -150,64 +165,4 @@ impl Write for Taker {
         }
         Ok(())
     }
-}
-
-/// Keeps this many entries more, and then fails by the fault at each put.
-#[derive(Drop)]
-pub struct Faltering {
-    pub list: ListSink,
-    pub left: usize,
-    pub fault: SinkFault,
-    pub failed: bool,
-}
-
-impl Faltering {
-    pub fn new(alloc: Global, left: usize, fault: SinkFault) -> Faltering
-        ensures { result.list ≡ [] }
-    {
-        Faltering {
-            list: ListSink::new(alloc),
-            left,
-            fault,
-            failed: false,
-        }
-    }
-}
-
-impl Sink for Faltering {
-    ghost state = { λ s. walk start s.list };
-
-    ghost wants = { λ s d. Unit {0} };
-
-    ghost failed = { λ s. s.failed };
-
-    ghost took = { λ s d t. t.list ≡ s.list ++ d };
-
-    ghost broke = { λ s d e t. t.list ≡ s.list ++ d };
-
-    fn put(&mut self, entry: Entry) -> Result<(), SinkFault> {
-        if self.failed {
-            return Err(SinkFault::Write);
-        }
-        if self.left == 0 {
-            match self.fault {
-                SinkFault::Memory => return Err(SinkFault::Memory),
-                SinkFault::Write => {
-                    self.failed = true;
-                    return Err(SinkFault::Write);
-                }
-            }
-        }
-        self.list.put(entry)?;
-        self.left -= 1;
-        Ok(())
-    }
-
-    ghost took_none = { λ s. sym (append-nil s.list) };
-
-    ghost took_more = { λ s t u d e a b. b ∙ (ap (λ (list : List Entry). list ++ e) a ∙ append_assoc s.list d e) };
-
-    ghost wants_more = { λ s t d e f a b. tt {0} };
-
-    ghost took_broke = { λ s t u d e x a b. b ∙ (ap (λ (list : List Entry). list ++ e) a ∙ append_assoc s.list d e) };
 }

@@ -1,6 +1,6 @@
 //! Lists that are not legal, which have no canonical text in either form.
-use super::samples::*;
 use nap_canon::{CanonFault, canon, canon_form1};
+use nap_fixtures::samples::{AFTER_RESET, blink_end, dot, map, middle, red, reset};
 use nap_list::{Entry, Pen};
 use nap_values::Grb;
 use std::alloc::{AllocError, Global};
@@ -10,8 +10,8 @@ use std::test::Fail;
 /// The list breaks at this index in both forms.
 fn breaks(rt: &impl Abort, alloc: Global, list: &[Entry], index: usize) {
     let fault = Some(CanonFault::Illegal(index));
-    assert_eq!(rt; canon(alloc, list).err(), fault, "of {list:?}");
-    assert_eq!(rt; canon_form1(alloc, list).err(), fault, "of {list:?}");
+    let faults = [canon(alloc, list).err(), canon_form1(alloc, list).err()];
+    assert!(rt; faults == [fault; 2], "of {list:?}");
 }
 
 /// DEF DRCS.

@@ -1,6 +1,6 @@
 //! Conversions of inputs that give little at a read or fail, into outputs that take little at a write or fail.
-use super::faltering::{End, Giver, Nuls, Taker};
 use nap_canon::{ConvertFault, convert, normalise};
+use nap_fixtures::devices::{End, Giver, Nuls, Taker};
 use nap_list::{Inlet, Source, Target};
 use nap_reader::{Budget, Fault, Refusal};
 use std::alloc::{AllocError, Global};
@@ -44,10 +44,12 @@ fn leaves(
     kept: &[u8],
     flushes: u64,
 ) {
-    assert_eq!(rt; done.answer, answer);
-    assert_eq!(rt; done.taker.kept.len(), kept.len());
-    assert!(rt; done.taker.kept.as_slice() == kept);
-    assert_eq!(rt; done.taker.flushes, flushes);
+    let found = [
+        done.answer == answer,
+        done.taker.kept.as_slice() == kept,
+        done.taker.flushes == flushes,
+    ];
+    assert_eq!(rt; found, [true; 3]);
 }
 
 fn missing() -> ConvertFault {
@@ -92,7 +94,7 @@ fn any_write_may_fail(rt: HostRuntime) {
                 let taker = Taker::new(alloc, room, 1, end);
                 let done = converted(alloc, Budget::usual(), Giver::new(bytes, 64, 0), taker);
                 let written = room as u64;
-                assert_eq!(rt; done.taker.writes, written + 1);
+                assert!(rt; done.taker.writes == written + 1);
                 let fault = ConvertFault::Write { written };
                 leaves(&rt, done, Err(fault), &CANONICAL[..room], 0);
             }
@@ -130,7 +132,7 @@ fn nothing_is_read_behind_a_failed_write(rt: HostRuntime) -> Result<(), Fail> {
     ] {
         let taker = Taker::new(alloc, room, 64, End::Fails);
         let done = converted(alloc, Budget::usual(), Giver::new(stream, read, 0), taker);
-        assert_eq!(rt; done.calls, calls);
+        assert!(rt; done.calls == calls);
         let written = room as u64;
         let fault = ConvertFault::Write { written };
         leaves(&rt, done, Err(fault), &CANONICAL[..room], 0);
@@ -146,7 +148,7 @@ fn any_read_may_fail(rt: HostRuntime) {
     for bad in 1..7 {
         let giver = Giver::new(POINT, 1, bad);
         let done = converted(alloc, Budget::usual(), giver, Taker::wide(alloc));
-        assert_eq!(rt; done.calls, bad);
+        assert!(rt; done.calls == bad);
         leaves(&rt, done, Err(fault), HEADER, 1);
     }
 }
@@ -163,7 +165,7 @@ fn an_endless_input_is_a_read_fault(rt: HostRuntime) {
             Nuls::new(count, 1),
             Taker::wide(alloc),
         );
-        assert_eq!(rt; done.calls, 1_048_576);
+        assert!(rt; done.calls == 1_048_576);
         leaves(&rt, done, answer, HEADER, 1);
     }
 }

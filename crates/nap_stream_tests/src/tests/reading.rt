@@ -1,16 +1,12 @@
 //! Readers between two pieces of a stream, their budgets, and the names of faults.
-use super::samples::{dot, middle};
 use nap_codes::{CodeFault, Left};
 use nap_draw::DrawFault;
-use nap_list::{ListSink, Sink};
+use nap_fixtures::samples::{dot, middle};
+use nap_list::{Entry, ListSink, Sink};
 use nap_reader::{Budget, Fault, RUN_LIMIT, Reader, Refusal};
+use std::alloc::Global;
 use std::process::Abort;
 use std::test::Fail;
-
-/// The refusal for this fault at this place.
-pub fn refusal(fault: Fault, place: u64) -> Option<Refusal> {
-    Some(Refusal { fault, place })
-}
 
 /// Feeds a piece, where few bytes came before it.
 pub fn feed<S: Sink>(rt: &impl Abort, reader: &mut Reader<S>, piece: &[u8]) -> Result<(), Refusal> {
@@ -27,21 +23,20 @@ pub fn end<S: Sink>(reader: Reader<S>) -> (S, Option<Refusal>) {
     }
 }
 
-#[test]
+/// Whether the bytes are taken, and these are their entries before the end comes.
 #[tactic(auto, unfolding(nap_list::specs::State::walk))]
+fn begins(rt: &impl Abort, alloc: Global, bytes: &[u8], list: &[Entry]) -> bool {
+    let mut reader = Reader::new(alloc, Budget::usual(), ListSink::new(alloc));
+    feed(rt, &mut reader, bytes).is_ok() && reader.into_sink().into_list().as_slice() == list
+}
+
+#[test]
 fn an_open_run_has_no_entry_yet(rt: HostRuntime) {
     let alloc = rt.alloc();
-    let point = &[dot(middle())][..];
-    for (bytes, want) in [
-        (b"\x0E&R@@".as_slice(), &point[..0]),
-        (b"\x0E&R@@\x0F", point),
-        (b"\x0E&R@@)P@@", point),
-    ] {
-        let mut reader = Reader::new(alloc, Budget::usual(), ListSink::new(alloc));
-        assert_eq!(rt; feed(&rt, &mut reader, bytes), Ok(()));
-        let list = reader.into_sink().into_list();
-        assert_eq!(rt; list.as_slice(), want, "of {bytes:?}");
-    }
+    let point = [dot(middle())];
+    assert!(rt; begins(&rt, alloc, b"\x0E&R@@", &[]));
+    assert!(rt; begins(&rt, alloc, b"\x0E&R@@\x0F", &point));
+    assert!(rt; begins(&rt, alloc, b"\x0E&R@@)P@@", &point));
 }
 
 #[test]
@@ -49,50 +44,48 @@ fn an_open_run_has_no_entry_yet(rt: HostRuntime) {
 fn a_refusal_stays(rt: HostRuntime) {
     let alloc = rt.alloc();
     let mut reader = Reader::new(alloc, Budget::usual(), ListSink::new(alloc));
-    assert_eq!(rt; feed(&rt, &mut reader, b"\x0E&R"), Ok(()));
-    assert_eq!(rt; reader.refused(), None);
+    let taken = feed(&rt, &mut reader, b"\x0E&R").is_ok() && reader.refused().is_none();
+    assert!(rt; taken);
     let want = Refusal {
         fault: Fault::EighthBit,
         place: 3,
     };
     for piece in [b"\x80", b"&"] {
-        assert_eq!(rt; feed(&rt, &mut reader, piece), Err(want));
-        assert_eq!(rt; reader.refused(), Some(want));
-        assert_eq!(rt; (reader.fed(), reader.turns()), (4, 4));
+        let refused = feed(&rt, &mut reader, piece) == Err(want)
+            && reader.refused() == Some(want)
+            && (reader.fed(), reader.turns()) == (4, 4);
+        assert!(rt; refused, "by {piece:?}");
     }
     let (sink, refusal) = end(reader);
-    assert_eq!(rt; refusal, Some(want));
-    let list = sink.into_list();
-    assert_eq!(rt; list.as_slice(), [dot(middle())].as_slice());
+    assert!(rt; refusal == Some(want));
+    assert!(rt; sink.into_list().as_slice() == [dot(middle())].as_slice());
 }
 
 #[test]
 fn budgets_have_a_limit(rt: HostRuntime) {
-    for (bytes, want) in [
-        (0, Some(0)),
-        (16_777_217, Some(16_777_217)),
-        (67_108_864, Some(67_108_864)),
-        (67_108_865, None),
-    ] {
-        assert_eq!(rt; Budget::new(bytes).map(Budget::get), want);
-    }
-    assert_eq!(rt; Budget::usual().get(), 1_048_576);
-    assert_eq!(rt;
-        (Budget::MOST, Budget::USUAL, RUN_LIMIT),
-        (67_108_864, 1_048_576, 16_384)
-    );
+    let budgets = [
+        Budget::new(0).map(Budget::get),
+        Budget::new(16_777_217).map(Budget::get),
+        Budget::new(67_108_864).map(Budget::get),
+        Budget::new(67_108_865).map(Budget::get),
+    ];
+    assert!(rt; budgets == [Some(0), Some(16_777_217), Some(67_108_864), None]);
+    let limits = [
+        Budget::usual().get() == 1_048_576,
+        Budget::MOST == 67_108_864,
+        Budget::USUAL == 1_048_576,
+        RUN_LIMIT == 16_384,
+    ];
+    assert!(rt; limits == [true; 4]);
 }
 
 #[test]
 fn a_refusal_prints_what_is_wrong_and_where(rt: HostRuntime) -> Result<(), Fail> {
-    let alloc = rt.alloc();
-    let text = format!(in alloc;
-        "{}",
-        Refusal {
-            fault: Fault::LeftOut(Left::Can),
-            place: 7
-        }
-    )?;
+    let refusal = Refusal {
+        fault: Fault::LeftOut(Left::Can),
+        place: 7,
+    };
+    let text = format!(in rt.alloc(); "{refusal}")?;
     assert_eq!(rt; text.as_str(), "CAN is left out at 7");
     Ok(())
 }
@@ -106,6 +99,6 @@ fn faults_have_numbers_and_names(rt: HostRuntime) {
         (Fault::LongRun, 13, "LongRun"),
         (Fault::Sink, 22, "Sink"),
     ] {
-        assert_eq!(rt; (fault.number(), fault.name()), (number, name));
+        assert!(rt; (fault.number(), fault.name()) == (number, name), "{name}");
     }
 }

@@ -1,0 +1,79 @@
+//! Which bytes are characters by themselves: those of the set in GL, and none amid a code.
+use super::rows::{bytes_of, parted, same};
+use nap_codes::Lexer;
+use std::test::Fail;
+
+/// Bytes; and behind them the set in GL, whether no code is open, and the set of the characters.
+///
+/// `-` is no byte. First a set in G0, then one in G2 that is shifted into GL. A single shift leaves GL as it was. Last, bytes amid a code.
+const ROWS: &str = "\
+1b2842 | Primary true Some(Primary)\n\
+1b287c | Supplementary true Some(Supplementary)\n\
+1b2857 | Pdi true None\n\
+1b287d | Mosaic true Some(Mosaic)\n\
+1b287a | Macros true None\n\
+1b287b | Drcs true Some(Drcs)\n\
+1b2a421b6e | Primary true Some(Primary)\n\
+1b2a7c1b6e | Supplementary true Some(Supplementary)\n\
+1b2a571b6e | Pdi true None\n\
+1b2a7d1b6e | Mosaic true Some(Mosaic)\n\
+1b2a7a1b6e | Macros true None\n\
+1b2a7b1b6e | Drcs true Some(Drcs)\n\
+- | Primary true Some(Primary)\n\
+0e | Pdi true None\n\
+0e0f | Primary true Some(Primary)\n\
+1941 | Primary true Some(Primary)\n\
+1b | Primary false None\n\
+1b40 | Primary false None\n\
+1b41 | Primary false None\n\
+1b43 | Primary false None\n\
+1b44 | Primary false None\n\
+1b46 | Primary false None\n\
+1b28 | Primary false None\n\
+1b2820 | Primary false None\n\
+19 | Primary false None\n\
+1b2a5719 | Primary false None\n\
+1d | Primary false None\n\
+1c | Primary false None\n\
+1c40 | Primary false None";
+
+/// A lexer that has read these bytes.
+fn behind(bytes: &[u8]) -> Lexer {
+    let mut lexer = Lexer::new();
+    for byte in bytes {
+        lexer.step(*byte);
+    }
+    lexer
+}
+
+/// Each byte of a G set is a character of this set, or of none, and no other byte is one.
+fn are_characters(lexer: &Lexer) -> bool {
+    for byte in 0x00..=0xFF_u8 {
+        let set = if matches!(byte, 0x20..0x80) {
+            lexer.characters()
+        } else {
+            None
+        };
+        if lexer.character(byte) != set {
+            return false;
+        }
+    }
+    true
+}
+
+#[test]
+fn characters_are_those_of_the_set_in_gl(rt: HostRuntime) -> Result<(), Fail> {
+    let alloc = rt.alloc();
+    for row in ROWS.lines() {
+        let lexer = behind(&bytes_of(alloc, parted(row).0));
+        let sets = lexer.sets();
+        let (set, rest, characters) = (sets.at(sets.gl), lexer.at_rest(), lexer.characters());
+        same(
+            &rt,
+            &format!(in alloc; "{set:?} {rest} {characters:?}")?,
+            row,
+        );
+        assert!(rt; are_characters(&lexer), "of {row}");
+    }
+    Ok(())
+}
