@@ -19,6 +19,8 @@ COMMANDS = [
     ["check", "--hex"],
     ["canon", "--hex"],
 ]
+HELPS = [["--help"], ["list", "--help"], ["canon", "--help"]]
+WRONG = [[], ["frob"], ["list", "--what"], ["list", "--budget", "x"]]
 CENTRE = bytes.fromhex("2652") + b"@" * 7
 CENTRE_LINE = "POINT 4194304,4194304 pel=0,0 colour=own-start"
 CIRCLE = bytes.fromhex("2e") + b"@" * 8 + b"\x49" + b"@" * 7 + b"\x7f" + b"@" * 7
@@ -230,7 +232,7 @@ def test_library():
 
 def test_words():
     """Help, and command lines that are wrong."""
-    lines = [(["--help"], 0), (["canon", "--help"], 0), ([], 2), (["list", "--budget", "x"], 2)]
+    lines = [(words, 0) for words in HELPS] + [(words, 2) for words in WRONG]
     lines.append((["canon", "--hex", "--stream"], 2))
     wants = without = 0
     for words, status in lines:
@@ -295,8 +297,7 @@ def write_fault(count):
     return b"write fault after %d bytes" % count
 
 
-def test_writes(page, words, most, error, once):
-    ample = page.answer(words)
+def test_writes(page, words, ample, most, error, once):
     number = 1
     while number < 10000:
         got, letters = run_faulty(page, words, write=number, write_most=most, errno=error, once=once)
@@ -329,7 +330,12 @@ def test_all_writes():
             for most in (65536, 7, 1):
                 for error in (errno.EIO, errno.ENOSPC, 0):
                     for once in (1, 0):
-                        test_writes(page, words, most, error, once)
+                        test_writes(page, words, page.answer(words), most, error, once)
+    for words in HELPS:
+        ample, _ = run_faulty(POINT, words)
+        for most in (65536, 6):
+            for once in (1, 0):
+                test_writes(POINT, words, ample, most, errno.EIO, once)
     judge.close(f"writes: each write fails in turn: {runs['faulty'] - before} faults")
     before = runs["faulty"]
     for page, commands in ((POINT, COMMANDS), (GLYPH, COMMANDS), (MANY, refused)):
@@ -378,21 +384,25 @@ def test_long_writes():
         judge.close(f"writes: each write of a long output {kind} in turn: {count} faults, {told} told")
 
 
+def test_error(words, ample, most, error):
+    """Of what is told goes out what was written before; output and status stay."""
+    for number in range(1, -(-len(ample.err) // most) + 1):
+        got, letters = run_faulty(MANY, words, error=number, write_most=most, errno=error)
+        wanted = Answer(ample.status, ample.out, ample.err[: (number - 1) * most])
+        what = f"errors: {' '.join(words)}, write {number} of {most} bytes, error {error}"
+        judge.same(wanted, got, what)
+        judge.take(letters != "", f"{what}: no fault was met")
+
+
 def test_errors():
     """A failed write to standard error changes nothing."""
     before = runs["faulty"]
-    for words in COMMANDS:
-        ample = MANY.answer(words)
-        if not ample.err:
-            continue
-        for most in (65536, 1):
+    told = [(words, MANY.answer(words), 1) for words in COMMANDS]
+    told += [(words, run_faulty(MANY, words)[0], 3) for words in WRONG]
+    for words, ample, few in told:
+        for most in (65536, few):
             for error in (errno.EIO, errno.EINTR, 0):
-                for number in range(1, -(-len(ample.err) // most) + 1):
-                    got, letters = run_faulty(MANY, words, error=number, write_most=most, errno=error)
-                    wanted = Answer(ample.status, ample.out, ample.err[: (number - 1) * most])
-                    what = f"errors: {' '.join(words)}, write {number} of {most} bytes, error {error}"
-                    judge.same(wanted, got, what)
-                    judge.take(letters != "", f"{what}: no fault was met")
+                test_error(words, ample, most, error)
     judge.close(f"errors: each write to standard error fails in turn: {runs['faulty'] - before} faults")
 
 

@@ -1,6 +1,7 @@
 """What the scripts that run the program under faults share: they start it, and compare its status and both outputs."""
 import subprocess
 import sys
+from typing import Any, Optional, Sequence, Union
 
 LIMIT = 20
 
@@ -8,30 +9,31 @@ LIMIT = 20
 class Answer:
     """What a run answered, or should."""
 
-    def __init__(self, status, out=b"", err=b""):
+    def __init__(self, status: Union[int, str], out: bytes = b"", err: bytes = b"") -> None:
         self.status = status
         self.out = out
         self.err = err
 
-    def __eq__(self, other):
-        return (self.status, self.out, self.err) == (other.status, other.out, other.err)
+    def __eq__(self, other: object) -> bool:
+        return isinstance(other, Answer) and (self.status, self.out, self.err) == (other.status, other.out, other.err)
 
-    def __str__(self):
+    def __str__(self) -> str:
         return f"status {self.status}, output {shown(self.out)}, error {shown(self.err)}"
 
 
-def shown(text):
+def shown(text: bytes) -> str:
+    """A text, or how it begins."""
     if len(text) > 100:
         return f"{text[:100]!r} and so on, {len(text)} bytes"
     return repr(text)
 
 
-def fault(line, out=b""):
+def fault(line: bytes, out: bytes = b"") -> Answer:
     """The answer of a run that failed."""
     return Answer(3, out, line + b"\n")
 
 
-def run(words, text=None, **options):
+def run(words: Sequence[Union[str, bytes]], text: Optional[bytes] = None, **options: Any) -> Answer:
     """Runs a command, on a text where there is one; a command that takes too long has no status."""
     options.setdefault("stdout", subprocess.PIPE)
     options.setdefault("stderr", subprocess.PIPE)
@@ -48,12 +50,13 @@ def run(words, text=None, **options):
 class Judge:
     """Counts what passed and what failed, and prints a line for each group of runs."""
 
-    def __init__(self):
+    def __init__(self) -> None:
         self.passed = 0
         self.failed = 0
         self.wrong = 0
 
-    def take(self, right, what):
+    def take(self, right: bool, what: str) -> None:
+        """Counts a run, and says what was wrong with it."""
         if right:
             self.passed += 1
         else:
@@ -62,10 +65,11 @@ class Judge:
             if self.wrong <= 5:
                 print(f"FAILED: {what}")
 
-    def same(self, wanted, got, what):
+    def same(self, wanted: Answer, got: Answer, what: str) -> None:
+        """Counts a run whose answer is wanted."""
         self.take(wanted == got, f"{what}: wanted {wanted}; got {got}")
 
-    def close(self, line):
+    def close(self, line: str) -> None:
         """Ends a group."""
         if self.wrong == 0:
             print(f"ok: {line}")
@@ -74,6 +78,7 @@ class Judge:
         self.wrong = 0
         sys.stdout.flush()
 
-    def end(self):
+    def end(self) -> int:
+        """Prints how many passed and failed, and answers the exit status."""
         print(f"{self.passed} passed, {self.failed} failed")
         return 1 if self.failed else 0

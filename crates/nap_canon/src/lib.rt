@@ -24,6 +24,3 @@ pub use fault::CanonFault;
 pub use plain::is_plain;
 pub use stream::normalise;
 pub use text::{canon, canon_form1};
-
-#[cfg(test)]
-mod tests;

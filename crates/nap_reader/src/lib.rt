@@ -22,6 +22,3 @@ pub use nap_draw::RUN_LIMIT;
 pub use reader::{Reader, Stopped};
 pub use store::STORE_LIMIT;
 pub use whole::read_all;
-
-#[cfg(test)]
-mod tests;

@@ -1,5 +1,5 @@
 //! Commands on inputs and outputs that fail, give and take little at a call, and count their calls.
-use nap_command::{Action, Command, execute};
+use nap_command::{Action, Command, Failure, execute, write_whole};
 use nap_fixtures::devices::{End, Giver, Nuls, Taker};
 use nap_list::{Source, Target};
 use nap_reader::Budget;
@@ -119,6 +119,29 @@ fn is_sent(writer: &Taker) -> bool {
 /// The line of a write that failed behind so many bytes.
 fn write_fault(alloc: Global, written: usize) -> Result<String, AllocError> {
     format!(in alloc; "write fault after {written} bytes\n")
+}
+
+// So help is printed, and so wrong words are told. An output that failed to take is not flushed any more.
+#[test]
+fn a_text_is_taken_whole_and_sent_on(rt: HostRuntime) {
+    let alloc = rt.alloc();
+    for (room, good_flushes, kept, flushed, fault) in [
+        (ALL, 1, POINT_TEXT, (1, 12), None),
+        (ALL, 0, POINT_TEXT, (1, 12), Some(Failure::Write(12))),
+        (6, 1, &POINT_TEXT[..6], (0, 0), Some(Failure::Write(6))),
+        (0, 1, NOTHING, (0, 0), Some(Failure::Write(0))),
+    ] {
+        let mut output = Target::new(Taker {
+            good_flushes,
+            ..Taker::new(alloc, room, ALL, End::Fails)
+        });
+        let written = write_whole(&mut output, POINT_TEXT);
+        let taker = output.into_inner();
+        let found = written.err() == fault
+            && taker.kept.as_slice() == kept
+            && (taker.flushes, taker.sent) == flushed;
+        assert!(rt; found, "with room for {room}");
+    }
 }
 
 #[test]
