@@ -3,15 +3,16 @@ _naplps() {
     local word=${COMP_WORDS[COMP_CWORD]} before=${COMP_WORDS[COMP_CWORD - 1]} command='' words='' index
     for ((index = 1; index < COMP_CWORD; index++)); do
         case ${COMP_WORDS[index]} in
-            list | check | canon | help)
+            list | check | canon | batch | help)
                 command=${COMP_WORDS[index]}
                 break
                 ;;
         esac
     done
     case $command in
-        '') words='list check canon help --help' ;;
-        help) words='list check canon' ;;
+        '') words='list check canon batch help --help --version' ;;
+        help) words='list check canon batch' ;;
+        batch) words='--help' ;;
         *)
             # (the number behind --budget is for the user to say)
             if [[ $before != --budget && $before != = ]]; then words='--hex --budget --help'; fi

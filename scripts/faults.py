@@ -429,6 +429,130 @@ def test_many_reads():
     judge.close("many reads: 1048576 are made, and no more")
 
 
+class Requests(Page):
+    """Requests to `batch`, one after another, and what is answered to each."""
+
+    def __init__(self, name, exchanges):
+        self.asked = [f"{command} 1048576 {len(text)}\n".encode() + text for command, text, _, _ in exchanges]
+        self.answered = [f"{line}\n{len(body)}\n".encode() + body for _, _, line, body in exchanges]
+        super().__init__(name, b"".join(self.asked))
+
+    def answer(self, words):
+        return Answer(0, b"".join(self.answered))
+
+    def answered_to(self, count):
+        """The answers to the requests that stand whole in so many bytes."""
+        out = b""
+        for asked, answered in zip(self.asked, self.answered):
+            count -= len(asked)
+            if count < 0:
+                break
+            out += answered
+        return out
+
+
+REQUESTS = Requests(
+    "requests",
+    [
+        ("check", POINT.stream, "accepted 1 entries", b""),
+        ("list", GLYPH.stream, "accepted 4 entries", GLYPH.lines),
+        ("canon", GLYPH.stream, "accepted 4 entries", GLYPH.canonical),
+        ("check", bytes.fromhex("0e2652287f"), "refused 10 Outside at 3", b""),
+        ("places", POINT.stream, "accepted 1 entries", b"5 " + POINT.lines),
+    ],
+)
+
+
+def is_answered(out, whole):
+    """Whether each request has its own answer, or one that says that memory was wanting; if not whole, the first ones."""
+    for answered in REQUESTS.answered:
+        want = re.match(rb"(refused 21 Memory at (0|[1-9][0-9]*)|no memory)\n0\n", out)
+        if out.startswith(answered):
+            out = out[len(answered) :]
+        elif want is not None:
+            out = out[want.end() :]
+        else:
+            return not whole and out == b""
+    return out == b""
+
+
+def test_batch_memory():
+    told = 0
+    for once in (1, 0):
+        number = 1
+        while number < 10000:
+            got, letters = run_faulty(REQUESTS, ["batch"], memory=number, once=once)
+            what = f"memory: batch, growth {number}: {got}"
+            if not letters:
+                judge.same(REQUESTS.answer([]), got, what)
+                break
+            ends = got.status == 3 and got.err == b"no memory\n"
+            judge.take(is_answered(got.out, not ends) and (ends or got.status == 0), what)
+            told += got != REQUESTS.answer([])
+            number += 1
+        judge.take(1 < number < 10000, f"memory: batch: {number - 1} growths")
+    judge.close(f"memory: batch: growths refused: {told} told")
+
+
+def test_batch_reads():
+    before = runs["faulty"]
+    for most in (65536, 7, 1):
+        for error in (errno.EIO, errno.EINTR, errno.EAGAIN):
+            for once in (1, 0):
+                number = 1
+                while number < 10000:
+                    got, letters = run_faulty(REQUESTS, ["batch"], read=number, read_most=most, errno=error, once=once)
+                    what = f"reads: batch, read {number} of {most} bytes, error {error}"
+                    if not letters:
+                        judge.same(REQUESTS.answer([]), got, what)
+                        break
+                    judge.same(fault(b"read fault", REQUESTS.answered_to((number - 1) * most)), got, what)
+                    judge.take(letters == "r", f"{what}: read again behind it")
+                    number += 1
+    judge.close(f"reads: batch: each read fails in turn: {runs['faulty'] - before} faults")
+
+
+def test_batch_writes():
+    """Each answer is sent on by itself, so a failed write tells the bytes of all answers up to its own."""
+    before = runs["faulty"]
+    for most in (65536, 7, 1):
+        writes = []
+        end = 0
+        for answered in REQUESTS.answered:
+            start, end = end, end + len(answered)
+            writes += [(at, end) for at in range(start, end, most)]
+        for number, (at, end) in enumerate(writes, 1):
+            for error in (errno.EIO, errno.ENOSPC, 0):
+                for once in (1, 0):
+                    got, _ = run_faulty(REQUESTS, ["batch"], write=number, write_most=most, errno=error, once=once)
+                    out = REQUESTS.answer([]).out[: end if once else at]
+                    what = f"writes: batch, write {number} of {most} bytes, error {error}, once {once}"
+                    judge.same(fault(write_fault(end), out), got, what)
+            got, letters = run_faulty(REQUESTS, ["batch"], write=number, write_most=most, errno=errno.EINTR, once=1)
+            judge.same(REQUESTS.answer([]), got, f"writes: batch, write {number} of {most} bytes is interrupted")
+            judge.take(letters == "w", f"writes: batch, write {number}: faults {letters}")
+    judge.close(f"writes: batch: each write fails in turn: {runs['faulty'] - before} faults")
+
+
+def test_batch_short():
+    for most in (1, 2, 3, 1000):
+        got, _ = run_faulty(REQUESTS, ["batch"], read_most=most, write_most=most)
+        judge.same(REQUESTS.answer([]), got, f"short: batch, {most} bytes at a time")
+    judge.close("short: batch: reads and writes of few bytes")
+
+
+def test_batch_many_reads():
+    """The reads are counted anew for each request: one of 1048576 bytes may come in single ones."""
+    longest = ("check", bytes(1048554), "accepted 0 entries", b"")
+    longer = ("check", bytes(1048555), "accepted 0 entries", b"")
+    most = Requests("most reads of requests", [longest, longest])
+    judge.same(most.answer([]), run_faulty(most, ["batch"], read_most=1)[0], "many reads: batch, most reads")
+    more = Requests("more reads of requests", [longest, longer])
+    wanted = fault(b"read fault", more.answered[0])
+    judge.same(wanted, run_faulty(more, ["batch"], read_most=1)[0], "many reads: batch, more reads")
+    judge.close("many reads: batch: 1048576 are made for each request, and no more")
+
+
 def main():
     for test in (
         test_all_memory,
@@ -440,6 +564,11 @@ def main():
         test_errors,
         test_short,
         test_many_reads,
+        test_batch_memory,
+        test_batch_reads,
+        test_batch_writes,
+        test_batch_short,
+        test_batch_many_reads,
     ):
         begun = time.monotonic()
         test()

@@ -1,4 +1,4 @@
-use Rattle.std.proofs.Common.{◌≡◌, ◌⊎◌, ◌∙◌, inl, inr, List, Option, Some, None, true, refl, sym, ap, ap₂, subst, option_map}
+use Rattle.std.proofs.Common.{◌≡◌, ◌⊎◌, ◌∙◌, inl, inr, List, Option, Some, None, true, refl, sym, ap, ap₂, subst, codes, option_map}
 use Rattle.std.specs.Box.{box_value}
 use Rattle.std.specs.Prelude.{Box, MatchOption, []}
 use Rattle.clap.specs.Words.{HasKind, HasMatchesOf, Row, Text, fault_of, is_simple, is_simple_and_free, kind_of, subcommand_name_of, subcommand_of, subcommand_rows}
@@ -9,8 +9,9 @@ use Rattle.clap.specs.declared.parser.matches.ArgMatches.TheViews.{out-ArgMatche
 use Rattle.clap.specs.declared.parser.matches.SubCommand.{SubCommand}
 use Rattle.clap.specs.declared.error.Error.{Error}
 use Rattle.clap.proofs.OnLiterals.{clap_on_literals}
-use Rattle.nap_command.specs.declared.command.Command.{Command}
-use Rattle.nap_cli.specs.CommandLine.{Chooses, IsFault, Says, action_name, command_line}
+use Rattle.nap_cli.specs.declared.words.Job.{Job}
+use Rattle.nap_cli.specs.declared.words.Job.TheVariants as job
+use Rattle.nap_cli.specs.CommandLine.{Chooses, ChoosesJob, IsFault, SaysJob, action_name, command_line, job_name}
 
 pub line_is_simple : is_simple command_line ≡ true
 unfolding clap_on_literals
@@ -63,39 +64,42 @@ entered_by words m name rows has named rowed =
 pub entered_none : (words : List Text) (m : ArgMatches) → HasMatchesOf command_line words m → subcommand_name_of m ≡ None → subcommand_of command_line words ≡ None
 entered_none words m has named = sym (has line_is_simple).1 ∙ none_by_part (subcommand_rows (out-ArgMatches m).subcommand) (name_of_rows (out-ArgMatches m).subcommand ∙ named)
 
--- what clap found is that of no command
+-- what clap found is that of no job
 pub nothing_chosen : (words : List Text) (name : Text) (rows : List Row) → subcommand_of command_line words ≡ Some (name, rows)
-    → ((c : Command) → action_name c.action ≡ name → Chooses rows c → ⊥) → (c : Command) → Says words c → ⊥
-nothing_chosen words name rows entered none c says =
+    → ((j : Job) → job_name j ≡ name → ChoosesJob rows j → ⊥) → (j : Job) → SaysJob words j → ⊥
+nothing_chosen words name rows entered none (job.Page c) says =
     let same = some_pair (action_name c.action) name says.rows rows (sym says.entered ∙ entered) in
-    none c same.0 (subst (λ (x : List Row). Chooses x c) same.1 says.chooses)
+    none (job.Page c) same.0 (subst (λ (x : List Row). Chooses x c) same.1 says.chooses)
+nothing_chosen words name rows entered none job.Batch says =
+    let same = some_pair (codes "batch") name says.rows rows (sym says.entered ∙ entered) in
+    none job.Batch same.0 tt
 
-pub nothing_entered : (words : List Text) → subcommand_of command_line words ≡ None → (c : Command) → Says words c → ⊥
-nothing_entered words entered c says = none_or_some (action_name c.action, says.rows) (sym entered ∙ says.entered)
+pub nothing_entered : (words : List Text) → subcommand_of command_line words ≡ None → (j : Job) → SaysJob words j → ⊥
+nothing_entered words entered (job.Page c) says = none_or_some (action_name c.action, says.rows) (sym entered ∙ says.entered)
+nothing_entered words entered job.Batch says = none_or_some (codes "batch", says.rows) (sym entered ∙ says.entered)
 
--- a command, or none, that has the options that clap found
+-- a job, or none, that has the options that clap found
 module _ (words : List Text) (m : ArgMatches) (name : Text) (rows : List Row) (has : HasMatchesOf command_line words m) (named : Some name ≡ subcommand_name_of m)
     (rowed : Some rows ≡ option_map (λ (p : Text × List Row). p.1) (subcommand_rows (out-ArgMatches m).subcommand)) where
-  abbrev pub IsCommand : Option Command → Type 0
-  IsCommand r = MatchOption r ((c : Command) → action_name c.action ≡ name → Chooses rows c → ⊥) (λ c. (action_name c.action ≡ name) × Chooses rows c)
+  abbrev pub IsJob : Option Job → Type 0
+  IsJob r = MatchOption r ((j : Job) → job_name j ≡ name → ChoosesJob rows j → ⊥) (λ j. (job_name j ≡ name) × ChoosesJob rows j)
 
   found : subcommand_of command_line words ≡ Some (name, rows)
   found = entered_by words m name rows has (sym named) (sym rowed)
 
-  pub says_command : (r : Option Command) (c : Command) → fault_of command_line words ≡ [] → IsCommand r → r ≡ Some c → Says words c
-  says_command None c right h is = absurd (none_or_some c is)
-  says_command (Some k) c right h is = subst (Says words) (same_some k c is) (record {
-    right = right;
-    rows = rows;
-    entered = found ∙ ap (λ (t : Text). Some (t, rows)) (sym h.0);
-    chooses = h.1;
-  })
+  made : (j : Job) → fault_of command_line words ≡ [] → job_name j ≡ name → ChoosesJob rows j → SaysJob words j
+  made (job.Page c) right same chosen = record { right = right; rows = rows; entered = found ∙ ap (λ (t : Text). Some (t, rows)) (sym same); chooses = chosen }
+  made job.Batch right same chosen = record { right = right; rows = rows; entered = found ∙ ap (λ (t : Text). Some (t, rows)) (sym same) }
 
-  pub says_nothing : (r : Option Command) → IsCommand r → r ≡ None → (c : Command) → Says words c → ⊥
+  pub says_job : (r : Option Job) (j : Job) → fault_of command_line words ≡ [] → IsJob r → r ≡ Some j → SaysJob words j
+  says_job None j right h is = absurd (none_or_some j is)
+  says_job (Some k) j right h is = subst (SaysJob words) (same_some k j is) (made k right h.0 h.1)
+
+  pub says_nothing : (r : Option Job) → IsJob r → r ≡ None → (j : Job) → SaysJob words j → ⊥
   says_nothing None h is = nothing_chosen words name rows found h
   says_nothing (Some k) h is = absurd (none_or_some k (sym is))
 
 -- the fault of words that say no command
-pub no_command_said : (words : List Text) (k : ErrorKind) → (k ≡ kind.OutOfMemory) ⊎ (k ≡ kind.MissingSubcommand) → ((c : Command) → Says words c → ⊥) → IsFault words k
-no_command_said words k (inl h) none = inl h
-no_command_said words k (inr h) none = inr (inr (h, none))
+pub no_job_said : (words : List Text) (k : ErrorKind) → (k ≡ kind.OutOfMemory) ⊎ (k ≡ kind.MissingSubcommand) → ((j : Job) → SaysJob words j → ⊥) → IsFault words k
+no_job_said words k (inl h) none = inl h
+no_job_said words k (inr h) none = inr (inr (h, none))

@@ -12,6 +12,9 @@ use Rattle.nap_command.specs.declared.command.Command.{Command}
 use Rattle.nap_command.specs.Devices.{Devices}
 use Rattle.nap_list.specs.declared.device.Inlet as inlet
 use Rattle.nap_command.specs.Commands.{Ran}
+use Rattle.nap_batch.specs.Sessions.{Served}
+use Rattle.nap_cli.specs.declared.words.Job.{Job}
+use Rattle.nap_cli.specs.declared.words.Job.TheVariants as job
 use Rattle.nap_cli.specs.Explaining.{Explains, Unread, outputs_of}
 
 -- The command line, as clap reads it.
@@ -41,16 +44,21 @@ command_app usual name = with_rule (with_rule (new_app name) hex_rule) (budget_r
 abbrev pub canon_app : Text → App
 canon_app usual = with_rule (command_app usual (codes "canon")) stream_rule
 
--- the program, of which a command is required, and whose words begin with it
+-- the program, which has a version, of which a command is required, and whose words begin with it
 abbrev pub program_app : App
 program_app = record (new_app (codes "naplps")) {
-  top = record (new_app (codes "naplps")).top { no_binary_name = true; subcommand_required = true };
+  top = record (new_app (codes "naplps")).top { no_binary_name = true; subcommand_required = true; has_version = true };
 }
 
-abbrev pub command_line_by : Text → App
-command_line_by usual =
+-- the commands of one page
+abbrev pub page_commands : Text → App
+page_commands usual =
     with_subcommand (with_subcommand (with_subcommand program_app (command_app usual (codes "list")).top) (command_app usual (codes "check")).top)
     (canon_app usual).top
+
+-- and `batch`, which has no option
+abbrev pub command_line_by : Text → App
+command_line_by usual = with_subcommand (page_commands usual) (new_app (codes "batch")).top
 
 -- the command line, with the usual budget where none is given
 abbrev pub command_line : App
@@ -91,14 +99,34 @@ pub record Says (words : List Text) (c : Command) : Type 0 where
   pub entered : subcommand_of command_line words ≡ Some (action_name c.action, rows)
   pub chooses : Chooses rows c
 
+-- words that clap takes, and reads as `batch`
+pub record SaysBatch (words : List Text) : Type 0 where
+  pub right : fault_of command_line words ≡ []
+  pub rows : List Row
+  pub entered : subcommand_of command_line words ≡ Some (codes "batch", rows)
+
+-- words say a command of one page, or `batch`
+abbrev pub SaysJob : List Text → Job → Type 0
+SaysJob words (job.Page c) = Says words c
+SaysJob words job.Batch = SaysBatch words
+
+abbrev pub job_name : Job → Text
+job_name (job.Page c) = action_name c.action
+job_name job.Batch = codes "batch"
+
+-- what clap found of the options is that of this job
+abbrev pub ChoosesJob : List Row → Job → Type 0
+ChoosesJob rows (job.Page c) = Chooses rows c
+ChoosesJob rows job.Batch = Unit {0}
+
 -- what clap finds in words that say no command: this kind of fault, or want of memory
 abbrev pub IsFault : List Text → ErrorKind → Type 0
 IsFault words k =
-    (k ≡ kind.OutOfMemory) ⊎ (IsAmong k (fault_of command_line words) ⊎ ((k ≡ kind.MissingSubcommand) × ((c : Command) → Says words c → ⊥)))
+    (k ≡ kind.OutOfMemory) ⊎ (IsAmong k (fault_of command_line words) ⊎ ((k ≡ kind.MissingSubcommand) × ((j : Job) → SaysJob words j → ⊥)))
 
--- The program ran on an input, from the devices before to those after: the command that the words say; or none, and then
--- nothing was read, and what clap finds in the words was told.
+-- The program ran on an input, from the devices before to those after: the command that the words say, of one page or
+-- `batch`; or none, and then nothing was read, and what clap finds in the words was told.
 abbrev pub Answers : {I : Type 0} → inlet.Ghosts I → List Text → I → I → Devices → Devices → ℕ → Type 0
 Answers i words start end before after status =
     ((c : Command) × Says words c × Ran i c start end before after status)
-    ⊎ ((k : ErrorKind) × IsFault words k × Unread before after × Explains k (outputs_of before) (outputs_of after) status)
+    ⊎ ((SaysBatch words × Served before after status) ⊎ ((k : ErrorKind) × IsFault words k × Unread before after × Explains k (outputs_of before) (outputs_of after) status))

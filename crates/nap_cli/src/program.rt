@@ -5,9 +5,10 @@ ghost use Rattle.nap_command.specs.Devices.{devices};
 ghost use Rattle.nap_cli.specs.Explaining.{Explains, outputs};
 ghost use Rattle.nap_cli.specs.CommandLine.{Answers};
 
-use crate::words::parse;
+use crate::words::{Job, parse};
 use clap::Error;
 use clap::error::ErrorKind;
+use nap_batch::batch;
 use nap_command::{Failure, execute, tell, write_whole};
 use nap_list::{Inlet, Outlet};
 use std::alloc::Global;
@@ -51,7 +52,12 @@ pub fn run<I: Inlet, O: Outlet + Drop, E: Outlet>(
         Answers I.Inlet (map string_bytes words.now) input.old input.new (seen input.old output errors.old) (seen input.new result.0 errors.new) result.1 }
 {
     match parse(alloc, words) {
-        Ok(command) => execute(alloc, &command, input, output, errors),
+        Ok(Job::Page(command)) => execute(alloc, &command, input, output, errors),
+        Ok(Job::Batch) => {
+            let mut output = output;
+            let status = batch(alloc, input, &mut output, errors);
+            (output, status)
+        }
         Err(error) => explain(alloc, error, output, errors),
     }
 }

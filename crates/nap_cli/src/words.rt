@@ -1,9 +1,9 @@
 //! How the words of a command line say a command.
-ghost use Rattle.std.specs.Prelude.{◌≡◌, ◌≢◌, ◌⊎◌, Bool, false, IfErr, IfOk, MatchOption, decimal, map, string_bytes};
-ghost use Rattle.clap.specs.Words.{app_of, found_of, kind_of, rows_of};
+ghost use Rattle.std.specs.Prelude.{◌≡◌, ◌≢◌, ◌⊎◌, Bool, false, IfErr, IfOk, MatchOption, codes, decimal, map, string_bytes};
+ghost use Rattle.clap.specs.Words.{app_of, found_of, kind_of, new_app, rows_of};
 ghost use Rattle.clap.specs.declared.builder.command.Command.TheViews.{out-Command as fields_of};
 ghost use Rattle.nap_reader.specs.Budgets.{usual_budget};
-ghost use Rattle.nap_cli.specs.CommandLine.{Chooses, ChoosesStream, IsFault, Says, action_name, canon_app, command_app, command_line_by};
+ghost use Rattle.nap_cli.specs.CommandLine.{Chooses, ChoosesJob, ChoosesStream, IsFault, SaysJob, action_name, canon_app, command_app, command_line_by, job_name};
 
 use clap::error::ErrorKind;
 use clap::{Arg, ArgAction, ArgMatches, Error, value_parser};
@@ -25,7 +25,12 @@ const CHECK: &str = "check";
 
 const CANON: &str = "canon";
 
-const ABOUT: &str = "naplps 0.1.0: reads NAPLPS pages and rewrites them in one canonical spelling.
+const BATCH: &str = "batch";
+
+/// The version of the program, and the form of the canonical streams that it prints.
+const VERSION: &str = "0.2.0, canonical form 2";
+
+const ABOUT: &str = "Reads NAPLPS pages and rewrites them in one canonical spelling.
 
 A page is read from standard input, as bytes or as hexadecimal text. What comes of it goes to standard output, and
 what goes wrong to standard error; 'check' prints a refusal as its answer.";
@@ -73,6 +78,28 @@ Example:
   echo '0E 26 52 40 40' | naplps canon --hex
 prints
   0e215f265240404040404040";
+
+const BATCH_HELP: &str = "Answers requests, one after another: many pages through one process";
+
+const BATCH_EXAMPLE: &str =
+    "A request is a line 'COMMAND BUDGET LENGTH' and then LENGTH bytes, the page. COMMAND is check, list, canon or places.
+An answer is the line of 'check', a line with a number, and so many bytes. The manual page has all of it.
+The status is 0 where the input ends between two requests, else 3.
+
+Example:
+  printf 'check 1048576 5\\n\\016\\046\\122\\100\\100' | naplps batch
+prints
+  accepted 1 entries
+  0";
+
+/// What the words of a command line ask for.
+#[derive(Clone, Copy, PartialEq, Eq, Drop)]
+pub enum Job {
+    /// A command on one page.
+    Page(Command),
+    /// `batch`.
+    Batch,
+}
 
 /// The texts of `--budget` that name its limits.
 #[derive(Drop)]
@@ -137,19 +164,33 @@ fn canon_command<'a>(alloc: Global, texts: &'a BudgetTexts) -> Result<clap::Comm
     subcommand(alloc, texts, CANON, CANON_HELP, CANON_EXAMPLE)?.arg(stream)
 }
 
+/// `batch`, which has no option.
+fn batch_command<'a>(alloc: Global) -> Result<clap::Command<'a>, AllocError>
+    ensures app { IfOk result (λ c. app_of c ≡ new_app (codes "batch")) }
+    ensures local { IfOk result (λ c. (fields_of c).has_globals ≡ false) }
+{
+    Ok(
+        clap::Command::new(alloc, BATCH)
+            .about(BATCH_HELP)
+            .after_help(BATCH_EXAMPLE),
+    )
+}
+
 /// The whole command line.
 fn program<'a>(alloc: Global, texts: &'a BudgetTexts) -> Result<clap::Command<'a>, AllocError>
     ensures { IfOk result (λ c. app_of c ≡ command_line_by (string_bytes texts.entry.now.usual)) }
 {
     clap::Command::new(alloc, PROGRAM)
         .bin_name(PROGRAM)?
+        .version(VERSION)
         .about(ABOUT)
         .after_help(STATUSES)
         .no_binary_name(true)
         .subcommand_required(true)
         .subcommand(subcommand(alloc, texts, LIST, LIST_HELP, LIST_EXAMPLE)?)?
         .subcommand(subcommand(alloc, texts, CHECK, CHECK_HELP, CHECK_EXAMPLE)?)?
-        .subcommand(canon_command(alloc, texts)?)
+        .subcommand(canon_command(alloc, texts)?)?
+        .subcommand(batch_command(alloc)?)
 }
 
 /// What clap says where words say no command.
@@ -162,22 +203,35 @@ fn no_command(program: &mut clap::Command<'_>) -> Error
     }
 }
 
-/// The command that these words say, without the program's name; else clap's text of help or of what is wrong.
-pub fn parse(alloc: Global, words: &[String]) -> Result<Command, Error>
-    ensures said { IfOk result (λ c. Says (map string_bytes words.now) c) }
+/// The job that these words say, without the program's name; else clap's text of help or of what is wrong.
+pub fn parse(alloc: Global, words: &[String]) -> Result<Job, Error>
+    ensures said { IfOk result (λ j. SaysJob (map string_bytes words.now) j) }
     ensures fault { IfErr result (λ e. IsFault (map string_bytes words.now) (kind_of e)) }
 {
     let texts = BudgetTexts::new(alloc)?;
     let mut program = program(alloc, &texts)?;
     let matches = program.try_get_matches_from_mut(words)?;
     let said = match matches.subcommand() {
-        Some((name, options)) => command_named(name, options),
+        Some((name, options)) => job_named(name, options),
         None => None,
     };
     match said {
-        Some(command) => Ok(command),
+        Some(job) => Ok(job),
         None => Err(no_command(&mut program)),
     }
+}
+
+/// The job of this name with these options. clap has checked them, so that there is one.
+fn job_named(name: &str, options: &ArgMatches<'_>) -> Option<Job>
+    ensures { MatchOption result
+        ((j : Job) → job_name j ≡ name.now → ChoosesJob (rows_of (found_of options.now)) j → ⊥)
+        (λ j. (job_name j ≡ name.now) × ChoosesJob (rows_of (found_of options.now)) j) }
+{
+    if name == BATCH {
+        return Some(Job::Batch);
+    }
+    let command = command_named(name, options)?;
+    Some(Job::Page(command))
 }
 
 /// The command of this name with these options. clap has checked them, so that there is one.

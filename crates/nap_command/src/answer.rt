@@ -71,7 +71,7 @@ fn bytes_of(alloc: Global, text: &[u8]) -> Result<Vec<u8>, Failure>
 }
 
 /// The line that says how many entries there are.
-fn count_line(alloc: Global, count: u64) -> Result<Vec<u8>, AllocError>
+pub fn count_line(alloc: Global, count: u64) -> Result<Vec<u8>, AllocError>
     ensures { IfOk result (λ text. text.items ≡ count_line count) }
 {
     let line = format!(in alloc; "accepted {count} entries\n")?;
@@ -162,7 +162,7 @@ fn print_text(
 }
 
 /// What a command prints of a stream.
-fn answer_stream(alloc: Global, command: &Command, stream: &[u8]) -> Result<Printout, Failure>
+pub fn answer_stream(alloc: Global, command: &Command, stream: &[u8]) -> Result<Printout, Failure>
     requires { length stream.now < 2 ^ 63 }
     ensures { MatchResult result (λ a. PrintsBy command.now.action command.now stream.now a.text.items a.verdict) (Denies command.now stream.now) }
 {

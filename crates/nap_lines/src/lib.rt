@@ -7,5 +7,5 @@ mod line;
 mod line_sink;
 mod tail;
 
-pub use line::line_of;
+pub use line::{append_line, line_of};
 pub use line_sink::LineSink;

@@ -1,5 +1,5 @@
 //! The line of an entry.
-ghost use Rattle.std.specs.Prelude.{◌≡◌, ◌+◌, ◌≤◌, ◌++◌, IfOk, OnOk, OnErr, codes, length, take, string_bytes};
+ghost use Rattle.std.specs.Prelude.{◌≡◌, ◌+◌, ◌≤◌, [], ◌∷◌, ◌++◌, IfOk, OnOk, OnErr, codes, length, take, string_bytes};
 ghost use Rattle.std.specs.Str.{IsUtf8};
 ghost use Rattle.nap_lines.specs.Lines.{line, points_text, fill_text, ink_text};
 ghost use Rattle.nap_lines.specs.Parts.{first_part, last_part};
@@ -310,6 +310,14 @@ pub(crate) fn write_line(
         text.truncate(before);
     }
     written
+}
+
+/// Writes the line of an entry, with its end, behind the text. It takes no memory but the text's.
+pub fn append_line(text: &mut Vec<u8>, entry: &Entry) -> Result<(), AllocError>
+    ensures ok { OnOk result (text.new.items ≡ text.old.items ++ line entry.now ++ 10 ∷ []) }
+    ensures err { OnErr result (text.new.items ≡ text.old.items) }
+{
+    write_line(&mut Tail::new(), text, entry, "\n")
 }
 
 /// The line of an entry, without its end.

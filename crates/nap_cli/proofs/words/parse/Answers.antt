@@ -2,7 +2,7 @@ use Rattle.std.proofs.Common.{◌≡◌, ◌∙◌, [], ap, map, string_bytes, s
 use Rattle.std.proofs.lemmas.Result.{err_from_is_err_and}
 use Rattle.clap.specs.Words.{App, HasKind, app_of, HasMatchesOf, fault_of, found_of, is_simple_and_free, rows_of}
 use Rattle.nap_cli.specs.CommandLine.{command_line, command_line_by}
-use Rattle.nap_cli.proofs.CommandLineLemmas.{entered_none, fault_found, line_is_free, no_command_said, none_or_some, nothing_entered, says_command, says_nothing}
+use Rattle.nap_cli.proofs.CommandLineLemmas.{entered_none, fault_found, line_is_free, no_job_said, none_or_some, nothing_entered, says_job, says_nothing}
 use Rattle.nap_cli.proofs.words.parse.Goals.{in-Some, in-None}
 use Rattle.nap_cli.proofs.words.parse.Goals as goal
 
@@ -23,9 +23,9 @@ returns-in-Some-said-clause-said c =
     let has = subst (λ (a : App). HasMatchesOf a words m) line c.in_ok-matches.ensures.ok.2 in
     let right = subst (λ (a : App). fault_of a words ≡ []) line (c.in_ok-matches.ensures.kinds (ap is_simple_and_free line ∙ line_is_free)) in
     elim c.match-subcommand.branch [
-      | in-Some w ↦ says_command words m w.in-Some.name.now (rows_of (found_of w.in-Some.options.now)) has w.in-Some.ensures.name w.in-Some.ensures.rows
-          w.command_named-said.result c.in-Some-said.command right w.command_named-said.ensures (sym w.said-is ∙ c.in-Some-said.is)
-      | in-None w ↦ absurd (none_or_some c.in-Some-said.command (sym w.said-is ∙ c.in-Some-said.is))
+      | in-Some w ↦ says_job words m w.in-Some.name.now (rows_of (found_of w.in-Some.options.now)) has w.in-Some.ensures.name w.in-Some.ensures.rows
+          w.job_named-said.result c.in-Some-said.job right w.job_named-said.ensures (sym w.said-is ∙ c.in-Some-said.is)
+      | in-None w ↦ absurd (none_or_some c.in-Some-said.job (sym w.said-is ∙ c.in-Some-said.is))
     ]
 
 pub returns-clause-fault : goal.returns-clause-fault
@@ -34,8 +34,8 @@ returns-clause-fault c =
     let words = map string_bytes c.args.words.now in
     let m = c.in_ok-matches.matches in
     let has = subst (λ (a : App). HasMatchesOf a words m) line c.in_ok-matches.ensures.ok.2 in
-    no_command_said words _ c.no_command.ensures (elim c.match-subcommand.branch [
+    no_job_said words _ c.no_command.ensures (elim c.match-subcommand.branch [
       | in-Some w ↦ says_nothing words m w.in-Some.name.now (rows_of (found_of w.in-Some.options.now)) has w.in-Some.ensures.name w.in-Some.ensures.rows
-          w.command_named-said.result w.command_named-said.ensures (sym w.said-is ∙ c.in-None-said.is)
+          w.job_named-said.result w.job_named-said.ensures (sym w.said-is ∙ c.in-None-said.is)
       | in-None w ↦ nothing_entered words (entered_none words m has (sym w.in-None.ensures.name))
     ])

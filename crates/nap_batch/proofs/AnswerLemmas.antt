@@ -1,0 +1,94 @@
+use Rattle.std.proofs.Common.{ℕ, ◌≡◌, ◌≢◌, ◌⊎◌, true, false, List, [], ◌++◌, Option, None, Some, Result, Ok, Err, length, refl, ap, sym, subst, ◌∙◌, inl, inr}
+use Rattle.std.specs.Prelude.{IfSome, IsSome}
+use Rattle.std.specs.Io.KnownBytes.{Appends}
+use Rattle.nap_list.specs.declared.device.Outlet as outlet
+use Rattle.nap_list.specs.declared.entry.Entry.{Entry}
+use Rattle.nap_list.specs.declared.sink.Sink.{Ghosts}
+use Rattle.nap_reader.specs.declared.fault.Fault.{Fault}
+use Rattle.nap_reader.specs.declared.fault.Fault.TheVariants as fault
+use Rattle.nap_reader.specs.declared.fault.Refusal.{Refusal}
+use Rattle.nap_reader.specs.Breaking.{BreaksWithin}
+use Rattle.nap_reader.specs.Stream.{means}
+use Rattle.nap_canon.specs.Sinking.{Begun, Canonical, Took}
+use Rattle.nap_canon.specs.Streams.{IsAccepted, list_of}
+use Rattle.nap_canon.specs.Text.{text}
+use Rattle.nap_canon.proofs.PublicLaws.{sink_writes_text}
+use Rattle.nap_command.specs.declared.answer.Verdict.{Verdict}
+use Rattle.nap_command.specs.declared.answer.Verdict.TheVariants as verdict
+use Rattle.nap_command.specs.declared.command.Action.TheVariants as action
+use Rattle.nap_command.specs.Commands.{PrintsBy, count_line, refusal_of_text}
+use Rattle.nap_batch.specs.declared.request.Question.{Question}
+use Rattle.nap_batch.specs.declared.request.Question.TheVariants as question
+use Rattle.nap_batch.specs.Answers.{IsAnswer, IsCount, IsCounted, IsPlaced, body_of, ended_line, page_command, refused_body_of, refused_line}
+
+true_isnt : false ≡ true → ⊥
+true_isnt h = let bad : ⊥ = cc in bad
+
+pub is_memory : (f : Fault) → (f ≡ fault.Memory) ⊎ (f ≢ fault.Memory)
+is_memory fault.Memory = inl refl
+is_memory f = inr (λ is. let bad : ⊥ = cc in bad)
+
+pub answers_placed : (budget : ℕ) (p text : List ℕ) (ended : Result ℕ Refusal) (line : List ℕ) → IsPlaced budget p text ended → line ≡ ended_line ended →
+    IsAnswer question.Places budget p line text
+answers_placed budget p text (Ok n) line h is = inl (record { accepted = h.accepted; line_is = is ∙ ap (λ (k : ℕ). ended_line (Ok k)) h.count; body_is = h.text_is })
+answers_placed budget p text (Err r) line h is =
+    elim (is_memory r.fault) [
+      | inl wanting ↦
+          let own = h.memory wanting in
+          inr (inr (record { place = r.place; breaks = own.0; counting = λ is. let bad : ⊥ = cc in absurd bad; line_is = is ∙ ap (λ (f : Fault). refused_line (record { fault = f; place = r.place })) wanting; body_is = own.1 }))
+      | inr apart ↦ let own = h.refused apart in inr (inl (record { refusal = r; own = apart; refused = own.0; line_is = is; body_is = own.1 }))
+    ]
+
+-- what `check` prints is an answer to `check`
+pub answers_check : (budget : ℕ) (p line body : List ℕ) (v : Verdict) → PrintsBy action.Check (page_command action.Check budget) p line v → body ≡ [] → IsAnswer question.Check budget p line body
+answers_check budget p line body verdict.Accepted h empty = inl (record { accepted = h.0; line_is = h.1; body_is = empty })
+answers_check budget p line body verdict.Refused (r, is, wanting, says) empty =
+    elim (is_memory r.fault) [
+      | inl lacks ↦
+          inr (inr (record {
+            place = r.place;
+            breaks = is.memory lacks;
+            counting = λ _. wanting lacks;
+            line_is = says ∙ ap (λ (f : Fault). refused_line (record { fault = f; place = r.place })) lacks;
+            body_is = empty;
+          }))
+      | inr apart ↦ inr (inl (record { refusal = r; own = apart; refused = is.refused apart; line_is = says; body_is = empty }))
+    ]
+
+-- A page is accepted, and its entries were counted.
+pub answers_accepted : (q : Question) (budget : ℕ) (p line body : List ℕ) (count : Option ℕ) → IsAccepted budget p → IsCount count (length (list_of budget p)) →
+    IfSome count (λ n. line ≡ count_line n) × IsSome count → body ≡ body_of q budget p → IsAnswer q budget p line body
+answers_accepted q budget p line body (Some n) accepted is shows same = inl (record { accepted = accepted; line_is = shows.0 ∙ ap count_line is; body_is = same })
+answers_accepted q budget p line body None accepted is shows same = absurd (true_isnt shows.1)
+
+-- A page is refused, to another question than `check`, and there is no body.
+module _ (q : Question) (apart : q ≢ question.Check) (budget : ℕ) (p : List ℕ) (none : refused_body_of q budget p ≡ []) where
+  lacking : (line body : List ℕ) (place : ℕ) → BreaksWithin budget p place → line ≡ refused_line (record { fault = fault.Memory; place = place }) → body ≡ [] → IsAnswer q budget p line body
+  lacking line body place h is empty =
+      inr (inr (record { place = place; breaks = h; counting = λ check. absurd (apart check); line_is = is; body_is = empty }))
+
+  refusing : (line body : List ℕ) (r : Refusal) → r.fault ≢ fault.Memory → (means budget p).refusal ≡ Some r → line ≡ refused_line r → body ≡ [] → IsAnswer q budget p line body
+  refusing line body r own h is empty = inr (inl (record { refusal = r; own = own; refused = h; line_is = is; body_is = empty ∙ sym none }))
+
+  -- its sink can't fail
+  pub answers_refused : {S : Type 0} (g : Ghosts S) (s : S) (f : Fault) (place : ℕ) → IsCounted g s budget p (Err (record { fault = f; place = place })) →
+      (sound : (t : S) → g.failed t ≡ false) (line body : List ℕ) → (line ≡ refused_line (record { fault = f; place = place })) × (body ≡ []) → IsAnswer q budget p line body
+  answers_refused g s fault.Memory place h sound line body is = lacking line body place h.counts.0 is.0 is.1
+  answers_refused g s fault.Sink place h sound line body is = let (breaks, (t, failed)) = h.counts in absurd (true_isnt (sym (sound t) ∙ failed))
+  answers_refused g s f place h sound line body is = refusing line body (record { fault = f; place = place }) (λ wants. let bad : ⊥ = cc in absurd bad) h.counts is.0 is.1
+
+  -- its sink fails where memory is wanting
+  pub answers_unspelled : {S : Type 0} (g : Ghosts S) (s : S) (f : Fault) (place : ℕ) → IsCounted g s budget p (Err (record { fault = f; place = place })) → (line body : List ℕ) →
+      (line ≡ refused_line (refusal_of_text (record { fault = f; place = place }))) × (body ≡ []) → IsAnswer q budget p line body
+  answers_unspelled g s fault.Memory place h line body is = lacking line body place h.counts.0 is.0 is.1
+  answers_unspelled g s fault.Sink place h line body is = lacking line body place h.counts.0 is.0 is.1
+  answers_unspelled g s f place h line body is = refusing line body (record { fault = f; place = place }) (λ wants. let bad : ⊥ = cc in absurd bad) h.counts is.0 is.1
+
+-- the text that a sink wrote, over an outlet that tells its bytes and had none
+pub text_written : {O : Type 0} (o : outlet.Ghosts O) (w : O) (s t : Canonical O) (begins : Begun o w s) (works : o.failed s.outlet ≡ false) (items : O → List ℕ) →
+    ((u : O) → o.taken u ≡ Some (items u)) → items w ≡ [] → (d : List Entry) → Took o s d t → items t.outlet ≡ text d
+text_written o w s t begins works items tells empty d took =
+    let taken : Appends (o.taken w) (o.taken t.outlet) (text d) = (sink_writes_text o w s t d begins works took).grows.taken in
+    let told : Appends (Some (items w)) (Some (items t.outlet)) (text d) =
+    subst (λ (a : Option (List ℕ)). Appends a (Some (items t.outlet)) (text d)) (tells w) (subst (λ (b : Option (List ℕ)). Appends (o.taken w) b (text d)) (tells t.outlet) taken) in
+    told ∙ ap (λ (bytes : List ℕ). bytes ++ text d) empty

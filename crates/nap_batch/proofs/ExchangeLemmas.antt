@@ -1,0 +1,102 @@
+use Rattle.std.proofs.Common.{ℕ, ◌+◌, ◌≡◌, true, false, List, [], ◌++◌, Result, Ok, Err, take, drop, refl, sym, subst, ◌∙◌, inr}
+use Rattle.std.specs.Io.KnownBytes.{Consumes}
+use Rattle.std.proofs.KnownBytes.{Appends-nil}
+use Rattle.std.proofs.lemmas.List.{take-append-drop}
+use Rattle.nap_list.specs.declared.device.Inlet as inlet
+use Rattle.nap_list.specs.declared.device.Outlet as outlet
+use Rattle.nap_list.specs.Reading.{reading}
+use Rattle.nap_batch.specs.declared.request.RequestLine.{RequestLine}
+use Rattle.nap_batch.specs.declared.service.Ended.{Ended}
+use Rattle.nap_batch.specs.declared.service.Ended.TheVariants as ended
+use Rattle.nap_batch.specs.Requests.{IsRequest, IsWhole}
+use Rattle.nap_batch.specs.Sessions.{Exchange, IsAnswered, IsExchange, IsExchanged, Pipes, Sends, StopsIn, no_memory, pipes, reading_of}
+use Rattle.nap_batch.specs.Waiting.{IsAsked, StopsBy}
+use Rattle.nap_batch.proofs.FrontLemmas.{page_is, whole_request}
+use Rattle.nap_batch.proofs.SessionLemmas.{stops_alike}
+
+apart : true ≡ false → ⊥
+apart h = let bad : ⊥ = cc in bad
+
+-- A request was read, behind bytes that were held, and answered.
+module _ {I O : Type 0} (i : inlet.Ghosts I) (o : outlet.Ghosts O) (written : ℕ) (old new bytes : List ℕ) (input rest : I) (output done : O) where
+  abbrev before : Pipes
+  before = pipes i o input output
+
+  abbrev after : Pipes
+  after = pipes i o rest done
+
+  pub answered : Consumes (i.left input) (i.left rest) bytes → i.failed rest ≡ i.failed input → (x : Exchange) → IsExchange x → old ++ bytes ≡ x.asked ++ new →
+      (result : Result ℕ Ended) → Sends o written x.answered output done result → IsExchanged written old new before after result
+  answered read works x is parts (Ok n) (sent, count, output_works, flushed, once) = record {
+    exchange = x;
+    is_exchange = is;
+    bytes = bytes;
+    read = read;
+    parts = parts;
+    sent = sent;
+    count = count;
+    input_works = works;
+    output_works = output_works;
+    flushed = flushed;
+    once = once;
+  }
+  answered read works x is parts (Err (ended.Write n)) (part, sent, front, count, failed) = record {
+    bytes = bytes;
+    part = part;
+    read = read;
+    sent = sent;
+    stops = (x, new, is, parts, front, count, failed, works);
+    flushed = λ _ good. absurd (apart (sym failed ∙ good));
+    none_more = λ good. absurd (apart (sym failed ∙ good));
+  }
+  answered read works x is parts (Err ended.Done) h = absurd h
+  answered read works x is parts (Err ended.Request) h = absurd h
+  answered read works x is parts (Err ended.Read) h = absurd h
+  answered read works x is parts (Err ended.Memory) h = absurd h
+
+-- no request was read
+pub stops_in : (written : ℕ) (rest : List ℕ) (before after : Pipes) (end : Ended) → StopsBy (reading_of before after) rest end → after.output_failed ≡ before.output_failed →
+    StopsIn written rest [] before after end
+stops_in written rest _ _ ended.Done h works = (refl, h, works)
+stops_in written rest _ _ ended.Request h works = (refl, h, works)
+stops_in written rest _ _ ended.Read h works = (refl, h, works)
+stops_in written rest _ _ ended.Memory h works = (refl, h, works)
+stops_in written rest _ _ (ended.Write n) h works = absurd h
+
+-- None was read.
+module _ {I O : Type 0} (i : inlet.Ghosts I) (o : outlet.Ghosts O) (written : ℕ) (old new bytes : List ℕ) (input rest : I) (output : O) where
+  pub unasked : Consumes (i.left input) (i.left rest) bytes → (end : Ended) → StopsBy (reading i input rest) (old ++ bytes) end →
+      IsExchanged written old new (pipes i o input output) (pipes i o rest output) (Err end)
+  unasked read end stops = record {
+    bytes = bytes;
+    part = [];
+    read = read;
+    sent = Appends-nil (o.taken output);
+    stops = stops_in written (old ++ bytes) (pipes i o input output) (pipes i o rest output) end
+        (stops_alike (reading i input rest) (reading_of (pipes i o input output) (pipes i o rest output)) (old ++ bytes) end refl refl refl stops) refl;
+    flushed = λ was _. was;
+    none_more = λ _. refl;
+  }
+
+-- the request in front, with its answer
+module _ (held : List ℕ) (r : RequestLine) (start : ℕ) (whole : IsWhole held r start) (page : List ℕ) (page_now : page ≡ take r.size (drop start held)) (text : List ℕ)
+    (is : IsAnswered r.question r.budget page text) where
+  abbrev pub exchange_of : Exchange
+  exchange_of = record { asked = take (start + r.size) held; question = r.question; budget = r.budget; page = page; answered = text }
+
+  pub is_exchange : IsExchange exchange_of
+  is_exchange = record {
+    request = subst (IsRequest (take (start + r.size) held) r.question r.budget) (sym (page_now ∙ page_is held r start whole)) (whole_request held r start whole);
+    answer = is;
+  }
+
+  pub parts_of : held ≡ take (start + r.size) held ++ drop (start + r.size) held
+  parts_of = sym (take-append-drop (start + r.size) held)
+
+-- a request whose page was dropped
+module _ (all : List ℕ) (asked : IsAsked all) where
+  abbrev pub dropped_exchange : Exchange
+  dropped_exchange = record { asked = all; question = asked.0; budget = asked.1; page = asked.2; answered = no_memory }
+
+  pub is_dropped : IsExchange dropped_exchange
+  is_dropped = record { request = asked.3; answer = inr refl }

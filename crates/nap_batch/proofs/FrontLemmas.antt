@@ -1,0 +1,247 @@
+use Rattle.std.proofs.Common.{ℕ, zero, suc, ◌+◌, ◌-◌, ◌<◌, ◌≤◌, ◌≡◌, ◌≢◌, inl, inr, List, [], ◌∷◌, ◌++◌, length, take, drop, take-add, refl, ap, sym, subst, ◌∙◌, append_assoc, length-append, arith}
+use Rattle.std.specs.Prelude.{All, ◌==◌, if◌then◌else◌, codes}
+use Rattle.std.specs.Char.{digit_value}
+use Rattle.std.specs.Str.Parse.{AllDigits}
+use Rattle.std.proofs.lemmas.List.{drop_at, length-take-le, take_at}
+use Rattle.std.proofs.lemmas.List.Elements.{All-append, All-cons, All-head, All-nil, All-tail}
+use Rattle.std.proofs.lemmas.Str.Parse.{digit_from_value}
+use Rattle.nap_batch.specs.declared.request.Question.{Question}
+use Rattle.nap_batch.specs.declared.request.Question.TheVariants as question
+use Rattle.nap_batch.specs.declared.request.RequestLine.{RequestLine}
+use Rattle.nap_batch.specs.Laws.{BegunRequestsAreNone, RequestsAreCutOneWay}
+use Rattle.nap_batch.specs.Requests.{Cuts, IsBegun, IsLine, IsMore, IsOpen, IsRequest, IsShort, IsWhole, NeverStarts, StartsNone, line_for, name_of}
+use Rattle.nap_batch.proofs.RequestLemmas.{cut_once, first_cut, parts_of, second_cut}
+
+abbrev rest_of : List ℕ → List ℕ
+rest_of [] = []
+rest_of (x ∷ xs) = xs
+
+abbrev head_of : List ℕ → ℕ
+head_of [] = 0
+head_of (x ∷ xs) = x
+
+-- The end of a line stands in no line.
+
+other : (b x : ℕ) → b < x → x ≢ b
+other b x less is = let bad : ⊥ = omega (arith, less, is) in bad
+
+digit_ends : (d : ℕ) → digit_value d < 10 → 10 < d
+digit_ends d small = let range = digit_from_value d small in omega (arith, range.0)
+
+digits_end : (ds : List ℕ) → AllDigits 10 ds → All (λ x. x ≢ 10) ds
+digits_end [] all = All-nil (λ x. x ≢ 10)
+digits_end (d ∷ ds) all = All-cons (λ x. x ≢ 10) d ds (other 10 d (digit_ends d all.0)) (digits_end ds all.1)
+
+abbrev Above : List ℕ → Type 0
+Above [] = Unit {0}
+Above (x ∷ xs) = (10 < x) × Above xs
+
+above : (xs : List ℕ) → Above xs → All (λ x. x ≢ 10) xs
+above [] all = All-nil (λ x. x ≢ 10)
+above (x ∷ xs) all = All-cons (λ y. y ≢ 10) x xs (other 10 x all.0) (above xs all.1)
+
+name_end : (c : Question) → All (λ x. x ≢ 10) (name_of c)
+name_end question.Check = above (codes "check") (omega arith, (omega arith, (omega arith, (omega arith, (omega arith, tt)))))
+name_end question.List = above (codes "list") (omega arith, (omega arith, (omega arith, (omega arith, tt))))
+name_end question.Canon = above (codes "canon") (omega arith, (omega arith, (omega arith, (omega arith, (omega arith, tt)))))
+name_end question.Places = above (codes "places") (omega arith, (omega arith, (omega arith, (omega arith, (omega arith, (omega arith, tt))))))
+
+line_end : (line : List ℕ) (h : RequestLine) → IsLine line h → All (λ x. x ≢ 10) line
+line_end line h is =
+    let P : ℕ → Type 0 = λ x. x ≢ 10 in
+    let space : 32 ≢ 10 = other 10 32 (omega arith) in
+    let Q : List ℕ → Type 0 = λ xs. All P xs in
+    subst Q (sym is.line_is)
+    (All-append P (name_of h.question) (32 ∷ (is.budget_digits ++ 32 ∷ is.size_digits)) (name_end h.question)
+    (All-cons P 32 (is.budget_digits ++ 32 ∷ is.size_digits) space
+    (All-append P is.budget_digits (32 ∷ is.size_digits) (digits_end is.budget_digits is.budget.numeral.1)
+    (All-cons P 32 is.size_digits space (digits_end is.size_digits is.size.numeral.1)))))
+
+-- A request is cut at the end of its line.
+module _ (asked behind : List ℕ) (c : Question) (budget : ℕ) (page : List ℕ) (is : IsRequest asked c budget page) where
+  line_cut : (all : List ℕ) → all ≡ asked ++ behind → Cuts 10 all is.line (page ++ behind)
+  line_cut all same = record {
+    joins = same ∙ ap (λ (xs : List ℕ). xs ++ behind) is.bytes_are ∙ append_assoc is.line (10 ∷ page) behind;
+    first = line_end is.line (line_for c budget page) is.says;
+  }
+
+-- a cut stays where more comes
+cut_stays : (b : ℕ) (xs front back more : List ℕ) → Cuts b xs front back → Cuts b (xs ++ more) front (back ++ more)
+cut_stays b xs front back more cut = record {
+  joins = ap (λ (ys : List ℕ). ys ++ more) cut.joins ∙ append_assoc front (b ∷ back) more;
+  first = cut.first;
+}
+
+-- a line that says nothing is no request's, whatever comes
+pub wrong_line : (held line behind : List ℕ) → Cuts 10 held line behind → ((h : RequestLine) → IsLine line h → ⊥) → NeverStarts held
+wrong_line held line behind cut none more asked rest c budget page is same =
+    let once = cut_once 10 (held ++ more) line (behind ++ more) is.line (page ++ rest) (cut_stays 10 held line behind more cut) (line_cut asked rest c budget page is (held ++ more) same) in
+    let P : List ℕ → Type 0 = λ xs. IsLine xs (line_for c budget page) in
+    none (line_for c budget page) (subst P (sym once.0) is.says)
+
+-- a line says one thing
+pub same_size : (line : List ℕ) (h k : RequestLine) → IsLine line h → IsLine line k → h.size ≡ k.size
+same_size line h k one two =
+    let parts = parts_of line (name_of h.question) (one.budget_digits ++ 32 ∷ one.size_digits) one.budget_digits one.size_digits k (first_cut line h one) (second_cut line h one) two in
+    sym one.size.value ∙ parts.size.value
+
+-- a request whose page isn't whole is none yet
+pub short_page : (held line behind : List ℕ) (h : RequestLine) → Cuts 10 held line behind → IsLine line h → length behind < h.size → StartsNone held
+short_page held line behind h cut says short asked rest c budget page is same =
+    let once = cut_once 10 held line behind is.line (page ++ rest) cut (line_cut asked rest c budget page is held same) in
+    let P : List ℕ → Type 0 = λ xs. IsLine xs (line_for c budget page) in
+    let size = same_size line h (line_for c budget page) says (subst P (sym once.0) is.says) in
+    let bad : ⊥ = omega (arith, size, short, ap length once.1, length-append page rest) in
+    bad
+
+-- a request is in front, but for the end of its page: none yet
+pub short_front : (bytes : List ℕ) (n : ℕ) → IsShort bytes n → StartsNone bytes
+short_front bytes n h = short_page bytes h.line h.behind h.request h.cut h.says (omega (arith, h.missing, h.some))
+
+pub is_more : (bytes : List ℕ) (n : ℕ) → IsShort bytes n → IsMore bytes n
+is_more bytes n h = record { endless = λ none. let bad : ⊥ = omega (arith, none, h.some) in absurd bad; short = λ some. h }
+
+pub more_begun : (bytes : List ℕ) (n : ℕ) → IsMore bytes n → IsBegun bytes
+more_begun bytes zero h = inl (h.endless refl)
+more_begun bytes (suc n) h = inr (suc n, h.short (λ none. let bad : ⊥ = omega (arith, none) in bad))
+
+-- something is in front then
+pub some_front : (bytes more : List ℕ) (n : ℕ) → IsShort bytes n → bytes ++ more ≢ []
+some_front bytes more n h none = let bad : ⊥ = omega (arith, ap length none, length-append bytes more, ap length h.cut.joins, length-append h.line (10 ∷ h.behind)) in bad
+
+-- and some more bytes came, but not all that are missing
+pub still_short : (bytes more : List ℕ) (n : ℕ) → IsShort bytes n → length more < n → IsShort (bytes ++ more) (n - length more)
+still_short bytes more n h less = record {
+  line = h.line;
+  behind = h.behind ++ more;
+  request = h.request;
+  cut = cut_stays 10 bytes h.line h.behind more h.cut;
+  says = h.says;
+  missing = omega (arith, h.missing, less, length-append h.behind more);
+  some = omega (arith, less);
+}
+
+-- a line says a request with a page of its length
+with_page : (line : List ℕ) (h : RequestLine) (page : List ℕ) → IsLine line h → h.size ≡ length page → IsLine line (line_for h.question h.budget page)
+with_page line h page says size = subst (λ (n : ℕ). IsLine line (record { question = h.question; budget = h.budget; size = n })) size says
+
+-- or all of them
+pub made_whole : (bytes more : List ℕ) (n : ℕ) (h : IsShort bytes n) → length more ≡ n → IsRequest (bytes ++ more) h.request.question h.request.budget (h.behind ++ more)
+made_whole bytes more n h all = record {
+  line = h.line;
+  says = with_page h.line h.request (h.behind ++ more) h.says (omega (arith, h.missing, all, length-append h.behind more));
+  bytes_are = (cut_stays 10 bytes h.line h.behind more h.cut).joins;
+}
+
+-- The request that is whole in front, and what stands behind it.
+module _ (bytes : List ℕ) (h : RequestLine) (n : ℕ) (whole : IsWhole bytes h n) where
+  abbrev pub page_of : List ℕ
+  page_of = take h.size whole.behind
+
+  begun : bytes ≡ (whole.line ++ 10 ∷ []) ++ whole.behind
+  begun = whole.cut.joins ∙ sym (append_assoc whole.line (10 ∷ []) whole.behind)
+
+  start : length (whole.line ++ 10 ∷ []) ≡ n
+  start = omega (arith, whole.start, length-append whole.line (10 ∷ []))
+
+  size_is : h.size ≡ length (take h.size whole.behind)
+  size_is = sym (length-take-le h.size whole.behind whole.enough)
+
+  pub page_is : take h.size (drop n bytes) ≡ page_of
+  page_is = ap (λ (xs : List ℕ). take h.size (drop n xs)) begun ∙ ap (take h.size) (drop_at (whole.line ++ 10 ∷ []) whole.behind n start)
+
+  pub page_small : h.size ≤ 16777216
+  page_small = whole.says.size.within
+
+  pub within : n + h.size ≤ length bytes
+  within = omega (arith, ap length begun, length-append (whole.line ++ 10 ∷ []) whole.behind, start, whole.enough)
+
+  pub asked_is : take (n + h.size) bytes ≡ whole.line ++ 10 ∷ page_of
+  asked_is =
+      ap (take (n + h.size)) begun
+      ∙ take-add n h.size ((whole.line ++ 10 ∷ []) ++ whole.behind)
+      ∙ ap (λ (xs : List ℕ). xs ++ take h.size (drop n ((whole.line ++ 10 ∷ []) ++ whole.behind))) (take_at (whole.line ++ 10 ∷ []) whole.behind n start)
+      ∙ ap (λ (xs : List ℕ). (whole.line ++ 10 ∷ []) ++ take h.size xs) (drop_at (whole.line ++ 10 ∷ []) whole.behind n start)
+      ∙ append_assoc whole.line (10 ∷ []) page_of
+
+  pub whole_request : IsRequest (take (n + h.size) bytes) h.question h.budget page_of
+  whole_request = record { line = whole.line; says = with_page whole.line h page_of whole.says size_is; bytes_are = asked_is }
+
+-- bytes that can't be cut at the end of a line have none, and no request
+pub uncut_open : (held : List ℕ) → ((front back : List ℕ) → Cuts 10 held front back → ⊥) → IsOpen held
+uncut_open [] none = All-nil (λ b. b ≢ 10)
+uncut_open (x ∷ xs) none =
+    let P : ℕ → Type 0 = λ b. b ≢ 10 in
+    let first : x ≢ 10 = λ is. none [] xs (record { joins = ap (λ (b : ℕ). b ∷ xs) is; first = All-nil P }) in
+    All-cons P x xs first
+    (uncut_open xs (λ front back cut. none (x ∷ front) back (record { joins = ap (λ (ys : List ℕ). x ∷ ys) cut.joins; first = All-cons P x front first cut.first })))
+
+end_stands : (front back : List ℕ) → All (λ b. b ≢ 10) (front ++ 10 ∷ back) → ⊥
+end_stands [] back endless = All-head (λ b. b ≢ 10) 10 back endless refl
+end_stands (x ∷ front) back endless = end_stands front back (All-tail (λ b. b ≢ 10) x (front ++ 10 ∷ back) endless)
+
+pub begun_requests_are_none : BegunRequestsAreNone
+begun_requests_are_none bytes (inl endless) asked behind c budget page is same =
+    let cut = line_cut asked behind c budget page is bytes same in
+    end_stands is.line (page ++ behind) (subst (λ (xs : List ℕ). All (λ b. b ≢ 10) xs) cut.joins endless)
+begun_requests_are_none bytes (inr short) asked behind c budget page is same = short_front bytes short.0 short.1 asked behind c budget page is same
+
+-- and where they are more than a line has, none will stand there
+line_within : (held line more rest : List ℕ) → held ++ more ≡ line ++ 10 ∷ rest → length line < length held → (back : List ℕ) × (held ≡ line ++ 10 ∷ back)
+line_within [] line more rest same less = let bad : ⊥ = omega (arith, less) in absurd bad
+line_within (x ∷ held) [] more rest same less = (held, ap (λ (y : ℕ). y ∷ held) (ap head_of same))
+line_within (x ∷ held) (y ∷ line) more rest same less =
+    let found = line_within held line more rest (ap rest_of same) (omega (arith, less)) in
+    (found.0, ap (λ (z : ℕ). z ∷ held) (ap head_of same) ∙ ap (λ (zs : List ℕ). y ∷ zs) found.1)
+
+name_short : (c : Question) → length (name_of c) ≤ 6
+name_short question.Check = omega arith
+name_short question.List = omega arith
+name_short question.Canon = omega arith
+name_short question.Places = omega arith
+
+line_short : (line : List ℕ) (h : RequestLine) → IsLine line h → length line ≤ 24
+line_short line h is =
+    let all = ap length is.line_is ∙ length-append (name_of h.question) (32 ∷ (is.budget_digits ++ 32 ∷ is.size_digits)) in
+    let numbers = length-append is.budget_digits (32 ∷ is.size_digits) in
+    let budget_few : length is.budget_digits ≤ 8 = is.budget.few in
+    let size_few : length is.size_digits ≤ 8 = is.size.few in
+    omega (arith, all, numbers, name_short h.question, budget_few, size_few)
+
+pub long_line : (held : List ℕ) → ((front back : List ℕ) → Cuts 10 held front back → ⊥) → 24 < length held → NeverStarts held
+long_line held none long more asked rest c budget page is same =
+    let cut = line_cut asked rest c budget page is (held ++ more) same in
+    let short = line_short is.line (line_for c budget page) is.says in
+    let found = line_within held is.line more (page ++ rest) cut.joins (omega (arith, short, long)) in
+    none is.line found.0 (record { joins = found.1; first = cut.first })
+
+-- Requests are cut in one way.
+
+abbrev named : List ℕ → Question
+named [] = question.Check
+named (x ∷ xs) = if x == 108 then question.List else (if x == 112 then question.Places else (if head_of xs == 97 then question.Canon else question.Check))
+
+named_is : (c : Question) → named (name_of c) ≡ c
+named_is question.Check = refl
+named_is question.List = refl
+named_is question.Canon = refl
+named_is question.Places = refl
+
+pub requests_are_cut_one_way : RequestsAreCutOneWay
+requests_are_cut_one_way asked other behind rest c d b e page paper one two same =
+    let all = asked ++ behind in
+    let once = cut_once 10 all one.line (page ++ behind) two.line (paper ++ rest) (line_cut asked behind c b page one all refl) (line_cut other rest d e paper two all same) in
+    let h : RequestLine = line_for c b page in
+    let k : RequestLine = line_for d e paper in
+    let P : List ℕ → Type 0 = λ xs. IsLine xs k in
+    let also = subst P (sym once.0) two.says in
+    let says = one.says in
+    let parts = parts_of one.line (name_of c) (says.budget_digits ++ 32 ∷ says.size_digits) says.budget_digits says.size_digits k (first_cut one.line h says) (second_cut one.line h says) also in
+    let size : length page ≡ length paper = sym says.size.value ∙ parts.size.value in
+    let front : page ≡ paper =
+    sym (take_at page behind (length page) refl) ∙ ap (take (length page)) once.1 ∙ take_at paper rest (length page) (sym size) in (
+      one.bytes_are ∙ ap (λ (xs : List ℕ). xs ++ 10 ∷ page) once.0 ∙ ap (λ (xs : List ℕ). two.line ++ 10 ∷ xs) front ∙ sym two.bytes_are,
+      sym (named_is c) ∙ ap named parts.name_is ∙ named_is d,
+      sym says.budget.value ∙ parts.budget.value,
+      front,
+    )

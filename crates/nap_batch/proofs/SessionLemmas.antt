@@ -1,0 +1,69 @@
+use Rattle.std.proofs.Common.{ℕ, ◌+◌, ◌-◌, ◌^◌, ◌≡◌, ◌≢◌, List, [], ◌∷◌, ◌++◌, length, min, refl, ap, sym, ◌∙◌, inl, inr, append_assoc, length-append, arith}
+use Rattle.std.specs.Prelude.{All, flat_map}
+use Rattle.std.specs.Io.KnownBytes.{IsAtEnd}
+use Rattle.std.proofs.lemmas.List.{flat_map_more}
+use Rattle.std.proofs.lemmas.List.Elements.{All-push}
+use Rattle.nap_list.specs.Reading.{Reading, NoneFailed}
+use Rattle.nap_batch.specs.declared.service.Ended.{Ended}
+use Rattle.nap_batch.specs.declared.service.Ended.TheVariants as ended
+use Rattle.nap_batch.specs.Requests.{IsBegun}
+use Rattle.nap_batch.specs.Sessions.{EndsBy, Exchange, IsExchange, Pipes, StopsIn, reading_of}
+use Rattle.nap_batch.specs.Waiting.{StopsBy, end_of}
+
+-- a reading that ends as another does, with the same bytes left
+pub stops_alike : (a b : Reading) (rest : List ℕ) (end : Ended) → b.left ≡ a.left → b.failed ≡ a.failed → b.failed_before ≡ a.failed_before → StopsBy a rest end → StopsBy b rest end
+stops_alike a b rest ended.Done left failed before h = (h.0, rw left h.1, failed ∙ h.2 ∙ sym before)
+stops_alike a b rest ended.Request left failed before (inl never, none) = (inl never, failed ∙ none ∙ sym before)
+stops_alike a b rest ended.Request left failed before (inr end, none) = (inr (end.0, end.1, rw left end.2), failed ∙ none ∙ sym before)
+stops_alike a b rest ended.Read left failed before (none, inl bad) = (none, inl (failed ∙ bad))
+stops_alike a b rest ended.Read left failed before (none, inr often) = (none, inr (often.0, failed ∙ often.1 ∙ sym before))
+stops_alike a b rest ended.Memory left failed before h = (h.0, failed ∙ h.1 ∙ sym before)
+stops_alike a b rest (ended.Write n) left failed before h = absurd h
+
+-- the input ended in front of these bytes
+pub ends_there : (seen : Reading) (rest : List ℕ) → IsBegun rest → IsAtEnd seen.left → NoneFailed seen → StopsBy seen rest (end_of rest)
+ends_there seen [] none end works = (refl, end, works)
+ends_there seen (b ∷ rest) none end works = (inr (some b rest, none, end), works)
+  where
+    some : (b : ℕ) (rest : List ℕ) → b ∷ rest ≢ []
+    some b rest h = let bad : ⊥ = cc in bad
+
+-- one exchange more
+pub asked_more : (xs : List Exchange) (x : Exchange) (rest : List ℕ) → flat_map (λ y. y.asked) xs ++ (x.asked ++ rest) ≡ flat_map (λ y. y.asked) (xs ++ x ∷ []) ++ rest
+asked_more xs x rest =
+    sym (append_assoc (flat_map (λ y. y.asked) xs) x.asked rest) ∙ ap (λ (bytes : List ℕ). bytes ++ rest) (flat_map_more (λ (y : Exchange). y.asked) [] xs x)
+
+pub answered_more : (xs : List Exchange) (x : Exchange) → flat_map (λ y. y.answered) xs ++ x.answered ≡ flat_map (λ y. y.answered) (xs ++ x ∷ [])
+answered_more xs x = flat_map_more (λ (y : Exchange). y.answered) [] xs x
+
+pub each_more : (xs : List Exchange) (x : Exchange) → All IsExchange xs → IsExchange x → All IsExchange (xs ++ x ∷ [])
+each_more xs x all own = All-push IsExchange xs x all own
+
+-- the bytes of the requests, with one more behind those that were held
+pub read_on : (xs : List Exchange) (x : Exchange) (old new bytes : List ℕ) → old ++ bytes ≡ x.asked ++ new →
+    (flat_map (λ y. y.asked) xs ++ old) ++ bytes ≡ flat_map (λ y. y.asked) (xs ++ x ∷ []) ++ new
+read_on xs x old new bytes parts =
+    append_assoc (flat_map (λ y. y.asked) xs) old bytes ∙ ap (λ (back : List ℕ). flat_map (λ y. y.asked) xs ++ back) parts ∙ asked_more xs x new
+
+-- counts, one behind another
+counted : (most l p w : ℕ) → w ≡ min l most → min (w + p) most ≡ min (l + p) most
+counted most l p w is = omega (arith, is)
+
+pub count_more : (out more : List ℕ) (w n : ℕ) → w ≡ min (length out) (2 ^ 64 - 1) → n ≡ min (w + length more) (2 ^ 64 - 1) → n ≡ min (length (out ++ more)) (2 ^ 64 - 1)
+count_more out more w n was is =
+    is ∙ counted (2 ^ 64 - 1) (length out) (length more) w was ∙ ap (λ (k : ℕ). min k (2 ^ 64 - 1)) (sym (length-append out more))
+
+-- how a row ends that ends behind some requests
+pub ends_behind : (before mid after : Pipes) (xs : List Exchange) (rest part : List ℕ) (written : ℕ) (end : Ended) → mid.input_failed ≡ before.input_failed →
+    mid.output_failed ≡ before.output_failed → written ≡ min (length (flat_map (λ x. x.answered) xs)) (2 ^ 64 - 1) → StopsIn written rest part mid after end →
+    EndsBy before after xs rest part end
+ends_behind before mid after xs rest part written (ended.Write n) input output count (x, behind, is, parts, front, number, failed, works) =
+    (x, behind, is, parts, front, count_more (flat_map (λ x. x.answered) xs) part written n count number, failed, works ∙ input)
+ends_behind before mid after xs rest part written ended.Request input output count (none, stops, works) =
+    (none, inl (stops_alike (reading_of mid after) (reading_of before after) rest ended.Request refl refl (sym input) stops), works ∙ output)
+ends_behind before mid after xs rest part written ended.Done input output count (none, stops, works) =
+    (none, stops_alike (reading_of mid after) (reading_of before after) rest ended.Done refl refl (sym input) stops, works ∙ output)
+ends_behind before mid after xs rest part written ended.Read input output count (none, stops, works) =
+    (none, stops_alike (reading_of mid after) (reading_of before after) rest ended.Read refl refl (sym input) stops, works ∙ output)
+ends_behind before mid after xs rest part written ended.Memory input output count (none, stops, works) =
+    (none, stops_alike (reading_of mid after) (reading_of before after) rest ended.Memory refl refl (sym input) stops, works ∙ output)

@@ -1,0 +1,145 @@
+use Rattle.std.specs.Prelude.{ℕ, zero, suc, ◌≡◌, ◌≢◌, ◌⊎◌, ◌+◌, ◌^◌, ◌≤◌, false, List, [], ◌∷◌, ◌++◌, Option, None, Some, Result, Ok, Err, decimal, drop, flat_map, length, take}
+use Rattle.nap_list.specs.declared.entry.Entry.{Entry}
+use Rattle.nap_reader.specs.declared.fault.Fault.TheVariants as fault
+use Rattle.nap_reader.specs.declared.fault.Refusal.{Refusal}
+use Rattle.nap_list.specs.declared.sink.Sink.{Ghosts}
+use Rattle.nap_reader.specs.Breaking.{BreaksWithin, LacksWithin, cause_of}
+use Rattle.nap_reader.specs.Stream.{begun, means, refusal}
+use Rattle.nap_canon.specs.Streams.{IsAccepted, list_of}
+use Rattle.nap_canon.specs.Text.{text}
+use Rattle.nap_lines.specs.Lines.{line}
+use Rattle.nap_lines.specs.Listing.{lines}
+use Rattle.nap_command.specs.declared.command.Action.{Action}
+use Rattle.nap_command.specs.declared.command.Action.TheVariants as action
+use Rattle.nap_command.specs.declared.command.Command.{Command}
+use Rattle.nap_command.specs.declared.failure.Failure.{Failure}
+use Rattle.nap_command.specs.Collecting.{RefusedBy}
+use Rattle.nap_command.specs.Commands.{Denies, count_line}
+use Rattle.nap_command.specs.Failures.{refusal_text}
+use Rattle.nap_batch.specs.declared.request.Question.{Question}
+use Rattle.nap_batch.specs.declared.request.Question.TheVariants as question
+
+-- The line of an answer.
+
+abbrev pub refused_line : Refusal → List ℕ
+refused_line r = refusal_text r ++ 10 ∷ []
+
+abbrev pub ended_line : Result ℕ Refusal → List ℕ
+ended_line (Ok n) = count_line n
+ended_line (Err r) = refused_line r
+
+-- The places of entries.
+
+-- the line of an entry, behind this place
+abbrev pub line_at : ℕ → Entry → List ℕ
+line_at place e = decimal place ++ 32 ∷ (line e ++ 10 ∷ [])
+
+abbrev pub lines_at : ℕ → List Entry → List ℕ
+lines_at place entries = flat_map (line_at place) entries
+
+-- what a list has more than one that it begins with
+abbrev pub added : List Entry → List Entry → List Entry
+added before after = drop (length before) after
+
+-- the entries that came with the byte at this index
+abbrev pub came_with : ℕ → List ℕ → ℕ → List Entry
+came_with budget p i = added (begun budget (take i p)).entries (begun budget (take (i + 1) p)).entries
+
+-- the lines of the entries that came with the first n bytes
+unfoldable pub places_before : ℕ → List ℕ → ℕ → List ℕ
+places_before budget p zero = []
+places_before budget p (suc n) = places_before budget p n ++ lines_at n (came_with budget p n)
+
+-- the lines of all entries, each behind its place: those that came at the end have the length of the page
+abbrev pub places : ℕ → List ℕ → List ℕ
+places budget p = places_before budget p (length p) ++ lines_at (length p) (added (begun budget p).entries (means budget p).entries)
+
+-- A page was read byte by byte, and its places written: all, and how many entries there are; or it is refused, or lacks
+-- memory, and none is written.
+pub record Counts (budget : ℕ) (p text : List ℕ) (n : ℕ) : Type 0 where
+  pub accepted : IsAccepted budget p
+  pub count : n ≡ length (list_of budget p)
+  pub text_is : text ≡ places budget p
+
+pub record Stops (budget : ℕ) (p text : List ℕ) (r : Refusal) : Type 0 where
+  pub refused : r.fault ≢ fault.Memory → ((means budget p).refusal ≡ Some r) × (text ≡ places budget p)
+  pub memory : r.fault ≡ fault.Memory → BreaksWithin budget p r.place × (text ≡ [])
+
+abbrev pub IsPlaced : ℕ → List ℕ → List ℕ → Result ℕ Refusal → Type 0
+IsPlaced budget p text (Ok n) = Counts budget p text n
+IsPlaced budget p text (Err r) = Stops budget p text r
+
+-- The answer.
+
+-- the body of an answer where the page is accepted
+abbrev pub body_of : Question → ℕ → List ℕ → List ℕ
+body_of question.Check budget p = []
+body_of question.List budget p = lines (list_of budget p)
+body_of question.Canon budget p = text (list_of budget p)
+body_of question.Places budget p = places budget p
+
+-- the body of an answer where the page is refused
+abbrev pub refused_body_of : Question → ℕ → List ℕ → List ℕ
+refused_body_of question.Places budget p = places budget p
+refused_body_of _ budget p = []
+
+-- the page is accepted
+pub record Accepts (q : Question) (budget : ℕ) (p line body : List ℕ) : Type 0 where
+  pub accepted : IsAccepted budget p
+  pub line_is : line ≡ count_line (length (list_of budget p))
+  pub body_is : body ≡ body_of q budget p
+
+-- the page is refused
+pub record Refuses (q : Question) (budget : ℕ) (p line body : List ℕ) : Type 0 where
+  pub refusal : Refusal
+  pub own : refusal.fault ≢ fault.Memory
+  pub refused : (means budget p).refusal ≡ Some refusal
+  pub line_is : line ≡ refused_line refusal
+  pub body_is : body ≡ refused_body_of q budget p
+
+-- There was no memory for the reading, at a place where the page can lack it. For a count, the reader itself lacks it, or
+-- 64 bits can't hold the number of the entries.
+pub record Lacks (q : Question) (budget : ℕ) (p line body : List ℕ) : Type 0 where
+  pub place : ℕ
+  pub breaks : BreaksWithin budget p place
+  pub counting : q ≡ question.Check → LacksWithin budget p place ⊎ (2 ^ 64 ≤ length (means budget p).entries)
+  pub line_is : line ≡ refused_line (refusal fault.Memory place)
+  pub body_is : body ≡ []
+
+-- the line and the body of an answer
+abbrev pub IsAnswer : Question → ℕ → List ℕ → List ℕ → List ℕ → Type 0
+IsAnswer q budget p line body = Accepts q budget p line body ⊎ (Refuses q budget p line body ⊎ Lacks q budget p line body)
+
+-- an answer as it goes out
+abbrev pub answer_text : List ℕ → List ℕ → List ℕ
+answer_text line body = line ++ decimal (length body) ++ 10 ∷ body
+
+-- The commands.
+
+-- the command of an action, on bytes
+abbrev pub page_command : Action → ℕ → Command
+page_command act budget = record { action = act; hex = false; budget = budget; stream = false }
+
+abbrev pub DeniesPage : Action → ℕ → List ℕ → Failure → Type 0
+DeniesPage act budget p f = Denies (page_command act budget) p f
+
+-- the question whose answer has what the command of an action prints
+abbrev pub question_of : Action → Question
+question_of action.Check = question.Check
+question_of action.List = question.List
+question_of action.Canon = question.Canon
+
+-- A page is read into a sink that counts.
+
+-- a number of entries is so many, if it is known
+abbrev pub IsCount : Option ℕ → ℕ → Type 0
+IsCount None n = Unit {0}
+IsCount (Some k) n = k ≡ n
+
+-- a sink that was s has all entries of the page, and how many they are; or that is refused
+abbrev pub CountsAll : {S : Type 0} → Ghosts S → S → ℕ → List ℕ → Result (S × Option ℕ) Refusal → Type 0
+CountsAll g s budget p (Ok found) = IsAccepted budget p × g.took s (list_of budget p) found.0 × IsCount found.1 (length (list_of budget p))
+CountsAll g s budget p (Err r) = RefusedBy g s budget p r (cause_of r.fault)
+
+pub record IsCounted {S : Type 0} (g : Ghosts S) (s : S) (budget : ℕ) (p : List ℕ) (found : Result (S × Option ℕ) Refusal) : Type 0 where
+  pub counts : CountsAll g s budget p found

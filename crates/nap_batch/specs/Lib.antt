@@ -1,0 +1,7 @@
+pub mod Limits
+pub mod Counting
+pub mod Requests
+pub mod Answers
+pub mod Waiting
+pub mod Sessions
+pub mod Laws

@@ -1,0 +1,179 @@
+use Rattle.std.specs.Prelude.{ℕ, ◌≡◌, ◌≢◌, ◌⊎◌, ◌+◌, ◌-◌, ◌^◌, Bool, true, false, List, [], ◌∷◌, ◌++◌, Option, Result, Ok, Err, All, codes, flat_map, length, min, take}
+use Rattle.std.specs.Io.KnownBytes.{Appends, Consumes}
+use Rattle.nap_list.specs.declared.device.Inlet as inlet
+use Rattle.nap_list.specs.declared.device.Outlet as outlet
+use Rattle.nap_list.specs.Flushing as flushing
+use Rattle.nap_list.specs.Reading.{Reading}
+use Rattle.nap_command.specs.declared.failure.Failure.TheVariants as failure
+use Rattle.nap_command.specs.Devices.{Devices}
+use Rattle.nap_command.specs.Failures.{failure_text}
+use Rattle.nap_batch.specs.declared.request.Question.{Question}
+use Rattle.nap_batch.specs.declared.service.Ended.{Ended}
+use Rattle.nap_batch.specs.declared.service.Ended.TheVariants as ended
+use Rattle.nap_batch.specs.Answers.{IsAnswer, answer_text}
+use Rattle.nap_batch.specs.Limits.{requests_limit}
+use Rattle.nap_batch.specs.Requests.{IsRequest}
+use Rattle.nap_batch.specs.Waiting.{StopsBy}
+
+-- what was asked, with its bytes, and what was answered
+pub record Exchange : Type 0 where
+  pub asked : List ℕ
+  pub question : Question
+  pub budget : ℕ
+  pub page : List ℕ
+  pub answered : List ℕ
+
+-- the answer where there was no memory for one: a line that says so, and the line of a body with no bytes
+abbrev pub no_memory : List ℕ
+no_memory = codes "no memory" ++ 10 ∷ (codes "0" ++ 10 ∷ [])
+
+-- a request is answered so: by a line and a body, or that there was no memory for them
+abbrev pub IsAnswered : Question → ℕ → List ℕ → List ℕ → Type 0
+IsAnswered q budget page out =
+    ((line : List ℕ) × (body : List ℕ) × IsAnswer q budget page line body × (out ≡ answer_text line body)) ⊎ (out ≡ no_memory)
+
+pub record IsExchange (x : Exchange) : Type 0 where
+  pub request : IsRequest x.asked x.question x.budget x.page
+  pub answer : IsAnswered x.question x.budget x.page x.answered
+
+-- so many bytes more, up to the greatest of 64 bits
+abbrev pub count_on : ℕ → ℕ → ℕ
+count_on count more = min (count + more) (2 ^ 64 - 1)
+
+-- how often an output was flushed that is flushed once more
+abbrev pub flushed_once : ℕ → ℕ
+flushed_once n = flushing.flushed false n
+
+-- an output took all of a text behind so many bytes, and sent it on; or failed amid it
+abbrev pub Sends : {O : Type 0} → outlet.Ghosts O → ℕ → List ℕ → O → O → Result ℕ Ended → Type 0
+Sends o written text before after (Ok n) =
+    Appends (o.taken before) (o.taken after) text × (n ≡ count_on written (length text)) × (o.failed after ≡ o.failed before) × (o.sent after ≡ true)
+    × (o.failed before ≡ false → o.flushes after ≡ flushed_once (o.flushes before))
+Sends o written text before after (Err (ended.Write n)) =
+    (part : List ℕ) × Appends (o.taken before) (o.taken after) part × (take (length part) text ≡ part) × (n ≡ count_on written (length part)) × (o.failed after ≡ true)
+Sends o written text before after (Err _) = ⊥
+
+pub record IsSent {O : Type 0} (o : outlet.Ghosts O) (written : ℕ) (text : List ℕ) (before after : O) (result : Result ℕ Ended) : Type 0 where
+  pub sends : Sends o written text before after result
+
+-- a request was answered so, behind so many bytes, or the output failed amid the answer
+abbrev pub Replies : {O : Type 0} → outlet.Ghosts O → ℕ → Question → ℕ → List ℕ → O → O → Result ℕ Ended → Type 0
+Replies o written q budget page before after result = (text : List ℕ) × IsAnswered q budget page text × IsSent o written text before after result
+
+-- What the input and the output show: the bytes left in the one and those that the other took, where they tell them; how
+-- often the input was read; whether the output was flushed behind its last write, and how often; and which of them failed.
+pub record Pipes : Type 0 where
+  pub left : Option (List ℕ)
+  pub reads : ℕ
+  pub input_failed : Bool
+  pub taken : Option (List ℕ)
+  pub sent : Bool
+  pub flushes : ℕ
+  pub output_failed : Bool
+
+abbrev pub pipes : {I O : Type 0} → inlet.Ghosts I → outlet.Ghosts O → I → O → Pipes
+pipes i o input output = record {
+  left = i.left input;
+  reads = i.calls input;
+  input_failed = i.failed input;
+  taken = o.taken output;
+  sent = o.sent output;
+  flushes = o.flushes output;
+  output_failed = o.failed output;
+}
+
+abbrev pub pipes_of : Devices → Pipes
+pipes_of d = record { left = d.left; reads = d.reads; input_failed = d.input_failed; taken = d.taken; sent = d.sent; flushes = d.flushes; output_failed = d.output_failed }
+
+abbrev pub reading_of : Pipes → Pipes → Reading
+reading_of before after = record { left = after.left; failed_before = before.input_failed; failed = after.input_failed; reads = after.reads - before.reads }
+
+-- How a row of requests ends, with these bytes behind the last one that was answered, and these behind its answer: reading
+-- ended; or there were as many requests as there may be; or a write failed amid an answer.
+abbrev pub EndsBy : Pipes → Pipes → List Exchange → List ℕ → List ℕ → Ended → Type 0
+EndsBy before after xs rest part (ended.Write n) =
+    (x : Exchange) × (behind : List ℕ) × IsExchange x × (rest ≡ x.asked ++ behind) × (take (length part) x.answered ≡ part)
+    × (n ≡ min (length (flat_map (λ x. x.answered) xs ++ part)) (2 ^ 64 - 1)) × (after.output_failed ≡ true) × (after.input_failed ≡ before.input_failed)
+EndsBy before after xs rest part ended.Request =
+    (part ≡ []) × (StopsBy (reading_of before after) rest ended.Request ⊎ ((length xs ≡ requests_limit) × (after.input_failed ≡ before.input_failed)))
+    × (after.output_failed ≡ before.output_failed)
+EndsBy before after xs rest part end = (part ≡ []) × StopsBy (reading_of before after) rest end × (after.output_failed ≡ before.output_failed)
+
+-- an output was flushed so many times more, up to the greatest number of 64 bits
+abbrev pub FlushedTimes : ℕ → ℕ → ℕ → Type 0
+FlushedTimes n before after = (n ≡ 0 → after ≡ before) × (n ≢ 0 → after ≡ min (before + n) (2 ^ 64 - 1))
+
+-- Requests were answered, one after another, from the devices before to those after, and that ended so.
+pub record Session (before after : Pipes) (end : Ended) : Type 0 where
+  pub exchanges : List Exchange
+  pub each : All IsExchange exchanges
+  pub rest : List ℕ
+  pub part : List ℕ
+  pub read : Consumes before.left after.left (flat_map (λ x. x.asked) exchanges ++ rest)
+  pub sent : Appends before.taken after.taken (flat_map (λ x. x.answered) exchanges ++ part)
+  pub ends : EndsBy before after exchanges rest part end
+  pub flushed : exchanges ≢ [] → after.output_failed ≡ false → after.sent ≡ true
+  pub each_flushed : before.output_failed ≡ false → after.output_failed ≡ false → FlushedTimes (length exchanges) before.flushes after.flushes
+
+-- One request was answered, behind bytes that were held: these are held then, and the output took so many bytes in all.
+pub record Answers (written : ℕ) (old new : List ℕ) (before after : Pipes) (n : ℕ) : Type 0 where
+  pub exchange : Exchange
+  pub is_exchange : IsExchange exchange
+  pub bytes : List ℕ
+  pub read : Consumes before.left after.left bytes
+  pub parts : old ++ bytes ≡ exchange.asked ++ new
+  pub sent : Appends before.taken after.taken exchange.answered
+  pub count : n ≡ count_on written (length exchange.answered)
+  pub input_works : after.input_failed ≡ before.input_failed
+  pub output_works : after.output_failed ≡ before.output_failed
+  pub flushed : after.sent ≡ true
+  pub once : before.output_failed ≡ false → after.flushes ≡ flushed_once before.flushes
+
+-- how it ends where none is
+abbrev pub StopsIn : ℕ → List ℕ → List ℕ → Pipes → Pipes → Ended → Type 0
+StopsIn written rest part before after (ended.Write n) =
+    (x : Exchange) × (behind : List ℕ) × IsExchange x × (rest ≡ x.asked ++ behind) × (take (length part) x.answered ≡ part)
+    × (n ≡ count_on written (length part)) × (after.output_failed ≡ true) × (after.input_failed ≡ before.input_failed)
+StopsIn written rest part before after end = (part ≡ []) × StopsBy (reading_of before after) rest end × (after.output_failed ≡ before.output_failed)
+
+-- None was, and that is the end.
+pub record Stops (written : ℕ) (old : List ℕ) (before after : Pipes) (end : Ended) : Type 0 where
+  pub bytes : List ℕ
+  pub part : List ℕ
+  pub read : Consumes before.left after.left bytes
+  pub sent : Appends before.taken after.taken part
+  pub stops : StopsIn written (old ++ bytes) part before after end
+  pub flushed : before.sent ≡ true → after.output_failed ≡ false → after.sent ≡ true
+  pub none_more : after.output_failed ≡ false → after.flushes ≡ before.flushes
+
+abbrev pub IsExchanged : ℕ → List ℕ → List ℕ → Pipes → Pipes → Result ℕ Ended → Type 0
+IsExchanged written old new before after (Ok n) = Answers written old new before after n
+IsExchanged written old new before after (Err end) = Stops written old before after end
+
+-- what standard error tells of how a row of requests ended
+abbrev pub ended_text : Ended → List ℕ
+ended_text ended.Done = []
+ended_text ended.Request = codes "request fault" ++ 10 ∷ []
+ended_text ended.Read = failure_text failure.Read ++ 10 ∷ []
+ended_text (ended.Write n) = failure_text (failure.Write n) ++ 10 ∷ []
+ended_text ended.Memory = failure_text failure.Memory ++ 10 ∷ []
+
+abbrev pub status_of : Ended → ℕ
+status_of ended.Done = 0
+status_of _ = 3
+
+-- Standard error took e: all of the line, unless it failed; or what tells that there was no memory for the line.
+pub record Tells (e : List ℕ) (failed : Bool) (end : Ended) : Type 0 where
+  pub said : Ended
+  pub told_as : (said ≡ end) ⊎ ((end ≢ ended.Done) × (end ≢ ended.Request) × (said ≡ ended.Memory))
+  pub front : take (length e) (ended_text said) ≡ e
+  pub all : failed ≡ false → e ≡ ended_text said
+
+-- The command ran from the devices before to those after, with this exit status.
+pub record Served (before after : Devices) (status : ℕ) : Type 0 where
+  pub end : Ended
+  pub session : Session (pipes_of before) (pipes_of after) end
+  pub e : List ℕ
+  pub told : Appends before.told after.told e
+  pub tells : Tells e after.errors_failed end
+  pub status_is : status ≡ status_of end

@@ -1,0 +1,197 @@
+//! The answer to a request.
+ghost use Rattle.std.specs.Prelude.{◌≡◌, ◌<◌, ◌^◌, [], false, IfOk, IfSome, IsSome, length};
+ghost use Rattle.nap_list.specs.State.{start};
+ghost use Rattle.nap_command.specs.declared.command.Action.TheVariants.{Check};
+ghost use Rattle.nap_command.specs.Commands.{PrintsBy, count_line, refusal_of_text};
+ghost use Rattle.nap_batch.specs.Answers.{IsAnswer, IsCounted, answer_text, ended_line, page_command, refused_line};
+
+use crate::counting::CountingSink;
+use crate::places::read_places;
+use crate::request::Question;
+use itoa::Buffer;
+use nap_canon::CanonSink;
+use nap_command::{Action, Command, Failure, Printout, answer_stream, count_line, read_stream};
+use nap_lines::LineSink;
+use nap_list::{Sink, Target};
+use nap_reader::{Budget, Fault, Refusal};
+use std::alloc::{AllocError, Global};
+
+/// A line with its end, and a body.
+#[derive(Drop)]
+pub struct Answer {
+    /// Whether the page is accepted, as `check` prints it.
+    pub line: Vec<u8>,
+    /// What is asked for.
+    pub body: Vec<u8>,
+}
+
+impl Answer {
+    /// The answer as it goes out: the line, how many bytes the body has, and the body.
+    pub fn spell(&self, alloc: Global) -> Result<Vec<u8>, AllocError>
+        ensures { IfOk result (λ text. text.items ≡ answer_text self.now.line.items self.now.body.items) }
+    {
+        let mut text = Vec::from_slice(alloc, self.line.as_slice())?;
+        let mut digits = Buffer::new();
+        text.extend_from_slice(digits.format(self.body.len()).as_bytes())?;
+        text.push(b'\n')?;
+        text.extend_from_slice(self.body.as_slice())?;
+        Ok(text)
+    }
+}
+
+/// What `check` prints of a page.
+fn check(alloc: Global, budget: Budget, page: &[u8]) -> Result<Printout, AllocError>
+    requires { length page.now < 2 ^ 63 }
+    ensures { IfOk result (λ a. PrintsBy Check (page_command Check budget) page.now a.text.items a.verdict) }
+{
+    let command = Command {
+        action: Action::Check,
+        hex: false,
+        budget,
+        stream: false,
+    };
+    match answer_stream(alloc, &command, page) {
+        Ok(printout) => Ok(printout),
+        // It prints a refusal, and wants memory alone.
+        Err(_) => Err(AllocError),
+    }
+}
+
+/// The line of a page that is refused.
+fn refused_line(alloc: Global, refusal: Refusal) -> Result<Vec<u8>, AllocError>
+    ensures { IfOk result (λ text. text.items ≡ refused_line refusal) }
+{
+    let line = Failure::Refused(refusal).line(alloc)?;
+    Ok(line.into_bytes())
+}
+
+/// The answer that shows a refused page, with no body.
+fn refused(alloc: Global, refusal: Refusal) -> Result<Answer, AllocError>
+    ensures { IfOk result (λ a. (a.line.items ≡ refused_line refusal) × (a.body.items ≡ [])) }
+{
+    Ok(Answer {
+        line: refused_line(alloc, refusal)?,
+        body: Vec::new(alloc),
+    })
+}
+
+/// The answer that shows an accepted page: the line of its entries, and a body.
+fn accepted(alloc: Global, count: Option<u64>, body: Vec<u8>) -> Result<Answer, AllocError>
+    ensures { IfOk result (λ a. IfSome count (λ n. a.line.items ≡ count_line n) × IsSome count × (a.body.items ≡ body.items)) }
+{
+    match count {
+        Some(count) => Ok(Answer {
+            line: count_line(alloc, count)?,
+            body,
+        }),
+        // Memory was wanting where the entries were put.
+        None => Err(AllocError),
+    }
+}
+
+/// The sink with all entries of a page, and how many they are, if that is known; or why the page is refused.
+fn read_counted<S: Sink + Drop>(
+    alloc: Global,
+    budget: Budget,
+    page: &[u8],
+    sink: S,
+) -> Result<(S, Option<u64>), Refusal>
+    requires small { length page.now < 2 ^ 63 }
+    requires start { S.state sink ≡ start }
+    requires works { S.failed sink ≡ false }
+    ensures { IsCounted S.Sink sink budget page.now result }
+{
+    match read_stream(alloc, budget, page, CountingSink::new(sink)) {
+        Ok(found) => {
+            let count = found.count();
+            Ok((found.into_inner(), count))
+        }
+        Err(refusal) => Err(refusal),
+    }
+}
+
+/// The answer that shows the lines of a page's entries.
+fn listed(alloc: Global, budget: Budget, page: &[u8]) -> Result<Answer, AllocError>
+    requires { length page.now < 2 ^ 63 }
+    ensures { IfOk result (λ a. IsAnswer Question.List budget page.now a.line.items a.body.items) }
+{
+    match read_counted(alloc, budget, page, LineSink::new(alloc)) {
+        Ok((sink, count)) => accepted(alloc, count, sink.into_text()),
+        Err(refusal) => refused(alloc, refusal),
+    }
+}
+
+/// Why a page is refused whose text was taken in memory, which is wanting where its sink failed.
+fn refusal_of_text(refusal: Refusal) -> Refusal
+    ensures { result ≡ refusal_of_text refusal }
+{
+    match refusal.fault {
+        Fault::Sink => Refusal {
+            fault: Fault::Memory,
+            place: refusal.place,
+        },
+        _ => refusal,
+    }
+}
+
+/// The answer that shows the canonical text of a page.
+fn spelled(alloc: Global, budget: Budget, page: &[u8]) -> Result<Answer, AllocError>
+    requires { length page.now < 2 ^ 63 }
+    ensures { IfOk result (λ a. IsAnswer Question.Canon budget page.now a.line.items a.body.items) }
+{
+    let sink = CanonSink::new(Target::new(Vec::new(alloc)));
+    if sink.failed() {
+        return Err(AllocError);
+    }
+    match read_counted(alloc, budget, page, sink) {
+        Ok((sink, count)) => accepted(alloc, count, sink.close().into_inner()),
+        Err(refusal) => refused(alloc, refusal_of_text(refusal)),
+    }
+}
+
+/// The line of a page that has so many entries, or is refused.
+fn ended_line(alloc: Global, ended: Result<usize, Refusal>) -> Result<Vec<u8>, AllocError>
+    ensures { IfOk result (λ text. text.items ≡ ended_line ended) }
+{
+    match ended {
+        Ok(count) => count_line(alloc, count as u64),
+        Err(refusal) => refused_line(alloc, refusal),
+    }
+}
+
+/// The answer that shows where entries come from.
+fn placed(alloc: Global, budget: Budget, page: &[u8]) -> Result<Answer, AllocError>
+    requires { length page.now < 2 ^ 63 }
+    ensures { IfOk result (λ a. IsAnswer Question.Places budget page.now a.line.items a.body.items) }
+{
+    let placed = read_places(alloc, budget, page)?;
+    let line = ended_line(alloc, placed.ended)?;
+    Ok(Answer {
+        line,
+        body: placed.text,
+    })
+}
+
+/// The answer to a page, or that there was no memory for it, other than in a reading.
+pub fn answer_page(
+    alloc: Global,
+    question: Question,
+    budget: Budget,
+    page: &[u8],
+) -> Result<Answer, AllocError>
+    requires { length page.now < 2 ^ 63 }
+    ensures { IfOk result (λ a. IsAnswer question budget page.now a.line.items a.body.items) }
+{
+    match question {
+        Question::Check => {
+            let checked = check(alloc, budget, page)?;
+            Ok(Answer {
+                line: checked.text,
+                body: Vec::new(alloc),
+            })
+        }
+        Question::List => listed(alloc, budget, page),
+        Question::Canon => spelled(alloc, budget, page),
+        Question::Places => placed(alloc, budget, page),
+    }
+}

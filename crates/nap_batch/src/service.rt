@@ -1,0 +1,154 @@
+//! Requests one after another, and their answers.
+ghost use Rattle.std.specs.Prelude.{◌≡◌, ◌+◌, ◌<◌, ◌^◌, IfOk, drop, length, take};
+ghost use Rattle.nap_command.specs.Devices.{devices};
+ghost use Rattle.nap_batch.specs.declared.held.TheConstants.{ROOM};
+ghost use Rattle.nap_batch.specs.Requests.{IsWhole};
+ghost use Rattle.nap_batch.specs.Sessions.{IsAnswered, IsExchanged, IsSent, Replies, Served, Session, pipes};
+
+use crate::answer::answer_page;
+use crate::held::{Held, ROOM};
+use crate::request::RequestLine;
+use crate::waiting::{Found, wait};
+use nap_command::{Failure, tell, write_whole};
+use nap_list::{Inlet, Outlet};
+use std::alloc::{AllocError, Global};
+
+/// The most requests that are answered.
+pub const REQUESTS: u64 = 4_398_046_511_104;
+
+/// How a row of requests ends.
+#[derive(Clone, Copy, PartialEq, Eq, Debug, Drop)]
+pub enum Ended {
+    /// The input ended between two requests.
+    Done,
+    /// What stands there is no request, or there were as many as there may be.
+    Request,
+    /// A read failed, or there were as many of one request as there may be.
+    Read,
+    /// A write failed once the output had taken so many bytes, up to the greatest `u64`.
+    Write(u64),
+    /// There was no memory to read the line of a request.
+    Memory,
+}
+
+/// The answer where there was no memory for one.
+const NO_MEMORY: &[u8] = b"no memory\n0\n";
+
+/// The answer to a request whose page is here, as it goes out.
+fn answer_text(alloc: Global, line: RequestLine, page: &[u8]) -> Result<Vec<u8>, AllocError>
+    requires { length page.now < 2 ^ 63 }
+    ensures { IfOk result (λ text. IsAnswered line.question line.budget page.now text.items) }
+{
+    let answer = answer_page(alloc, line.question, line.budget, page)?;
+    answer.spell(alloc)
+}
+
+/// Writes an answer behind so many bytes, and answers how many they are then.
+fn send<O: Outlet>(output: &mut O, written: u64, text: &[u8]) -> Result<u64, Ended>
+    ensures { IsSent O.Outlet written text.now output.old output.new result }
+{
+    match write_whole(output, text) {
+        Ok(()) => Ok(written.saturating_add(text.len() as u64)),
+        Err(Failure::Write(taken)) => Err(Ended::Write(written.saturating_add(taken))),
+        // It fails in no other way.
+        Err(_) => unreachable!(),
+    }
+}
+
+/// Answers a request whose page is here.
+fn answer<O: Outlet>(
+    alloc: Global,
+    line: RequestLine,
+    page: &[u8],
+    output: &mut O,
+    written: u64,
+) -> Result<u64, Ended>
+    requires { length page.now < 2 ^ 63 }
+    ensures { Replies O.Outlet written line.question line.budget page.now output.old output.new result }
+{
+    match answer_text(alloc, line, page) {
+        Ok(text) => send(output, written, text.as_slice()),
+        Err(AllocError) => send(output, written, NO_MEMORY),
+    }
+}
+
+/// Answers the request in front of what is held, whose page begins at this index, and drops it.
+fn answer_front<O: Outlet>(
+    alloc: Global,
+    line: RequestLine,
+    start: usize,
+    held: &mut Held,
+    output: &mut O,
+    written: u64,
+) -> Result<u64, Ended>
+    requires { IsWhole held.old line start }
+    ensures held { held.new ≡ drop (start + line.size) held.old }
+    ensures answers { let page = take line.size (drop start held.old) in
+        Replies O.Outlet written line.question line.budget page output.old output.new result }
+{
+    let end = start + line.size as usize;
+    let sent = answer(alloc, line, &held.bytes()[start..end], output, written);
+    held.pass(end);
+    sent
+}
+
+/// Reads one request and answers it.
+fn exchange<I: Inlet, O: Outlet>(
+    alloc: Global,
+    held: &mut Held,
+    room: &mut [u8],
+    input: &mut I,
+    output: &mut O,
+    written: u64,
+) -> Result<u64, Ended>
+    requires { length room.old ≡ ROOM }
+    ensures room { length room.new ≡ ROOM }
+    ensures exchanged { let seen = pipes I.Inlet O.Outlet in
+        IsExchanged written held.old held.new (seen input.old output.old) (seen input.new output.new) result }
+{
+    match wait(held, input, room) {
+        Ok(Found::Whole(line, start)) => { answer_front(alloc, line, start, held, output, written) }
+        Ok(Found::Dropped) => send(output, written, NO_MEMORY),
+        Err(ended) => Err(ended),
+    }
+}
+
+/// Answers requests until the input ends, or a device fails.
+pub fn serve<I: Inlet, O: Outlet>(alloc: Global, input: &mut I, output: &mut O) -> Ended
+    ensures { let seen = pipes I.Inlet O.Outlet in Session (seen input.old output.old) (seen input.new output.new) result }
+{
+    let Ok(mut held) = Held::new(alloc) else {
+        return Ended::Memory;
+    };
+    let mut room = [0; ROOM];
+    let mut written = 0;
+    for _ in 0..REQUESTS {
+        match exchange(alloc, &mut held, &mut room, input, output, written) {
+            Ok(more) => written = more,
+            Err(ended) => return ended,
+        }
+    }
+    Ended::Request
+}
+
+/// The command `batch`: answers requests, tells on standard error how that ended, and answers the exit status.
+pub fn batch<I: Inlet, O: Outlet, E: Outlet>(
+    alloc: Global,
+    input: &mut I,
+    output: &mut O,
+    errors: &mut E,
+) -> u8
+    ensures { let seen = devices I.Inlet O.Outlet E.Outlet in
+        Served (seen input.old output.old errors.old) (seen input.new output.new errors.new) result }
+{
+    match serve(alloc, input, output) {
+        Ended::Done => 0,
+        Ended::Request => {
+            let _ = write_whole(errors, b"request fault\n");
+            3
+        }
+        Ended::Read => tell(alloc, Failure::Read, errors),
+        Ended::Write(taken) => tell(alloc, Failure::Write(taken), errors),
+        Ended::Memory => tell(alloc, Failure::Memory, errors),
+    }
+}

@@ -1,0 +1,82 @@
+"""Reads the rows of crates/nap_rows/data, in the notation that README.md describes there."""
+from __future__ import annotations
+
+import re
+from dataclasses import dataclass
+from pathlib import Path
+
+USUAL = 1048576
+PART = re.compile(r'[0-9A-Fa-f]{2}|"[^"]*"|[()]|\*\d+')
+REPEATED = re.compile(r"(.+?) ?\*(\d+)")
+
+
+@dataclass(frozen=True)
+class Row:
+    """A stream; the lines of its entries and its canonical stream, where the row tells them; or its refusal."""
+
+    place: str
+    stream: bytes
+    lines: list[str] | None
+    canonical: bytes | None
+    refusal: str | None
+    budget: int
+
+
+def spelled(text: str) -> bytes:
+    """The bytes that a field spells."""
+    groups: list[list[bytes]] = [[]]
+    for part in PART.findall(text):
+        if part == "(":
+            groups.append([])
+        elif part == ")":
+            group = groups.pop()
+            groups[-1].append(b"".join(group))
+        elif part.startswith("*"):
+            groups[-1][-1] *= int(part[1:])
+        elif part.startswith('"'):
+            groups[-1].append(part[1:-1].encode())
+        else:
+            groups[-1].append(bytes.fromhex(part))
+    return b"".join(groups[0])
+
+
+def repeated(word: str) -> list[str]:
+    """A word, so many times."""
+    found = REPEATED.fullmatch(word)
+    return [found[1]] * int(found[2]) if found else [word]
+
+
+def listed(text: str) -> list[str] | None:
+    """The lines that a field has; none where the row isn't about them."""
+    if text == "-":
+        return None
+    lines: list[str] = []
+    for line in filter(None, (part.strip() for part in text.split(";"))):
+        for whole in repeated(line):
+            lines.append(" ".join(word for part in whole.split(" ") for word in repeated(part)))
+    return lines
+
+
+def row_of(place: str, text: str) -> Row:
+    """The row of a line that has one. (Rows name DEFT MACRO as the library does; the program's word is DEFT.)"""
+    stream, lines, wanted, *more = (field.strip() for field in text.split("|"))
+    budget = re.search(r"\bbudget (\d+)", more[0] if more else "")
+    refused = wanted.startswith("refused ")
+    return Row(
+        place,
+        spelled(stream),
+        listed(lines),
+        None if refused or wanted == "-" else spelled(wanted),
+        wanted.replace("DEFT-MACRO", "DEFT") if refused else None,
+        int(budget[1]) if budget else USUAL,
+    )
+
+
+def rows_of(folder: Path) -> list[Row]:
+    """All rows of a folder."""
+    rows = []
+    for path in sorted(folder.glob("*.rows")):
+        for number, text in enumerate(path.read_text().splitlines(), 1):
+            if text.strip() and not text.startswith("#"):
+                rows.append(row_of(f"{path.name}:{number}", text))
+    return rows
