@@ -1,0 +1,83 @@
+"""The commands check, list and canon: the program's answers for files."""
+from typing import List, Optional
+
+from .answers import Accepted, Answer, NoAnswer, Refused
+from .entries import read_line
+from .listing import command_of, rows_of
+from .names import shown
+from .output import into, make_folder, put, tell
+from .schema import Members, answered, dumps, entry
+from .session import Session
+from .source import Page
+
+
+def check(session: Session) -> int:
+    """Whether each page is accepted, or why not."""
+    def work(page: Page) -> None:
+        answer = session.program.ask("check", page)
+        there = session.answered(page, answer)
+        if session.json:
+            session.output.line(dumps(answered(page.name, answer)))
+        elif there and isinstance(answer, (Accepted, Refused)):
+            session.output.line(session.front(page.name) + answer.line)
+    return session.each(work)
+
+
+def list_entries(session: Session) -> int:
+    """The lines of each page's entries."""
+    work = _list_json if session.json else _list_lines
+    return session.each(lambda page: work(session, page), more=("list",))
+
+
+def _list_lines(session: Session, page: Page) -> None:
+    answer = _limited(session.program.ask("list", page))
+    if not session.answered(page, answer):
+        return
+    if isinstance(answer, Refused):
+        _tell_refusal(session, page, answer)
+    elif isinstance(answer, Accepted):
+        front = session.front(page.name)
+        if front:
+            session.output.text("".join(front + line + "\n" for line in answer.body.decode("ascii").splitlines()))
+        else:
+            session.output.bytes(answer.body)
+
+
+def _list_json(session: Session, page: Page) -> None:
+    answer = _limited(session.program.ask(command_of(page), page))
+    session.answered(page, answer)
+    rows: Optional[List[Members]] = None
+    if isinstance(answer, Accepted):
+        rows = [entry(read_line(line), place) for place, line in rows_of(page, answer.body)]
+    session.output.line(dumps({**answered(page.name, answer), "list": rows}))
+
+
+def _limited(answer: Answer) -> Answer:
+    """The answer, which says what else can be done where it would be too much."""
+    if isinstance(answer, NoAnswer) and answer.too_much:
+        return NoAnswer(answer.reason + "; by itself, as `naplps list < PAGE`, it has no such limit", too_much=True)
+    return answer
+
+
+def _tell_refusal(session: Session, page: Page, answer: Refused) -> None:
+    """A refused page has no list and no canonical bytes: its refusal is told on standard error."""
+    session.output.flush()
+    tell("%s: %s" % (shown(page.name), answer.line))
+
+
+def canon(session: Session) -> int:
+    """The canonical bytes of each page, printed or put into a folder."""
+    if session.into is not None:
+        make_folder(session.into)
+
+    def work(page: Page) -> None:
+        answer = session.program.ask("canon", page)
+        if not session.answered(page, answer):
+            return
+        if isinstance(answer, Refused):
+            _tell_refusal(session, page, answer)
+        elif isinstance(answer, Accepted) and session.into is not None:
+            put(into(session.into, page.name), answer.body)
+        elif isinstance(answer, Accepted):
+            session.output.bytes(answer.body)
+    return session.each(work)

@@ -1,0 +1,180 @@
+"""The words of the command line, and the status."""
+import argparse
+import contextlib
+import dataclasses
+import errno
+import os
+import signal
+import sys
+from types import FrameType
+from typing import Any, Callable, Dict, List, NoReturn, Optional
+
+from . import VERSION, answering, curing, explaining, showing
+from .ask import Program
+from .child import Limits
+from .listing import MODEST
+from .output import TOOL, NotWritten, tell
+from .program import MOST_BUDGET, USUAL_BUDGET, NoProgram, find
+from .session import FAILED, WRONG_WORDS, Session
+
+COMMANDS: Dict[str, Callable[[Session], int]] = {
+    "check": answering.check, "list": answering.list_entries, "canon": answering.canon, "explain": explaining.explain,
+    "look": showing.look, "text": showing.text, "cures": curing.cures}
+HELP = {
+    "check": "say whether pages are accepted, or why not",
+    "list": "print a line for each entry of the pages",
+    "canon": "print the canonical stream of a page, or put those of pages into a folder",
+    "explain": "show each entry beside the bytes that brought it, or why the page is refused",
+    "look": "make a sketch of a page as SVG: print it, or put it into a file or a folder",
+    "text": "print the text of pages",
+    "cures": "try treatments that make a refused page readable"}
+# The commands whose answers may be as long as they are.
+AT_LENGTH = ("list", "canon")
+EPILOG = ("No file is written over. Status: 0 all pages are accepted, 1 some are refused, 2 the words are wrong, 3 "
+          "something couldn't be read, asked or written. The program that is asked is the one that NAPLPS names, or "
+          "naplps beside this command, or on PATH.")
+
+
+class Parser(argparse.ArgumentParser):
+    """A parser that raises OSError where its help can't be printed, with each version of Python."""
+
+    def _print_message(self, message: str, file: Any = None) -> None:
+        if file is not None and file is sys.stdout:
+            file.write(message)
+        else:
+            with contextlib.suppress(OSError, AttributeError):
+                super()._print_message(message, file)
+
+
+def parser() -> argparse.ArgumentParser:
+    """The words that are understood."""
+    top = Parser(prog=TOOL, description="Files, pictures and reasons for NAPLPS pages.", allow_abbrev=False,
+                 epilog="`%s COMMAND --help` tells of one command. %s" % (TOOL, EPILOG))
+    top.add_argument("--version", action="version", version="%s %s" % (TOOL, VERSION))
+    commands = top.add_subparsers(dest="command", metavar="COMMAND", required=True)
+    for name, text in HELP.items():
+        one = commands.add_parser(name, help=text, description=text[0].upper() + text[1:] + ".", epilog=EPILOG,
+                                  allow_abbrev=False)
+        one.add_argument("pages", metavar="PAGE", nargs=1 if name == "explain" else "+",
+                         help="a file, or - for standard input")
+        _add_options(one, name)
+    return top
+
+
+def _add_options(one: argparse.ArgumentParser, name: str) -> None:
+    if name in ("check", "list", "cures"):
+        one.add_argument("--json", action="store_true", help="print an object a line")
+    if name in ("canon", "look", "cures"):
+        one.add_argument("--into", metavar="FOLDER", help="make a file for each page in this folder")
+    if name == "look":
+        one.add_argument("--svg", metavar="FILE", help="make this file of the sketch of one page")
+    one.add_argument("--budget", metavar="N", type=_budget, default=USUAL_BUDGET,
+                     help="bytes of macro bodies that a page may be charged with; usually %d" % USUAL_BUDGET)
+    one.add_argument("--seconds", metavar="N", type=_seconds, default=20.0,
+                     help="how long the program may take for a page; usually 20")
+
+
+def _budget(text: str) -> int:
+    if not text.isascii() or not text.isdigit() or int(text) > MOST_BUDGET:
+        raise argparse.ArgumentTypeError("a number from 0 to %d, not %r" % (MOST_BUDGET, text))
+    return int(text)
+
+
+def _seconds(text: str) -> float:
+    try:
+        seconds = float(text)
+    except ValueError:
+        seconds = 0.0
+    if not 0.01 <= seconds <= 1e6:
+        raise argparse.ArgumentTypeError("a number of seconds from 0.01, not %r" % text)
+    return seconds
+
+
+def _wrong(given: argparse.Namespace) -> str:
+    """What is wrong with the words, beyond what argparse finds; nothing where they are right."""
+    into, svg = getattr(given, "into", None), getattr(given, "svg", None)
+    if into is not None and svg is not None:
+        return "--svg and --into exclude each other"
+    if len(given.pages) > 1 and into is None:
+        if given.command == "canon":
+            return "several pages need --into FOLDER"
+        if given.command == "look":
+            return "several pages need --into FOLDER, also with --svg" if svg else "several pages need --into FOLDER"
+    if given.pages.count("-") > 1:
+        return "- stands for standard input, and can be named once"
+    return ""
+
+
+def main(words: List[str], command: str) -> int:
+    """Runs the words; the status. `command` is the path of the command, beside which naplps may stand."""
+    try:
+        given = parser().parse_args(words)
+    except SystemExit as end:
+        return WRONG_WORDS if end.code else 0
+    except BrokenPipeError:
+        raise
+    except OSError as error:  # of the help, which it prints
+        tell("standard output: %s" % error.strerror)
+        return FAILED
+    wrong = _wrong(given)
+    if wrong:
+        tell(wrong)
+        return WRONG_WORDS
+    limits = dataclasses.replace(Limits() if given.command in AT_LENGTH else MODEST, seconds=given.seconds)
+    try:
+        program = Program(find(command), given.budget, limits)
+    except NoProgram as error:
+        tell(str(error))
+        return FAILED
+    session = Session(program, given.pages, getattr(given, "json", False), getattr(given, "into", None),
+                      getattr(given, "svg", None))
+    try:
+        return COMMANDS[given.command](session)
+    except NotWritten as error:
+        tell(str(error))
+        return FAILED
+    finally:
+        program.close()
+
+
+class Stopped(BaseException):
+    """A signal asks the tool to end."""
+
+
+def run(command: str) -> NoReturn:
+    """The command as a process: ended by a closed pipe or a signal as other filters are, and the program with it."""
+    if sys.stdout is None:
+        tell("standard output: %s" % os.strerror(errno.EBADF))
+        sys.exit(FAILED)
+    for number in (signal.SIGINT, signal.SIGTERM, signal.SIGHUP):
+        if signal.getsignal(number) is not signal.SIG_IGN:
+            signal.signal(number, _stop)
+    try:
+        _end(main(sys.argv[1:], command))
+    except BrokenPipeError:
+        _end_by(signal.SIGPIPE)
+    except Stopped as stopped:
+        _end_by(stopped.args[0])
+
+
+def _stop(number: int, _: Optional[FrameType]) -> None:
+    raise Stopped(number)
+
+
+def _end(status: int) -> NoReturn:
+    """Ends with a status, behind the last of the output."""
+    try:
+        sys.stdout.flush()
+    except BrokenPipeError:
+        raise
+    except OSError as error:
+        if status != FAILED:
+            tell("standard output: %s" % error.strerror)
+        os._exit(FAILED)  # (a usual end would flush again)
+    sys.exit(status)
+
+
+def _end_by(number: int) -> NoReturn:
+    signal.signal(number, signal.SIG_DFL)
+    os.kill(os.getpid(), number)
+    os._exit(128 + number)

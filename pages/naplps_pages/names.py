@@ -1,0 +1,40 @@
+"""Names of files, as people are shown them and as JSON holds them."""
+import os
+import unicodedata
+from typing import Dict
+
+SHORT = {"\n": "\\n", "\r": "\\r", "\t": "\\t", "\\": "\\\\"}
+# Controls, marks of format and direction, lone surrogates, private and unknown characters, line and paragraph ends.
+HIDDEN = ("Cc", "Cf", "Cs", "Co", "Cn", "Zl", "Zp")
+
+
+def shown(name: str) -> str:
+    """The name on one line, with an escape for whatever a terminal wouldn't show as itself."""
+    return "".join(_shown(each) for each in name)
+
+
+def _shown(each: str) -> str:
+    if each in SHORT:
+        return SHORT[each]
+    if "\udc80" <= each <= "\udcff":
+        return "\\x%02x" % (ord(each) - 0xDC00)
+    if unicodedata.category(each) not in HIDDEN:
+        return each
+    code = ord(each)
+    if code < 0x100:
+        return "\\x%02x" % code
+    return "\\u%04x" % code if code < 0x10000 else "\\U%08x" % code
+
+
+def as_json(name: str) -> Dict[str, object]:
+    """The members of a JSON object that name a file: its bytes in hexadecimal too, where they aren't UTF-8."""
+    raw = os.fsencode(name)
+    try:
+        return {"name": raw.decode("utf-8")}
+    except UnicodeDecodeError:
+        return {"name": shown(name), "name_hex": raw.hex()}
+
+
+def leaf(name: str) -> str:
+    """The name without its folders, for a file that is made of it; 'page' for standard input."""
+    return "page" if name == "-" else os.path.basename(os.path.normpath(name))

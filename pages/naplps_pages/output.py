@@ -1,0 +1,149 @@
+"""What a command prints, and where it writes."""
+import errno
+import os
+import sys
+import tempfile
+from typing import IO
+
+from .names import leaf, shown
+
+TOOL = "naplps-pages"
+
+
+class NotWritten(Exception):
+    """A file or standard output couldn't be written, with its name and the system's reason."""
+
+    def __init__(self, name: str, reason: str) -> None:
+        super().__init__("%s: %s" % (shown(name), reason))
+
+
+class OutputLost(NotWritten):
+    """Standard output couldn't be written, so that no further answer is of use."""
+
+    def __init__(self, reason: str) -> None:
+        super().__init__("standard output", reason)
+
+
+def tell(text: str) -> None:
+    """A line on standard error."""
+    try:
+        sys.stderr.write("%s: %s\n" % (TOOL, text))
+        sys.stderr.flush()
+    except (OSError, AttributeError):
+        pass  # there is nobody left to tell
+
+
+class Output:
+    """Standard output. A pipe that nobody reads ends the tool; other faults are told."""
+
+    def __init__(self, file: IO[bytes]) -> None:
+        self.file = file
+
+    def text(self, text: str) -> None:
+        """Prints text in UTF-8."""
+        self.bytes(text.encode("utf-8", "backslashreplace"))
+
+    def line(self, text: str) -> None:
+        """Prints a line."""
+        self.text(text + "\n")
+
+    def bytes(self, data: bytes) -> None:
+        """Prints bytes."""
+        try:
+            self.file.write(data)
+        except BrokenPipeError:
+            raise
+        except OSError as error:
+            raise OutputLost(error.strerror or str(error)) from None
+
+    def flush(self) -> None:
+        """Sends on what was printed."""
+        try:
+            self.file.flush()
+        except BrokenPipeError:
+            raise
+        except OSError as error:
+            raise OutputLost(error.strerror or str(error)) from None
+
+
+def put(path: str, data: bytes) -> None:
+    """Makes a file, whole or not at all. One that is there stays: it is a fault, but where it has the same bytes.
+
+    What is no file, as a device or a pipe, is written to.
+    """
+    try:
+        if os.path.exists(path) and not os.path.isfile(path):
+            with open(path, "wb") as device:
+                device.write(data)
+            return
+        _claim(path, data)
+    except FileExistsError:
+        require_free(path, data)
+    except OSError as error:
+        raise NotWritten(path, error.strerror or str(error)) from None
+
+
+def require_free(path: str, data: bytes) -> None:
+    """Raises NotWritten where anything but these bytes is there already."""
+    if os.path.lexists(path) and not _has(path, data):
+        raise NotWritten(path, "is there already with other bytes, and isn't written over")
+
+
+def _claim(path: str, data: bytes) -> None:
+    """Makes a file of a name that nothing has."""
+    part = _part(path, data)
+    try:
+        os.link(part, path)
+    except FileExistsError:
+        raise
+    except OSError:  # a file system without links: there the name is taken first
+        os.close(os.open(path, os.O_WRONLY | os.O_CREAT | os.O_EXCL))
+        os.replace(part, path)
+        return
+    finally:
+        if os.path.lexists(part):
+            os.unlink(part)
+
+
+def _part(path: str, data: bytes) -> str:
+    """A new file with these bytes, in the folder of the path."""
+    number, part = tempfile.mkstemp(prefix=".naplps-", dir=os.path.dirname(path) or ".")
+    try:
+        with open(number, "wb") as file:
+            file.write(data)
+        os.chmod(part, 0o666 & ~_mask())
+    except BaseException:
+        os.unlink(part)
+        raise
+    return part
+
+
+def _mask() -> int:
+    mask = os.umask(0o077)
+    os.umask(mask)
+    return mask
+
+
+def _has(path: str, data: bytes) -> bool:
+    try:
+        if not os.path.isfile(path) or os.path.getsize(path) != len(data):
+            return False
+        with open(path, "rb") as file:
+            return file.read() == data
+    except OSError:
+        return False
+
+
+def into(folder: str, name: str, ending: str = "") -> str:
+    """The path of a file in a folder that is made of a page's name."""
+    return os.path.join(folder, leaf(name) + ending)
+
+
+def make_folder(folder: str) -> None:
+    """Makes a folder where there is none."""
+    try:
+        os.makedirs(folder, exist_ok=True)
+    except FileExistsError:
+        raise NotWritten(folder, os.strerror(errno.ENOTDIR)) from None
+    except OSError as error:
+        raise NotWritten(folder, error.strerror or str(error)) from None

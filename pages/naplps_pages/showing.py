@@ -1,0 +1,64 @@
+"""The commands look and text: what a page shows."""
+from . import sketch
+from .answers import Accepted, Refused
+from .entries import read
+from .listing import MOST_LISTED, Listed, listed
+from .names import shown
+from .output import into, make_folder, put, tell
+from .session import Session
+from .source import Page
+from .text import lines_of
+
+
+def picture(told: Listed) -> sketch.Sketch:
+    """The sketch of a page that has this answer and these entries."""
+    answer, lines = told.answer, told.lines
+    said = "then %s" % answer.line if isinstance(answer, Refused) else ""
+    if lines is not None:
+        return sketch.draw(lines, said)
+    if isinstance(answer, Accepted):
+        how = "" if answer.entries > MOST_LISTED else ", whose lines are too long"
+        return sketch.empty("No sketch: the page has %d entries%s" % (answer.entries, how))
+    return sketch.empty("No sketch: too much comes first, %s" % said)
+
+
+def look(session: Session) -> int:
+    """A sketch of each page: printed, or put into a file or a folder."""
+    if session.into is not None:
+        make_folder(session.into)
+
+    def work(page: Page) -> None:
+        told = listed(session.program, page)
+        answer = told.answer
+        if not session.answered(page, answer):
+            return
+        drawn = picture(told).svg.encode("utf-8")
+        if isinstance(answer, Refused):
+            session.output.flush()
+            before = "; the sketch shows what comes before" if told.lines is not None else ""
+            tell("%s: %s%s" % (shown(page.name), answer.line, before))
+        if session.into is not None:
+            put(into(session.into, page.name, ".svg"), drawn)
+        elif session.svg is not None:
+            put(session.svg, drawn)
+        else:
+            session.output.bytes(drawn)
+    return session.each(work)
+
+
+def text(session: Session) -> int:
+    """The text of each page."""
+    def work(page: Page) -> None:
+        told = listed(session.program, page)
+        answer, lines = told.answer, told.lines
+        if not session.answered(page, answer):
+            return
+        if lines is None:
+            session.complain(page.name, "too much for its text to be asked")
+            return
+        front = session.front(page.name)
+        session.output.text("".join(front + line + "\n" for line in lines_of(read(lines))))
+        if isinstance(answer, Refused):
+            session.output.flush()
+            tell("%s: %s; the text is what comes before" % (shown(page.name), answer.line))
+    return session.each(work)

@@ -1,0 +1,91 @@
+"""Arcs: circles, arcs of three points, and curves through more."""
+import math
+from typing import List, Sequence
+
+from .measure import WIDTH, Place, num
+
+# Beyond this radius an arc is drawn by points on it, since viewers are inexact there.
+MOST_RADIUS = 4.0 * WIDTH
+PIECES = 16
+
+
+def path(points: Sequence[Place], filled: bool) -> str:
+    """The path of an arc through these points, three or more; a circle where the first is the third of three."""
+    if len(points) == 3:
+        body = _circle(points) if points[0] == points[2] else _three(points)
+    else:
+        body = _curve(points)
+    return "M%s %s" % (num(points[0][0]), num(points[0][1])) + body + ("Z" if filled else "")
+
+
+def _circle(points: Sequence[Place]) -> str:
+    radius = math.dist(points[0], points[1]) / 2
+    return _arc(radius, False, True, points[1]) + _arc(radius, False, True, points[0])
+
+
+def _arc(radius: float, large: bool, sweep: bool, to: Place) -> str:
+    return "A%s %s 0 %d %d %s %s" % (num(radius), num(radius), large, sweep, num(to[0]), num(to[1]))
+
+
+def _three(points: Sequence[Place]) -> str:
+    """From the first to the second and on to the third, each as an arc of the circle through all three."""
+    a, m, e = points
+    cross = (m[0] - a[0]) * (e[1] - a[1]) - (m[1] - a[1]) * (e[0] - a[0])
+    if abs(cross) < 1e-9:
+        return _lines([m, e])
+    radius = math.dist(a, m) * math.dist(m, e) * math.dist(a, e) / (2 * abs(cross))
+    centre = _centre(points, cross)
+    sweep = cross > 0
+    out = ""
+    for start, to in ((a, m), (m, e)):
+        turn = _turn(centre, start, to, sweep)
+        if radius > MOST_RADIUS and abs(turn) < math.pi / 2:
+            out += _lines(_on_circle(centre, start, turn)[:-1] + [to])
+        else:
+            out += _arc(radius, abs(turn) > math.pi, sweep, to)
+    return out
+
+
+def _centre(points: Sequence[Place], cross: float) -> Place:
+    a, m, e = points
+    bx, by, cx, cy = m[0] - a[0], m[1] - a[1], e[0] - a[0], e[1] - a[1]
+    b2, c2 = bx * bx + by * by, cx * cx + cy * cy
+    return a[0] + (cy * b2 - by * c2) / (2 * cross), a[1] + (bx * c2 - cx * b2) / (2 * cross)
+
+
+def _turn(centre: Place, start: Place, to: Place, sweep: bool) -> float:
+    """The angle from one place to the other around the centre, positive where the sweep is."""
+    first = math.atan2(start[1] - centre[1], start[0] - centre[0])
+    last = math.atan2(to[1] - centre[1], to[0] - centre[0])
+    turn = (last - first) % (2 * math.pi)
+    return turn if sweep else turn - 2 * math.pi
+
+
+def _on_circle(centre: Place, start: Place, turn: float) -> List[Place]:
+    """Places along the circle, behind the start."""
+    x, y = start[0] - centre[0], start[1] - centre[1]
+    out = []
+    for piece in range(1, PIECES + 1):
+        # (half angles keep what a large radius would lose)
+        angle = turn * piece / PIECES
+        half = math.sin(angle / 2)
+        dx = -2 * half * half * x - math.sin(angle) * y
+        dy = -2 * half * half * y + math.sin(angle) * x
+        out.append((start[0] + dx, start[1] + dy))
+    return out
+
+
+def _lines(places: Sequence[Place]) -> str:
+    return "".join("L%s %s" % (num(x), num(y)) for x, y in places)
+
+
+def _curve(points: Sequence[Place]) -> str:
+    """A smooth curve through all points: at each the direction is that from the one before to the one behind."""
+    out = []
+    last = len(points) - 1
+    for i in range(last):
+        before, start, to, behind = points[max(i - 1, 0)], points[i], points[i + 1], points[min(i + 2, last)]
+        out.append("C%s %s %s %s %s %s" % (
+            num(start[0] + (to[0] - before[0]) / 6), num(start[1] + (to[1] - before[1]) / 6),
+            num(to[0] - (behind[0] - start[0]) / 6), num(to[1] - (behind[1] - start[1]) / 6), num(to[0]), num(to[1])))
+    return "".join(out)

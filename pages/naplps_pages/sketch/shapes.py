@@ -1,0 +1,63 @@
+"""Points, lines, rectangles, polygons and arcs."""
+from typing import Callable, Dict, List
+
+from ..entries import ONE, Entry, Point
+from . import arcs
+from .measure import Place, in_glyph, length, num, on_page
+from .paper import Paper
+from .textures import Looks
+
+
+class Shapes:
+    """Draws the entries that state a shape."""
+
+    def __init__(self, paper: Paper, looks: Looks) -> None:
+        self.paper, self.looks = paper, looks
+        self.kinds: Dict[str, Callable[[Entry], None]] = {
+            "POINT": self.point, "LINE": self.line, "RECT-OUTLINED": self.rectangle, "RECT-FILLED": self.rectangle,
+            "POLY-OUTLINED": self.polygon, "POLY-FILLED": self.polygon, "ARC-OUTLINED": self.arc,
+            "ARC-FILLED": self.arc}
+
+    def _places(self, points: "tuple[Point, ...]") -> List[Place]:
+        for point in points:
+            self.paper.reach(point[1] / ONE)
+        return [on_page(point) if self.paper.on_page else in_glyph(point) for point in points]
+
+    def _attributes(self, entry: Entry) -> str:
+        return self.looks.fill(entry) if entry.kind.endswith("FILLED") else self.looks.stroke(entry)
+
+    def point(self, entry: Entry) -> None:
+        """A point: the pel's rectangle, from its corner."""
+        (x, y), = self._places(entry.points)
+        wide, high = (length(side) for side in entry.pel or (0, 0))
+        thin = self.looks.thin()
+        left = x + min(wide, 0.0) - (thin / 2 if not wide else 0.0)
+        top = y - max(high, 0.0) - (thin / 2 if not high else 0.0)
+        self.paper.put('<rect x="%s" y="%s" width="%s" height="%s" fill="%s"/>' % (
+            num(left), num(top), num(abs(wide) or thin), num(abs(high) or thin), self.looks.ink(entry)))
+
+    def line(self, entry: Entry) -> None:
+        """A line, with square ends."""
+        (a, b), (c, d) = self._places(entry.points)
+        self.paper.put('<path d="M%s %sL%s %s" stroke-linecap="square"%s/>' % (
+            num(a), num(b), num(c), num(d), self.looks.stroke(entry)))
+
+    def rectangle(self, entry: Entry) -> None:
+        """A rectangle; a filled one without width or height has the least thickness."""
+        (a, b), (c, d) = self._places(entry.points)
+        least = self.looks.thin() if entry.kind == "RECT-FILLED" else 0.01
+        self.paper.put('<rect x="%s" y="%s" width="%s" height="%s"%s/>' % (
+            num(min(a, c)), num(min(b, d)), num(max(abs(c - a), least)), num(max(abs(d - b), least)),
+            self._attributes(entry)))
+
+    def polygon(self, entry: Entry) -> None:
+        """A polygon, closed; where its edges cross, what lies inside an even number of them isn't filled."""
+        places = " ".join("%s,%s" % (num(x), num(y)) for x, y in self._places(entry.points))
+        self.paper.put('<polygon points="%s" fill-rule="evenodd"%s/>' % (places, self._attributes(entry)))
+
+    def arc(self, entry: Entry) -> None:
+        """An arc, or a circle."""
+        if len(entry.points) > 3:
+            self.paper.note("an arc of more than three points is drawn as a smooth curve through them")
+        filled = entry.kind == "ARC-FILLED"
+        self.paper.put('<path d="%s"%s/>' % (arcs.path(self._places(entry.points), filled), self._attributes(entry)))

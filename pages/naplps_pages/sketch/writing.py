@@ -1,0 +1,201 @@
+"""Characters: letters in runs, mosaics, and the page's own glyphs."""
+from dataclasses import dataclass
+from typing import List, Optional, Tuple
+from xml.sax.saxutils import escape
+
+from .. import letters
+from ..entries import Entry
+from .cells import RIGHT, Cell, Cursor, cell
+from .colours import BLACK, Palette
+from .measure import HEIGHT, WIDTH, fine, num
+from .paper import Paper
+
+# The width of a letter of DejaVu Sans Mono as part of its size; other fonts are stretched to it where viewers can.
+ADVANCE = 0.602
+SIZE = 0.86
+BASE = 0.22
+# Bits of a mosaic's code, by rows from the upper left block.
+BLOCKS = (1, 2, 4, 8, 16, 64)
+Ink = Tuple[str, Optional[str]]
+# So many characters at most are repeated to the end of a line; cells so small that there are more can't be read.
+MOST_IN_LINE = 1000
+
+
+@dataclass
+class Run:
+    """Letters of one look that stand one behind the other."""
+
+    look: Tuple[Ink, Cell, bool]
+    text: List[str]
+    x: float
+    y: float
+
+    def end(self) -> float:
+        """Where the next letter would stand."""
+        return self.x + len(self.text) * self.look[1].wide * WIDTH
+
+
+class Writing:
+    """Draws the entries that state a character, and moves the cursor."""
+
+    def __init__(self, paper: Paper, palette: Palette) -> None:
+        self.paper, self.palette = paper, palette
+        self.cursor = Cursor()
+        self.run: Optional[Run] = None
+        self.accent: Optional[int] = None
+        self.last: Optional[Entry] = None
+
+    def flush(self) -> None:
+        """Draws the letters that wait, before anything is drawn over them."""
+        self._end_accent()
+        run, self.run = self.run, None
+        if run and run.look[1].wide and run.look[1].high:
+            self._draw_run(run)
+
+    def character(self, entry: Entry) -> None:
+        """A character, and the cursor behind it."""
+        self.last = entry
+        size = self._take(entry)
+        if letters.is_accent(entry.word, entry.numbers[0]):
+            self._end_accent()
+            self.accent = entry.numbers[0]
+            return
+        if entry.word in ("primary", "supplementary"):
+            sign = letters.letter(entry.word, entry.numbers[0])
+            accent, self.accent = self.accent, None
+            self._letter(entry, size, sign if accent is None else letters.composed(accent, sign))
+        else:
+            self.flush()
+            self._sign(entry, size)
+        self.cursor.step(size)
+
+    def move(self, entry: Entry) -> None:
+        """A move of the cursor."""
+        self.flush()
+        size = self._take(entry)
+        self.cursor.move(entry, size)
+
+    def to_end(self, entry: Entry) -> None:
+        """The last character again, up to the end of the line."""
+        last = self.last
+        if last is None or entry.look is None:
+            return
+        size = self._take(entry)
+        again = Entry("CHAR", (), last.word, last.numbers, colour=entry.colour, pen="after", look=entry.look)
+        right = self.cursor.field[2] + 1e-9
+        for _ in range(MOST_IN_LINE):
+            if size.wide <= 0 or size.path != RIGHT or self.cursor.x + size.wide > right or not self.paper.may_use(1):
+                break
+            self.character(again)
+
+    def _take(self, entry: Entry) -> Cell:
+        assert entry.look
+        size = cell(entry.look)
+        if entry.pen != "after" or not self.cursor.known:
+            self.flush()
+        self.cursor.take(entry, size)
+        if entry.kind != "MOVE" and self.cursor.wrap(size):
+            self.flush()
+        return size
+
+    def _ink(self, entry: Entry) -> Ink:
+        assert entry.look
+        if not self.paper.on_page:
+            return "currentColor", None
+        front, back = self.palette.front(entry.colour), self.palette.back(entry.colour)
+        return (back or BLACK, front) if entry.look.reverse else (front, back)
+
+    def _letter(self, entry: Entry, size: Cell, sign: str) -> None:
+        assert entry.look
+        x, y = self._corner(size)
+        look = (self._ink(entry), size, entry.look.underline)
+        if self.run and self.run.look == look and self._joins(self.run, size, x, y):
+            self.run.text.append(sign)
+            return
+        self.flush()
+        self.run = Run(look, [sign], x, y)
+
+    @staticmethod
+    def _joins(run: Run, size: Cell, x: float, y: float) -> bool:
+        straight = size.path == RIGHT and size.rotation == 0 and size.spacing == 1.0
+        return straight and abs(run.end() - x) < 0.01 and abs(run.y - y) < 0.01
+
+    def _corner(self, size: Cell) -> Tuple[float, float]:
+        self.paper.reach(self.cursor.y + max(size.high, 0.0))
+        foot = HEIGHT if self.paper.on_page else WIDTH
+        return self.cursor.x * WIDTH, foot - self.cursor.y * WIDTH
+
+    def _end_accent(self) -> None:
+        """An accent with no letter behind it stands alone, where the cursor is."""
+        accent, self.accent = self.accent, None
+        if accent is not None and self.last is not None and self.last.look is not None:
+            self._letter(self.last, cell(self.last.look), letters.ALONE[accent])
+
+    def _draw_run(self, run: Run) -> None:
+        (front, back), size, underline = run.look
+        wide, high = size.wide * WIDTH, size.high * WIDTH
+        total = wide * len(run.text)
+        turn = "rotate(%d %s %s)" % (-90 * size.rotation, num(run.x), num(run.y)) if size.rotation else ""
+        parts = [_cell(run.x, run.y, total, high, back)] if back else []
+        text = "".join(run.text)
+        if text.strip(" "):
+            parts.append(_text(text, run, wide, high, front))
+        if underline:
+            parts.append('<path d="M%s %sh%s" fill="none" stroke="%s" stroke-width="3"/>' % (
+                num(run.x), num(run.y - 3), num(total), front))
+        for part in parts:
+            self.paper.put(part if not turn else '<g transform="%s">%s</g>' % (turn, part))
+
+    def _sign(self, entry: Entry, size: Cell) -> None:
+        x, y = self._corner(size)
+        wide, high = size.wide * WIDTH, size.high * WIDTH
+        if not wide or not high:
+            return
+        front, back = self._ink(entry)
+        if back:
+            self.paper.put(_cell(x, y, wide, high, back))
+        if entry.word == "mosaic":
+            assert entry.look
+            self._mosaic(entry.numbers[0], (x, y, wide, high), front, entry.look.underline)
+        else:
+            self._glyph(entry.numbers[0], (x, y, wide, high), front)
+
+    def _mosaic(self, code: int, box: Tuple[float, float, float, float], front: str, apart: bool) -> None:
+        x, y, wide, high = box
+        across, down = wide / 2, high / 3
+        gap = 0.15 if apart else 0.0
+        path = ""
+        for i, bit in enumerate(BLOCKS):
+            if code & bit:
+                left = x + (i % 2 + gap / 2) * across
+                top = y - high + (i // 2 + gap / 2) * down
+                path += "M%s %sh%sv%sh%sz" % (num(left), num(top), num(across * (1 - gap)), num(down * (1 - gap)),
+                                              num(-across * (1 - gap)))
+        if path:
+            self.paper.put('<path d="%s" fill="%s" shape-rendering="crispEdges"/>' % (path, front))
+
+    def _glyph(self, code: int, box: Tuple[float, float, float, float], front: str) -> None:
+        x, y, wide, high = box
+        name = self.paper.glyph(code)
+        if name is not None:
+            self.paper.put('<use href="#%s" color="%s" transform="translate(%s %s) scale(%s %s)"/>' % (
+                name, front, num(x), num(y - high), fine(wide / WIDTH), fine(high / WIDTH)))
+            return
+        left, top = x + wide * 0.15, y - high * 0.85
+        self.paper.put('<path d="M%s %sh%sv%sh%sz" fill="none" stroke="%s" stroke-width="2"/>' % (
+            num(left), num(top), num(wide * 0.7), num(high * 0.7), num(-wide * 0.7), front))
+
+
+def _text(text: str, run: Run, wide: float, high: float, front: str) -> str:
+    """The letters, stretched by a transform, which all viewers follow."""
+    # (Chromium keeps blanks only where the text itself says so)
+    size = abs(high) * SIZE
+    return ('<text transform="matrix(%s 0 0 %d %s %s)" font-size="%s" textLength="%s" fill="%s" xml:space="preserve">'
+            "%s</text>") % (
+        fine(wide / (ADVANCE * size)), 1 if high > 0 else -1, num(run.x), num(run.y - high * BASE), num(size),
+        num(ADVANCE * size * len(run.text)), front, escape(text))
+
+
+def _cell(x: float, y: float, wide: float, high: float, colour: str) -> str:
+    return '<rect x="%s" y="%s" width="%s" height="%s" fill="%s"/>' % (
+        num(min(x, x + wide)), num(min(y - high, y)), num(abs(wide)), num(abs(high)), colour)

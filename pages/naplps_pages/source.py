@@ -1,0 +1,71 @@
+"""One page: a file, or standard input."""
+import errno
+import os
+import sys
+import tempfile
+from dataclasses import dataclass
+from typing import IO, List, Optional
+
+# A longer page is no request of `naplps batch`, and isn't held.
+MOST = 16 << 20
+PIECE = 1 << 20
+
+
+@dataclass(frozen=True)
+class Page:
+    """The bytes of a page; or, of a page that is longer than MOST, the file that has them."""
+
+    name: str
+    data: Optional[bytes]
+    file: Optional[IO[bytes]] = None
+
+    def close(self) -> None:
+        """Closes the file of a long page."""
+        if self.file:
+            self.file.close()
+
+
+class Unread(Exception):
+    """The page can't be read, with the system's reason."""
+
+
+def read(name: str) -> Page:
+    """Reads the page of this name, '-' for standard input. Raises Unread."""
+    try:
+        if name == "-":
+            if sys.stdin is None:
+                raise OSError(errno.EBADF, os.strerror(errno.EBADF))
+            return _gathered(name, sys.stdin.buffer)
+        # A pipe is waited for, as other filters do.
+        with open(name, "rb", buffering=0) as file:
+            return _gathered(name, file)
+    except OSError as error:
+        raise Unread(error.strerror or str(error)) from None
+    except ValueError as error:  # a name with NUL
+        raise Unread(str(error)) from None
+
+
+def _gathered(name: str, file: IO[bytes]) -> Page:
+    pieces: List[bytes] = []
+    length = 0
+    while length <= MOST:
+        piece = file.read(PIECE)
+        if not piece:
+            return Page(name, b"".join(pieces))
+        pieces.append(piece)
+        length += len(piece)
+    return Page(name, None, _kept(b"".join(pieces), file))
+
+
+def _kept(first: bytes, file: IO[bytes]) -> IO[bytes]:
+    """A file of the whole page, at its start: the file itself where it can go back, else a copy."""
+    if file.seekable():
+        copy: IO[bytes] = open(os.dup(file.fileno()), "rb", buffering=0)
+        copy.seek(-len(first), os.SEEK_CUR)
+        return copy
+    spool = tempfile.TemporaryFile()
+    spool.write(first)
+    for piece in iter(lambda: file.read(PIECE), b""):
+        spool.write(piece)
+    spool.seek(0)
+    return spool

@@ -1,0 +1,21 @@
+"""Small pages with known answers."""
+import shutil
+
+POINT = bytes.fromhex("0E 26 52 40 40")
+POINT_LINE = "POINT 4194304,4194304 pel=0,0 colour=own-start"
+POINT_AND_BELL = POINT + b"\x07"
+OUTSIDE = bytes.fromhex("0E 26 52 28 7F")
+MACRO = bytes.fromhex("1B 40 41 0E 26 52 0F 1B 45 1B 2A 7A 19 41")
+# A macro that repeats a character 63 times and 120 times again, called 2,862 times: 21 million entries.
+BOMB = (bytes.fromhex("1B 2A 7A 1B 40 41") + b"A" + bytes.fromhex("1B 46 7F") * 120 + bytes.fromhex("1B 45 1B 40 42")
+        + b"\x19A" * 54 + bytes.fromhex("1B 45") + b"\x19B" * 53)
+
+
+def with_parity(data: bytes, odd: bool = False) -> bytes:
+    """The bytes with a parity bit each."""
+    return bytes(byte | 0x80 if (bin(byte).count("1") % 2 == 1) != odd else byte for byte in data)
+
+
+def has(command: str) -> bool:
+    """Whether a command is there."""
+    return shutil.which(command) is not None

@@ -1,0 +1,124 @@
+"""The sources: Python 3.9, types, sizes, a docstring for each public item; and the texts that stand in two places."""
+import ast
+import glob
+import os
+import re
+import subprocess
+import sys
+
+import pytest
+
+from conftest import PAGES, TOP
+from naplps_pages import refusals
+from samples import has
+
+PACKAGE = os.path.join(PAGES, "naplps_pages")
+SOURCES = sorted(glob.glob(os.path.join(PACKAGE, "**", "*.py"), recursive=True)) + [os.path.join(PAGES, "naplps-pages")]
+SCRIPT = os.path.join(TOP, "scripts", "manual-refusals")
+ALL = SOURCES + [SCRIPT] + sorted(glob.glob(os.path.join(PAGES, "tests", "*.py")))
+
+
+def parsed(path):
+    with open(path, encoding="utf-8") as source:
+        return ast.parse(source.read(), path, feature_version=(3, 9))
+
+
+@pytest.mark.parametrize("path", ALL, ids=lambda path: os.path.relpath(path, PAGES))
+def test_python_3_9_and_sizes(path):
+    with open(path, encoding="utf-8") as source:
+        lines = source.read().split("\n")
+    assert len(lines) < 800 and max(map(len, lines)) <= 120
+    for node in ast.walk(parsed(path)):
+        if isinstance(node, (ast.FunctionDef, ast.AsyncFunctionDef)):
+            assert node.end_lineno - node.lineno < 40, node.name
+
+
+@pytest.mark.parametrize("path", SOURCES, ids=lambda path: os.path.relpath(path, PAGES))
+def test_docstrings(path):
+    tree = parsed(path)
+    assert ast.get_docstring(tree)
+    for owner in ast.walk(tree):
+        if isinstance(owner, (ast.Module, ast.ClassDef)):
+            for node in owner.body:
+                if isinstance(node, (ast.FunctionDef, ast.ClassDef)) and not node.name.startswith("_"):
+                    assert ast.get_docstring(node), node.name
+
+
+@pytest.mark.parametrize("path", SOURCES, ids=lambda path: os.path.relpath(path, PAGES))
+def test_the_standard_library_alone(path):
+    known = getattr(sys, "stdlib_module_names", None)
+    if known is None:
+        pytest.skip("this Python doesn't tell the names of its library")
+    for node in ast.walk(parsed(path)):
+        names = [each.name for each in node.names] if isinstance(node, ast.Import) else (
+            [node.module] if isinstance(node, ast.ImportFrom) and not node.level else [])
+        for name in names:
+            assert name.split(".")[0] in known | {"naplps_pages"}
+
+
+@pytest.mark.skipif(not has("mypy"), reason="there is no mypy")
+def test_types(tmp_path):
+    words = ["mypy", "--strict", "--python-version", "3.9", "--cache-dir", str(tmp_path)]
+    said = subprocess.run([*words, PACKAGE, SCRIPT], capture_output=True, text=True, cwd=PAGES)
+    assert said.returncode == 0, said.stdout
+
+
+def script_without_tools(tmp_path, script):
+    """The script as it is where none of the tools is there, and a note of what apt-get is asked."""
+    note, binary = os.path.join(str(tmp_path), "asked"), os.path.join(str(tmp_path), "bin")
+    os.mkdir(binary)
+    with open(os.path.join(TOP, "scripts", script), encoding="ascii") as source:
+        text = source.read().replace("/usr/", "/nowhere/")
+    for name, lines in (("script", text), ("apt-get", '#!/bin/sh\necho "$@" >> %s\n' % note)):
+        with open(os.path.join(binary, name), "w", encoding="ascii") as made:
+            made.write(lines)
+        os.chmod(os.path.join(binary, name), 0o755)
+    return os.path.join(binary, "script"), note
+
+
+LINE = "install -y --no-install-recommends python3-pytest python3-hypothesis mypy chromium librsvg2-bin"
+
+
+@pytest.mark.parametrize("words", [[], ["--install"]])
+def test_missing_tools_are_installed_only_when_that_is_asked(tmp_path, words):
+    script, note = script_without_tools(tmp_path, "test-tools")
+    env = dict(os.environ, PATH=os.path.dirname(script) + ":" + os.environ["PATH"])
+    said = subprocess.run([script, *words], env=env, capture_output=True, text=True)
+    assert said.returncode == 0
+    if words and os.geteuid() == 0:
+        with open(note, encoding="ascii") as asked:
+            assert asked.read() == LINE + "\n"
+    else:
+        assert not os.path.exists(note) and said.stdout.endswith("  as root on Debian: apt-get %s\n" % LINE)
+
+
+def test_the_manual_page_names_each_member_of_json():
+    with open(os.path.join(TOP, "man", "naplps-pages.1"), encoding="utf-8") as source:
+        text = source.read()
+    section = text[text.index(".Sh JSON"):text.index(".Sh ENVIRONMENT")]
+    with open(os.path.join(PACKAGE, "schema.py"), encoding="utf-8") as source:
+        names = set(re.findall(r"\"(\w+)\":|\b(\w+)=None|\[\"(\w+)\"\] =", source.read()))
+    assert len(names) > 30
+    for name in map("".join, names):
+        assert re.search(r"\b%s\b" % name, section), name
+
+
+def manual_refusals():
+    """The text of each refusal in the manual page, without its marks."""
+    with open(os.path.join(TOP, "man", "naplps.1"), encoding="utf-8") as source:
+        text = source.read()
+    section = text[text.index(".Sh REFUSALS"):text.index(".Sh DIAGNOSTICS")]
+    for number, name, body in re.findall(r"\.It (\d+) (\w+)\n(.*?)(?=\n\.It |\n\.El)", section, re.DOTALL):
+        body = re.sub(r"\.Fl Fl ", "--", body).replace(" Li ", " ").replace("\\-", "-")
+        yield int(number), name, re.sub(r" ([.,;])", r"\1", " ".join(body.split()))
+
+
+def test_the_manual_page_says_of_refusals_what_the_tool_says():
+    told = {number: (name, body) for number, name, body in manual_refusals()}
+    known = refusals.load()
+    assert set(told) == set(known) == set(range(1, 23))
+    for number, each in known.items():
+        text = " ".join(part for part in (each.means, "Seen in " + each.seen_in, each.do) if part)
+        if each.treatments:
+            text += " naplps-pages cures tries: %s." % ", ".join(each.treatments)
+        assert told[number] == (each.name, text)
