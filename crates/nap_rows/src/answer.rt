@@ -3,7 +3,7 @@ use crate::notation::MOST;
 use crate::trouble::{Trouble, tell};
 use nap_codes::Left;
 use nap_lines::line_of;
-use nap_list::{Entry, ListSink, Sink};
+use nap_list::{CountSink, Entry, ListSink, Sink};
 use nap_reader::{Budget, Fault, Reader, Refusal};
 use std::alloc::{AllocError, Global};
 
@@ -97,6 +97,30 @@ pub fn single_bytes<'a>(
     Ok(pieces)
 }
 
+/// With which byte each entry comes, where each byte is a piece; those that come at the end have the length.
+pub fn places_in(alloc: Global, budget: Budget, bytes: &[u8]) -> Result<Vec<u64>, Trouble> {
+    let mut reader = Reader::new(alloc, budget, CountSink::new());
+    let mut places = Vec::new(alloc);
+    for (place, piece) in single_bytes(alloc, bytes, false)?.iter().enumerate() {
+        feed(alloc, &mut reader, piece)?;
+        place_new(&mut places, reader.sink().count(), place)?;
+    }
+    let sink = match reader.finish() {
+        Ok(sink) => sink,
+        Err(stopped) => stopped.sink,
+    };
+    place_new(&mut places, sink.count(), bytes.len())?;
+    Ok(places)
+}
+
+/// The entries that have no place yet, of so many, came there.
+fn place_new(places: &mut Vec<u64>, count: u64, place: usize) -> Result<(), AllocError> {
+    for _ in places.len() as u64..count {
+        places.push(place as u64)?;
+    }
+    Ok(())
+}
+
 /// The lines of a list, each with its end.
 pub fn lines_of(alloc: Global, list: &[Entry]) -> Result<String, AllocError> {
     let mut lines = String::new(alloc);
@@ -119,20 +143,25 @@ pub fn ended(alloc: Global, refusal: Option<Refusal>) -> Result<String, AllocErr
 fn reason(alloc: Global, refusal: Refusal) -> Result<String, AllocError> {
     let place = refusal.place;
     match refusal.fault {
-        Fault::LeftOut(left) => left_out(alloc, left, place),
+        Fault::LeftOut(left) => format!(in alloc; "6 LeftOut {} at {place}", name_of(left)),
         fault => format!(in alloc; "{} {} at {place}", fault.number(), fault.name()),
     }
 }
 
-/// The same of a code that is left out, whose name has hyphens in the place of spaces.
-fn left_out(alloc: Global, left: Left, place: u64) -> Result<String, AllocError> {
-    let words = left.to_string(alloc)?;
-    let mut name = String::new(alloc);
-    for word in words.split(' ') {
-        if !name.is_empty() {
-            name.push('-')?;
-        }
-        name.push_str(word)?;
+/// The name of a code that is left out.
+fn name_of(left: Left) -> &'static str {
+    match left {
+        Left::Can => "CAN",
+        Left::Sdc => "SDC",
+        Left::Nsr => "NSR",
+        Left::Deft => "DEFT",
+        Left::Unprotect => "UNPROTECT",
+        Left::Edc1 => "EDC1",
+        Left::Edc2 => "EDC2",
+        Left::Edc3 => "EDC3",
+        Left::Edc4 => "EDC4",
+        Left::IncrementalPoint => "INCREMENTAL-POINT",
+        Left::IncrementalLine => "INCREMENTAL-LINE",
+        Left::IncrementalPoly => "INCREMENTAL-POLY",
     }
-    format!(in alloc; "6 LeftOut {name} at {place}")
 }

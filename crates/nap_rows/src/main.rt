@@ -8,8 +8,9 @@
 //! and the word `0,0*3` for three such words. LIST or CANONICAL is `-` where the row says nothing of it.
 //!
 //! A fourth field has more, with `,` between: `budget N` (else the usual one), `charged N` (else 0), `turns N` (else as many as
-//! bytes, where nothing is charged), `fed N` bytes taken, `form1 BYTES` (the text in form 1), `plain` and `not plain`. `charged -`
-//! and `turns -` stand for any number. `stops` and `breaks` say where sinks and outlets with little room stop the reading.
+//! bytes, where nothing is charged), `fed N` bytes taken, `places N ..` (with which byte each entry comes), `form1 BYTES` (the
+//! text in form 1), `plain` and `not plain`. `charged -` and `turns -` stand for any number. `stops` and `breaks` say where sinks
+//! and outlets with little room stop the reading.
 #![tactic(auto)]
 
 mod answer;

@@ -35,6 +35,8 @@ pub struct More {
     pub turns: Option<u64>,
     /// How many bytes are taken, if the row says so.
     pub fed: Option<u64>,
+    /// With which byte each entry comes, if the row says so.
+    pub places: Option<Vec<u64>>,
     /// The canonical text in form 1, if the row has it.
     pub form1: Option<Vec<u8>>,
     /// Whether the stream is plain, if the row says so.
@@ -200,6 +202,7 @@ impl More {
             charged: Some(0),
             turns: None,
             fed: None,
+            places: None,
             form1: None,
             plain: None,
             stops: Vec::new(alloc),
@@ -220,6 +223,7 @@ impl More {
                 self.any_turns = self.turns.is_none();
             }
             "fed" => self.fed = Some(number(alloc, rest)?),
+            "places" => self.places = Some(places_of(alloc, rest)?),
             "form1" => self.form1 = Some(bytes_of(alloc, rest)?),
             "plain" if rest.is_empty() => self.plain = Some(true),
             "not" if rest == "plain" => self.plain = Some(false),

@@ -1,5 +1,5 @@
 //! What is checked of a row.
-use crate::answer::{Answer, answer_in, ended, lines_of, single_bytes};
+use crate::answer::{Answer, answer_in, ended, lines_of, places_in, single_bytes};
 use crate::outlets::check_outlets;
 use crate::row::{Ending, Row};
 use crate::stops::check_stops;
@@ -100,6 +100,22 @@ fn check_cuts(alloc: Global, row: &Row<'_>, answer: &Answer) -> Result<(), Troub
         check_pieces(alloc, budget, answer, &[front, &[], back, &[]], &name)?;
     }
     Ok(())
+}
+
+/// Each entry comes with the byte that the row says.
+fn check_places(alloc: Global, row: &Row<'_>) -> Result<(), Trouble> {
+    let Some(wanted) = &row.more.places else {
+        return Ok(());
+    };
+    let came = places_in(alloc, row.more.budget, &row.stream)?;
+    for (wanted, came) in wanted.iter().zip(came.iter()) {
+        of(
+            alloc,
+            "the place of an entry",
+            same_count(alloc, *wanted, *came),
+        )?;
+    }
+    same_count(alloc, wanted.len() as u64, came.len() as u64)
 }
 
 /// What is read in one call is the answer's.
@@ -237,6 +253,7 @@ pub fn check(alloc: Global, row: &Row<'_>) -> Result<(), Trouble> {
     check_counts(alloc, row, &answer)?;
     check_kind(alloc, row)?;
     check_cuts(alloc, row, &answer)?;
+    check_places(alloc, row)?;
     check_whole(alloc, row, &answer)?;
     check_stops(alloc, row, &answer)?;
     if answer.turns <= LONG {

@@ -1,0 +1,94 @@
+"""The notation of vectors/: bytes and lists as a row spells them, in both directions."""
+import re
+from typing import List
+
+LONGEST_PERIOD = 24
+
+
+def bytes_of(text: str) -> bytes:
+    """The bytes that a text spells: `40*7` is seven times 40, `(26 52)*3` three times 26 52."""
+    while "*" in text:
+        text, count = re.subn(r"(?:([0-9A-F]{2})|\(([0-9A-F ]*)\))\*([0-9]+)", _repeated, text)
+        if not count:
+            raise ValueError(f"a count stands behind nothing: {text[:60]}")
+    return bytes.fromhex(text)
+
+
+def _repeated(match: "re.Match[str]") -> str:
+    part = (match[1] or match[2]).strip() + " "
+    return part * int(match[3])
+
+
+def spelled(data: bytes) -> str:
+    """The shortest such text that takes the first repetitions it finds."""
+    words: List[str] = []
+    at = 0
+    while at < len(data):
+        period, times = _repetition(data, at)
+        part = " ".join(f"{byte:02X}" for byte in data[at : at + period])
+        if times > 1:
+            part = f"({part})*{times}" if period > 1 else f"{part}*{times}"
+        words.append(part)
+        at += period * times
+    return " ".join(words)
+
+
+def _repetition(data: bytes, at: int) -> "tuple[int, int]":
+    """The length of the part that is repeated from here on, and how often it stands there: the one that saves most."""
+    best, saved = (1, 1), 0
+    for period in range(1, min(LONGEST_PERIOD, len(data) - at) + 1):
+        part = data[at : at + period]
+        times = 1
+        while data.startswith(part, at + period * times):
+            times += 1
+        saves = 3 * period * (times - 1) - (2 if period == 1 else 4) - len(str(times))
+        if times >= 3 and saves > saved:
+            best, saved = (period, times), saves
+    return best
+
+
+def lines_of(text: str) -> List[str]:
+    """The lines of a list: parted by `;`, and `W *3` is a line three times, `W*3` a word three times."""
+    lines: List[str] = []
+    for part in filter(None, (part.strip() for part in text.split(";"))):
+        line, _, times = part.rpartition(" *")
+        line, count = (line, int(times)) if line else (part, 1)
+        words = re.sub(r"(\S+)\*([0-9]+)", lambda match: " ".join([match[1]] * int(match[2])), line)
+        lines += [words] * count
+    return lines
+
+
+def listed(lines: List[str]) -> str:
+    """The lines of a list as a row has them."""
+    parts: List[str] = []
+    at = 0
+    while at < len(lines):
+        times = 1
+        while lines[at + times : at + times + 1] == [lines[at]]:
+            times += 1
+        parts.append(_counted(lines[at].split(" ")) + (f" *{times}" if times > 1 else ""))
+        at += times
+    return "; ".join(parts)
+
+
+def _counted(words: List[str]) -> str:
+    """Words, of which equal ones that follow each other are counted from three on."""
+    out: List[str] = []
+    at = 0
+    while at < len(words):
+        times = 1
+        while words[at + times : at + times + 1] == [words[at]]:
+            times += 1
+        out += [f"{words[at]}*{times}"] if times > 2 else [words[at]] * times
+        at += times
+    return " ".join(out)
+
+
+def counted(numbers: List[int]) -> str:
+    """Numbers, of which equal ones that follow each other are counted."""
+    return _counted([str(number) for number in numbers])
+
+
+def numbers_of(text: str) -> List[int]:
+    """The numbers that a text counts: `5*3` is 5 three times."""
+    return [int(number) for line in lines_of(text) for number in line.split()]

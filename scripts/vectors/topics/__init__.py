@@ -1,0 +1,23 @@
+"""The topics of vectors/, a module each."""
+from types import ModuleType
+from typing import Dict
+
+from vectors.topics import canonical, characters, controlling, cuts, definitions, drawing, hostile
+from vectors.topics import lexing, limits, macros, operands, plain, refusals, state
+
+TOPICS: Dict[str, ModuleType] = {
+    "lexing": lexing,
+    "operands": operands,
+    "opcodes-drawing": drawing,
+    "opcodes-control": controlling,
+    "state": state,
+    "characters": characters,
+    "definitions": definitions,
+    "macros": macros,
+    "limits": limits,
+    "canonical": canonical,
+    "plain": plain,
+    "refusals": refusals,
+    "cuts": cuts,
+    "hostile": hostile,
+}
