@@ -36,9 +36,13 @@ RULES = (
     Rule(".", "examples/**/*", DOCUMENTS),
 )
 COMPLETIONS = {
-    "naplps.bash": "share/bash-completion/completions/naplps",
-    "_naplps": "share/zsh/site-functions/_naplps",
-    "naplps.fish": "share/fish/vendor_completions.d/naplps.fish",
+    place: to
+    for name in ("naplps", "naplps-pages")
+    for place, to in {
+        f"{name}.bash": f"share/bash-completion/completions/{name}",
+        f"_{name}": f"share/zsh/site-functions/_{name}",
+        f"{name}.fish": f"share/fish/vendor_completions.d/{name}.fish",
+    }.items()
 }
 
 

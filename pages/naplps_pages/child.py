@@ -31,6 +31,7 @@ class Child:
     def __init__(self, command: Sequence[str], limits: Limits, source: Union[int, IO[bytes]] = subprocess.PIPE) -> None:
         self.limits = limits
         self.complaint = b""
+        self.end_of_time = 0.0
         try:
             self.process = subprocess.Popen(
                 command, stdin=source, stdout=subprocess.PIPE, stderr=subprocess.PIPE, bufsize=0,
@@ -55,18 +56,21 @@ class Child:
 
     def talk(self, request: bytes, take: Callable[[bytes], bool]) -> None:
         """Writes the request, and gives what comes to `take` until that says that it has all. Raises Failure."""
-        end = time.monotonic() + self.limits.seconds
+        self.wind()
         with selectors.DefaultSelector() as waiting:
             for pipe in self._pipes():
                 writes = pipe is self.process.stdin
                 if not writes or request:
                     waiting.register(pipe, selectors.EVENT_WRITE if writes else selectors.EVENT_READ)
-            self._turns(waiting, memoryview(request), take, end)
+            self._turns(waiting, memoryview(request), take)
 
-    def _turns(self, waiting: selectors.BaseSelector, left: memoryview, take: Callable[[bytes], bool],
-               end: float) -> None:
+    def wind(self) -> None:
+        """Lets the time for an answer begin now."""
+        self.end_of_time = time.monotonic() + self.limits.seconds
+
+    def _turns(self, waiting: selectors.BaseSelector, left: memoryview, take: Callable[[bytes], bool]) -> None:
         while True:
-            ready = waiting.select(max(0.0, end - time.monotonic()))
+            ready = waiting.select(max(0.0, self.end_of_time - time.monotonic()))
             if not ready:
                 raise Failure("no answer in %g s" % self.limits.seconds)
             for key, _ in ready:

@@ -12,9 +12,13 @@ from typing import Any, Callable, Dict, List, NoReturn, Optional
 from . import VERSION, answering, curing, explaining, showing
 from .ask import Program
 from .child import Limits
+from .collection import commands as collection
+from .collection import words as collection_words
 from .listing import MODEST
 from .output import TOOL, NotWritten, tell
 from .program import MOST_BUDGET, USUAL_BUDGET, NoProgram, find
+from .report import commands as reporting
+from .report import words as report_words
 from .session import FAILED, WRONG_WORDS, Session
 
 COMMANDS: Dict[str, Callable[[Session], int]] = {
@@ -58,6 +62,8 @@ def parser() -> argparse.ArgumentParser:
         one.add_argument("pages", metavar="PAGE", nargs=1 if name == "explain" else "+",
                          help="a file, or - for standard input")
         _add_options(one, name)
+    collection_words.add(commands, _add_budget, _add_seconds)
+    report_words.add(commands, _add_seconds)
     return top
 
 
@@ -68,8 +74,16 @@ def _add_options(one: argparse.ArgumentParser, name: str) -> None:
         one.add_argument("--into", metavar="FOLDER", help="make a file for each page in this folder")
     if name == "look":
         one.add_argument("--svg", metavar="FILE", help="make this file of the sketch of one page")
+    _add_budget(one)
+    _add_seconds(one)
+
+
+def _add_budget(one: argparse.ArgumentParser) -> None:
     one.add_argument("--budget", metavar="N", type=_budget, default=USUAL_BUDGET,
                      help="bytes of macro bodies that a page may be charged with; usually %d" % USUAL_BUDGET)
+
+
+def _add_seconds(one: argparse.ArgumentParser) -> None:
     one.add_argument("--seconds", metavar="N", type=_seconds, default=20.0,
                      help="how long the program may take for a page; usually 20")
 
@@ -116,6 +130,10 @@ def main(words: List[str], command: str) -> int:
     except OSError as error:  # of the help, which it prints
         tell("standard output: %s" % error.strerror)
         return FAILED
+    if given.command in collection.COMMANDS:
+        return collection.run(given, command)
+    if given.command in reporting.COMMANDS:
+        return reporting.run(given, command)
     wrong = _wrong(given)
     if wrong:
         tell(wrong)

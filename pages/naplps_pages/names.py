@@ -10,6 +10,8 @@ HIDDEN = ("Cc", "Cf", "Cs", "Co", "Cn", "Zl", "Zp")
 
 def shown(name: str) -> str:
     """The name on one line, with an escape for whatever a terminal wouldn't show as itself."""
+    if name.isprintable() and "\\" not in name:
+        return name
     return "".join(_shown(each) for each in name)
 
 

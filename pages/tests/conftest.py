@@ -1,5 +1,8 @@
 """What the tests share: the command, the program, and programs that fail."""
 import os
+import pathlib
+import shutil
+import signal
 import stat
 import subprocess
 import sys
@@ -20,6 +23,12 @@ from naplps_pages import program as program_module  # noqa: E402
 # (no test asserts a time)
 settings.register_profile("untimed", deadline=None)
 settings.load_profile("untimed")
+
+# A signal that is ignored here, as in a job in the background, would be ignored by the commands that are tried too; one
+# that is caught here isn't.
+for number in (signal.SIGINT, signal.SIGTERM, signal.SIGHUP):
+    if signal.getsignal(number) == signal.SIG_IGN:
+        signal.signal(number, lambda *_: None)
 
 Run = Callable[..., "subprocess.CompletedProcess[bytes]"]
 
@@ -53,6 +62,29 @@ def fake(tmp_path: "os.PathLike[str]") -> Callable[[str], str]:
         os.chmod(path, os.stat(path).st_mode | stat.S_IXUSR | stat.S_IXGRP | stat.S_IXOTH)
         return path
     return makes
+
+
+NOBODY = 65534
+
+
+@pytest.fixture
+def run_as_nobody(naplps: str, tmp_path: pathlib.Path) -> Run:
+    """Runs the command as a user who owns nothing, from a copy that all may read, wherever the sources stand."""
+    copy = tmp_path / "copy"
+    unwanted = shutil.ignore_patterns("__pycache__")
+    shutil.copytree(os.path.join(PAGES, "naplps_pages"), copy / "naplps_pages", ignore=unwanted)
+    for source in (COMMAND, naplps):
+        shutil.copy(source, copy)
+    for folder in (tmp_path, *list(tmp_path.parents)[:2]):
+        folder.chmod(0o755)
+    for path in (copy, *copy.rglob("*")):
+        path.chmod(path.stat().st_mode | 0o444 | (0o111 if path.is_dir() or path.stat().st_mode & 0o100 else 0))
+    where = dict(os.environ, NAPLPS=str(copy / os.path.basename(naplps)))
+
+    def runs(*words: str, cwd: Optional[str] = None) -> "subprocess.CompletedProcess[bytes]":
+        return subprocess.run([str(copy / "naplps-pages"), *words], capture_output=True, cwd=cwd, env=where,
+                              user=NOBODY, group=NOBODY, extra_groups=[])
+    return runs
 
 
 def file(folder: "os.PathLike[str]", name: "str | bytes", data: bytes) -> str:

@@ -4,6 +4,8 @@ import shutil
 POINT = bytes.fromhex("0E 26 52 40 40")
 POINT_LINE = "POINT 4194304,4194304 pel=0,0 colour=own-start"
 POINT_AND_BELL = POINT + b"\x07"
+# Another spelling of the point.
+SPELLED = bytes.fromhex("0E 27 52 40 40")
 OUTSIDE = bytes.fromhex("0E 26 52 28 7F")
 MACRO = bytes.fromhex("1B 40 41 0E 26 52 0F 1B 45 1B 2A 7A 19 41")
 # A macro that repeats a character 63 times and 120 times again, called 2,862 times: 21 million entries.

@@ -189,17 +189,10 @@ def test_no_program(run, tmp_path):
 
 @pytest.mark.skipif(os.geteuid() != 0, reason="only root can be another user")
 @pytest.mark.parametrize("command", COMMANDS)
-def test_an_unreadable_page(naplps, tmp_path, command):
+def test_an_unreadable_page(run_as_nobody, tmp_path, command):
     path = file(tmp_path, "secret", POINT)
     os.chmod(path, 0o600)
-    for folder in (tmp_path, *list(tmp_path.parents)[:2]):
-        os.chmod(folder, 0o755)
-
-    def become_nobody():
-        os.setgid(65534)
-        os.setuid(65534)
-    said = subprocess.run([COMMAND, command, path], capture_output=True, env=dict(os.environ, NAPLPS=naplps),
-                          preexec_fn=become_nobody)
+    said = run_as_nobody(command, path)
     assert (said.stdout, said.returncode) == (b"", 3)
     assert said.stderr.decode() == "naplps-pages: %s: Permission denied\n" % path
 

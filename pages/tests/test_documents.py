@@ -28,8 +28,10 @@ def test_commands_of_the_documents(naplps, tmp_path, words):
     os.symlink(COMMAND, os.path.join(folder, "pages", "naplps-pages"))
     for name, data in (("page.nap", with_parity(logo())), ("other.nap", POINT), ("pages/page.nap", POINT)):
         file(folder, name, data)
-    said = subprocess.run(["sh", "-c", "pages/naplps-pages " + words], cwd=folder, capture_output=True, text=True,
-                          env=dict(os.environ, NAPLPS=naplps))
+    env = dict(os.environ, NAPLPS=naplps, PATH=os.path.join(folder, "pages") + os.pathsep + os.environ["PATH"])
+    if "pages.db" in words and not words.startswith("scan"):
+        subprocess.run(["naplps-pages", "scan", "pages", "--into", "pages.db"], cwd=folder, env=env, check=True)
+    said = subprocess.run(["sh", "-c", "naplps-pages " + words], cwd=folder, capture_output=True, text=True, env=env)
     assert said.returncode in (0, 1), said.stderr
     assert all(": refused " in line for line in said.stderr.splitlines())
 

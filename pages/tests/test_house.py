@@ -14,8 +14,8 @@ from samples import has
 
 PACKAGE = os.path.join(PAGES, "naplps_pages")
 SOURCES = sorted(glob.glob(os.path.join(PACKAGE, "**", "*.py"), recursive=True)) + [os.path.join(PAGES, "naplps-pages")]
-SCRIPT = os.path.join(TOP, "scripts", "manual-refusals")
-ALL = SOURCES + [SCRIPT] + sorted(glob.glob(os.path.join(PAGES, "tests", "*.py")))
+SCRIPTS = [os.path.join(TOP, "scripts", name) for name in ("manual-refusals", "speed-pages")]
+ALL = SOURCES + SCRIPTS + sorted(glob.glob(os.path.join(PAGES, "tests", "*.py")))
 
 
 def parsed(path):
@@ -58,8 +58,8 @@ def test_the_standard_library_alone(path):
 
 @pytest.mark.skipif(not has("mypy"), reason="there is no mypy")
 def test_types(tmp_path):
-    words = ["mypy", "--strict", "--python-version", "3.9", "--cache-dir", str(tmp_path)]
-    said = subprocess.run([*words, PACKAGE, SCRIPT], capture_output=True, text=True, cwd=PAGES)
+    words = ["mypy", "--strict", "--scripts-are-modules", "--python-version", "3.9", "--cache-dir", str(tmp_path)]
+    said = subprocess.run([*words, PACKAGE, *SCRIPTS], capture_output=True, text=True, cwd=PAGES)
     assert said.returncode == 0, said.stdout
 
 
@@ -76,7 +76,7 @@ def script_without_tools(tmp_path, script):
     return os.path.join(binary, "script"), note
 
 
-LINE = "install -y --no-install-recommends python3-pytest python3-hypothesis mypy chromium librsvg2-bin"
+LINE = "install -y --no-install-recommends python3-pytest python3-hypothesis mypy chromium librsvg2-bin sqlite3"
 
 
 @pytest.mark.parametrize("words", [[], ["--install"]])

@@ -1,0 +1,43 @@
+# Completion of naplps-pages for bash.
+_naplps_pages() {
+    local word=${COMP_WORDS[COMP_CWORD]} before=${COMP_WORDS[COMP_CWORD - 1]} command='' words index
+    local commands='check list canon explain look text cures scan equal refused convert status report serve'
+    for ((index = 1; index < COMP_CWORD; index++)); do
+        if [[ " $commands " = *" ${COMP_WORDS[index]} "* ]]; then
+            command=${COMP_WORDS[index]}
+            break
+        fi
+    done
+    case $before in
+        # (numbers are for the user to say)
+        --budget | --seconds | --processes | --most | --number | --sketches | --port) return ;;
+        --into | --svg)
+            compopt -o filenames
+            mapfile -t COMPREPLY < <(compgen -f -- "$word")
+            return
+            ;;
+    esac
+    case $command in
+        '') words="$commands --help --version" ;;
+        check | list) words='--json --budget --seconds --help' ;;
+        canon) words='--into --budget --seconds --help' ;;
+        explain | text) words='--budget --seconds --help' ;;
+        look) words='--svg --into --budget --seconds --help' ;;
+        cures) words='--json --into --budget --seconds --help' ;;
+        scan) words='--into --processes --most --again --cures --budget --seconds --help' ;;
+        equal) words='--copies --verify --null --json --csv --seconds --help' ;;
+        refused) words='--number --null --json --csv --help' ;;
+        convert) words='--into --json --csv --seconds --help' ;;
+        status) words='--json --csv --help' ;;
+        report) words='--into --sketches --all --processes --seconds --help' ;;
+        serve) words='--port --seconds --help' ;;
+    esac
+    if [[ -z $command || $word = -* ]]; then
+        mapfile -t COMPREPLY < <(compgen -W "$words" -- "$word")
+    else
+        compopt -o filenames
+        mapfile -t COMPREPLY < <(compgen -f -- "$word")
+    fi
+}
+
+complete -F _naplps_pages naplps-pages

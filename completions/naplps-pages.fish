@@ -1,0 +1,40 @@
+# Completion of naplps-pages for fish.
+complete -c naplps-pages -n __fish_use_subcommand -f
+complete -c naplps-pages -n __fish_use_subcommand -a check -d 'Say whether pages are accepted, or why not'
+complete -c naplps-pages -n __fish_use_subcommand -a list -d 'Print a line for each entry of the pages'
+complete -c naplps-pages -n __fish_use_subcommand -a canon -d 'Print a canonical stream, or put those of pages into a folder'
+complete -c naplps-pages -n __fish_use_subcommand -a explain -d 'Show each entry beside its bytes, or why a page is refused'
+complete -c naplps-pages -n __fish_use_subcommand -a look -d 'Make a sketch of a page as SVG'
+complete -c naplps-pages -n __fish_use_subcommand -a text -d 'Print the text of pages'
+complete -c naplps-pages -n __fish_use_subcommand -a cures -d 'Try treatments that make a refused page readable'
+complete -c naplps-pages -n __fish_use_subcommand -a scan -d 'Ask about all pages in folders, and keep the answers'
+complete -c naplps-pages -n __fish_use_subcommand -a equal -d 'Print groups of pages that draw the same'
+complete -c naplps-pages -n __fish_use_subcommand -a refused -d 'Print refused pages by the reason'
+complete -c naplps-pages -n __fish_use_subcommand -a convert -d 'Put the canonical pages into a folder'
+complete -c naplps-pages -n __fish_use_subcommand -a status -d 'Say what was scanned when, and what is left'
+complete -c naplps-pages -n __fish_use_subcommand -a report -d 'Make one HTML file that shows what a scan found'
+complete -c naplps-pages -n __fish_use_subcommand -a serve -d 'Show it to browsers of this machine'
+complete -c naplps-pages -n '__fish_seen_subcommand_from check list cures equal refused convert status' -l json \
+    -d 'Print an object a line'
+complete -c naplps-pages -n '__fish_seen_subcommand_from equal refused convert status' -l csv -d 'Print the table as CSV'
+complete -c naplps-pages -n '__fish_seen_subcommand_from equal refused' -l null -d 'Print names alone, each ended by NUL'
+complete -c naplps-pages -n '__fish_seen_subcommand_from canon look cures scan convert report' -l into -r \
+    -d 'The folder or file to write into, or the store of a scan'
+complete -c naplps-pages -n '__fish_seen_subcommand_from look' -l svg -r -d 'Make this file'
+complete -c naplps-pages -n '__fish_seen_subcommand_from scan report' -l processes -x -d 'How many processes work'
+complete -c naplps-pages -n '__fish_seen_subcommand_from scan' -l most -x -d 'How long a page may be'
+complete -c naplps-pages -n '__fish_seen_subcommand_from scan' -l again -d 'Read and ask all again'
+complete -c naplps-pages -n '__fish_seen_subcommand_from scan' -l cures -d 'Try treatments of refused pages'
+complete -c naplps-pages -n '__fish_seen_subcommand_from equal' -l copies -d 'Print groups of plain copies too'
+complete -c naplps-pages -n '__fish_seen_subcommand_from equal' -l verify -d 'Read all files again, and compare canonical bytes'
+complete -c naplps-pages -n '__fish_seen_subcommand_from refused' -l number -x -d 'Only this refusal'
+complete -c naplps-pages -n '__fish_seen_subcommand_from check list canon explain look text cures scan' -l budget -x \
+    -d 'How many bytes of macro bodies a page may be charged with'
+complete -c naplps-pages -n '__fish_seen_subcommand_from check list canon explain look text cures scan equal convert report serve' \
+    -l seconds -x \
+    -d 'How long the program may take for a page'
+complete -c naplps-pages -n '__fish_seen_subcommand_from report' -l sketches -x -d 'How many pages have a sketch'
+complete -c naplps-pages -n '__fish_seen_subcommand_from report' -l all -d 'A sketch of each page'
+complete -c naplps-pages -n '__fish_seen_subcommand_from serve' -l port -x -d 'The port of 127.0.0.1'
+complete -c naplps-pages -s h -l help -d 'Print help'
+complete -c naplps-pages -n __fish_use_subcommand -l version -d 'Print the version'

@@ -1,0 +1,1 @@
+"""Collections: folders of pages, whose answers are kept in a store, which is one SQLite file."""

@@ -1,0 +1,120 @@
+"""The commands on collections, as they were asked for on the command line."""
+import argparse
+import sqlite3
+from dataclasses import replace
+from typing import Iterator
+
+from ..ask import Program
+from ..child import Limits
+from ..names import shown
+from ..output import NotWritten, tell
+from ..program import NoProgram, find
+from . import convert, equal, refused, status
+from .printing import Printer
+from .scan import COMPLETE, FAILED, SOME_LACK, Options, scan
+from .store import StoreFailed, open_to_read
+from .tables import Wanted
+from .verify import verified
+from .work import How
+
+Given = argparse.Namespace
+
+
+def run(given: Given, command: str) -> int:
+    """Runs a command; the status. `command` is the path of the tool, beside which naplps may stand."""
+    store = given.into if given.command == "scan" else given.store
+    try:
+        return COMMANDS[given.command](given, command)
+    except (NoProgram, NotWritten, StoreFailed) as error:
+        tell(str(error))
+    except sqlite3.Error as error:
+        tell("%s: %s" % (shown(store), error))
+    return FAILED
+
+
+def _scan(given: Given, command: str) -> int:
+    how = How(find(command), given.budget, given.seconds, given.most, Wanted(given.again, given.cures))
+    return scan(Options(given.folders, given.into, given.processes, how))
+
+
+class Telling:
+    """Tells what is wrong with files, and keeps the status."""
+
+    def __init__(self, printer: Printer) -> None:
+        self.printer, self.status = printer, COMPLETE
+
+    def __call__(self, name: str, why: str) -> None:
+        """Tells what is wrong with a file."""
+        self.printer.flush()
+        tell("%s: %s" % (shown(name), why))
+        self.status = SOME_LACK
+
+
+def _program(given: Given, command: str, connection: sqlite3.Connection) -> Program:
+    """The program, under the largest budget of the store: a budget only refuses."""
+    budget, = connection.execute("SELECT coalesce(max(budget), 0) FROM terms").fetchone()
+    return Program(find(command), int(budget), replace(Limits(), seconds=given.seconds))
+
+
+def _equal(given: Given, command: str) -> int:
+    connection = open_to_read(given.store)
+    printer = Printer(given.form, equal.COLUMNS)
+    telling = Telling(printer)
+    some = equal.groups(connection, given.copies)
+    if not given.verify:
+        for group in some:
+            equal.show(printer, group)
+    else:
+        program = _program(given, command, connection)
+        try:
+            for group in _verified(program, some, given.copies, telling):
+                equal.show(printer, group)
+        finally:
+            program.close()
+    printer.flush()
+    return telling.status
+
+
+def _verified(program: Program, some: Iterator[equal.Group], copies: bool, telling: Telling) -> Iterator[equal.Group]:
+    for group in some:
+        left = verified(program, group, telling)
+        if len(left.spellings) > 1 or (copies and left.files > 1):
+            yield left
+
+
+def _refused(given: Given, command: str) -> int:
+    connection = open_to_read(given.store)
+    printer = Printer(given.form, refused.COLUMNS)
+    refused.show(printer, refused.members(connection, given.number))
+    printer.flush()
+    return COMPLETE
+
+
+def _convert(given: Given, command: str) -> int:
+    connection = open_to_read(given.store)
+    printer = Printer(given.form, convert.COLUMNS)
+    telling = Telling(printer)
+    program = _program(given, command, connection)
+    conversion = convert.Conversion(program, given.into)
+    try:
+        for row in conversion.rows(connection):
+            if row.reason:
+                telling(row.path if row.status == convert.NOT_MADE else row.place.path, row.reason)
+            convert.show(printer, row)
+    finally:
+        program.close()
+    if given.form == "text":
+        printer.line(conversion.line())
+    printer.flush()
+    return telling.status
+
+
+def _status(given: Given, command: str) -> int:
+    told = status.status(open_to_read(given.store), given.store)
+    printer = Printer(given.form, status.COLUMNS)
+    status.show(printer, told)
+    printer.flush()
+    return COMPLETE
+
+
+COMMANDS = {"scan": _scan, "equal": _equal, "refused": _refused, "convert": _convert, "status": _status}

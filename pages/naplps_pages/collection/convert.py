@@ -1,0 +1,108 @@
+"""The command convert: canonical pages into a folder, named by their hashes."""
+import os
+import sqlite3
+from typing import Dict, Iterator, NamedTuple, Optional
+
+from ..answers import Accepted, Answer, NoAnswer
+from ..ask import Program
+from ..names import shown
+from ..output import make_folder, put
+from ..schema import Members
+from .places import Otherwise, Place, read
+from .printing import NAME, Printer, named
+from .store import kept
+from .tables import hashed
+from .verify import OTHER_HASH
+
+COLUMNS = ["canonical", "status", "path", "reason", *NAME]
+WRITTEN, THERE, CHANGED, NOT_MADE = "written", "there", "changed", "not made"
+PAGES = """SELECT p.canon, p.canon_size, p.own, d.path, f.name FROM pages p
+    JOIN present f ON f.page = p.id JOIN folders d ON d.id = f.folder
+    WHERE p.canon IS NOT NULL ORDER BY p.canon, d.path, f.name"""
+
+
+class Row(NamedTuple):
+    """What came of a canonical page, or of a file that might have brought it."""
+
+    canon: bytes
+    status: str
+    path: str
+    place: Place
+    reason: Optional[str] = None
+
+
+class Conversion:
+    """Puts canonical pages into a folder."""
+
+    def __init__(self, program: Program, into: str) -> None:
+        self.program, self.into = program, into
+        self.counts: Dict[str, int] = {}
+
+    def rows(self, connection: sqlite3.Connection) -> Iterator[Row]:
+        """Puts the canonical page of each group in place, and tells what came of it. Raises NotWritten."""
+        make_folder(self.into)
+        done: Optional[bytes] = None
+        for canon, length, own, folder, name in kept(connection, PAGES):
+            if canon != done:
+                row = self._convert(canon, length, own, Place(folder, name))
+                self.counts[row.status] = self.counts.get(row.status, 0) + 1
+                done = None if row.status == CHANGED else canon  # another file may have the page still
+                yield row
+
+    def _convert(self, canon: bytes, length: int, own: bytes, place: Place) -> Row:
+        path = self.path(canon)
+        there = _size(path)
+        if there is not None:
+            if there == length:
+                return Row(canon, THERE, path, place)
+            return Row(canon, NOT_MADE, path, place, "is there already with other bytes, and isn't written over")
+        try:
+            page = read(place, own)
+        except Otherwise as otherwise:
+            return Row(canon, CHANGED, path, place, str(otherwise))
+        try:
+            return self._written(canon, path, place, self.program.ask("canon", page))
+        finally:
+            page.close()
+
+    def _written(self, canon: bytes, path: str, place: Place, answer: Answer) -> Row:
+        if not isinstance(answer, Accepted):
+            why = answer.reason if isinstance(answer, NoAnswer) else answer.line
+            return Row(canon, NOT_MADE, path, place, why)
+        if hashed(answer.body) != canon:
+            return Row(canon, NOT_MADE, path, place, OTHER_HASH)
+        make_folder(os.path.dirname(path))
+        put(path, answer.body)
+        return Row(canon, WRITTEN, path, place)
+
+    def path(self, canon: bytes) -> str:
+        """Where the canonical page of this hash stands."""
+        name = canon.hex()
+        return os.path.join(self.into, name[:2], name + ".nap")
+
+    def line(self) -> str:
+        """What came of it all, in one line."""
+        number = self.counts.get
+        line = "%d written, %d there" % (number(WRITTEN, 0), number(THERE, 0))
+        if number(CHANGED):
+            line += ", %d files changed since the scan" % self.counts[CHANGED]
+        if number(NOT_MADE):
+            line += ", %d not made" % self.counts[NOT_MADE]
+        return line
+
+
+def show(printer: Printer, row: Row) -> None:
+    """Prints a row, in the forms that have rows."""
+    members: Members = {"canonical": row.canon.hex(), "status": row.status, "path": shown(row.path),
+                        "reason": row.reason, **named(row.place)}
+    if printer.form == "json":
+        printer.object(members)
+    elif printer.form == "csv":
+        printer.row(members)
+
+
+def _size(path: str) -> Optional[int]:
+    try:
+        return os.lstat(path).st_size
+    except OSError:
+        return None

@@ -1,0 +1,65 @@
+"""Folders by their descriptors: paths may be longer than the system takes at once."""
+import errno
+import os
+from typing import Iterator, Optional
+
+FLAGS = os.O_RDONLY | os.O_DIRECTORY | os.O_CLOEXEC | os.O_NOCTTY
+# Bytes of a path that are given to the system at once.
+PIECE = 2048
+
+
+def absolute(name: str) -> bytes:
+    """The path of a folder, from the top. Raises OSError where there is no current folder."""
+    return os.path.abspath(os.fsencode(name))
+
+
+def join(folder: bytes, name: bytes) -> bytes:
+    """The path of what has this name in a folder."""
+    return folder + name if folder.endswith(b"/") else folder + b"/" + name
+
+
+def is_within(path: bytes, folder: bytes) -> bool:
+    """Whether the path is the folder's, or leads into it."""
+    return path == folder or path.startswith(folder if folder.endswith(b"/") else folder + b"/")
+
+
+def opened(path: bytes, follow: bool = False) -> int:
+    """A descriptor of the folder. A link in place of it is followed only where that is said. Raises OSError."""
+    flags = FLAGS if follow else FLAGS | os.O_NOFOLLOW
+    if len(path) <= PIECE:
+        return os.open(path, flags)
+    *first, last = _pieces(path)
+    at: Optional[int] = None
+    try:
+        for piece in first:
+            below = os.open(piece, FLAGS, dir_fd=at)
+            if at is not None:
+                os.close(at)
+            at = below
+        return os.open(last, flags, dir_fd=at)
+    finally:
+        if at is not None:
+            os.close(at)
+
+
+def _pieces(path: bytes) -> Iterator[bytes]:
+    """The path cut into paths that are short enough, each relative to the one before."""
+    _, first, *names = path.split(b"/")
+    piece = b"/" + first
+    for name in names:
+        if len(piece) + 1 + len(name) > PIECE:
+            yield piece
+            piece = name
+        else:
+            piece += b"/" + name
+    yield piece
+
+
+def reason(error: OSError) -> str:
+    """The system's reason, in its words."""
+    return os.strerror(error.errno) if error.errno else str(error)
+
+
+def is_gone(error: OSError) -> bool:
+    """Whether there is nothing of that name any more."""
+    return error.errno in (errno.ENOENT, errno.ENOTDIR)

@@ -1,0 +1,48 @@
+"""Where pages are, and their bytes as they are there now."""
+import os
+from typing import IO, NamedTuple, Optional
+
+from ..source import MOST, Page
+from .folders import join, opened, reason
+from .looking import look
+from .tables import READ
+
+CHANGED = "it isn't as it was when it was scanned"
+
+
+class Place(NamedTuple):
+    """A file, by its folder and its name."""
+
+    folder: bytes
+    name: bytes
+
+    @property
+    def path(self) -> str:
+        """Its path."""
+        return os.fsdecode(join(self.folder, self.name))
+
+
+class Otherwise(Exception):
+    """The file can't be read, or isn't the page any more, with the reason."""
+
+
+def read(place: Place, own: bytes) -> Page:
+    """The page at the place, whose bytes have this hash. Raises Otherwise."""
+    try:
+        at = opened(place.folder, follow=True)
+    except OSError as error:
+        raise Otherwise(reason(error)) from None
+    try:
+        seen = look(0, at, place.name, 1 << 62, MOST)
+    finally:
+        os.close(at)
+    file: Optional[IO[bytes]] = None
+    if seen.descriptor is not None:
+        file = open(seen.descriptor, "rb", buffering=0)
+    if seen.file.state != READ or seen.file.own != own:
+        if file:
+            file.close()
+        raise Otherwise(CHANGED if seen.file.state == READ else seen.file.why or CHANGED)
+    return Page(place.path, seen.data, file)
+
+

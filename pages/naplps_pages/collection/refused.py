@@ -1,0 +1,90 @@
+"""The command refused: refused pages by the reason."""
+import sqlite3
+from itertools import groupby
+from typing import Iterator, NamedTuple, Optional
+
+from ..answers import Refused
+from ..names import shown
+from ..schema import Members, answered
+from .places import Place
+from .printing import NAME, Printer, named, numbered
+from .store import kept
+
+COLUMNS = ["number", "fault", "code", "place", "hash", "tried", "treatments", *NAME]
+REASONS = """CREATE TEMP TABLE reasons AS SELECT p.number AS number, coalesce(p.left_out, '') AS left_out,
+    count(DISTINCT p.id) AS pages, count(*) AS files FROM pages p JOIN present f ON f.page = p.id
+    WHERE p.number IS NOT NULL {} GROUP BY 1, 2"""
+MEMBERS = """SELECT r.number, n.name, r.left_out, r.pages, r.files, p.place, p.own, c.page IS NOT NULL, c.treatments,
+    d.path, f.name FROM reasons r JOIN pages p ON p.number = r.number AND coalesce(p.left_out, '') = r.left_out
+    JOIN present f ON f.page = p.id JOIN folders d ON d.id = f.folder
+    LEFT JOIN faults n ON n.number = r.number LEFT JOIN cures c ON c.page = p.id AND c.terms = p.terms
+    ORDER BY r.files DESC, r.number, r.left_out, d.path, f.name"""
+
+
+class Reason(NamedTuple):
+    """A reason, and how many pages and files have it."""
+
+    number: int
+    fault: str
+    left_out: str
+    pages: int
+    files: int
+
+
+class Member(NamedTuple):
+    """A file that is refused; whether treatments were tried, and which make it readable."""
+
+    reason: Reason
+    at: int
+    own: bytes
+    tried: bool
+    treatments: Optional[str]
+    place: Place
+
+    @property
+    def refused(self) -> Refused:
+        """The refusal."""
+        return Refused(self.reason.number, self.reason.fault, self.reason.left_out or None, self.at)
+
+
+def members(connection: sqlite3.Connection, number: Optional[int]) -> Iterator[Member]:
+    """The refused files, by the reason, the most frequent first; of one number only where it is given."""
+    connection.execute(REASONS.format("" if number is None else "AND p.number = %d" % number))
+    for row in kept(connection, MEMBERS):
+        yield Member(Reason._make(row[:5]), row[5], row[6], bool(row[7]), row[8], Place(row[9], row[10]))
+
+
+def show(printer: Printer, some: Iterator[Member]) -> None:
+    """Prints refused files."""
+    for reason, each in groupby(some, key=lambda member: member.reason):
+        if printer.form == "text":
+            name = " ".join(part for part in (reason.fault, reason.left_out) if part)
+            printer.line("%d %s: %s, %s" % (
+                reason.number, name, numbered(reason.pages, "page"), numbered(reason.files, "file")))
+        for member in each:
+            _show(printer, member)
+
+
+def _show(printer: Printer, member: Member) -> None:
+    if printer.form == "text":
+        printer.line("  %s at %d%s" % (shown(member.place.path), member.at, _cure(member)))
+    elif printer.form == "json":
+        printer.object(_object(member))
+    elif printer.form == "csv":
+        reason = member.reason
+        printer.row({"number": reason.number, "fault": reason.fault, "code": reason.left_out, "place": member.at,
+                     "hash": member.own.hex(), "tried": "yes" if member.tried else "no",
+                     "treatments": member.treatments, **named(member.place)})
+    else:
+        printer.name(member.place)
+
+
+def _cure(member: Member) -> str:
+    if member.treatments:
+        return ": readable by %s" % member.treatments
+    return ": no treatment makes it readable" if member.tried else ""
+
+
+def _object(member: Member) -> Members:
+    return {**answered(member.place.path, member.refused), "hash": member.own.hex(), "tried": member.tried,
+            "treatments": member.treatments.split("+") if member.treatments else None}

@@ -1,0 +1,173 @@
+"""The command scan: folders into a store."""
+import hashlib
+import os
+import re
+import sys
+from dataclasses import dataclass
+from typing import Iterator, List, Optional, Tuple
+
+from ..answers import NoAnswer
+from ..child import Limits
+from ..names import shown
+from ..output import Output, tell
+from ..program import version
+from . import tables
+from .ahead import Ahead
+from .counts import counted
+from .folders import absolute, join, reason
+from .lock import Busy, Lock
+from .pool import NoWorkers, Pool
+from .progress import Counting, Progress
+from .search import Search, apart
+from .stopping import Stopping
+from .store import fold, keep_log, open_to_write
+from .tables import INDICES, Piece
+from .walk import hidden
+from .work import How
+from .writer import Terms, Writer
+
+COMPLETE, SOME_LACK, FAILED = 0, 1, 3
+# A worker that is silent for so long, beside the time of two answers, hangs.
+PATIENCE = 60.0
+FORM = re.compile(r"canonical form ([0-9A-Za-z. ]+)")
+STOPPED = "stopped; what was taken is kept, and the same command goes on"
+
+
+@dataclass(frozen=True)
+class Options:
+    """What was asked for."""
+
+    folders: List[str]
+    store: str
+    processes: int
+    how: How
+
+
+def terms_of(how: How) -> Terms:
+    """The terms of the program's answers. Raises OSError, or ValueError where it gives none."""
+    limits = Limits(seconds=how.seconds)
+    with open(how.program, "rb") as file:
+        hashed = hashlib.sha256()
+        for piece in iter(lambda: file.read(1 << 20), b""):
+            hashed.update(piece)
+    ahead = Ahead(how.program, how.budget, limits)
+    try:
+        answer = ahead.ask([b""])[0].answer
+    finally:
+        ahead.close()
+    if isinstance(answer, NoAnswer):
+        raise ValueError(answer.reason)
+    told = version(how.program, limits)
+    form = FORM.search(told)
+    return Terms(told, hashed.digest(), form[1] if form else "unknown", how.budget)
+
+
+def scan(options: Options) -> int:
+    """Scans folders into a store; the status."""
+    try:
+        terms = terms_of(options.how)
+    except (OSError, ValueError) as error:
+        tell("%s: %s" % (shown(options.how.program), reason(error) if isinstance(error, OSError) else error))
+        return FAILED
+    try:
+        with Stopping() as stopping, Lock(options.store):
+            run = _scan(options, terms, stopping)
+    except Busy as busy:
+        tell("%s: another scan is at work on it: %s" % (shown(options.store), busy))
+        return FAILED
+    except (OSError, NoWorkers) as error:
+        said = reason(error) if isinstance(error, OSError) else str(error)
+        tell("%s: %s" % (shown(options.store), said))
+        return FAILED
+    stopping.act()
+    output = Output(sys.stdout.buffer)
+    output.line(run.line)
+    output.flush()
+    return run.status
+
+
+def _scan(options: Options, terms: Terms, stopping: Stopping) -> "Run":
+    roots = apart(map(absolute, options.folders))
+    connection = open_to_write(options.store)
+    try:
+        if not keep_log(connection):
+            tell("%s: its file system lets no log stand beside it; it can't be read while it is written"
+                 % shown(options.store))
+        counting = Counting(roots)
+        progress = Progress(sys.stderr, lambda: counting.total)
+        if progress.terminal:
+            counting.start()
+        writer = Writer(connection, os.fsencode(options.how.program), terms)
+        run = Run(options, writer, progress, stopping)
+        run.scan(roots)
+        return run
+    finally:
+        if connection.in_transaction:
+            connection.execute("ROLLBACK")
+        fold(connection)
+        connection.close()
+
+
+class Run:
+    """One run over the roots."""
+
+    def __init__(self, options: Options, writer: Writer, progress: Progress, stopping: Stopping) -> None:
+        self.options, self.writer, self.progress, self.stopping = options, writer, progress, stopping
+        self.search = Search(writer, options.how.wanted, hidden(options.store), self._complain)
+        self.found = 0
+        self.status = COMPLETE
+        self.line = ""
+
+    def scan(self, roots: List[bytes]) -> None:
+        """Scans."""
+        first = (self.options.how, self.options.store, self.writer.terms, self.writer.run)
+        pool = Pool(self.options.processes, first, PATIENCE + 2 * self.options.how.seconds)
+        try:
+            for piece in pool.run(self.search.chunks(roots)):
+                self._take(piece)
+                if self.stopping.number is not None:
+                    break
+        finally:
+            pool.close()
+            self.progress.clear()
+        self.writer.write()
+        if self.stopping.number is not None:
+            tell(STOPPED)
+        else:
+            self._finish()
+
+    def _take(self, piece: Optional[Piece]) -> None:
+        if piece:
+            self.found += len(piece[0])
+            self.writer.take(piece)
+            for file, why in _lacking(piece):
+                path = self.writer.connection.execute("SELECT path FROM folders WHERE id = ?", (file.folder,))
+                self._complain(join(path.fetchone()[0], file.name), why)
+        if self.writer.is_due:
+            self.writer.write()
+        self.progress.show(self.search.known + self.found)
+
+    def _complain(self, path: bytes, why: str) -> None:
+        """Tells what is wrong with a folder or a file."""
+        self.progress.tell("%s: %s" % (shown(os.fsdecode(path)), why))
+        self.status = SOME_LACK
+
+    def _finish(self) -> None:
+        """Marks what is gone, builds indices, and counts."""
+        writer = self.writer
+        writer.sweep(self.search.whole)
+        writer.connection.executescript(INDICES)
+        counts = counted(writer.connection, writer.run)
+        writer.finish(counts.met, counts.asked)
+        self.line = counts.line(self.search.known)
+
+
+def _lacking(piece: Piece) -> Iterator[Tuple[tables.File, str]]:
+    """The files of a piece about which something couldn't be known, and why."""
+    files, answers = piece
+    reasons = {each.own: each.why for each in answers if each.state == tables.NO_ANSWER and each.why}
+    for file in files:
+        if file.state in (tables.UNREADABLE, tables.CHANGED):
+            yield file, file.why or ""
+        elif reasons and file.own in reasons:
+            yield file, reasons[file.own]

@@ -1,0 +1,151 @@
+"""Searches folders for files that a worker has to look at: those that the store doesn't know as they are."""
+import os
+import sqlite3
+from typing import Callable, Iterable, Iterator, List, NamedTuple, Optional, Tuple
+
+from .folders import is_within
+from .looking import marks
+from .tables import GONE, READ, UNREADABLE, Chunk, Names, Wanted
+from .walk import Hidden, Listing, walk
+from .writer import Writer
+
+# A chunk has so many files, and so many bytes of names.
+MOST_FILES, MOST_NAMES = 200, 16 << 10
+# So many rows of the store are looked at together.
+ROWS = 1000
+# A chunk of nothing comes behind so many folders or known files that bring no other, so that nobody waits for long.
+QUIET_FOLDERS, QUIET_FILES = 64, 1000
+EMPTY = "it is empty, and had files before: is it mounted? Nothing in it is marked as gone"
+KNOWN = """SELECT f.name, f.state, f.size, f.mtime_ns, f.ctime_ns, f.inode,
+    f.state = ? AND p.terms = ? AND p.state < 2 AND (p.state = 0 OR NOT ?
+        OR EXISTS(SELECT 1 FROM cures c WHERE c.page = p.id AND c.terms = p.terms))
+    FROM files f LEFT JOIN pages p ON p.id = f.page WHERE f.folder = ? AND f.name > ? ORDER BY f.name LIMIT ?"""
+
+
+class Row(NamedTuple):
+    """A file as the store knows it, and whether there is nothing left to ask about it."""
+
+    name: bytes
+    state: int
+    size: Optional[int]
+    mtime_ns: Optional[int]
+    ctime_ns: Optional[int]
+    inode: Optional[int]
+    settled: bool
+
+
+class Search:
+    """Searches roots. `known` counts files that needn't be looked at; `tell` is given folders and what is wrong."""
+
+    def __init__(self, writer: Writer, wanted: Wanted, hides: Hidden, tell: Callable[[bytes, str], None]) -> None:
+        self.writer, self.wanted, self.hides, self.tell = writer, wanted, hides, tell
+        self.known = 0
+        self.whole: List[bytes] = []
+
+    def chunks(self, roots: Iterable[bytes]) -> Iterator[Chunk]:
+        """The files that a worker has to look at; now and then none, while none is found."""
+        held: List[Names] = []
+        files = length = 0
+        for number, (folder, path, names) in enumerate(each for root in roots for each in self._root(root)):
+            for some in _cut(names):
+                if not some:
+                    yield ()
+                    continue
+                held.append((folder, path, some))
+                files += len(some)
+                length += len(path) + sum(map(len, some))
+                if files >= MOST_FILES or length >= MOST_NAMES:
+                    yield tuple(held)
+                    held, files, length = [], 0, 0
+            if number % QUIET_FOLDERS == 0:
+                yield ()
+        if held:
+            yield tuple(held)
+
+    def _root(self, root: bytes) -> Iterator[Tuple[int, bytes, Iterator[Optional[bytes]]]]:
+        why: Optional[str] = None
+        for listing in walk(root, self.hides):
+            is_root = listing.path == root
+            if is_root:
+                why = listing.why or self._emptied(listing)
+                self.writer.root(root, why)
+            told = why if is_root else listing.why
+            if told and (is_root or listing.state == UNREADABLE):
+                self.tell(listing.path, told)
+            folder, was_known = self.writer.folder(listing.path, listing.state, listing.why)
+            if listing.state == READ and not (is_root and why):
+                yield folder, listing.path, self._unknown(folder, listing) if was_known else iter(listing.names)
+        if why is None:
+            self.whole.append(root)
+
+    def _emptied(self, listing: Listing) -> Optional[str]:
+        """What is told of a root that is empty, as a disk that isn't mounted is."""
+        empty = not listing.names and not listing.has_below
+        return EMPTY if empty and self.writer.has_below(listing.path) else None
+
+    def _unknown(self, folder: int, listing: Listing) -> Iterator[Optional[bytes]]:
+        """The names in a folder that has to be looked at, and now and then none. Those that aren't there are noted."""
+        rows = _rows(self.writer.connection, folder, self.writer.terms, self.wanted.cures)
+        row = next(rows, None)
+        for name in listing.names:
+            while row and row.name < name:
+                self._miss(folder, row)
+                row = next(rows, None)
+            if row is None or row.name != name:
+                yield name
+                continue
+            if not self.wanted.again and row.settled and self._is_as_it_was(row, listing.descriptor):
+                self.known += 1
+                if self.known % QUIET_FILES == 0:
+                    yield None
+            else:
+                yield name
+            row = next(rows, None)
+        while row:
+            self._miss(folder, row)
+            row = next(rows, None)
+
+    def _miss(self, folder: int, row: Row) -> None:
+        if row.state != GONE:
+            self.writer.is_gone(folder, row.name)
+
+    def _is_as_it_was(self, row: Row, descriptor: int) -> bool:
+        try:
+            return marks(os.stat(row.name, dir_fd=descriptor, follow_symlinks=False)) == row[2:6]
+        except OSError:
+            return False
+
+
+def _rows(connection: sqlite3.Connection, folder: int, terms: int, cures: bool) -> Iterator[Row]:
+    """What the store knows of a folder's files, in the order of their names."""
+    last = b""
+    while True:
+        some = connection.execute(KNOWN, (READ, terms, cures, folder, last, ROWS)).fetchall()
+        for row in some:
+            yield Row._make(row)
+        if len(some) < ROWS:
+            return
+        last = some[-1][0]
+
+
+def _cut(names: Iterator[Optional[bytes]]) -> Iterator[Tuple[bytes, ...]]:
+    """The names in parts that aren't too large for a chunk; an empty part where there is none for now."""
+    part: List[bytes] = []
+    length = 0
+    for name in names:
+        if name is None:
+            yield ()
+            continue
+        part.append(name)
+        length += len(name)
+        if len(part) >= MOST_FILES or length >= MOST_NAMES:
+            yield tuple(part)
+            part, length = [], 0
+    if part:
+        yield tuple(part)
+
+
+def apart(roots: Iterable[bytes]) -> List[bytes]:
+    """The roots without those that stand in others, in their order."""
+    some = list(dict.fromkeys(roots))
+    return [root for root in some if not any(root != other and is_within(root, other) for other in some)]

@@ -1,0 +1,110 @@
+"""Walks a folder and those below it, in the order of their names. Links are not followed."""
+import os
+from typing import FrozenSet, Iterator, List, NamedTuple, Optional, Tuple
+
+from .folders import is_gone, join, opened, reason
+from .tables import READ, UNREADABLE, VANISHED
+
+# A folder by its device and its number.
+Identity = Tuple[int, int]
+
+
+class Listing(NamedTuple):
+    """A folder: what in it is no folder, by name, and the descriptor, which is open until the next is asked for."""
+
+    path: bytes
+    state: int
+    why: Optional[str] = None
+    names: Tuple[bytes, ...] = ()
+    has_below: bool = False
+    descriptor: int = -1
+
+
+class Hidden(NamedTuple):
+    """Files that aren't met: those of the store, in its folder."""
+
+    folder: Optional[Identity]
+    names: FrozenSet[bytes]
+
+
+class _Above(NamedTuple):
+    """The folders in which one stands."""
+
+    identity: Identity
+    above: Optional["_Above"]
+
+
+def hidden(store: str) -> Hidden:
+    """The files of a store."""
+    path = os.path.realpath(os.fsencode(store))
+    name = os.path.basename(path)
+    names = frozenset(name + ending for ending in (b"", b"-wal", b"-shm", b"-journal", b".lock"))
+    try:
+        return Hidden(_identity(os.stat(os.path.dirname(path))), names)
+    except OSError:
+        return Hidden(None, names)
+
+
+def _identity(status: os.stat_result) -> Identity:
+    return status.st_dev, status.st_ino
+
+
+def walk(root: bytes, hides: Hidden) -> Iterator[Listing]:
+    """The folder and those below it."""
+    stack: List[Tuple[bytes, Optional[_Above]]] = [(root, None)]
+    while stack:
+        path, above = stack.pop()
+        try:
+            descriptor = opened(path, follow=above is None)
+        except OSError as error:
+            yield _unread(path, error, above is None)
+            continue
+        try:
+            here = _Above(_identity(os.fstat(descriptor)), above)
+            if _holds_itself(here):
+                yield Listing(path, UNREADABLE, "it is in itself")
+                continue
+            names, below = _listed(descriptor, hides if here.identity == hides.folder else None)
+            yield Listing(path, READ, None, tuple(names), bool(below), descriptor)
+            stack += [(join(path, name), here) for name in reversed(below)]
+        except OSError as error:
+            yield _unread(path, error, above is None)
+        finally:
+            os.close(descriptor)
+
+
+def _listed(descriptor: int, hides: Optional[Hidden]) -> Tuple[List[bytes], List[bytes]]:
+    """The names in a folder, and those of the folders in it, sorted."""
+    names: List[bytes] = []
+    below: List[bytes] = []
+    with os.scandir(descriptor) as entries:
+        for entry in entries:
+            (below if _is_folder(entry) else names).append(os.fsencode(entry.name))
+    if hides:
+        names = [name for name in names if name not in hides.names]
+    names.sort()
+    below.sort()
+    return names, below
+
+
+def _is_folder(entry: "os.DirEntry[str]") -> bool:
+    try:
+        return entry.is_dir(follow_symlinks=False)
+    except OSError:
+        return False
+
+
+def _holds_itself(here: _Above) -> bool:
+    """Whether a folder stands in itself, as some file systems show it."""
+    above = here.above
+    while above:
+        if above.identity == here.identity:
+            return True
+        above = above.above
+    return False
+
+
+def _unread(path: bytes, error: OSError, is_root: bool) -> Listing:
+    if is_gone(error) and not is_root:
+        return Listing(path, VANISHED, "it vanished while it was looked at")
+    return Listing(path, UNREADABLE, reason(error))

@@ -1,0 +1,56 @@
+"""The commands report and serve, as they were asked for on the command line."""
+import argparse
+import sqlite3
+import sys
+from dataclasses import replace
+
+from ..ask import Program
+from ..collection.printing import numbered
+from ..collection.scan import COMPLETE, FAILED, SOME_LACK
+from ..collection.store import StoreFailed, open_to_read
+from ..listing import MODEST
+from ..names import shown
+from ..output import NotWritten, Output, tell
+from ..program import NoProgram, find
+from . import making, server
+
+Given = argparse.Namespace
+
+
+def run(given: Given, command: str) -> int:
+    """Runs a command; the status. `command` is the path of the tool, beside which naplps may stand."""
+    try:
+        return COMMANDS[given.command](given, command)
+    except (NoProgram, NotWritten, StoreFailed, making.TooLarge, server.NotServed) as error:
+        tell(str(error))
+    except sqlite3.Error as error:
+        tell("%s: %s" % (shown(given.store), error))
+    return FAILED
+
+
+def _report(given: Given, command: str) -> int:
+    made = making.make(open_to_read(given.store), making.Options(
+        given.store, given.into, find(command), given.sketches, given.all, given.processes,
+        given.seconds))
+    for path, why in made.missed:
+        tell("%s: no sketch: %s" % (shown(path), why))
+    output = Output(sys.stdout.buffer)
+    output.line("%s: %s, %s of equal pages, %d of %s, %d bytes" % (
+        shown(given.into), numbered(made.files, "file"), numbered(made.groups, "group"), made.sketches,
+        numbered(made.pictures, "sketch", "sketches"), made.length))
+    output.flush()
+    return SOME_LACK if made.missed else COMPLETE
+
+
+def _serve(given: Given, command: str) -> int:
+    output = Output(sys.stdout.buffer)
+
+    def began(address: str) -> None:
+        output.line(address)
+        output.flush()
+    program = Program(find(command), limits=replace(MODEST, seconds=given.seconds))
+    server.serve(given.store, program, given.port, began)
+    return COMPLETE
+
+
+COMMANDS = {"report": _report, "serve": _serve}

@@ -1,0 +1,94 @@
+
+// Elements of the page, and what is shown as numbers, words and pictures.
+const byId = (id) => document.getElementById(id);
+const number = (value) => value === null || value === undefined ? "" : Number(value).toLocaleString("en");
+const counted = (value, one, more) => number(value) + " " + (value === 1 ? one : more || one + "s");
+const oneLine = (text) => text.replace(/\s+/g, " ").trim().slice(0, 200);
+
+// An element. Texts are set as texts, never as markup.
+function make(tag, properties, ...children) {
+  const element = document.createElement(tag);
+  for (const [name, value] of Object.entries(properties || {})) {
+    if (name in element) element[name] = value; else element.setAttribute(name, value);
+  }
+  element.append(...children);
+  return element;
+}
+
+// 0 is A, 25 is Z, 26 is AA.
+function letters(value) {
+  return (value >= 26 ? letters(Math.floor(value / 26) - 1) : "") + String.fromCharCode(65 + value % 26);
+}
+
+function tell(error) {
+  const fault = byId("fault");
+  fault.textContent = "Something couldn't be shown: " + (error.message || error);
+  fault.hidden = false;
+  document.body.dataset.fault = fault.textContent;
+}
+
+const doing = (action) => (event) => Promise.resolve(action(event)).catch(tell);
+
+// A button that looks like a link. `label` says more than its text where that isn't enough.
+function link(text, action, label) {
+  const more = label ? {"aria-label": label} : {};
+  return make("button", {type: "button", className: "name", onclick: doing(action), ...more}, text);
+}
+
+// Names with what is said of each; those of which nothing is to be said are left out.
+function facts(pairs) {
+  return make("dl", {className: "facts"}, ...pairs.filter(([, value]) => value !== "" && value !== null).flatMap(
+    ([name, value]) => [make("dt", {}, name), make("dd", {}, value)]));
+}
+
+function longText(label, text) {
+  return make("pre", {tabIndex: 0, role: "region", "aria-label": label}, text);
+}
+
+// The sketch as an image of its own, in which nothing can act; or why there is none.
+function picture(drawing, name) {
+  if (!drawing.sketch) return make("div", {className: "none"}, drawing.why || "No sketch");
+  const url = URL.createObjectURL(new Blob([drawing.sketch], {type: "image/svg+xml"}));
+  const words = oneLine(drawing.text);
+  const size = /viewBox="0 -?[0-9]+ ([0-9]+) ([0-9]+)"/.exec(drawing.sketch) || ["", 1024, 828];
+  const image = make("img", {width: Number(size[1]), height: Number(size[2]),
+    alt: `Sketch of ${name}, ${words ? "with the text: " + words : "without text"}`});
+  image.onload = image.onerror = () => URL.revokeObjectURL(url);
+  image.src = url;
+  return image;
+}
+
+// What the sketch says of itself: what it leaves out.
+function notes(drawing) {
+  if (!drawing.sketch) return "";
+  const described = new DOMParser().parseFromString(drawing.sketch, "image/svg+xml").querySelector("desc");
+  return described ? described.textContent : "";
+}
+
+// A part of a long list, with the buttons that lead to the others.
+class Pager {
+  // `name` names the list and its pager; `draw` makes an element of each thing that `ask` finds.
+  constructor(name, count, one, ask, draw) {
+    Object.assign(this, {box: byId(name), count, one, ask, draw, from: 0, total: 0, turn: 0});
+    const button = (word, by) => make("button", {type: "button", "aria-label": `${word} in the ${one}s`,
+      onclick: doing(() => this.show(this.from + by))}, word);
+    this.back = button("Back", -count);
+    this.next = button("Next", count);
+    this.told = make("span", {role: "status"});
+    byId(name + "-pager").append(this.back, this.told, this.next);
+  }
+
+  // Shows the part that begins there, unless another was asked for meanwhile.
+  async show(from) {
+    const turn = ++this.turn;
+    const found = await this.ask(from, this.count);
+    const elements = await Promise.all(this.draw(found, from));
+    if (turn !== this.turn) return;
+    Object.assign(this, {from, total: found.total});
+    const end = Math.min(from + this.count, this.total), all = counted(this.total, this.one);
+    this.box.replaceChildren(...elements);
+    this.told.textContent = this.total ? `${number(from + 1)} to ${number(end)} of ${all}` : `no ${this.one}s`;
+    this.back.disabled = from === 0;
+    this.next.disabled = end >= this.total;
+  }
+}

@@ -1,0 +1,85 @@
+"""What stands at the head of a report: the scan, how many files are what, and the reasons of refusals."""
+import sqlite3
+from dataclasses import astuple
+from typing import Dict, List, NamedTuple, Optional, Tuple
+
+from .. import refusals
+from ..collection import refused, tables
+from ..collection.status import Run, status
+from . import groups as of_groups
+from .files import FROM, THERE, reason, told
+from .files import REASONS as OF_FILES
+from .roots import Roots, load
+
+REASONS = "SELECT r.number, coalesce(n.name, ''), r.left_out, r.pages, r.files FROM reasons r LEFT JOIN faults n " \
+    "ON n.number = r.number ORDER BY r.files DESC, r.number, r.left_out"
+
+
+class Reason(NamedTuple):
+    """A reason of refusals, how many pages and files have it, and what it means."""
+
+    told: str
+    number: int
+    pages: int
+    files: int
+    means: str
+
+
+class Facts(NamedTuple):
+    """The head of a report."""
+
+    run: Optional[Run]
+    roots: Roots
+    counts: List[Tuple[str, int]]
+    reasons: List[Reason]
+    answers: List[Tuple[str, int]]
+    files: int
+
+
+def load_facts(connection: sqlite3.Connection, path: str, groups: List[of_groups.Group]) -> Facts:
+    """What the store at the path holds."""
+    it = status(connection, path)
+    number = it.counts.get
+    files = sum(each for name, each in it.counts.items() if name != tables.FILE_STATES[tables.GONE])
+    answered = sum(number(name, 0) for name in tables.PAGE_STATES)
+    spelled = of_groups.of_spellings(groups)
+    counts = [("files", files), ("accepted", number("accepted", 0)), ("refused", number("refused", 0)),
+              ("without an answer", number("no answer", 0)), ("not read", files - answered),
+              ("different pages", it.pages), ("different canonical pages", it.canonical),
+              ("groups of equal pages that are spelled differently", spelled),
+              ("groups of copies alone", len(groups) - spelled)]
+    return Facts(it.run, load(connection), counts, _reasons(connection), _answers(connection), files)
+
+
+def _reasons(connection: sqlite3.Connection) -> List[Reason]:
+    connection.execute("DROP TABLE IF EXISTS temp.reasons")
+    connection.execute(refused.REASONS.format(""))
+    known = refusals.load()
+    return [Reason(reason(number, fault, left_out), number, pages, files,
+                   _means(known, number, left_out))
+            for number, fault, left_out, pages, files in connection.execute(REASONS)]
+
+
+def _answers(connection: sqlite3.Connection) -> List[Tuple[str, int]]:
+    """What there is to say of files, and of how many."""
+    counts: Dict[str, int] = {}
+    for *reasons, number in connection.execute(
+            "SELECT %s, count(*) %s WHERE %s GROUP BY 1, 2, 3, 4, 5, 6, 7" % (OF_FILES, FROM, THERE)):
+        name = told(*reasons)
+        counts[name] = counts.get(name, 0) + number
+    return sorted(counts.items(), key=lambda each: (-each[1], each[0]))
+
+
+def _means(known: Dict[int, refusals.Refusal], number: int, left_out: str) -> str:
+    if left_out:
+        return "The profile leaves %s out." % left_out
+    return known[number].means if number in known else ""
+
+
+def told_refusals() -> Dict[int, Dict[str, str]]:
+    """What is said of refusals, by their numbers."""
+    made = {}
+    for number, each in refusals.load().items():
+        _, _, means, seen, do, _ = astuple(each)
+        made[number] = {"means": means, "seen": seen, "do": do}
+    return made

@@ -1,0 +1,139 @@
+"""Chromium without a window, driven over two pipes by the standard library: messages of JSON, each ended by NUL."""
+import fcntl
+import json
+import os
+import selectors
+import shutil
+import subprocess
+import tempfile
+import time
+
+WORDS = ["--headless", "--no-sandbox", "--disable-gpu", "--hide-scrollbars", "--no-first-run", "--disable-sync",
+         "--disable-background-networking", "--disable-component-update", "--disable-default-apps", "--mute-audio",
+         "--host-resolver-rules=MAP * ~NOTFOUND, EXCLUDE 127.0.0.1", "--remote-debugging-pipe"]
+PATIENCE = 300
+KEYS = {"Enter": (13, "\r"), "Tab": (9, ""), "Escape": (27, ""), " ": (32, " "), "ArrowRight": (39, "")}
+
+
+def _as_3_and_4(*pipes):
+    above = [fcntl.fcntl(each, fcntl.F_DUPFD, 10) for each in pipes]
+    for number, each in enumerate(above, 3):
+        os.dup2(each, number)
+        os.close(each)
+
+
+class Browser:
+    """One browser with one page. It keeps what the page asked for and what it told as an error."""
+
+    def __init__(self, width=1240, height=900):
+        self.folder = tempfile.mkdtemp(prefix="naplps-browser-")
+        to_it, self.to = os.pipe()
+        self.of, of_it = os.pipe()
+        self.process = subprocess.Popen(
+            ["nice", "-n", "5", "chromium", *WORDS, "--user-data-dir=" + self.folder], pass_fds=[3, 4],
+            preexec_fn=lambda: _as_3_and_4(to_it, of_it), stdin=subprocess.DEVNULL, stdout=subprocess.DEVNULL,
+            stderr=subprocess.DEVNULL)
+        os.close(to_it)
+        os.close(of_it)
+        self.waiting = selectors.DefaultSelector()
+        self.waiting.register(self.of, selectors.EVENT_READ)
+        self.held, self.last, self.session = b"", 0, None
+        self.requests, self.errors = [], []
+        target = self.call("Target.createTarget", url="about:blank")["targetId"]
+        self.session = self.call("Target.attachToTarget", targetId=target, flatten=True)["sessionId"]
+        for name in ("Page", "Runtime", "Network", "Log"):
+            self.call(name + ".enable")
+        self.size(width, height)
+
+    def _message(self):
+        while b"\0" not in self.held:
+            if not self.waiting.select(PATIENCE):
+                raise TimeoutError("Chromium says nothing")
+            piece = os.read(self.of, 1 << 20)
+            if not piece:
+                raise EOFError("Chromium has ended")
+            self.held += piece
+        message, self.held = self.held.split(b"\0", 1)
+        return json.loads(message)
+
+    def call(self, method, **words):
+        """Calls a method; its result."""
+        self.last += 1
+        asked = {"id": self.last, "method": method, "params": words}
+        if self.session:
+            asked["sessionId"] = self.session
+        os.write(self.to, json.dumps(asked).encode() + b"\0")
+        while True:
+            message = self._message()
+            if message.get("id") == self.last:
+                if "error" in message:
+                    raise RuntimeError("%s: %s" % (method, message["error"]))
+                return message["result"]
+            self._keep(message)
+
+    def _keep(self, message):
+        name, words = message.get("method"), message.get("params", {})
+        if name == "Network.requestWillBeSent":
+            self.requests.append(words["request"]["url"])
+        elif name == "Runtime.exceptionThrown":
+            self.errors.append(words["exceptionDetails"].get("exception", {}).get("description") or str(words))
+        elif name == "Log.entryAdded" and words["entry"]["level"] == "error":
+            self.errors.append(words["entry"]["text"])
+        elif name == "Page.javascriptDialogOpening":
+            self.errors.append("dialog: " + words["message"])
+
+    def run(self, lines):
+        """The value of an expression in the page, awaited."""
+        found = self.call("Runtime.evaluate", expression=lines, awaitPromise=True, returnByValue=True)
+        if "exceptionDetails" in found:
+            raise RuntimeError(found["exceptionDetails"].get("exception", {}).get("description") or str(found))
+        return found["result"].get("value")
+
+    def open(self, address, ready="document.body && document.body.dataset.ready"):
+        """Opens a page, and waits until it says that it is ready."""
+        self.requests, self.errors = [], []
+        self.call("Page.navigate", url=address)
+        self.until(ready)
+
+    def until(self, lines):
+        """Waits until an expression is true."""
+        end = time.monotonic() + PATIENCE
+        while not self.run("Boolean(document.readyState === 'complete' && (%s))" % lines):
+            fault = self.run("document.body && document.body.dataset.fault")
+            assert not fault, fault
+            assert time.monotonic() < end, "it never was so: %s\n%s" % (lines, self.errors)
+            time.sleep(0.02)
+
+    def size(self, width, height):
+        """Gives the window a size."""
+        self.call("Emulation.setDeviceMetricsOverride", width=width, height=height, deviceScaleFactor=1, mobile=False)
+
+    def look(self, media="", dark=False):
+        """Shows the page as for this medium, in the dark or not."""
+        features = [{"name": "prefers-color-scheme", "value": "dark" if dark else "light"}]
+        self.call("Emulation.setEmulatedMedia", media=media, features=features)
+
+    def press(self, key, shift=False):
+        """Presses a key."""
+        code, text = KEYS[key]
+        words = {"key": key, "code": "Space" if key == " " else key, "windowsVirtualKeyCode": code,
+                 "modifiers": 8 if shift else 0}
+        self.call("Input.dispatchKeyEvent", type="keyDown", text=text, **words)
+        self.call("Input.dispatchKeyEvent", type="keyUp", **words)
+
+    def close(self):
+        """Ends it."""
+        try:
+            self.session = None
+            self.call("Browser.close")
+        except (OSError, EOFError, RuntimeError, TimeoutError):
+            self.process.terminate()
+        try:
+            self.process.wait(20)
+        except subprocess.TimeoutExpired:
+            self.process.kill()
+            self.process.wait()
+        self.waiting.close()
+        os.close(self.to)
+        os.close(self.of)
+        shutil.rmtree(self.folder, ignore_errors=True)
