@@ -84,9 +84,12 @@ def budgets() -> Iterator[Case]:
     yield Case("limit budget", "The greatest budget that may be chosen.", "1B 40 21 07 1B 45 1B 2A 7A 19 21", GREATEST)
 
 
+STORED = "macro Store"
+
+
 def stores() -> Iterator[Case]:
     """Bodies that fill the store, and the byte by which they pass it."""
-    row = "macro Store"
+    row = STORED
     yield Case(row, "A body of 1,048,576 bytes fills the store.", f"1B 40 21 41*{STORE} 1B 45")
     yield Case(row, "One byte more is refused at that byte.", f"1B 40 21 41*{STORE + 1} 1B 45")
     yield Case(row, "Two bodies fill it.", f"1B 40 21 41*{STORE - 1} 1B 40 22 41 1B 45")
@@ -106,6 +109,14 @@ def stores() -> Iterator[Case]:
         "Empty bodies are none, also where the store is full.",
         f"1B 40 21 41*{STORE} 1B 40 22 1B 40 23 1B 45",
     )
+    yield from escapes_in_full_stores()
+    yield from shown_and_called_stores()
+    yield from several_bodies()
+
+
+def escapes_in_full_stores() -> Iterator[Case]:
+    """ESC where the store is full, or nearly so."""
+    row = STORED
     yield Case(row, "ESC is counted when the next byte shows that it belongs to the body: refused at the ESC.",
                f"1B 40 21 41*{STORE} 1B 46")
     yield Case(row, "ESC begins the ending pair, and isn't counted.", f"1B 40 21 41*{STORE} 1B 45 41")
@@ -120,6 +131,11 @@ def stores() -> Iterator[Case]:
     yield Case(row, "An eighth bit behind ESC where the store is full: EighthBit, since both are known at one byte.",
                f"1B 40 21 41*{STORE} 1B 80")
     yield Case(row, "An eighth bit where the store is full: EighthBit.", f"1B 40 21 41*{STORE} 80")
+
+
+def shown_and_called_stores() -> Iterator[Case]:
+    """Bodies that fill the store, and are shown or called."""
+    row = STORED
     yield Case(
         row,
         "The pair that ends a shown body isn't counted: behind one the store can be filled.",
@@ -132,6 +148,10 @@ def stores() -> Iterator[Case]:
         f"1B 41 21 00*{STORE} 1B 45",
     )
     yield Case(row, "The same under a budget that is two more.", f"1B 41 21 00*{STORE} 1B 45", STORE + 2)
+
+
+def several_bodies() -> Iterator[Case]:
+    """Several bodies that fill the store together."""
     yield Case(
         "limit bytes of macro bodies",
         "All that is allowed, in four bodies.",

@@ -278,6 +278,11 @@ def many() -> Iterator[Case]:
         "Behind seventeen a colour without an address is refused.",
         f"0E {sixteen} {setting(16)} 20 44 3C 52",
     )
+    yield from which_pair_goes(sixteen)
+
+
+def which_pair_goes(sixteen: str) -> Iterator[Case]:
+    """Which of sixteen known colours isn't known any more at one more."""
     rule = "Known colours of the map"
     yield Case(rule, "An address that is set to another colour comes first, so the second goes at the seventeenth.",
                f"0E {sixteen} {setting(0, '49')} {setting(16)} {setting(0, '49')} {setting(1)}")
