@@ -1,6 +1,5 @@
 """What stands at the head of a report: the scan, how many files are what, and the reasons of refusals."""
 import sqlite3
-from dataclasses import astuple
 from typing import Dict, List, NamedTuple, Optional, Tuple
 
 from .. import refusals
@@ -78,8 +77,5 @@ def _means(known: Dict[int, refusals.Refusal], number: int, left_out: str) -> st
 
 def told_refusals() -> Dict[int, Dict[str, str]]:
     """What is said of refusals, by their numbers."""
-    made = {}
-    for number, each in refusals.load().items():
-        _, _, means, seen, do, _ = astuple(each)
-        made[number] = {"means": means, "seen": seen, "do": do}
-    return made
+    return {number: {"means": each.means, "seen": each.seen_in, "do": each.do}
+            for number, each in refusals.load().items()}
