@@ -380,6 +380,12 @@ def spelled() -> Iterator[Case]:
     runs.update({opcode: f"{near} {near}" for opcode in ("32", "36", "38")})
     for opcode, run in runs.items():
         yield Case("Canonical text", f"All words of the operands of {opcode} differ.", f"0E 21 5F {opcode} {run}")
+    for opcode, name in (("2E", "An arc"), ("36", "A polygon")):
+        yield Case(
+            "Canonical text",
+            f"{name} of 70 points: each displacement goes on from the point before it.",
+            f"0E 21 40 {opcode} 52 (41 48 7F)*23",
+        )
     yield Case(
         "Canonical text",
         "All words of a colour, a pel and a mask size differ.",

@@ -80,6 +80,10 @@ TEXT = """
 0E 1B 43 21 21 40 26 52 1B 45 26 52 40 40
 # Definitions of glyphs and masks: Lengths that were set before carry on inside.
 0E 21 40 1B 43 21 26 52 1B 45 26 52
+# Definitions of glyphs and masks: Lengths that were set before a glyph come back, where it sets others.
+0E 21 40 1B 43 21 21 48 1B 45 26 52 49
+# Definitions of glyphs and masks: Lengths that were set before a mask come back, where it sets others.
+0E 21 40 1B 44 41 21 48 1B 45 26 52 49
 # Definitions of glyphs and masks: The lengths of an address come back.
 0E 1B 43 21 21 53 1B 45 3E 44 48 26 52
 # Definitions of glyphs and masks: GL doesn't go back.

@@ -43,6 +43,12 @@ RANGES = """
 0E 21 5C 26 5B 7F*7
 # Operands: The least step.
 0E 21 5C 26 40*7 49
+# Operands: A step of -1 and -1.
+0E 21 5C 24 49 40*7 27 7F*8
+# Operands: A pel of -1 and -1.
+0E 21 5C 7F*8 26 40*8
+# Operands: A size of characters of -1 and -1.
+0E 21 5C 22 41 42 7F*8 0F 41
 # Operands: A point with an x of exactly -1.
 0E 26 60 40 40
 # Operands: A point with a y of exactly -1.
