@@ -5,7 +5,7 @@ ghost use Rattle.nap_command.specs.Devices.{devices};
 ghost use Rattle.nap_cli.specs.Explaining.{Explains, outputs};
 ghost use Rattle.nap_cli.specs.CommandLine.{Answers};
 
-use crate::words::{Job, parse};
+use crate::words::{Job, parse, text_of};
 use clap::Error;
 use clap::error::ErrorKind;
 use nap_batch::batch;
@@ -14,11 +14,17 @@ use nap_list::{Inlet, Outlet};
 use std::alloc::Global;
 
 /// Help goes to the output. What is wrong with the words goes to standard error, and the output stays as it is.
-fn explain<O: Outlet, E: Outlet>(alloc: Global, error: Error, output: O, errors: &mut E) -> (O, u8)
+fn explain<O: Outlet, E: Outlet>(
+    alloc: Global,
+    words: &[String],
+    error: Error,
+    output: O,
+    errors: &mut E,
+) -> (O, u8)
     ensures { let seen = outputs O.Outlet E.Outlet in
         Explains (kind_of error) (seen output errors.old) (seen result.0 errors.new) result.1 }
 {
-    let Ok(text) = error.to_string(alloc) else {
+    let Ok(text) = text_of(alloc, words, &error) else {
         return (output, tell(alloc, Failure::Memory, errors));
     };
     if error.kind() == ErrorKind::OutOfMemory {
@@ -58,6 +64,6 @@ pub fn run<I: Inlet, O: Outlet + Drop, E: Outlet>(
             let status = batch(alloc, input, &mut output, errors);
             (output, status)
         }
-        Err(error) => explain(alloc, error, output, errors),
+        Err(error) => explain(alloc, words, error, output, errors),
     }
 }

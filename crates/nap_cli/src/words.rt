@@ -27,13 +27,20 @@ const CANON: &str = "canon";
 
 const BATCH: &str = "batch";
 
-/// The version of the program, and the form of the canonical streams that it prints.
+/// The version of the program, which is that of the file VERSION at the top, and the form of the canonical streams that it
+/// prints.
 const VERSION: &str = "0.2.0, canonical form 2";
+
+const USAGE: &str = "naplps COMMAND [OPTIONS] < PAGE";
+
+/// Behind what clap says, where a word may be meant for the file of a page.
+const HINT: &str = "A page is read from standard input: naplps check < FILE\n";
 
 const ABOUT: &str = "Reads NAPLPS pages and rewrites them in one canonical spelling.
 
-A page is read from standard input, as bytes or as hexadecimal text. What comes of it goes to standard output, and
-what goes wrong to standard error; 'check' prints a refusal as its answer.";
+A page is read from standard input, as bytes or as hexadecimal text; without '< PAGE' or a pipe the program waits for one
+to be typed. What comes of it goes to standard output, and what goes wrong to standard error; 'check' prints a refusal
+as its answer.";
 
 const STATUSES: &str = "Statuses:
   0  accepted
@@ -42,7 +49,11 @@ const STATUSES: &str = "Statuses:
   3  a fault of reading or writing, bad hexadecimal text, or no memory outside the reading of the page
 
 Example:
-  echo '0E 26 52 40 40' | naplps list --hex";
+  echo '0E 26 52 40 40' | naplps list --hex
+prints
+  POINT 4194304,4194304 pel=0,0 colour=own-start";
+
+const LIST_USAGE: &str = "naplps list [--hex] [--budget N] < PAGE";
 
 const LIST_HELP: &str =
     "Prints one line for each point, line, character or reset that the page draws";
@@ -55,6 +66,8 @@ Example:
 prints
   POINT 4194304,4194304 pel=0,0 colour=own-start";
 
+const CHECK_USAGE: &str = "naplps check [--hex] [--budget N] < PAGE";
+
 const CHECK_HELP: &str =
     "Says whether the page is accepted, and with how many entries, or why it is refused";
 
@@ -65,6 +78,8 @@ Example:
   echo '0E 26 52 40 40' | naplps check --hex
 prints
   accepted 1 entries";
+
+const CANON_USAGE: &str = "naplps canon [--hex | --stream] [--budget N] < PAGE";
 
 const CANON_HELP: &str =
     "Prints the page's canonical stream: two pages draw the same acts exactly if these are equal";
@@ -78,6 +93,8 @@ Example:
   echo '0E 26 52 40 40' | naplps canon --hex
 prints
   0e215f265240404040404040";
+
+const BATCH_USAGE: &str = "naplps batch < REQUESTS";
 
 const BATCH_HELP: &str = "Answers requests, one after another: many pages through one process";
 
@@ -127,6 +144,7 @@ fn subcommand<'a>(
     alloc: Global,
     texts: &'a BudgetTexts,
     name: &'a str,
+    usage: &'a str,
     about: &'a str,
     example: &'a str,
 ) -> Result<clap::Command<'a>, AllocError>
@@ -144,6 +162,7 @@ fn subcommand<'a>(
         .default_value(texts.usual.as_str())
         .help(texts.help.as_str());
     clap::Command::new(alloc, name)
+        .override_usage(usage)
         .about(about)
         .after_help(example)
         .arg(hex)?
@@ -161,7 +180,7 @@ fn canon_command<'a>(alloc: Global, texts: &'a BudgetTexts) -> Result<clap::Comm
         .help(
             "Prints while it reads, and keeps no entry, so its memory doesn't grow with the page",
         );
-    subcommand(alloc, texts, CANON, CANON_HELP, CANON_EXAMPLE)?.arg(stream)
+    subcommand(alloc, texts, CANON, CANON_USAGE, CANON_HELP, CANON_EXAMPLE)?.arg(stream)
 }
 
 /// `batch`, which has no option.
@@ -171,6 +190,7 @@ fn batch_command<'a>(alloc: Global) -> Result<clap::Command<'a>, AllocError>
 {
     Ok(
         clap::Command::new(alloc, BATCH)
+            .override_usage(BATCH_USAGE)
             .about(BATCH_HELP)
             .after_help(BATCH_EXAMPLE),
     )
@@ -183,12 +203,13 @@ fn program<'a>(alloc: Global, texts: &'a BudgetTexts) -> Result<clap::Command<'a
     clap::Command::new(alloc, PROGRAM)
         .bin_name(PROGRAM)?
         .version(VERSION)
+        .override_usage(USAGE)
         .about(ABOUT)
         .after_help(STATUSES)
         .no_binary_name(true)
         .subcommand_required(true)
-        .subcommand(subcommand(alloc, texts, LIST, LIST_HELP, LIST_EXAMPLE)?)?
-        .subcommand(subcommand(alloc, texts, CHECK, CHECK_HELP, CHECK_EXAMPLE)?)?
+        .subcommand(subcommand(alloc, texts, LIST, LIST_USAGE, LIST_HELP, LIST_EXAMPLE)?)?
+        .subcommand(subcommand(alloc, texts, CHECK, CHECK_USAGE, CHECK_HELP, CHECK_EXAMPLE)?)?
         .subcommand(canon_command(alloc, texts)?)?
         .subcommand(batch_command(alloc)?)
 }
@@ -219,6 +240,29 @@ pub fn parse(alloc: Global, words: &[String]) -> Result<Job, Error>
         Some(job) => Ok(job),
         None => Err(no_command(&mut program)),
     }
+}
+
+/// Whether a word may be meant for the file of a page: clap found one too many, and one is neither the first nor an option.
+fn names_file(words: &[String], kind: ErrorKind) -> bool {
+    match kind {
+        ErrorKind::InvalidSubcommand => true,
+        ErrorKind::UnknownArgument => {
+            words
+                .iter()
+                .skip(1)
+                .any(|word| !word.as_str().starts_with('-'))
+        }
+        _ => false,
+    }
+}
+
+/// What clap says of these words, with a hint behind it where a word may be meant for a file.
+pub fn text_of(alloc: Global, words: &[String], error: &Error) -> Result<String, AllocError> {
+    let mut text = error.to_string(alloc)?;
+    if names_file(words, error.kind()) {
+        text.push_str(HINT)?;
+    }
+    Ok(text)
 }
 
 /// The job of this name with these options. clap has checked them, so that there is one.
