@@ -9,6 +9,8 @@ from typing import Dict, NamedTuple
 
 TOP = Path(__file__).resolve().parent.parent
 DOCUMENTS = "share/doc/naplps"
+LIBRARY = TOP / "library"
+SONAME = "libnaplps.so.0"
 
 
 class Rule(NamedTuple):
@@ -21,15 +23,34 @@ class Rule(NamedTuple):
 
 
 class File(NamedTuple):
-    """What stands in a file, and its mode."""
+    """What stands in a file, and its mode. Of a link, whose mode is LINK, it is the name to which it leads."""
 
     data: bytes
     mode: int
 
 
+LINK = 0o120777
+
+
+class Places(NamedTuple):
+    """Where a library stands under a prefix: the folders of its own files, of the header and of the file for
+    pkg-config, with slashes behind; and that prefix, as this file tells it."""
+
+    own: str
+    header: str
+    config: str
+    prefix: str
+
+
+# Beside one another; and under a prefix that may be anywhere.
+TOGETHER = Places("", "", "", "${pcfiledir}")
+INSTALLED = Places("lib/", "include/", "lib/pkgconfig/", "${pcfiledir}/../..")
+
+
 RULES = (
     Rule("pages", "naplps-pages", "bin", 0o755),
     Rule("pages", "naplps_pages/**/*", "lib/naplps"),
+    Rule("pages", "naplps/**/*", "lib/naplps"),
     Rule("man", "*.1", "share/man/man1"),
     Rule(".", "*.md", DOCUMENTS),
     Rule(".", "docs/**/*", DOCUMENTS),
@@ -65,16 +86,45 @@ def find_program() -> Path:
     return Path(path)
 
 
+def sources_version() -> str:
+    """The version of the sources, as the file VERSION has it."""
+    return (TOP / "VERSION").read_text("ascii").strip()
+
+
 def version_of(program: Path) -> str:
-    """The version that the program prints, which has to be that of naplps-pages too."""
+    """The version of the sources, which the program has to print."""
+    version = sources_version()
     said = subprocess.run([program, "--version"], stdout=subprocess.PIPE, check=True).stdout.decode("ascii")
-    found = re.fullmatch(r"naplps (\d+\.\d+\.\d+), canonical form \d+\n", said)
-    if not found:
-        raise stop(f"{program} prints no version, but {said!r}")
-    pages = subprocess.run([TOP / "pages" / "naplps-pages", "--version"], stdout=subprocess.PIPE, check=True).stdout
-    if pages.decode("ascii") != f"naplps-pages {found[1]}\n":
-        raise stop(f"the program has the version {found[1]}, but naplps-pages says {pages!r}")
-    return found[1]
+    if not re.fullmatch(rf"naplps {re.escape(version)}, canonical form \d+\n", said):
+        raise stop(f"these sources have the version {version}, but {program} says {said!r}")
+    return version
+
+
+def find_library() -> Path:
+    """The folder of the library that NAPLPS_LIBRARY names, or the one that scripts/library makes."""
+    named = os.environ.get("NAPLPS_LIBRARY")
+    if named is None:
+        if subprocess.run([TOP / "scripts" / "library"], stdout=subprocess.DEVNULL).returncode:
+            raise stop("scripts/library made no library")
+        return TOP / "out"
+    if not (Path(named) / SONAME).is_file():
+        raise stop(f"NAPLPS_LIBRARY names no folder with a library: {named}")
+    return Path(named)
+
+
+def library_files(folder: Path, version: str, places: Places = TOGETHER) -> Dict[str, File]:
+    """Each file of a library that a folder has, by its path under the prefix."""
+    folders = {"libdir": f"${{prefix}}/{places.own}", "includedir": f"${{prefix}}/{places.header}"}
+    config = (LIBRARY / "naplps.pc").read_text("ascii")
+    for name, text in {"prefix": places.prefix, **folders, "version": version}.items():
+        config = config.replace(f"@{name}@", text.rstrip("/"))
+    return {
+        f"{places.own}libnaplps.a": File((folder / "libnaplps.a").read_bytes(), 0o644),
+        f"{places.own}{SONAME}": File((folder / SONAME).read_bytes(), 0o644),
+        f"{places.own}libnaplps.so": File(SONAME.encode(), LINK),
+        f"{places.header}naplps.h": File((LIBRARY / "naplps.h").read_bytes(), 0o644),
+        f"{places.config}naplps.pc": File(config.encode(), 0o644),
+    }
 
 
 def files_of(program: Path) -> Dict[str, File]:
@@ -97,6 +147,10 @@ def write_files(folder: Path, files: Dict[str, File]) -> None:
         path = folder / name
         path.parent.mkdir(parents=True, exist_ok=True)
         fresh = path.with_name(f"{path.name}.new")
-        fresh.write_bytes(file.data)
-        fresh.chmod(file.mode)
+        fresh.unlink(missing_ok=True)
+        if file.mode == LINK:
+            fresh.symlink_to(file.data.decode())
+        else:
+            fresh.write_bytes(file.data)
+            fresh.chmod(file.mode)
         fresh.replace(path)

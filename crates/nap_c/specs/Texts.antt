@@ -1,0 +1,29 @@
+use Rattle.std.specs.Prelude.{ℕ, ◌≡◌, ◌≢◌, ◌⊎◌, ◌^◌, ◌≤◌, List, Some, length}
+use Rattle.nap_reader.specs.declared.fault.Fault.TheVariants as fault
+use Rattle.nap_reader.specs.declared.fault.Refusal.{Refusal}
+use Rattle.nap_reader.specs.Breaking.{BreaksWithin, LacksWithin}
+use Rattle.nap_reader.specs.Stream.{means}
+use Rattle.nap_canon.specs.Streams.{IsAccepted}
+
+-- A page is accepted, and this is the text that was asked for.
+pub record IsTextOf (budget : ℕ) (p whole text : List ℕ) : Type 0 where
+  pub accepted : IsAccepted budget p
+  pub text_is : text ≡ whole
+
+-- Why there is none: the refusal is that of the page; or memory was wanting, at a place where it can be.
+pub record IsRefusal (budget : ℕ) (p : List ℕ) (CanLack : ℕ → Type 0) (r : Refusal) : Type 0 where
+  pub refused : r.fault ≢ fault.Memory → (means budget p).refusal ≡ Some r
+  pub memory : r.fault ≡ fault.Memory → CanLack r.place
+
+-- there was no memory for a text, which is told at the end of the page
+abbrev pub wanting_at_end : List ℕ → Refusal
+wanting_at_end p = record { fault = fault.Memory; place = length p }
+
+-- Memory can be wanting here: to the reading, or for the text.
+abbrev pub LacksForText : ℕ → List ℕ → ℕ → Type 0
+LacksForText budget p place = BreaksWithin budget p place ⊎ (place ≡ length p)
+
+-- Memory can be wanting here for a count: to the reader itself; or 64 bits can't hold the number of the entries.
+pub record LacksToCount (budget : ℕ) (p : List ℕ) (place : ℕ) : Type 0 where
+  pub breaks : BreaksWithin budget p place
+  pub own : LacksWithin budget p place ⊎ (2 ^ 64 ≤ length (means budget p).entries)

@@ -1,0 +1,99 @@
+//! The calls of the library.
+ghost use Rattle.std.specs.Prelude.{◌≡◌, ◌↔◌, ◌<◌, ◌^◌, IsTrue, length};
+ghost use Rattle.nap_reader.specs.Breaking.{BreaksWithin};
+ghost use Rattle.nap_canon.specs.Plain.{IsPlain};
+ghost use Rattle.nap_canon.specs.Streams.{list_of};
+ghost use Rattle.nap_canon.specs.Text.{text, text1};
+ghost use Rattle.nap_lines.specs.Listing.{lines};
+ghost use Rattle.nap_c.specs.Answers.{AnswersCount, AnswersPlaces, AnswersText};
+ghost use Rattle.nap_c.specs.Texts.{LacksForText};
+
+use crate::answer::{Answer, answer_placed, answer_text};
+use crate::text::{canon_text, form1_text, list_text, wanting_at_end};
+use nap_batch::read_places;
+use nap_command::read_stream;
+use nap_list::CountSink;
+use nap_reader::Budget;
+use std::alloc::{AllocError, Global};
+
+/// How many entries a page has.
+#[unsafe(no_mangle)]
+pub extern "C" fn naplps_check(alloc: Global, budget: u32, page: &[u8]) -> Answer
+    requires { length page.now < 2 ^ 63 }
+    ensures { AnswersCount budget page.now result }
+{
+    let Some(budget) = Budget::new(budget) else {
+        return Answer::denying();
+    };
+    match read_stream(alloc, budget, page, CountSink::new()) {
+        Ok(sink) => Answer::accepting(sink.count()),
+        Err(refusal) => Answer::refusing(refusal, 0),
+    }
+}
+
+/// The lines of a page's entries.
+#[unsafe(no_mangle)]
+pub extern "C" fn naplps_list(alloc: Global, budget: u32, page: &[u8], room: &mut [u8]) -> Answer
+    requires { length page.now < 2 ^ 63 }
+    ensures { let accepted = lines (list_of budget page.now) in
+        AnswersText budget page.now (BreaksWithin budget page.now) accepted room.old room.new result }
+{
+    let Some(budget) = Budget::new(budget) else {
+        return Answer::denying();
+    };
+    answer_text(list_text(alloc, budget, page), room)
+}
+
+/// The canonical stream of a page.
+#[unsafe(no_mangle)]
+pub extern "C" fn naplps_canon(alloc: Global, budget: u32, page: &[u8], room: &mut [u8]) -> Answer
+    requires { length page.now < 2 ^ 63 }
+    ensures { let accepted = text (list_of budget page.now) in
+        AnswersText budget page.now (LacksForText budget page.now) accepted room.old room.new result }
+{
+    let Some(budget) = Budget::new(budget) else {
+        return Answer::denying();
+    };
+    answer_text(canon_text(alloc, budget, page), room)
+}
+
+/// The text of a page's list in form 1.
+#[unsafe(no_mangle)]
+pub extern "C" fn naplps_canon_form1(
+    alloc: Global,
+    budget: u32,
+    page: &[u8],
+    room: &mut [u8],
+) -> Answer
+    requires { length page.now < 2 ^ 63 }
+    ensures { let accepted = text1 (list_of budget page.now) in
+        AnswersText budget page.now (LacksForText budget page.now) accepted room.old room.new result }
+{
+    let Some(budget) = Budget::new(budget) else {
+        return Answer::denying();
+    };
+    answer_text(form1_text(alloc, budget, page), room)
+}
+
+/// The lines of a page's entries, also of those before a refusal, each behind the place of the byte that brought it.
+#[unsafe(no_mangle)]
+pub extern "C" fn naplps_places(alloc: Global, budget: u32, page: &[u8], room: &mut [u8]) -> Answer
+    requires { length page.now < 2 ^ 63 }
+    ensures { AnswersPlaces budget page.now room.old room.new result }
+{
+    let Some(budget) = Budget::new(budget) else {
+        return Answer::denying();
+    };
+    match read_places(alloc, budget, page) {
+        Ok(placed) => answer_placed(placed, room),
+        Err(AllocError) => Answer::refusing(wanting_at_end(page), 0),
+    }
+}
+
+/// Whether a page is plain.
+#[unsafe(no_mangle)]
+pub extern "C" fn naplps_is_plain(page: &[u8]) -> bool
+    ensures { IsTrue result ↔ IsPlain page.now }
+{
+    nap_canon::is_plain(page)
+}

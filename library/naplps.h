@@ -1,0 +1,111 @@
+/* naplps.h: reads pages of NAPLPS (ANSI X3.110-1983, CSA T500-1983) that are in memory.
+
+   Each call is given a page and a budget. Most are given a room too, into which they put a text:
+
+   page, length  the bytes of the page, which are only read. Any byte may stand in it, NUL too.
+   budget        how many bytes of macro bodies the page may be charged with, up to NAPLPS_BUDGET_MOST. The commands of
+                 the program naplps use NAPLPS_BUDGET_USUAL where none is named.
+   room, size    where the text goes, and how many bytes there are. The text isn't ended by a NUL, and no byte behind it
+                 is changed. The room must not overlap the page.
+
+   Lengths, sizes and places are in bytes. A page may be empty. Where a length or a size is 0, its pointer isn't used
+   and may be null; else it must point to so many bytes.
+
+   The answer is a struct that owns nothing. Where the room is too small, nothing is written, and the answer says how
+   many bytes the text has: a call with the size 0 asks for no more than that. Each call reads the whole page, so it is
+   faster to begin with a room that is mostly large enough, and to call again where it wasn't.
+
+   A call keeps nothing once it returns. The library has no state, opens no file and prints nothing. So threads may call
+   at the same time, with rooms of their own, also on one page. Memory comes from malloc and realloc, and is given back
+   by free before the call returns; where there is none, the answer is the refusal NAPLPS_MEMORY. Don't call from a
+   signal handler. */
+#ifndef NAPLPS_H
+#define NAPLPS_H
+
+#include <stdbool.h>
+#include <stddef.h>
+#include <stdint.h>
+
+#ifdef __cplusplus
+extern "C" {
+#endif
+
+/* The budget that is usual, and the greatest one. */
+#define NAPLPS_BUDGET_USUAL 1048576u
+#define NAPLPS_BUDGET_MOST 67108864u
+
+/* What comes of a page. */
+enum naplps_status {
+    NAPLPS_ACCEPTED = 0,
+    NAPLPS_REFUSED = 1,
+    NAPLPS_SMALL_ROOM = 2, /* the room is too small for the text, and nothing was written */
+    NAPLPS_NO_BUDGET = 3   /* the budget is greater than NAPLPS_BUDGET_MOST, and the page wasn't read */
+};
+
+/* Why a page is refused. PROFILE.md, among the documents of naplps, says when each is answered, and at which byte. */
+enum naplps_refusal {
+    NAPLPS_EIGHTH_BIT = 1,
+    NAPLPS_BAD_ESCAPE = 2,
+    NAPLPS_SHIFT_ALONE = 3,
+    NAPLPS_SHIFTED_CODE = 4,
+    NAPLPS_BAD_ARGUMENT = 5,
+    NAPLPS_LEFT_OUT = 6, /* its name has a word for what is left out: "LeftOut CAN" */
+    NAPLPS_THREE_D = 7,
+    NAPLPS_MISSING = 8,
+    NAPLPS_MANY_COLOURS = 9,
+    NAPLPS_OUTSIDE = 10,
+    NAPLPS_PEN_UNKNOWN = 11,
+    NAPLPS_NO_ADDRESS = 12,
+    NAPLPS_LONG_RUN = 13,
+    NAPLPS_MANY_POINTS = 14,
+    NAPLPS_NOTHING_TO_REPEAT = 15,
+    NAPLPS_STRAY = 16,
+    NAPLPS_BUDGET = 17,
+    NAPLPS_STORE = 18,
+    NAPLPS_CUT = 19,
+    NAPLPS_UNENDED = 20,
+    NAPLPS_MEMORY = 21 /* there was no memory, which says nothing of the page */
+};
+
+/* An answer. Where nothing is refused, number and place are 0, and the name is empty. */
+struct naplps_answer {
+    uint32_t status; /* one of enum naplps_status */
+    uint32_t number; /* one of enum naplps_refusal, or 0 */
+    uint64_t place;  /* the offset of the byte that is refused; for what is found at the page's end, its length */
+    uint64_t length; /* how many bytes the text has, whatever the room; of naplps_check, how many entries there are */
+    char name[32];   /* the name of the refusal, ended by NUL, as in the program's line "refused 10 Outside at 3" */
+};
+
+/* Counts the entries of a page. */
+struct naplps_answer naplps_check(uint32_t budget, const uint8_t *page, size_t length);
+
+/* Gives a line for each entry of a page, each ended by LF, as `naplps list` prints them. Of a page that is refused
+   there is no text: status is NAPLPS_REFUSED, length is 0, and the room is as it was. */
+struct naplps_answer naplps_list(uint32_t budget, const uint8_t *page, size_t length, uint8_t *room, size_t size);
+
+/* Gives the canonical stream of a page, as `naplps canon` prints it: two pages have the same exactly if their entries
+   are the same. Of a page that is refused there is none, as with naplps_list. */
+struct naplps_answer naplps_canon(uint32_t budget, const uint8_t *page, size_t length, uint8_t *room, size_t size);
+
+/* Gives the text of a page's entries in form 1, which canonical streams had before form 2. It takes more memory than
+   naplps_canon. Of a page that is refused there is none, as with naplps_list. */
+struct naplps_answer naplps_canon_form1(uint32_t budget, const uint8_t *page, size_t length, uint8_t *room,
+                                        size_t size);
+
+/* Gives the lines of naplps_list, each behind a number and a space: the offset of the byte that brought the entry,
+   which is often the first one of the next code; or the length of the page for an entry that came at its end.
+
+   Of a page that is refused there are the lines of the entries before the refusal: status is NAPLPS_REFUSED, and length
+   is theirs. Where the room is too small for them, number, place and name tell of the refusal too. With NAPLPS_MEMORY
+   there is no line. */
+struct naplps_answer naplps_places(uint32_t budget, const uint8_t *page, size_t length, uint8_t *room, size_t size);
+
+/* Whether a page is plain, as each canonical stream is: it has no part in macros, no displacement from the pen, and
+   operands of eight and four words. It takes no memory, and can't fail. */
+bool naplps_is_plain(const uint8_t *page, size_t length);
+
+#ifdef __cplusplus
+}
+#endif
+
+#endif

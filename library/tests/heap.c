@@ -1,0 +1,94 @@
+// Refuses each call of the allocator in turn, and then all from one on: heap PAGE... It is linked with --wrap for
+// malloc, realloc and free, so that the library's own calls come here. Each answer is the one with memory, or the
+// refusal for want of it. Each page is tried as it is, and with a byte behind it that is refused.
+#include "calls.h"
+
+void *__real_malloc(size_t size);
+void *__real_realloc(void *block, size_t size);
+void __real_free(void *block);
+
+static long live, calls, first, last;
+
+static int refuses(void) {
+    calls++;
+    return first <= calls && calls <= last;
+}
+
+void *__wrap_malloc(size_t size) {
+    if (refuses()) return NULL;
+    live++;
+    return __real_malloc(size);
+}
+
+void *__wrap_realloc(void *block, size_t size) {
+    if (refuses()) return NULL;
+    live += block == NULL;
+    return __real_realloc(block, size);
+}
+
+void __wrap_free(void *block) {
+    live -= block != NULL;
+    __real_free(block);
+}
+
+static uint8_t page[1 << 16];
+static uint8_t room[1 << 20], kept[1 << 20];
+static long runs, wanting;
+
+static size_t read_page(const char *name) {
+    FILE *file = fopen(name, "rb");
+    must(file != NULL, "a page can't be read");
+    size_t length = fread(page, 1, sizeof page - 1, file);
+    fclose(file);
+    return length;
+}
+
+static struct naplps_answer call(int number, size_t length) {
+    calls = 0;
+    return number < TEXT_CALLS ? text_calls[number].call(1000, page, length, room, sizeof room)
+                               : naplps_check(1000, page, length);
+}
+
+// One call of the library, with these calls of the allocator refused.
+static void try_refusing(int number, size_t length, struct naplps_answer whole, long from, long to) {
+    memset(room, UNTOUCHED, whole.length + 1);
+    first = from, last = to;
+    struct naplps_answer answer = call(number, length);
+    first = last = 0;
+    runs++;
+    must(live == 0, "a block was left");
+    if (are_equal(answer, whole)) {
+        must(number == TEXT_CALLS || memcmp(room, kept, whole.length) == 0, "another text");
+        return;
+    }
+    wanting++;
+    must(answer.status == NAPLPS_REFUSED && answer.number == NAPLPS_MEMORY, "another answer than for want of memory");
+    must(strcmp(answer.name, "Memory") == 0 && answer.length == 0 && answer.place <= length, "another want of memory");
+    must(is_untouched(room, 0, whole.length + 1), "a room was written for want of memory");
+}
+
+// All calls of the library on a page.
+static void try_page(size_t length) {
+    for (int number = 0; number <= TEXT_CALLS; number++) {
+        struct naplps_answer whole = call(number, length);
+        long all = calls;
+        must(live == 0 && whole.status <= NAPLPS_REFUSED, "the page itself");
+        memcpy(kept, room, sizeof room);
+        for (long i = 1; i <= all; i++) {
+            try_refusing(number, length, whole, i, i);
+            try_refusing(number, length, whole, i, all + 1000);
+        }
+    }
+}
+
+int main(int count, char **names) {
+    for (int i = 1; i < count; i++) {
+        size_t length = read_page(names[i]);
+        try_page(length);
+        page[length] = 0x80;
+        try_page(length + 1);
+    }
+    must(wanting > 0, "nothing was refused");
+    printf("%ld runs, of which %ld lacked memory\n", runs, wanting);
+    return 0;
+}

@@ -1,0 +1,120 @@
+// Answers requests as `naplps batch` does, by calls of the library: the same bytes on standard output, whatever the
+// request. It takes two commands more: form1, and plain, whose line is `plain` or `not plain`. Each text is asked for
+// with rooms of no byte, of one too few, of exactly as many, and of more; and what must hold of all of these is looked
+// at.
+#include "calls.h"
+
+struct text {
+    struct naplps_answer answer;
+    uint8_t *bytes;
+};
+
+// A room that is too small: nothing is written, and the answer tells as much as the one with the text.
+static void try_small(text_call *call, uint32_t budget, const uint8_t *page, size_t length, struct naplps_answer whole,
+                      size_t size) {
+    uint8_t *room = new_room(size);
+    struct naplps_answer answer = call(budget, page, length, room, size);
+    must(answer.status == NAPLPS_SMALL_ROOM, "a small room has another status");
+    must(tell_the_same(answer, whole), "a small room has another answer");
+    must(is_untouched(room, 0, size), "a small room was written");
+    free(room);
+}
+
+// A room that is larger than the text: nothing behind it is written.
+static void try_large(text_call *call, uint32_t budget, const uint8_t *page, size_t length, struct text text) {
+    size_t need = text.answer.length, size = need + 1 + length % 64;
+    uint8_t *room = new_room(size);
+    struct naplps_answer answer = call(budget, page, length, room, size);
+    must(are_equal(answer, text.answer), "a large room has another answer");
+    must(need == 0 || memcmp(room, text.bytes, need) == 0, "a large room has another text");
+    must(is_untouched(room, need, size), "a byte behind the text was written");
+    free(room);
+}
+
+// The text that a call gives of a page.
+static struct text ask(text_call *call, uint32_t budget, const uint8_t *page, size_t length) {
+    struct text text = {call(budget, page, length, NULL, 0), NULL};
+    size_t need = text.answer.length;
+    if (need > 0) {
+        must(text.answer.status == NAPLPS_SMALL_ROOM, "no room has another status");
+        text.bytes = new_room(need);
+        text.answer = call(budget, page, length, text.bytes, need);
+        try_small(call, budget, page, length, text.answer, need - 1);
+        try_small(call, budget, page, length, text.answer, 0);
+    }
+    must(text.answer.length == need && text.answer.status <= NAPLPS_REFUSED, "a room that is exact has another answer");
+    try_large(call, budget, page, length, text);
+    return text;
+}
+
+static void print_line(struct naplps_answer answer, uint64_t entries) {
+    if (answer.status == NAPLPS_REFUSED) {
+        printf("refused %u %s at %llu\n", answer.number, answer.name, (unsigned long long)answer.place);
+    } else {
+        printf("accepted %llu entries\n", (unsigned long long)entries);
+    }
+}
+
+// Canonical text is plain and its own canonical stream, and reads back with the same number of entries, in either form.
+static void try_canonical(struct text text, uint64_t entries) {
+    if (text.answer.status != NAPLPS_ACCEPTED) return;
+    must(naplps_is_plain(text.bytes, text.answer.length), "canonical text isn't plain");
+    struct naplps_answer again = naplps_check(0, text.bytes, text.answer.length);
+    must(again.status == NAPLPS_ACCEPTED && again.length == entries, "canonical text has other entries");
+}
+
+static void try_form1(struct text text, uint32_t budget, const uint8_t *page, size_t length) {
+    if (text.answer.status != NAPLPS_ACCEPTED) return;
+    struct text canon = ask(naplps_canon, budget, page, length);
+    struct text again = ask(naplps_canon, 0, text.bytes, text.answer.length);
+    must(are_equal(canon.answer, again.answer), "text in form 1 has another canonical stream");
+    must(memcmp(canon.bytes, again.bytes, canon.answer.length) == 0, "text in form 1 has another canonical stream");
+    free(canon.bytes);
+    free(again.bytes);
+}
+
+static void answer_text(text_call *call, uint32_t budget, const uint8_t *page, size_t length) {
+    struct naplps_answer count = naplps_check(budget, page, length);
+    struct text text = ask(call, budget, page, length);
+    must(text.answer.status == count.status && text.answer.number == count.number, "two calls differ");
+    must(text.answer.place == count.place, "two calls differ in the place");
+    if (call == naplps_canon || call == naplps_canon_form1) try_canonical(text, count.length);
+    if (call == naplps_canon_form1) try_form1(text, budget, page, length);
+    print_line(text.answer, count.length);
+    printf("%llu\n", (unsigned long long)text.answer.length);
+    if (text.bytes) fwrite(text.bytes, 1, text.answer.length, stdout);
+    free(text.bytes);
+}
+
+static void answer_request(const char *command, uint32_t budget, const uint8_t *page, size_t length) {
+    for (int i = 0; i < TEXT_CALLS; i++) {
+        if (strcmp(command, text_calls[i].name) == 0) {
+            answer_text(text_calls[i].call, budget, page, length);
+            return;
+        }
+    }
+    if (strcmp(command, "check") == 0) {
+        struct naplps_answer answer = naplps_check(budget, page, length);
+        print_line(answer, answer.length);
+    } else if (strcmp(command, "plain") == 0) {
+        puts(naplps_is_plain(page, length) ? "plain" : "not plain");
+    } else {
+        stop("no such command");
+    }
+    puts("0");
+}
+
+int main(void) {
+    char line[64], command[16];
+    unsigned budget;
+    size_t length;
+    while (fgets(line, sizeof line, stdin)) {
+        must(sscanf(line, "%15s %u %zu\n", command, &budget, &length) == 3, "the input has no request");
+        uint8_t *page = new_room(length);
+        must(fread(page, 1, length, stdin) == length, "the input ends amid a request");
+        answer_request(command, budget, page, length);
+        fflush(stdout);
+        free(page);
+    }
+    return 0;
+}
