@@ -1,7 +1,7 @@
 # Completion of naplps-pages for bash.
 _naplps_pages() {
     local word=${COMP_WORDS[COMP_CWORD]} before=${COMP_WORDS[COMP_CWORD - 1]} command='' words index
-    local commands='check list canon explain look text cures scan equal refused convert status report serve'
+    local commands='check list canon explain look text cures scan merge equal refused convert status report serve'
     for ((index = 1; index < COMP_CWORD; index++)); do
         if [[ " $commands " = *" ${COMP_WORDS[index]} "* ]]; then
             command=${COMP_WORDS[index]}
@@ -10,7 +10,7 @@ _naplps_pages() {
     done
     case $before in
         # (numbers are for the user to say)
-        --budget | --seconds | --processes | --most | --number | --sketches | --port) return ;;
+        --budget | --seconds | --processes | --part | --most | --number | --sketches | --port) return ;;
         --into | --svg)
             compopt -o filenames
             mapfile -t COMPREPLY < <(compgen -f -- "$word")
@@ -24,7 +24,8 @@ _naplps_pages() {
         explain | text) words='--budget --seconds --help' ;;
         look) words='--svg --into --budget --seconds --help' ;;
         cures) words='--json --into --budget --seconds --help' ;;
-        scan) words='--into --processes --most --again --cures --budget --seconds --help' ;;
+        scan) words='--into --processes --on --part --most --again --cures --budget --seconds --help' ;;
+        merge) words='--unfinished --help' ;;
         equal) words='--copies --verify --null --json --csv --seconds --help' ;;
         refused) words='--number --null --json --csv --help' ;;
         convert) words='--into --json --csv --seconds --help' ;;

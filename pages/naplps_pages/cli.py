@@ -27,16 +27,16 @@ COMMANDS: Dict[str, Callable[[Session], int]] = {
 HELP = {
     "check": "say whether pages are accepted, or why not",
     "list": "print a line for each entry of the pages",
-    "canon": "print the canonical stream of a page, or put those of pages into a folder",
-    "explain": "show each entry beside the bytes that brought it, or why the page is refused",
-    "look": "make a sketch of a page as SVG: print it, or put it into a file or a folder",
+    "canon": "print the canonical stream of a page, or write those of many pages to a folder",
+    "explain": "show each entry next to the bytes that it comes from, or why the page is refused",
+    "look": "make a sketch of a page as SVG: print it, or write it to a file or a folder",
     "text": "print the text of pages",
     "cures": "try treatments that make a refused page readable"}
 # The commands whose answers may be as long as they are.
 AT_LENGTH = ("list", "canon")
-EPILOG = ("No file is written over. Status: 0 all pages are accepted, 1 some are refused, 2 the words are wrong, 3 "
-          "something couldn't be read, asked or written. The program that is asked is the one that NAPLPS names, or "
-          "naplps beside this command, or on PATH.")
+EPILOG = ("No file is overwritten. Status: 0 all pages are accepted, 1 some are refused, 2 the command line is wrong, "
+          "3 something couldn't be read, asked or written. The program that is asked is the one that NAPLPS names, or "
+          "naplps next to this command, or on PATH.")
 
 
 class Parser(argparse.ArgumentParser):
@@ -53,7 +53,7 @@ class Parser(argparse.ArgumentParser):
 def parser() -> argparse.ArgumentParser:
     """The words that are understood."""
     top = Parser(prog=TOOL, description="Files, pictures and reasons for NAPLPS pages.", allow_abbrev=False,
-                 epilog="`%s COMMAND --help` tells of one command. %s" % (TOOL, EPILOG))
+                 epilog="`%s COMMAND --help` describes one command. %s" % (TOOL, EPILOG))
     top.add_argument("--version", action="version", version="%s %s" % (TOOL, VERSION))
     commands = top.add_subparsers(dest="command", metavar="COMMAND", required=True)
     for name, text in HELP.items():
@@ -69,23 +69,23 @@ def parser() -> argparse.ArgumentParser:
 
 def _add_options(one: argparse.ArgumentParser, name: str) -> None:
     if name in ("check", "list", "cures"):
-        one.add_argument("--json", action="store_true", help="print an object a line")
+        one.add_argument("--json", action="store_true", help="print JSON, an object on each line")
     if name in ("canon", "look", "cures"):
         one.add_argument("--into", metavar="FOLDER", help="make a file for each page in this folder")
     if name == "look":
-        one.add_argument("--svg", metavar="FILE", help="make this file of the sketch of one page")
+        one.add_argument("--svg", metavar="FILE", help="write the sketch of one page to this file")
     _add_budget(one)
     _add_seconds(one)
 
 
 def _add_budget(one: argparse.ArgumentParser) -> None:
     one.add_argument("--budget", metavar="N", type=_budget, default=USUAL_BUDGET,
-                     help="bytes of macro bodies that a page may be charged with; usually %d" % USUAL_BUDGET)
+                     help="how many bytes of macro bodies a page may be charged; the default is %d" % USUAL_BUDGET)
 
 
 def _add_seconds(one: argparse.ArgumentParser) -> None:
     one.add_argument("--seconds", metavar="N", type=_seconds, default=20.0,
-                     help="how long the program may take for a page; usually 20")
+                     help="how many seconds the program may take for a page; the default is 20")
 
 
 def _budget(text: str) -> int:

@@ -52,12 +52,12 @@ def command_of(page: Page) -> str:
 
 def rows_of(page: Page, body: bytes) -> List[Row]:
     """The entries that the answer to that command has."""
-    return [(None, line) for line in body.decode("ascii").splitlines()] if page.data is None else placed(body)
+    return [(None, line) for line in body.decode("ascii").splitlines()] if page.data is None else [*placed(body)]
 
 
-def placed(body: bytes) -> List[Row]:
+def placed(body: bytes) -> List[Tuple[int, str]]:
     """The entries in the body of `places`. Raises NotALine."""
-    rows: List[Row] = []
+    rows: List[Tuple[int, str]] = []
     for row in body.decode("ascii").splitlines():
         place, _, line = row.partition(" ")
         if not place.isdigit():

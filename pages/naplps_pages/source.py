@@ -6,9 +6,14 @@ import tempfile
 from dataclasses import dataclass
 from typing import IO, List, Optional
 
+from .packs.naming import BETWEEN, is_pack
+from .packs.reading import NoMember, Packs
+
 # A longer page is no request of `naplps batch`, and isn't held.
 MOST = 16 << 20
 PIECE = 1 << 20
+# The packs of which members are read.
+PACKS = Packs(MOST)
 
 
 @dataclass(frozen=True)
@@ -30,7 +35,7 @@ class Unread(Exception):
 
 
 def read(name: str) -> Page:
-    """Reads the page of this name, '-' for standard input. Raises Unread."""
+    """Reads the page of this name, '-' for standard input, 'PACK!MEMBER' for a member of a pack. Raises Unread."""
     try:
         if name == "-":
             if sys.stdin is None:
@@ -40,9 +45,26 @@ def read(name: str) -> Page:
         with open(name, "rb", buffering=0) as file:
             return _gathered(name, file)
     except OSError as error:
+        member = _member(name) if error.errno in (errno.ENOENT, errno.ENOTDIR) else None
+        if member:
+            return member
         raise Unread(error.strerror or str(error)) from None
     except ValueError as error:  # a name with NUL
         raise Unread(str(error)) from None
+
+
+def _member(name: str) -> Optional[Page]:
+    """The member of a pack, where the name has a pack that is there in front. Raises Unread."""
+    at = name.find(BETWEEN)
+    while at >= 0:
+        pack = os.path.abspath(os.fsencode(name[:at]))
+        if is_pack(pack) and os.path.isfile(pack):
+            try:
+                return Page(name, PACKS.read(pack, os.fsencode(name[at + 1:])))
+            except NoMember as error:
+                raise Unread(str(error)) from None
+        at = name.find(BETWEEN, at + 1)
+    return None
 
 
 def _gathered(name: str, file: IO[bytes]) -> Page:

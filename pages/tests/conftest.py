@@ -6,7 +6,7 @@ import signal
 import stat
 import subprocess
 import sys
-from typing import Callable, Dict, List, Optional
+from typing import Callable, Dict, Iterator, List, Optional
 
 import pytest
 from hypothesis import settings
@@ -85,6 +85,17 @@ def run_as_nobody(naplps: str, tmp_path: pathlib.Path) -> Run:
         return subprocess.run([str(copy / "naplps-pages"), *words], capture_output=True, cwd=cwd, env=where,
                               user=NOBODY, group=NOBODY, extra_groups=[])
     return runs
+
+
+@pytest.fixture
+def small_disk(tmp_path: pathlib.Path) -> Iterator[str]:
+    """A disk of 2 MiB."""
+    at = str(tmp_path / "disk")
+    os.mkdir(at)
+    if subprocess.run(["mount", "-t", "tmpfs", "-o", "size=2m", "none", at], capture_output=True).returncode:
+        pytest.skip("nothing can be mounted here")
+    yield at
+    subprocess.run(["umount", at], check=True)
 
 
 def file(folder: "os.PathLike[str]", name: "str | bytes", data: bytes) -> str:

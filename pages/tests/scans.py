@@ -5,6 +5,10 @@ import subprocess
 import time
 
 from conftest import COMMAND
+from naplps_pages.collection import tables
+from naplps_pages.collection.part import keep_part, read_part
+from naplps_pages.collection.store import open_to_write
+from naplps_pages.collection.writer import Terms, Writer
 
 # A program that answers pages by their first letters, and fails on some.
 FAKE = """
@@ -56,6 +60,59 @@ def table(store, top=""):
                         "LEFT JOIN cures c ON c.page = p.id")
     cut = len(os.fsencode(top))
     return sorted(((row[0][cut:], *row[1:]) for row in found), key=lambda row: row[:2])
+
+
+# All tables, as they are independent of the numbers of rows and of times.
+TERMS = "(SELECT t.version || hex(t.program_hash) || t.form || t.budget FROM terms t WHERE t.id = %s.terms)"
+TABLES = {
+    "meta": "SELECT key, value FROM meta",
+    "terms": "SELECT version, program_hash, form, budget FROM terms",
+    "runs": "SELECT ended IS NULL, tool, program, %s, files, asked FROM runs r" % TERMS % "r",
+    "roots": "SELECT path, why FROM roots",
+    "folders": "SELECT path, state, why, run = (SELECT max(id) FROM runs) FROM folders",
+    "pages": "SELECT own, state, number, left_out, place, entries, canon, canon_size, why, %s, run = "
+             "(SELECT max(id) FROM runs) FROM pages p" % TERMS % "p",
+    "faults": "SELECT number, name FROM faults",
+    "cures": "SELECT p.own, c.treatments, c.entries, c.copy, c.why, %s FROM cures c JOIN pages p ON p.id = c.page" %
+             TERMS % "c",
+    "files": "SELECT d.path, f.name, f.state, f.why, f.size, f.mtime_ns, f.ctime_ns, f.inode, p.own, f.run = "
+             "(SELECT max(id) FROM runs) FROM files f JOIN folders d ON d.id = f.folder LEFT JOIN pages p "
+             "ON p.id = f.page",
+    "indices": "SELECT sql FROM sqlite_master WHERE sql IS NOT NULL"}
+
+
+def every_table(store):
+    """Each table of a store, as its rows, sorted."""
+    return {name: sorted(rows(store, words), key=repr) for name, words in TABLES.items()}
+
+
+def written(store, root, found, terms=Terms("naplps", b"\0" * 32, "2", 1048576), part=None, began=None):
+    """A store as a scan of one folder leaves it, of names and the answers to what they have, without a scan."""
+    connection = open_to_write(store)
+    keep_part(connection, store, part, [root])
+    connection.execute("PRAGMA synchronous = OFF")
+    writer = Writer(connection, b"/usr/bin/naplps", terms)
+    writer.root(root)
+    folder, _ = writer.folder(root, tables.READ, None)
+    files = [tables.File(folder, name, tables.READ, None, 650, 1, 1, at, answer.own)
+             for at, (name, answer) in enumerate(found)]
+    writer.take((tuple(files), tuple(answer for _, answer in found)))
+    writer.write()
+    connection.executescript(tables.INDICES)
+    writer.finish(len(files), len(files))
+    if began:
+        connection.execute("UPDATE runs SET began = ?", (began,))
+    connection.close()
+
+
+def made_up(store, first, number, part=None):
+    """A store of made-up rows: of ten pages two draw the same, and each twentieth file is a copy."""
+    own = [tables.hashed(b"%d" % (at - 1 if at % 20 == 7 else at)) for at in range(first, first + number)]
+    canon = [tables.hashed(b"canonical %d" % (at - 1 if at % 10 in (1, 7) else at))
+             for at in range(first, first + number)]
+    written(store, b"/archive", [
+        (b"p%09d.nap" % at, tables.Answered(one, tables.ACCEPTED, entries=165, canon=other, canon_size=1060))
+        for at, one, other in zip(range(first, first + number), own, canon)], part=read_part(part) if part else None)
 
 
 def statuses(store):

@@ -10,6 +10,7 @@ import subprocess
 import pytest
 
 from conftest import COMMAND
+from naplps_pages import VERSION
 from naplps_pages.ask import Program
 from naplps_pages.collection import verify
 from naplps_pages.collection.equal import Group, Spelling
@@ -233,7 +234,7 @@ def test_status(run, naplps, store, pages):
     (began, ended), = rows(store, "SELECT began, ended FROM runs")
     assert told == [
         "store:           %s, %d bytes" % (store, os.path.getsize(store)),
-        "scan:            began %s UTC, ended %s UTC" % (began, ended), "tool:            naplps-pages 0.2.0",
+        "scan:            began %s UTC, ended %s UTC" % (began, ended), "tool:            naplps-pages " + VERSION,
         "program:         %s, %s" % (naplps, version), "program hash:    " + program_hash, "budget:          1048576",
         "folder:          " + pages, "files:           9", "accepted:        5", "refused:         4",
         "distinct pages:  6", "canonical pages: 2", "left:            nothing"]
@@ -256,7 +257,7 @@ def test_status_of_what_is_left(run, store, pages, fake):
 
 
 @pytest.mark.parametrize("words", [
-    ["equal"], ["equal", "x", "y"], ["equal", "x", "--json", "--csv"], ["refused", "x", "--number", "0"],
+    ["equal"], ["refused", "x", "y"], ["equal", "x", "--json", "--csv"], ["refused", "x", "--number", "0"],
     ["convert", "x"], ["convert", "x", "--into", "y", "--null"], ["status", "x", "--null"], ["status"]])
 def test_wrong_words(run, words):
     said = run(words)

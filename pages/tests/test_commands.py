@@ -11,7 +11,7 @@ import time
 
 import pytest
 
-from conftest import COMMAND, PAGES, file
+from conftest import COMMAND, PAGES, TOP, file
 from naplps_pages import output
 from samples import BOMB, OUTSIDE, POINT, POINT_LINE
 
@@ -144,7 +144,8 @@ def test_help(run):
     for words in (["--help"], ["check", "--help"], ["look", "-h"]):
         said = run(words)
         assert said.returncode == 0 and said.stdout.startswith(b"usage: naplps-pages") and not said.stderr
-    assert run(["--version"]).stdout == b"naplps-pages 0.2.0\n"
+    with open(os.path.join(TOP, "VERSION"), "rb") as version:
+        assert run(["--version"]).stdout == b"naplps-pages " + version.read()
 
 
 @pytest.mark.parametrize("command", COMMANDS)

@@ -1,57 +1,105 @@
-"""The commands that README, recipes and manual page show: each is run as it stands, in a folder of pages."""
+"""The commands that documents and manual page show: each is run as it stands, in a folder of pages; and their links."""
+import glob
 import os
 import re
 import subprocess
+from urllib.parse import unquote
 
 import pytest
 
 from conftest import COMMAND, TOP, file
 from gallery import logo
+from packers import pack
 from samples import POINT, with_parity
 
-STARTS = (("README.md", "    pages/naplps-pages "), (os.path.join("docs", "COLLECTIONS.md"), "    naplps-pages "),
-          (os.path.join("man", "naplps-pages.1"), "$ naplps-pages "))
+STARTS = (("README.md", "    ", "pages/naplps-pages "), ("README.md", "    ", "./naplps "),
+          ("docs/TOUR.md", "    ", "pages/naplps-pages "), ("docs/COLLECTIONS.md", "    ", "naplps-pages "),
+          ("man/naplps-pages.1", "$ ", "naplps-pages "))
+DOCUMENTS = sorted(glob.glob(os.path.join(TOP, "**", "*.md"), recursive=True))
+
+
+def read(name):
+    """The text of a document."""
+    with open(os.path.join(TOP, name), encoding="utf-8") as document:
+        return document.read()
 
 
 def shown():
     """The commands of the documents."""
-    for name, start in STARTS:
-        with open(os.path.join(TOP, name), encoding="utf-8") as document:
-            yield from (line[len(start):].rstrip("\n") for line in document if line.startswith(start))
+    for name, margin, start in STARTS:
+        for line in read(name).splitlines():
+            if line.startswith(margin + start):
+                yield line[len(margin):]
 
 
-@pytest.mark.parametrize("words", sorted(set(shown())))
-def test_commands_of_the_documents(naplps, tmp_path, words):
-    folder = os.path.join(str(tmp_path), "folder")
-    os.makedirs(os.path.join(folder, "pages"))
-    os.symlink(os.path.join(TOP, "examples"), os.path.join(folder, "examples"))
-    os.symlink(COMMAND, os.path.join(folder, "pages", "naplps-pages"))
+@pytest.fixture
+def folder(tmp_path, naplps):
+    """A folder of pages in which the commands run, as if it were that of the sources."""
+    made = os.path.join(str(tmp_path), "folder")
+    os.makedirs(os.path.join(made, "pages"))
+    for to, name in ((os.path.join(TOP, "examples"), "examples"), (COMMAND, "pages/naplps-pages"), (naplps, "naplps")):
+        os.symlink(to, os.path.join(made, name))
     for name, data in (("page.nap", with_parity(logo())), ("other.nap", POINT), ("pages/page.nap", POINT)):
-        file(folder, name, data)
-    env = dict(os.environ, NAPLPS=naplps, PATH=os.path.join(folder, "pages") + os.pathsep + os.environ["PATH"])
-    if "pages.db" in words and not words.startswith("scan"):
-        subprocess.run(["naplps-pages", "scan", "pages", "--into", "pages.db"], cwd=folder, env=env, check=True)
-    said = subprocess.run(["sh", "-c", "naplps-pages " + words], cwd=folder, capture_output=True, text=True, env=env)
-    assert said.returncode in (0, 1), said.stderr
-    assert all(": refused " in line for line in said.stderr.splitlines())
+        file(made, name, data)
+    for name in ("old.tar", "more.zip"):
+        pack(os.path.join(made, name), {"disk 3/logo.nap": logo()})
+    return made
+
+
+@pytest.fixture
+def settings(folder, naplps):
+    """The environment of the commands."""
+    return dict(os.environ, NAPLPS=naplps, PATH=os.path.join(folder, "pages") + os.pathsep + os.environ["PATH"])
+
+
+@pytest.mark.parametrize("command", sorted(set(shown())))
+def test_commands_of_the_documents(folder, settings, command):
+    if "pages.db" in command and "naplps-pages scan" not in command:
+        subprocess.run(["naplps-pages", "scan", "pages", "--into", "pages.db"], cwd=folder, env=settings, check=True)
+    said = subprocess.run(["sh", "-c", command], cwd=folder, capture_output=True, env=settings)
+    told = said.stderr.decode("utf-8", "replace")
+    assert said.returncode in (0, 1), told
+    assert all(": refused " in line for line in told.splitlines())
 
 
 def test_there_are_such_commands():
-    assert len(list(shown())) > 12
+    assert len(list(shown())) > 30
 
 
 def tour():
-    """The commands of the README that have behind them what they print."""
-    with open(os.path.join(TOP, "README.md"), encoding="utf-8") as document:
-        return re.findall(r"^    (pages/naplps-pages .*)\n((?:    # .*\n)+)", document.read(), re.MULTILINE)
+    """The commands of the tour, with what they print."""
+    return re.findall(r"^    (?!# )(.*)\n((?:    # .*\n)+)", read("docs/TOUR.md"), re.MULTILINE)
 
 
-@pytest.mark.parametrize("words, printed", tour())
-def test_commands_print_what_the_tour_says(naplps, words, printed):
-    said = subprocess.run(["sh", "-c", words], cwd=TOP, capture_output=True, text=True,
-                          env=dict(os.environ, NAPLPS=naplps))
+@pytest.mark.parametrize("command, printed", tour())
+def test_commands_print_what_the_tour_says(folder, settings, command, printed):
+    said = subprocess.run(["sh", "-c", command], cwd=folder, stdout=subprocess.PIPE, stderr=subprocess.STDOUT,
+                          text=True, env=settings)
     assert said.stdout == printed.replace("    # ", "")
 
 
-def test_the_tour_has_such_a_command():
-    assert tour()
+def test_each_command_of_the_tour_is_run():
+    lines = re.findall(r"^    (?!# )(.*)$", read("docs/TOUR.md"), re.MULTILINE)
+    assert len(tour()) > 12 and set(lines) <= {*shown(), *dict(tour())}
+
+
+def anchors(text):
+    """The names by which links reach the headings of a document."""
+    headings = re.findall(r"^#+ (.*)$", re.sub(r"^```.*?^```", "", text, flags=re.MULTILINE | re.DOTALL), re.MULTILINE)
+    return {re.sub(r"[^\w\- ]", "", heading.lower()).replace(" ", "-") for heading in headings}
+
+
+@pytest.mark.parametrize("path", DOCUMENTS, ids=lambda path: os.path.relpath(path, TOP))
+def test_links_lead_somewhere(path):
+    for link in re.findall(r"\]\(([^)]+)\)|<img src=\"([^\"]+)\"", read(path)):
+        name, _, heading = unquote("".join(link)).partition("#")
+        if not name.startswith("https:"):
+            to = os.path.join(os.path.dirname(path), name) if name else path
+            assert os.path.exists(to), link
+            assert not heading or heading in anchors(read(to)), link
+
+
+def test_the_first_run_is_told_in_one_sentence():
+    said = re.search("^first_run='(.*)'$", read("naplps"), re.MULTILINE)
+    for name in ("README.md", "CONTRIBUTING.md"):
+        assert said and said.group(1) in " ".join(read(name).split())

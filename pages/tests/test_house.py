@@ -13,8 +13,12 @@ from naplps_pages import refusals
 from samples import has
 
 PACKAGE = os.path.join(PAGES, "naplps_pages")
-SOURCES = sorted(glob.glob(os.path.join(PACKAGE, "**", "*.py"), recursive=True)) + [os.path.join(PAGES, "naplps-pages")]
-SCRIPTS = [os.path.join(TOP, "scripts", name) for name in ("manual-refusals", "speed-pages")]
+MODULE = os.path.join(PAGES, "naplps")
+SOURCES = [*sorted(path for folder in (PACKAGE, MODULE)
+                   for path in glob.glob(os.path.join(folder, "**", "*.py"), recursive=True)),
+           os.path.join(PAGES, "naplps-pages")]
+SCRIPTS = [os.path.join(TOP, "scripts", name)
+           for name in ("manual-refusals", "speed-module", "speed-pages", "measure-scale", "measuring.py")]
 ALL = SOURCES + SCRIPTS + sorted(glob.glob(os.path.join(PAGES, "tests", "*.py")))
 
 
@@ -53,13 +57,14 @@ def test_the_standard_library_alone(path):
         names = [each.name for each in node.names] if isinstance(node, ast.Import) else (
             [node.module] if isinstance(node, ast.ImportFrom) and not node.level else [])
         for name in names:
-            assert name.split(".")[0] in known | {"naplps_pages"}
+            assert name.split(".")[0] in known | {"naplps", "naplps_pages"}
 
 
 @pytest.mark.skipif(not has("mypy"), reason="there is no mypy")
 def test_types(tmp_path):
     words = ["mypy", "--strict", "--scripts-are-modules", "--python-version", "3.9", "--cache-dir", str(tmp_path)]
-    said = subprocess.run([*words, PACKAGE, *SCRIPTS], capture_output=True, text=True, cwd=PAGES)
+    said = subprocess.run([*words, PACKAGE, MODULE, *SCRIPTS], capture_output=True, text=True, cwd=PAGES,
+                          env=dict(os.environ, MYPYPATH=os.path.join(TOP, "scripts")))
     assert said.returncode == 0, said.stdout
 
 
@@ -76,7 +81,8 @@ def script_without_tools(tmp_path, script):
     return os.path.join(binary, "script"), note
 
 
-LINE = "install -y --no-install-recommends python3-pytest python3-hypothesis mypy chromium librsvg2-bin sqlite3"
+LINE = ("install -y --no-install-recommends python3-pytest python3-hypothesis mypy chromium librsvg2-bin sqlite3 "
+        "parallel python3-distributed")
 
 
 @pytest.mark.parametrize("words", [[], ["--install"]])

@@ -255,17 +255,6 @@ def test_a_store_that_may_only_be_read(run_as_nobody, run, tmp_path):
     assert is_sound(store)
 
 
-@pytest.fixture
-def small_disk(tmp_path):
-    """A disk of 2 MiB."""
-    at = os.path.join(str(tmp_path), "disk")
-    os.mkdir(at)
-    if subprocess.run(["mount", "-t", "tmpfs", "-o", "size=2m", "none", at], capture_output=True).returncode:
-        pytest.skip("nothing can be mounted here")
-    yield at
-    subprocess.run(["umount", at], check=True)
-
-
 def test_a_full_disk(run, fake, tmp_path, small_disk):
     pages = tree(os.path.join(str(tmp_path), "pages"), {
         "%03d/%05d" % (number // 100, number): b"%d" % number for number in range(20_000)})

@@ -2,14 +2,16 @@
 import argparse
 import sqlite3
 from dataclasses import replace
-from typing import Iterator
+from typing import Iterator, List
 
 from ..ask import Program
 from ..child import Limits
 from ..names import shown
 from ..output import NotWritten, tell
 from ..program import NoProgram, find
-from . import convert, equal, refused, status
+from . import convert, equal, equal_over, refused, status
+from .equal_over import most_budget
+from .merge import merge
 from .printing import Printer
 from .scan import COMPLETE, FAILED, SOME_LACK, Options, scan
 from .store import StoreFailed, open_to_read
@@ -22,19 +24,20 @@ Given = argparse.Namespace
 
 def run(given: Given, command: str) -> int:
     """Runs a command; the status. `command` is the path of the tool, beside which naplps may stand."""
-    store = given.into if given.command == "scan" else given.store
+    store = {"scan": "into", "merge": "into", "equal": "stores"}.get(given.command, "store")
     try:
         return COMMANDS[given.command](given, command)
     except (NoProgram, NotWritten, StoreFailed) as error:
         tell(str(error))
     except sqlite3.Error as error:
-        tell("%s: %s" % (shown(store), error))
+        named = getattr(given, store)
+        tell("%s: %s" % (shown(named if isinstance(named, str) else named[0]), error))
     return FAILED
 
 
 def _scan(given: Given, command: str) -> int:
     how = How(find(command), given.budget, given.seconds, given.most, Wanted(given.again, given.cures))
-    return scan(Options(given.folders, given.into, given.processes, how))
+    return scan(Options(given.folders, given.into, given.processes, how, given.part, given.on))
 
 
 class Telling:
@@ -50,22 +53,22 @@ class Telling:
         self.status = SOME_LACK
 
 
-def _program(given: Given, command: str, connection: sqlite3.Connection) -> Program:
-    """The program, under the largest budget of the store: a budget only refuses."""
-    budget, = connection.execute("SELECT coalesce(max(budget), 0) FROM terms").fetchone()
-    return Program(find(command), int(budget), replace(Limits(), seconds=given.seconds))
+def _program(given: Given, command: str, stores: List[str]) -> Program:
+    """The program, under the largest budget of the stores: a budget only refuses."""
+    return Program(find(command), most_budget(stores), replace(Limits(), seconds=given.seconds))
 
 
 def _equal(given: Given, command: str) -> int:
-    connection = open_to_read(given.store)
+    connection = open_to_read(given.stores[0]) if len(given.stores) == 1 else None
     printer = Printer(given.form, equal.COLUMNS)
     telling = Telling(printer)
-    some = equal.groups(connection, given.copies)
+    some = equal.groups(connection, given.copies) if connection else equal_over.groups(
+        given.stores, given.copies, telling)
     if not given.verify:
         for group in some:
             equal.show(printer, group)
     else:
-        program = _program(given, command, connection)
+        program = _program(given, command, given.stores)
         try:
             for group in _verified(program, some, given.copies, telling):
                 equal.show(printer, group)
@@ -94,7 +97,7 @@ def _convert(given: Given, command: str) -> int:
     connection = open_to_read(given.store)
     printer = Printer(given.form, convert.COLUMNS)
     telling = Telling(printer)
-    program = _program(given, command, connection)
+    program = _program(given, command, [given.store])
     conversion = convert.Conversion(program, given.into)
     try:
         for row in conversion.rows(connection):
@@ -117,4 +120,9 @@ def _status(given: Given, command: str) -> int:
     return COMPLETE
 
 
-COMMANDS = {"scan": _scan, "equal": _equal, "refused": _refused, "convert": _convert, "status": _status}
+def _merge(given: Given, command: str) -> int:
+    return COMPLETE if merge(given.into, given.parts, given.unfinished) else SOME_LACK
+
+
+COMMANDS = {"scan": _scan, "merge": _merge, "equal": _equal, "refused": _refused, "convert": _convert,
+            "status": _status}

@@ -16,7 +16,7 @@ from .verify import OTHER_HASH
 
 COLUMNS = ["canonical", "status", "path", "reason", *NAME]
 WRITTEN, THERE, CHANGED, NOT_MADE = "written", "there", "changed", "not made"
-PAGES = """SELECT p.canon, p.canon_size, p.own, d.path, f.name FROM pages p
+PAGES = """SELECT p.canon, p.canon_size, p.own, d.path, f.name, f.at FROM pages p
     JOIN present f ON f.page = p.id JOIN folders d ON d.id = f.folder
     WHERE p.canon IS NOT NULL ORDER BY p.canon, d.path, f.name"""
 
@@ -42,9 +42,9 @@ class Conversion:
         """Puts the canonical page of each group in place, and tells what came of it. Raises NotWritten."""
         make_folder(self.into)
         done: Optional[bytes] = None
-        for canon, length, own, folder, name in kept(connection, PAGES):
+        for canon, length, own, *place in kept(connection, PAGES):
             if canon != done:
-                row = self._convert(canon, length, own, Place(folder, name))
+                row = self._convert(canon, length, own, Place(*place))
                 self.counts[row.status] = self.counts.get(row.status, 0) + 1
                 done = None if row.status == CHANGED else canon  # another file may have the page still
                 yield row

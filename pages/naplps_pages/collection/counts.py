@@ -5,10 +5,15 @@ from typing import Dict, NamedTuple, Tuple
 from . import tables
 from .printing import numbered
 
-# Files in folders that the run read, and those that it missed, by their states and those of their pages.
-FILES = """SELECT f.state, p.state, count(*) FROM files f JOIN folders d ON d.id = f.folder
-    LEFT JOIN pages p ON p.id = f.page AND f.state = 0
-    WHERE (d.run = ? AND d.state = 0 AND f.state <> ?) OR (f.run = ? AND f.state = ?) GROUP BY 1, 2"""
+# Files in folders that the run read, and those that it missed, by their states.
+FILES = """SELECT f.state, count(*) FROM files f JOIN folders d ON d.id = f.folder
+    WHERE ((d.run = ? AND d.state = 0 AND f.state <> ?) OR (f.run = ? AND f.state = ?)) AND %s GROUP BY 1""" % (
+    tables.IS_FILE)
+# Of those that it read the files whose pages aren't accepted, which are fewer.
+OTHERS = """SELECT p.state, count(*) FROM pages p CROSS JOIN files f ON f.page = p.id AND f.state = 0
+    CROSS JOIN folders d ON d.id = f.folder WHERE p.state <> ? AND d.run = ? AND d.state = 0 GROUP BY 1"""
+PACKS = """SELECT count(*) FROM folders d JOIN files f ON f.folder = d.id AND f.name = x''
+    WHERE d.run = ? AND f.state <> %d""" % tables.GONE
 FOLDERS = "SELECT count(*) FROM folders WHERE run = ? AND state = ?"
 WORDS = {tables.UNREADABLE: "unreadable", tables.VANISHED: "vanished", tables.TOO_LONG: "too long",
          tables.NOT_A_FILE: "not regular files", tables.CHANGED: "changed meanwhile"}
@@ -21,38 +26,50 @@ class Counts(NamedTuple):
     pages: Dict[int, int]
     folders: int
     asked: int
+    packs: int = 0
 
     @property
     def met(self) -> int:
         """How many files there are."""
         return sum(number for state, number in self.files.items() if state != tables.GONE)
 
+    def plus(self, other: "Counts") -> "Counts":
+        """Both together."""
+        return Counts(_sum(self.files, other.files), _sum(self.pages, other.pages), self.folders + other.folders,
+                      self.asked + other.asked, self.packs + other.packs)
+
     def line(self, known: int) -> str:
-        """The counts for people, of which so many were known."""
+        """The counts of a scan for people, of which so many were known."""
+        return self.told("%d known, %s asked about" % (known, numbered(self.asked, "page")))
+
+    def told(self, how: str) -> str:
+        """The counts for people, and in their midst how they came."""
         parts = ["%d %s" % (self.pages.get(state, 0), tables.PAGE_STATES[state])
                  for state in (tables.ACCEPTED, tables.REFUSED)]
         if self.pages.get(tables.NO_ANSWER):
             parts.append("%d without an answer" % self.pages[tables.NO_ANSWER])
         parts += ["%d %s" % (self.files[state], word) for state, word in WORDS.items() if self.files.get(state)]
-        line = "%s: %s; %d known, %s asked about" % (
-            numbered(self.met, "file"), ", ".join(parts), known, numbered(self.asked, "page"))
+        line = "%s: %s; %s" % (numbered(self.met, "file"), ", ".join(parts), how)
         if self.files.get(tables.GONE):
             line += "; %d gone" % self.files[tables.GONE]
+        if self.packs:
+            line += "; %s" % numbered(self.packs, "pack")
         if self.folders:
             line += "; %s unreadable" % numbered(self.folders, "folder")
         return line
 
 
+def _sum(one: Dict[int, int], other: Dict[int, int]) -> Dict[int, int]:
+    return {key: one.get(key, 0) + other.get(key, 0) for key in {**one, **other}}
+
+
 def counted(connection: sqlite3.Connection, run: int) -> Counts:
     """What the run with this number came to."""
-    files: Dict[int, int] = {}
-    pages: Dict[int, int] = {}
-    for state, of_page, number in connection.execute(FILES, (run, tables.GONE, run, tables.GONE)):
-        files[state] = files.get(state, 0) + number
-        if state == tables.READ:
-            pages[of_page] = number
+    files: Dict[int, int] = dict(connection.execute(FILES, (run, tables.GONE, run, tables.GONE)))
+    pages: Dict[int, int] = dict(connection.execute(OTHERS, (tables.ACCEPTED, run)))
+    pages[tables.ACCEPTED] = files.get(tables.READ, 0) - sum(pages.values())
     return Counts(files, pages, _one(connection, FOLDERS, (run, tables.UNREADABLE)),
-                  _one(connection, "SELECT count(*) FROM pages WHERE run = ?", (run,)))
+                  _one(connection, "SELECT count(*) FROM pages WHERE run = ?", (run,)), _one(connection, PACKS, (run,)))
 
 
 def _one(connection: sqlite3.Connection, words: str, values: Tuple[int, ...]) -> int:

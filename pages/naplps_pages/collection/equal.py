@@ -1,7 +1,7 @@
 """The command equal: groups of pages that draw the same."""
 import sqlite3
 from itertools import groupby
-from typing import Iterator, List, NamedTuple, Optional, Tuple
+from typing import Any, Iterable, Iterator, List, NamedTuple, Optional, Tuple
 
 from ..names import shown
 from ..schema import Members
@@ -18,7 +18,7 @@ COPIES = """ UNION SELECT p.canon FROM (SELECT page FROM present GROUP BY page H
 GROUPS = """CREATE TEMP TABLE found AS SELECT s.canon AS canon, t.form AS form, count(DISTINCT p.id) AS spellings,
     count(*) AS files FROM ({}) AS s CROSS JOIN pages p ON p.canon = s.canon CROSS JOIN terms t ON t.id = p.terms
     CROSS JOIN present f ON f.page = p.id GROUP BY 1, 2 HAVING {}"""
-MEMBERS = """SELECT g.canon, g.form, p.entries, p.canon_size, p.own, d.path, f.name FROM found g
+MEMBERS = """SELECT g.canon, g.form, p.entries, p.canon_size, p.own, d.path, f.name, f.at FROM found g
     CROSS JOIN pages p ON p.canon = g.canon CROSS JOIN terms t ON t.id = p.terms AND t.form = g.form
     CROSS JOIN present f ON f.page = p.id CROSS JOIN folders d ON d.id = f.folder
     ORDER BY g.spellings DESC, g.files DESC, g.canon, g.form, p.own, d.path, f.name"""
@@ -50,13 +50,18 @@ def groups(connection: sqlite3.Connection, copies: bool) -> Iterator[Group]:
     """The groups, those of most spellings first; those of one spelling, which are copies, only where that is said."""
     connection.execute(GROUPS.format(SEVERAL + COPIES, "count(*) > 1") if copies else
                        GROUPS.format(SEVERAL, "count(DISTINCT p.id) > 1"))
-    for (canon, form), some in groupby(kept(connection, MEMBERS), key=lambda row: (row[0], row[1])):
+    return grouped(kept(connection, MEMBERS))
+
+
+def grouped(members: Iterable[Tuple[Any, ...]]) -> Iterator[Group]:
+    """The groups of rows of members, which stand in their order."""
+    for (canon, form), some in groupby(members, key=lambda row: (row[0], row[1])):
         group: Optional[Group] = None
-        for _, _, entries, length, own, folder, name in some:
+        for _, _, entries, length, own, *place in some:
             group = group or Group(canon, form, entries, length, [])
             if not group.spellings or group.spellings[-1].own != own:
                 group.spellings.append(Spelling(own, []))
-            group.spellings[-1].places.append(Place(folder, name))
+            group.spellings[-1].places.append(Place(*place))
         if group:
             yield group
 

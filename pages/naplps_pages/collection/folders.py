@@ -3,6 +3,8 @@ import errno
 import os
 from typing import Iterator, Optional
 
+from ..packs.naming import pack_of
+
 FLAGS = os.O_RDONLY | os.O_DIRECTORY | os.O_CLOEXEC | os.O_NOCTTY
 # Bytes of a path that are given to the system at once.
 PIECE = 2048
@@ -14,7 +16,9 @@ def absolute(name: str) -> bytes:
 
 
 def join(folder: bytes, name: bytes) -> bytes:
-    """The path of what has this name in a folder."""
+    """The path of what has this name in a folder, or in a pack, with '!' between; of the pack itself without a name."""
+    if pack_of(folder) is not None:
+        return folder[:-1] + name if name else folder[:-2]
     return folder + name if folder.endswith(b"/") else folder + b"/" + name
 
 

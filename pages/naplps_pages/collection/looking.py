@@ -16,6 +16,8 @@ MOST_NUMBER = (1 << 63) - 1
 FRESH = 20_000_000
 KINDS = {stat.S_IFLNK: "a symbolic link", stat.S_IFDIR: "a folder", stat.S_IFIFO: "a fifo", stat.S_IFSOCK: "a socket",
          stat.S_IFCHR: "a device", stat.S_IFBLK: "a device"}
+# The size, the times and the number of a file.
+Marks = Tuple[int, int, int, int]
 GREW = "it grew while it was read"
 OTHER = "it changed while it was read"
 
@@ -43,7 +45,7 @@ def look(folder: int, at: int, name: bytes, most: int, held: int, beat: Callable
     if kind != stat.S_IFREG:
         return Seen(File(folder, name, NOT_A_FILE, KINDS.get(kind, "of another kind")))
     if before.st_size > most:
-        return Seen(_with(before, File(folder, name, TOO_LONG, "%d bytes" % before.st_size), now))
+        return Seen(with_marks(before, File(folder, name, TOO_LONG, "%d bytes" % before.st_size), now))
     try:
         descriptor = os.open(name, FLAGS, dir_fd=at)
     except OSError as error:
@@ -76,7 +78,7 @@ def _read(file: File, descriptor: int, before: os.stat_result, held: int, now: i
     changed = change(before, os.fstat(descriptor)) or (OTHER if length != before.st_size else None)
     if changed:
         return Seen(file._replace(state=CHANGED, why=changed))
-    whole = _with(before, file, now)._replace(own=hashed.digest())
+    whole = with_marks(before, file, now)._replace(own=hashed.digest())
     return Seen(whole, b"".join(pieces)) if before.st_size <= held else Seen(whole, None, descriptor)
 
 
@@ -89,14 +91,14 @@ def change(before: os.stat_result, after: os.stat_result) -> Optional[str]:
     return None if one == other else OTHER
 
 
-def _with(before: os.stat_result, file: File, now: int) -> File:
+def with_marks(before: os.stat_result, file: File, now: int) -> File:
     """The file with its size and its times: none where it is so fresh that a change mightn't show."""
     size, mtime_ns, ctime_ns, inode = marks(before)
     return file._replace(size=size, mtime_ns=mtime_ns, ctime_ns=ctime_ns if ctime_ns < now - FRESH else None,
                          inode=inode)
 
 
-def marks(status: os.stat_result) -> Tuple[int, int, int, int]:
+def marks(status: os.stat_result) -> Marks:
     """The size, the times and the number of a file, by which it is known again."""
     return status.st_size, _kept(status.st_mtime_ns), _kept(status.st_ctime_ns), _kept(status.st_ino)
 

@@ -2,19 +2,22 @@
 import os
 from typing import IO, NamedTuple, Optional
 
-from ..source import MOST, Page
+from ..packs.naming import pack_of
+from ..packs.reading import NoMember
+from ..source import MOST, PACKS, Page
 from .folders import join, opened, reason
 from .looking import look
-from .tables import READ
+from .tables import READ, hashed
 
 CHANGED = "it isn't as it was when it was scanned"
 
 
 class Place(NamedTuple):
-    """A file, by its folder and its name."""
+    """A file, by its folder and its name; or a member of a pack, and where in the pack it began."""
 
     folder: bytes
     name: bytes
+    at: Optional[int] = None
 
     @property
     def path(self) -> str:
@@ -28,6 +31,9 @@ class Otherwise(Exception):
 
 def read(place: Place, own: bytes) -> Page:
     """The page at the place, whose bytes have this hash. Raises Otherwise."""
+    pack = pack_of(place.folder)
+    if pack is not None:
+        return _member(pack, place, own)
     try:
         at = opened(place.folder, follow=True)
     except OSError as error:
@@ -46,3 +52,12 @@ def read(place: Place, own: bytes) -> Page:
     return Page(place.path, seen.data, file)
 
 
+def _member(pack: bytes, place: Place, own: bytes) -> Page:
+    """The page in a pack, whose bytes have this hash. Raises Otherwise."""
+    try:
+        data = PACKS.read(pack, place.name, place.at)
+    except NoMember as error:
+        raise Otherwise(str(error)) from None
+    if hashed(data) != own:
+        raise Otherwise(CHANGED)
+    return Page(place.path, data)

@@ -9,6 +9,7 @@ from collections import deque
 from multiprocessing.connection import Connection, wait
 from typing import Deque, Iterator, List, Optional, Sequence, Set, Tuple, cast
 
+from ..packs.naming import pack_of
 from .tables import UNREADABLE, Chunk, File, Piece
 from .work import MOST_AHEAD
 from .worker import ALIVE, DONE, FAILED
@@ -66,9 +67,13 @@ class Hand:
         elif what == FAILED:
             self.reason = "the worker that looked at it failed: %s" % value
         elif what != ALIVE:
-            self.reported += len(value[0])
+            self.reported += _reported(self.chunks[0], value[0])
             return cast(Piece, value)
         return None
+
+    def has_room(self) -> bool:
+        """Whether it should have another chunk: not behind a pack, which may take long."""
+        return len(self.chunks) < (1 if any(map(_is_pack, self.chunks)) else MOST_OUT)
 
     def left(self) -> Tuple[Chunk, ...]:
         """The chunks without what was reported."""
@@ -82,7 +87,7 @@ class Hand:
         except subprocess.TimeoutExpired:
             self.process.kill()
             status = self.process.wait()
-        return self.reason or "the worker that looked at it ended %s" % _ending(status)
+        return self.reason or "the worker that looked at it ended %s" % ending(status)
 
     def close(self) -> None:
         """Asks it to end, at once."""
@@ -117,7 +122,7 @@ class Pool:
         while more or self.again or any(hand.chunks for hand in self.hands):
             given: Optional[Chunk] = None
             while (more or self.again) and given != () and self._has_room():
-                given = self.again.popleft() if self.again else _next(chunks)
+                given = self.again.popleft() if self.again else next_of(chunks)
                 if given:
                     self._give(given)
                 more = more and given is not None
@@ -134,11 +139,11 @@ class Pool:
                 yield None
 
     def _has_room(self) -> bool:
-        return len(self.hands) < self.number or any(len(hand.chunks) < MOST_OUT for hand in self.hands)
+        return len(self.hands) < self.number or any(hand.has_room() for hand in self.hands)
 
     def _give(self, chunk: Chunk) -> None:
-        """Gives a chunk to the worker that has the fewest."""
-        least = min(self.hands, key=lambda hand: len(hand.chunks), default=None)
+        """Gives a chunk to the worker that has the fewest, of those that have room."""
+        least = min(filter(Hand.has_room, self.hands), key=lambda hand: len(hand.chunks), default=None)
         if least is None or (least.chunks and len(self.hands) < self.number):
             least = Hand(self.first, self.module)
             self.hands.append(least)
@@ -168,7 +173,7 @@ class Pool:
         if left and left[0] in self.suspects:
             folder, _, names = left.pop(0)[0]
             yield (File(folder, names[0], UNREADABLE, reason),), ()
-        elif left and _count(left[0]) == 1:
+        elif left and count(left[0]) == 1:
             self.suspects.add(left[0])  # once may be by chance, as where somebody else ended the worker
         elif left:
             first = left.pop(0)
@@ -184,7 +189,8 @@ class Pool:
         self.hands = []
 
 
-def _ending(status: int) -> str:
+def ending(status: int) -> str:
+    """How a process ended, by its status."""
     if status >= 0:
         return "with status %d" % status
     try:
@@ -193,7 +199,17 @@ def _ending(status: int) -> str:
         return "by signal %d" % -status
 
 
-def _count(chunk: Chunk) -> int:
+def _is_pack(chunk: Chunk) -> bool:
+    return pack_of(chunk[0][1]) is not None
+
+
+def _reported(chunk: Chunk, files: Sequence[File]) -> int:
+    """How many names of the chunk these files tell of: of a pack that is its own row alone."""
+    return sum(1 for file in files if not file.name) if _is_pack(chunk) else len(files)
+
+
+def count(chunk: Chunk) -> int:
+    """How many names a chunk has."""
     return sum(len(names) for _, _, names in chunk)
 
 
@@ -207,13 +223,30 @@ def _behind(chunk: Chunk, number: int) -> Chunk:
     return tuple(rest)
 
 
+def halves(chunk: Chunk) -> List[Chunk]:
+    """The chunk in two; it has two names at least."""
+    half = count(chunk) // 2
+    return [_before(chunk, half), _behind(chunk, half)]
+
+
+def _before(chunk: Chunk, number: int) -> Chunk:
+    """So many files from the front of the chunk."""
+    some = []
+    for folder, path, names in chunk:
+        if number > 0:
+            some.append((folder, path, names[:number]))
+        number -= len(names)
+    return tuple(some)
+
+
 def _singles(chunk: Chunk, number: int) -> List[Chunk]:
     """The first files of the chunk, so many, each as a chunk by itself."""
     singles: List[Chunk] = [((folder, path, (name,)),) for folder, path, names in chunk for name in names]
     return singles[:number]
 
 
-def _next(chunks: Iterator[Chunk]) -> Optional[Chunk]:
+def next_of(chunks: Iterator[Chunk]) -> Optional[Chunk]:
+    """The next chunk, if there is one."""
     for chunk in chunks:
         return chunk
     return None

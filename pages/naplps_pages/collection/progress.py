@@ -2,32 +2,40 @@
 import os
 import threading
 import time
-from typing import Callable, Iterable, Optional, TextIO
+from typing import Callable, Iterable, Iterator, Optional, TextIO, TypeVar
 
 from ..output import tell
+from ..packs.naming import is_pack
+from .part import Part, below
 
 # Between two lines, in seconds: on a terminal, in a log.
 OFTEN, SELDOM = 0.25, 60.0
 # The rate is that of about so many seconds.
 SPAN = 10.0
+# Between two looks at the clock, in rows.
+PASSED = 4096
 CLEAR = "\r\x1b[K"
+Row = TypeVar("Row")
 
 
 class Counting(threading.Thread):
     """Counts the files of folders beside a scan, so that the time that is left can be told."""
 
-    def __init__(self, roots: Iterable[bytes]) -> None:
+    def __init__(self, roots: Iterable[bytes], part: Optional[Part] = None) -> None:
         super().__init__(daemon=True)
-        self.roots = list(roots)
+        self.roots, self.part = list(roots), part
         self.total: Optional[int] = None
 
     def run(self) -> None:
-        """Counts."""
-        self.total = sum(map(_count, self.roots))
+        """Counts, if there are no packs: nobody knows how many files these have."""
+        numbers = [_count(root, self.part) for root in self.roots]
+        self.total = None if None in numbers else sum(number or 0 for number in numbers)
 
 
-def _count(root: bytes) -> int:
+def _count(root: bytes, part: Optional[Part]) -> Optional[int]:
     files = 0
+    if is_pack(root) and not os.path.isdir(root):
+        return None
     stack = [root]
     while stack:
         try:
@@ -35,7 +43,9 @@ def _count(root: bytes) -> int:
                 for entry in entries:
                     if entry.is_dir(follow_symlinks=False):
                         stack.append(entry.path)
-                    else:
+                    elif is_pack(entry.name):
+                        return None
+                    elif part is None or part.takes(below(root, entry.path)):
                         files += 1
         except OSError:
             continue  # it is told where it is read
@@ -43,14 +53,14 @@ def _count(root: bytes) -> int:
 
 
 class Progress:
-    """Tells of files that are done. `total` gives how many there are, once that is known."""
+    """Tells of files that are done, or of others. `total` gives how many there are, once that is known."""
 
     def __init__(self, stream: Optional[TextIO], total: Callable[[], Optional[int]] = lambda: None,
-                 clock: Callable[[], float] = time.monotonic) -> None:
-        self.stream, self.total, self.clock = stream, total, clock
+                 clock: Callable[[], float] = time.monotonic, what: str = "files") -> None:
+        self.stream, self.total, self.clock, self.what = stream, total, clock, what
         self.terminal = stream is not None and stream.isatty()
         self.last = self.began = clock()
-        self.done = 0
+        self.done = self.passed = 0
         self.rate = 0.0
         self.shown = False
 
@@ -71,8 +81,8 @@ class Progress:
 
     def _line(self) -> str:
         total = self.total()
-        line = "{:,}{} files, {:,} a second".format(
-            self.done, " of {:,}".format(total) if total else "", round(self.rate))
+        line = "{:,}{} {}, {:,} a second".format(
+            self.done, " of {:,}".format(total) if total else "", self.what, round(self.rate))
         if total and self.rate > 0 and total >= self.done:
             line += ", %s left" % duration((total - self.done) / self.rate)
         return line
@@ -84,6 +94,14 @@ class Progress:
             self.stream.flush()
         except OSError:
             self.stream = None  # there is nobody left to tell
+
+    def through(self, rows: Iterable[Row]) -> Iterator[Row]:
+        """The rows, each of which is done once the next is asked for; behind those that came through before."""
+        for row in rows:
+            yield row
+            self.passed += 1
+            if self.passed % PASSED == 0:
+                self.show(self.passed)
 
     def clear(self) -> None:
         """Takes the line away, so that others can be written."""

@@ -10,15 +10,20 @@ from ..answers import NoAnswer
 from ..child import Limits
 from ..names import shown
 from ..output import Output, tell
+from ..packs.reading import SEVERAL
 from ..program import version
+from ..source import MOST
 from . import tables
 from .ahead import Ahead
+from .cluster import MOST_FILES, MOST_NAMES, Cluster, ClusterFailed
 from .counts import counted
 from .folders import absolute, join, reason
 from .lock import Busy, Lock
+from .part import Part, keep_part
 from .pool import NoWorkers, Pool
 from .progress import Counting, Progress
-from .search import Search, apart
+from .remote import alike
+from .search import Scope, Search, apart
 from .stopping import Stopping
 from .store import fold, keep_log, open_to_write
 from .tables import INDICES, Piece
@@ -30,7 +35,8 @@ COMPLETE, SOME_LACK, FAILED = 0, 1, 3
 # A worker that is silent for so long, beside the time of two answers, hangs.
 PATIENCE = 60.0
 FORM = re.compile(r"canonical form ([0-9A-Za-z. ]+)")
-STOPPED = "stopped; what was taken is kept, and the same command goes on"
+KEPT = "what was taken is kept, and the same command goes on"
+STOPPED = "stopped; " + KEPT
 
 
 @dataclass(frozen=True)
@@ -41,6 +47,8 @@ class Options:
     store: str
     processes: int
     how: How
+    part: Optional[Part] = None
+    on: Optional[str] = None
 
 
 def terms_of(how: How) -> Terms:
@@ -69,16 +77,26 @@ def scan(options: Options) -> int:
     except (OSError, ValueError) as error:
         tell("%s: %s" % (shown(options.how.program), reason(error) if isinstance(error, OSError) else error))
         return FAILED
+    cluster: Optional[Cluster] = None
     try:
+        roots = apart(map(absolute, options.folders))
+        if options.on is not None:
+            cluster = Cluster(options.on, options.how, alike(terms.program_hash, roots))
         with Stopping() as stopping, Lock(options.store):
-            run = _scan(options, terms, stopping)
+            run = _scan(options, terms, stopping, roots, cluster)
     except Busy as busy:
         tell("%s: another scan is at work on it: %s" % (shown(options.store), busy))
+        return FAILED
+    except ClusterFailed as failed:
+        tell(str(failed))
         return FAILED
     except (OSError, NoWorkers) as error:
         said = reason(error) if isinstance(error, OSError) else str(error)
         tell("%s: %s" % (shown(options.store), said))
         return FAILED
+    finally:
+        if cluster:
+            cluster.close()
     stopping.act()
     output = Output(sys.stdout.buffer)
     output.line(run.line)
@@ -86,20 +104,20 @@ def scan(options: Options) -> int:
     return run.status
 
 
-def _scan(options: Options, terms: Terms, stopping: Stopping) -> "Run":
-    roots = apart(map(absolute, options.folders))
+def _scan(options: Options, terms: Terms, stopping: Stopping, roots: List[bytes], cluster: Optional[Cluster]) -> "Run":
     connection = open_to_write(options.store)
     try:
+        keep_part(connection, options.store, options.part, roots)
         if not keep_log(connection):
             tell("%s: its file system lets no log stand beside it; it can't be read while it is written"
                  % shown(options.store))
-        counting = Counting(roots)
+        counting = Counting(roots, options.part)
         progress = Progress(sys.stderr, lambda: counting.total)
         if progress.terminal:
             counting.start()
         writer = Writer(connection, os.fsencode(options.how.program), terms)
         run = Run(options, writer, progress, stopping)
-        run.scan(roots)
+        run.scan(roots, cluster)
         return run
     finally:
         if connection.in_transaction:
@@ -113,22 +131,28 @@ class Run:
 
     def __init__(self, options: Options, writer: Writer, progress: Progress, stopping: Stopping) -> None:
         self.options, self.writer, self.progress, self.stopping = options, writer, progress, stopping
-        self.search = Search(writer, options.how.wanted, hidden(options.store), self._complain)
+        scope = Scope(options.how.wanted, hidden(options.store), min(options.how.most, MOST), options.part)
+        if options.on is not None:
+            scope = scope._replace(files=MOST_FILES, names=MOST_NAMES)
+        self.search = Search(writer, scope, self._complain)
         self.found = 0
         self.status = COMPLETE
         self.line = ""
 
-    def scan(self, roots: List[bytes]) -> None:
-        """Scans."""
+    def scan(self, roots: List[bytes], cluster: Optional[Cluster]) -> None:
+        """Scans, on processes of this machine if there is no cluster."""
         first = (self.options.how, self.options.store, self.writer.terms, self.writer.run)
-        pool = Pool(self.options.processes, first, PATIENCE + 2 * self.options.how.seconds)
+        workers = cluster or Pool(self.options.processes, first, PATIENCE + 2 * self.options.how.seconds)
         try:
-            for piece in pool.run(self.search.chunks(roots)):
+            for piece in workers.run(self.search.chunks(roots)):
                 self._take(piece)
                 if self.stopping.number is not None:
                     break
+        except ClusterFailed as failed:
+            self.writer.write()
+            raise ClusterFailed("%s; %s" % (failed, KEPT)) from None
         finally:
-            pool.close()
+            workers.close()
             self.progress.clear()
         self.writer.write()
         if self.stopping.number is not None:
@@ -138,7 +162,7 @@ class Run:
 
     def _take(self, piece: Optional[Piece]) -> None:
         if piece:
-            self.found += len(piece[0])
+            self.found += sum(1 for file in piece[0] if file.name)
             self.writer.take(piece)
             for file, why in _lacking(piece):
                 path = self.writer.connection.execute("SELECT path FROM folders WHERE id = ?", (file.folder,))
@@ -155,6 +179,8 @@ class Run:
     def _finish(self) -> None:
         """Marks what is gone, builds indices, and counts."""
         writer = self.writer
+        for pack, name in writer.doubles():
+            self._complain(join(pack, name), SEVERAL)
         writer.sweep(self.search.whole)
         writer.connection.executescript(INDICES)
         counts = counted(writer.connection, writer.run)

@@ -7,6 +7,7 @@ from ..names import as_json, shown
 from ..schema import Members
 from . import tables
 from .lock import is_held
+from .part import Part, kept_part
 from .printing import Printer
 
 COLUMNS = ["what", "value"]
@@ -15,7 +16,7 @@ RUN = """SELECT r.id, r.began, r.ended, r.tool, r.program, r.terms, t.version, l
 ROOTS = """SELECT path, max(run), (SELECT why FROM roots o WHERE o.path = r.path ORDER BY run DESC LIMIT 1)
     FROM roots r GROUP BY path ORDER BY path"""
 FILES = """SELECT f.state, p.state, coalesce(f.why, p.why), f.state = 0 AND p.terms <> ?, count(*) FROM files f
-    LEFT JOIN pages p ON p.id = f.page AND f.state = 0 GROUP BY 1, 2, 3, 4"""
+    LEFT JOIN pages p ON p.id = f.page AND f.state = 0 WHERE %s GROUP BY 1, 2, 3, 4""" % tables.IS_FILE
 PAGES = """SELECT (SELECT count(DISTINCT page) FROM present), (SELECT count(DISTINCT canon) FROM pages p
     WHERE canon IS NOT NULL AND EXISTS(SELECT 1 FROM present f WHERE f.page = p.id))"""
 # Reasons that are all alike but for a number.
@@ -50,6 +51,7 @@ class Status(NamedTuple):
     left: Dict[str, int]
     pages: int
     canonical: int
+    part: Optional[Part]
 
 
 def status(connection: sqlite3.Connection, path: str) -> Status:
@@ -74,7 +76,8 @@ def status(connection: sqlite3.Connection, path: str) -> Status:
         left["unreadable folders"] = shut
     roots = [(each, why) for each, _, why in connection.execute(ROOTS)]
     pages, canonical = connection.execute(PAGES).fetchone()
-    return Status(path, is_held(path), run, roots, counts, reasons, left, pages, canonical)
+    return Status(path, is_held(path), run, roots, counts, reasons, left, pages, canonical,
+                  kept_part(connection))
 
 
 def state_of(it: Status) -> str:
@@ -92,6 +95,8 @@ def lines(it: Status) -> List[Tuple[str, str]]:
                  ("program", "%s, %s" % (shown(os.fsdecode(it.run.program)), it.run.version)),
                  ("program hash", it.run.program_hash), ("budget", str(it.run.budget))]
     some += [("folder", shown(os.fsdecode(path)) + (": %s" % why if why else "")) for path, why in it.roots]
+    if it.part:
+        some.append(("part", str(it.part)))
     files = sum(number for name, number in it.counts.items() if name != tables.FILE_STATES[tables.GONE])
     some.append(("files", str(files)))
     for name, number in sorted(it.counts.items(), key=lambda each: -each[1]):
@@ -121,7 +126,8 @@ def _object(it: Status) -> Members:
         "began": it.run.began, "ended": it.run.ended, "tool": it.run.tool,
         "program": as_json(os.fsdecode(it.run.program)), "version": it.run.version,
         "program_hash": it.run.program_hash, "form": it.run.form, "budget": it.run.budget}
-    return {"store": as_json(it.path), "at_work": it.busy, "run": run or None,
+    return {"store": as_json(it.path), "at_work": it.busy, "part": str(it.part) if it.part else None,
+            "run": run or None,
             "folders": [dict(as_json(os.fsdecode(path)), reason=why) for path, why in it.roots],
             "files": it.counts, "pages": it.pages, "canonical": it.canonical, "left": it.left,
             "reasons": [{"status": name, "reason": why, "files": number}

@@ -23,8 +23,11 @@ class StoreFailed(Exception):
 
 
 def _connected(path: str, mode: str) -> sqlite3.Connection:
-    name = urllib.parse.quote(os.fsencode(os.path.abspath(path)))
-    return sqlite3.connect("file:%s?mode=%s" % (name, mode), uri=True, timeout=PATIENCE, isolation_level=None)
+    return sqlite3.connect(_named(path, mode), uri=True, timeout=PATIENCE, isolation_level=None)
+
+
+def _named(path: str, mode: str) -> str:
+    return "file:%s?mode=%s" % (urllib.parse.quote(os.fsencode(os.path.abspath(path))), mode)
 
 
 def reader(path: str) -> sqlite3.Connection:
@@ -33,28 +36,46 @@ def reader(path: str) -> sqlite3.Connection:
 
 
 def open_to_read(path: str) -> sqlite3.Connection:
-    """The store, to be read. Raises StoreFailed or sqlite3.Error."""
+    """The store, to be read. Raises StoreFailed or sqlite3.Error.
+
+    Until a scan came to its end there are no indices: then the queries go to copies that have some.
+    """
     _look(path)
     connection = reader(path)
     _check(path, connection)
     connection.execute("PRAGMA cache_size = %d" % -CACHE)
-    _show_present(connection)
+    if not show_present(connection):
+        connection.execute("CREATE TEMP TABLE pages AS SELECT * FROM main.pages")
+        for column in ("id", "canon"):
+            connection.execute("CREATE INDEX temp.pages_by_%s ON pages(%s)" % (column, column))
     return connection
 
 
-def _show_present(connection: sqlite3.Connection) -> None:
-    """Gives the files that are there as `present`, in which those of a page are found at once.
+def open_unchanged(path: str) -> sqlite3.Connection:
+    """The store, to be read while its file stays as it is. Raises StoreFailed or sqlite3.Error."""
+    _look(path)
+    connection = _connected(path, "ro")
+    _check(path, connection)
+    return connection
 
-    Until a scan came to its end there are no indices. Then `present` and `pages` are copies that have them.
+
+def attach(connection: sqlite3.Connection, path: str, name: str) -> None:
+    """Gives another store, which is only read, to a connection by this name."""
+    connection.execute("ATTACH ? AS %s" % name, (_named(path, "ro"),))
+
+
+def show_present(connection: sqlite3.Connection) -> bool:
+    """Gives the files that are there as `present`, in which those of a page are found at once; whether that is cheap.
+
+    Until a scan came to its end there are no indices. Then `present` is a copy that has one.
     """
-    words = "present AS SELECT folder, name, page FROM files WHERE state = %d" % tables.READ
+    words = "present AS SELECT folder, name, page, inode AS at FROM files WHERE state = %d" % tables.READ
     if connection.execute("SELECT 1 FROM sqlite_master WHERE name = 'files_by_page'").fetchone():
         connection.execute("CREATE TEMP VIEW " + words)
-    else:
-        for each in ("TABLE " + words, "TABLE pages AS SELECT * FROM main.pages"):
-            connection.execute("CREATE TEMP " + each)
-        for each in ("present_by_page ON present(page)", "pages_by_id ON pages(id)", "pages_by_canon ON pages(canon)"):
-            connection.execute("CREATE INDEX temp." + each)
+        return True
+    connection.execute("CREATE TEMP TABLE " + words)
+    connection.execute("CREATE INDEX temp.present_by_page ON present(page)")
+    return False
 
 
 def open_to_write(path: str) -> sqlite3.Connection:
@@ -66,6 +87,7 @@ def open_to_write(path: str) -> sqlite3.Connection:
         _make(connection)
     _check(path, connection)
     connection.execute("PRAGMA cache_size = %d" % -CACHE)
+    _renew(connection)
     return connection
 
 
@@ -87,8 +109,16 @@ def _make(connection: sqlite3.Connection) -> None:
     """Makes the tables, all or none."""
     some = (("schema", tables.SCHEMA), ("hash", tables.HASH), ("tool", "%s %s" % (TOOL, VERSION)))
     values = ", ".join("('%s', '%s')" % each for each in some)
-    connection.executescript("BEGIN IMMEDIATE; PRAGMA application_id = %d; %s INSERT INTO meta VALUES %s; COMMIT;" % (
-        tables.APPLICATION, tables.TABLES, values))
+    connection.executescript(
+        "BEGIN IMMEDIATE; PRAGMA application_id = %d; %s %s; INSERT INTO meta VALUES %s; COMMIT;" % (
+            tables.APPLICATION, tables.TABLES, tables.LISTING, values))
+
+
+def _renew(connection: sqlite3.Connection) -> None:
+    """Puts the view for people in place of the one that an earlier version made, which didn't know of packs."""
+    made, = connection.execute("SELECT sql FROM sqlite_master WHERE name = 'listing'").fetchone() or ("",)
+    if made != tables.LISTING:
+        connection.executescript("BEGIN IMMEDIATE; DROP VIEW IF EXISTS listing; %s; COMMIT;" % tables.LISTING)
 
 
 def _check(path: str, connection: sqlite3.Connection) -> None:

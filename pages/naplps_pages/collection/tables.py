@@ -32,8 +32,12 @@ CREATE TABLE cures(page INTEGER PRIMARY KEY REFERENCES pages, terms INTEGER NOT 
 CREATE TABLE files(folder INTEGER NOT NULL REFERENCES folders, name BLOB NOT NULL, state INTEGER NOT NULL, why TEXT,
     size INTEGER, mtime_ns INTEGER, ctime_ns INTEGER, inode INTEGER, page INTEGER REFERENCES pages,
     run INTEGER NOT NULL REFERENCES runs, PRIMARY KEY(folder, name)) WITHOUT ROWID;
-CREATE VIEW listing AS SELECT CAST(d.path || CASE WHEN substr(d.path, -1) = x'2F' THEN x'' ELSE x'2F' END || f.name
-        AS TEXT) AS name,
+"""
+# A row without a name is that of the pack itself. It tells of a file where the pack can't be read as a whole.
+IS_FILE = "(f.name <> x'' OR f.state NOT IN (0, 6))"
+LISTING = """CREATE VIEW listing AS SELECT CAST(CASE WHEN f.name = x'' THEN substr(d.path, 1, length(d.path) - 2)
+        WHEN substr(d.path, -2) = x'212F' THEN substr(d.path, 1, length(d.path) - 1) || f.name
+        WHEN substr(d.path, -1) = x'2F' THEN d.path || f.name ELSE d.path || x'2F' || f.name END AS TEXT) AS name,
     CASE f.state WHEN 0 THEN CASE p.state WHEN 0 THEN 'accepted' WHEN 1 THEN 'refused' ELSE 'no answer' END
         WHEN 1 THEN 'unreadable' WHEN 2 THEN 'vanished' WHEN 3 THEN 'too long' WHEN 4 THEN 'not a file'
         WHEN 5 THEN 'changed' ELSE 'gone' END AS status,
@@ -41,8 +45,8 @@ CREATE VIEW listing AS SELECT CAST(d.path || CASE WHEN substr(d.path, -1) = x'2F
     coalesce(f.why, p.why) AS reason, f.size, nullif(lower(hex(p.own)), '') AS hash,
     nullif(lower(hex(p.canon)), '') AS canonical,
     p.canon_size AS canonical_size
-    FROM files f JOIN folders d ON d.id = f.folder LEFT JOIN pages p ON p.id = f.page AND f.state = 0;
-"""
+    FROM files f JOIN folders d ON d.id = f.folder LEFT JOIN pages p ON p.id = f.page AND f.state = 0
+    WHERE %s""" % IS_FILE
 # They are built behind a first scan, which is faster.
 INDICES = """
 CREATE INDEX IF NOT EXISTS pages_by_canon ON pages(canon) WHERE canon IS NOT NULL;
@@ -102,7 +106,8 @@ def hashed(data: bytes) -> bytes:
     return hashlib.sha256(data).digest()
 
 
-# Files of one folder: its number in the store, its path, and their names.
+# Files of one folder: its number in the store, its path, and their names. A pack is a folder with one name: nothing, or
+# from where on it is to be read.
 Names = Tuple[int, bytes, Tuple[bytes, ...]]
 # What a worker is given at a time.
 Chunk = Tuple[Names, ...]

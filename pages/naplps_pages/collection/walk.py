@@ -2,6 +2,7 @@
 import os
 from typing import FrozenSet, Iterator, List, NamedTuple, Optional, Tuple
 
+from ..packs.naming import is_pack
 from .folders import is_gone, join, opened, reason
 from .tables import READ, UNREADABLE, VANISHED
 
@@ -10,7 +11,7 @@ Identity = Tuple[int, int]
 
 
 class Listing(NamedTuple):
-    """A folder: what in it is no folder, by name, and the descriptor, which is open until the next is asked for."""
+    """A folder: what in it is no folder, by name, packs apart; and the descriptor, open until the next is asked for."""
 
     path: bytes
     state: int
@@ -18,6 +19,7 @@ class Listing(NamedTuple):
     names: Tuple[bytes, ...] = ()
     has_below: bool = False
     descriptor: int = -1
+    packs: Tuple[bytes, ...] = ()
 
 
 class Hidden(NamedTuple):
@@ -38,7 +40,7 @@ def hidden(store: str) -> Hidden:
     """The files of a store."""
     path = os.path.realpath(os.fsencode(store))
     name = os.path.basename(path)
-    names = frozenset(name + ending for ending in (b"", b"-wal", b"-shm", b"-journal", b".lock"))
+    names = frozenset(name + ending for ending in (b"", b"-wal", b"-shm", b"-journal", b".lock", b".new"))
     try:
         return Hidden(_identity(os.stat(os.path.dirname(path))), names)
     except OSError:
@@ -64,8 +66,8 @@ def walk(root: bytes, hides: Hidden) -> Iterator[Listing]:
             if _holds_itself(here):
                 yield Listing(path, UNREADABLE, "it is in itself")
                 continue
-            names, below = _listed(descriptor, hides if here.identity == hides.folder else None)
-            yield Listing(path, READ, None, tuple(names), bool(below), descriptor)
+            names, packs, below = _listed(descriptor, hides if here.identity == hides.folder else None)
+            yield Listing(path, READ, None, tuple(names), bool(below), descriptor, tuple(packs))
             stack += [(join(path, name), here) for name in reversed(below)]
         except OSError as error:
             yield _unread(path, error, above is None)
@@ -73,23 +75,33 @@ def walk(root: bytes, hides: Hidden) -> Iterator[Listing]:
             os.close(descriptor)
 
 
-def _listed(descriptor: int, hides: Optional[Hidden]) -> Tuple[List[bytes], List[bytes]]:
-    """The names in a folder, and those of the folders in it, sorted."""
+def _listed(descriptor: int, hides: Optional[Hidden]) -> Tuple[List[bytes], List[bytes], List[bytes]]:
+    """The names in a folder, those of the packs and those of the folders in it, sorted."""
     names: List[bytes] = []
+    packs: List[bytes] = []
     below: List[bytes] = []
     with os.scandir(descriptor) as entries:
         for entry in entries:
-            (below if _is_folder(entry) else names).append(os.fsencode(entry.name))
-    if hides:
-        names = [name for name in names if name not in hides.names]
-    names.sort()
-    below.sort()
-    return names, below
+            name = os.fsencode(entry.name)
+            if _is_folder(entry):
+                below.append(name)
+            elif not hides or name not in hides.names:
+                (packs if is_pack(name) and _is_file(entry) else names).append(name)
+    for each in (names, packs, below):
+        each.sort()
+    return names, packs, below
 
 
 def _is_folder(entry: "os.DirEntry[str]") -> bool:
     try:
         return entry.is_dir(follow_symlinks=False)
+    except OSError:
+        return False
+
+
+def _is_file(entry: "os.DirEntry[str]") -> bool:
+    try:
+        return entry.is_file(follow_symlinks=False)
     except OSError:
         return False
 

@@ -4,20 +4,22 @@ import os
 from typing import Any, Callable, Tuple
 
 from ..source import MOST
+from .part import MOST_PARTS, Part, read_part
 from .printing import FORMS
 
 HELP = {
     "scan": "ask about all pages in folders, and keep the answers in a store",
+    "merge": "join stores, as those of the parts of a scan, in a new one",
     "equal": "print groups of pages that draw the same",
     "refused": "print refused pages by the reason",
-    "convert": "put the canonical pages into a folder, named by their hashes",
-    "status": "say what was scanned when, and what is left"}
-FORM_HELP = {"json": "print an object a line", "csv": "print the table as CSV",
-             "null": "print names alone, each ended by NUL"}
+    "convert": "write the canonical pages to a folder, named by their hashes",
+    "status": "say what was scanned when, and what is left to do"}
+FORM_HELP = {"json": "print JSON, an object on each line", "csv": "print the table as CSV",
+             "null": "print only names, each ended by NUL"}
 MOST_PROCESSES = 512
 Parser = argparse.ArgumentParser
-EPILOG = ("Status: 0, or 1 where something couldn't be read or asked, or isn't as it was, 2 the words are wrong, 3 the "
-          "store, the program or the output failed.")
+EPILOG = ("Status: 0, or 1 if something couldn't be read, got no answer or has changed, 2 the command line is wrong, 3 "
+          "the store, the program or the output failed.")
 
 
 def add(commands: "argparse._SubParsersAction[Any]", budget: Callable[[Parser], None],
@@ -28,8 +30,14 @@ def add(commands: "argparse._SubParsersAction[Any]", budget: Callable[[Parser], 
                                   allow_abbrev=False)
         if name == "scan":
             _add_scan(one)
+        elif name == "merge":
+            _add_merge(one)
         else:
-            one.add_argument("store", metavar="STORE", help="a file that `scan` made")
+            if name == "equal":
+                one.add_argument("stores", metavar="STORE", nargs="+",
+                                 help="a file that `scan` made, or several, as those of the parts of a scan")
+            else:
+                one.add_argument("store", metavar="STORE", help="a file that `scan` made")
             _add_own(one, name)
             _add_forms(one, FORMS[1:] if name in ("equal", "refused") else FORMS[1:3])
         if name == "scan":
@@ -39,24 +47,37 @@ def add(commands: "argparse._SubParsersAction[Any]", budget: Callable[[Parser], 
 
 
 def _add_scan(one: Parser) -> None:
-    one.add_argument("folders", metavar="FOLDER", nargs="+", help="a folder of pages")
-    one.add_argument("--into", metavar="STORE", required=True, help="the store: a file, which is made or gone on with")
-    one.add_argument("--processes", metavar="N", type=_number(1, MOST_PROCESSES), default=_processors(),
-                     help="how many processes work; usually one for each processor")
+    one.add_argument("folders", metavar="FOLDER", nargs="+",
+                     help="a folder of pages, or a pack of them: a tar, tar.gz or zip file")
+    one.add_argument("--into", metavar="STORE", required=True, help="the store: a file, which is made if there is none")
+    where = one.add_mutually_exclusive_group()
+    where.add_argument("--processes", metavar="N", type=_number(1, MOST_PROCESSES), default=_processors(),
+                       help="how many processes work; by default one for each processor")
+    where.add_argument("--on", metavar="SCHEDULER",
+                       help="let the workers of Dask work; its scheduler, by its address or by its file")
     one.add_argument("--most", metavar="BYTES", type=_number(0, 1 << 62), default=MOST,
-                     help="how long a page may be; usually %d" % MOST)
+                     help="how many bytes a page may have; the default is %d" % MOST)
+    one.add_argument("--part", metavar="K/N", type=_part,
+                     help="take only one of N parts of the files, the first of which is 0/N")
     one.add_argument("--again", action="store_true", help="read all files and ask about all pages again")
     one.add_argument("--cures", action="store_true", help="try treatments of refused pages")
 
 
+def _add_merge(one: Parser) -> None:
+    one.add_argument("into", metavar="INTO", help="the new store, a file that isn't there yet")
+    one.add_argument("parts", metavar="STORE", nargs="+", help="a file that `scan` made, which stays as it is")
+    one.add_argument("--unfinished", action="store_true",
+                     help="join also what isn't finished, and stores of which parts lack")
+
+
 def _add_own(one: Parser, name: str) -> None:
     if name == "convert":
-        one.add_argument("--into", metavar="FOLDER", required=True, help="the folder, made where there is none")
+        one.add_argument("--into", metavar="FOLDER", required=True, help="the folder, made if there is none")
     elif name == "equal":
-        one.add_argument("--copies", action="store_true", help="print groups of plain copies too")
+        one.add_argument("--copies", action="store_true", help="also print groups of files with the same bytes")
         one.add_argument("--verify", action="store_true", help="read all files again, and compare canonical bytes")
     elif name == "refused":
-        one.add_argument("--number", metavar="N", type=_number(1, 99), help="only the refusal of this number")
+        one.add_argument("--number", metavar="N", type=_number(1, 99), help="only the refusal with this number")
 
 
 def _add_forms(one: Parser, forms: Tuple[str, ...]) -> None:
@@ -72,6 +93,14 @@ def _number(least: int, most: int) -> Callable[[str], int]:
             raise argparse.ArgumentTypeError("a number from %d to %d, not %r" % (least, most, text))
         return int(text)
     return number
+
+
+def _part(text: str) -> Part:
+    try:
+        return read_part(text)
+    except ValueError:
+        raise argparse.ArgumentTypeError(
+            "a part K/N, where N is from 1 to %d and K from 0 to N - 1, not %r" % (MOST_PARTS, text)) from None
 
 
 def _processors() -> int:

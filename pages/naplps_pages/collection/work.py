@@ -6,14 +6,17 @@ from typing import Callable, Dict, Iterable, Iterator, List, NamedTuple, Optiona
 
 from ..answers import Accepted, Answer, NoAnswer, Refused
 from ..ask import Program
-from ..child import Limits
+from ..child import Limits as ChildLimits
 from ..curing import find
 from ..listing import MODEST
+from ..packs.member import Limits
+from ..packs.naming import pack_of
 from ..source import MOST
 from . import tables
 from .ahead import Ahead, Said, ask_alone
 from .folders import is_gone, opened, reason
 from .looking import OTHER, Seen, change, look
+from .packing import PackScan
 from .tables import CHANGED, READ, UNREADABLE, VANISHED, Answered, Chunk, Cured, File, Names, Piece, Wanted
 
 # So many requests are written ahead, of so many bytes.
@@ -36,17 +39,22 @@ class How(NamedTuple):
 
 
 class Worker:
-    """Turns chunks into rows."""
+    """Turns chunks into rows; of a pack only those of so many members, and `left` is where it goes on."""
 
-    def __init__(self, how: How, knows: Knows, beat: Callable[[], None] = lambda: None) -> None:
-        self.how, self.knows, self.beat = how, knows, beat
-        self.ahead = Ahead(how.program, how.budget, Limits(seconds=how.seconds), beat)
+    def __init__(self, how: How, knows: Knows, beat: Callable[[], None] = lambda: None,
+                 members: Optional[int] = None) -> None:
+        self.how, self.knows, self.beat, self.members = how, knows, beat, members
+        self.ahead = Ahead(how.program, how.budget, ChildLimits(seconds=how.seconds), beat)
         self.program = Program(how.program, how.budget, dataclasses.replace(MODEST, seconds=how.seconds))
         self.asked: "OrderedDict[bytes, None]" = OrderedDict()
+        self.left: Chunk = ()
 
     def pieces(self, chunk: Chunk) -> Iterator[Piece]:
         """The rows of a chunk, in the order of its files."""
         for names in chunk:
+            if pack_of(names[1]) is not None:
+                yield from self._pack(names)
+                continue
             try:
                 at = opened(names[1], follow=True)  # (a root may be a link)
             except OSError as error:
@@ -58,12 +66,24 @@ class Worker:
                 os.close(at)
 
     def _folder(self, names: Names, at: int) -> Iterator[Piece]:
-        """The rows of files of one folder, in windows of which the requests are written ahead."""
+        """The rows of files of one folder."""
         folder, _, some = names
+        yield from self._windows(look(folder, at, name, self.how.most, MOST, self.beat) for name in some)
+
+    def _pack(self, names: Names) -> Iterator[Piece]:
+        """The rows of a pack: those of its members, and then its own."""
+        scan = PackScan(names, Limits(min(self.how.most, MOST), self.beat), self.members)
+        yield from self._windows(scan.members())
+        if scan.left is None:
+            yield (scan.own,), ()
+        else:
+            self.left = ((names[0], names[1], (scan.left,)),)
+
+    def _windows(self, some: Iterable[Seen]) -> Iterator[Piece]:
+        """The rows of files, in windows of which the requests are written ahead."""
         window: List[Seen] = []
         length = 0
-        for name in some:
-            seen = look(folder, at, name, self.how.most, MOST, self.beat)
+        for seen in some:
             if seen.descriptor is not None:
                 yield self._answered(window)
                 yield self._alone(seen)

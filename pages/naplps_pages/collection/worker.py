@@ -39,7 +39,7 @@ class Line:
 def main(descriptor: int) -> None:
     """Works until the connection ends."""
     signal.signal(signal.SIGTERM, _end)
-    _limit_memory()
+    limit_memory()
     line = Line(Connection(descriptor))
     worker: Optional[Worker] = None
     try:
@@ -57,7 +57,8 @@ def main(descriptor: int) -> None:
             worker.close()
 
 
-def _limit_memory() -> None:
+def limit_memory() -> None:
+    """Limits the memory of this process."""
     hard = resource.getrlimit(resource.RLIMIT_AS)[1]
     most = MOST_MEMORY if hard == resource.RLIM_INFINITY else min(MOST_MEMORY, hard)
     try:

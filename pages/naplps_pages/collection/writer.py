@@ -1,10 +1,12 @@
 """Writes a scan into its store, in steps: what a step holds is kept as a whole, or is asked again."""
 import sqlite3
 import time
-from typing import Dict, Iterable, List, NamedTuple, Optional, Tuple
+from typing import Dict, Iterable, List, NamedTuple, Optional, Set, Tuple
 
 from .. import VERSION
 from ..output import TOOL
+from ..packs.naming import pack_of
+from ..packs.reading import SEVERAL
 from .folders import is_within, join
 from .tables import GONE, READ, UNREADABLE, VANISHED, Answered, File, Piece
 
@@ -18,6 +20,14 @@ PAGE = """INSERT INTO pages(own, state, number, left_out, place, entries, canon,
     run = excluded.run WHERE terms <> excluded.terms OR state = 2 OR excluded.state <> 2"""
 FILE = """INSERT OR REPLACE INTO files(folder, name, state, why, size, mtime_ns, ctime_ns, inode, page, run)
     VALUES(?, ?, ?, ?, ?, ?, ?, ?, (SELECT id FROM pages WHERE own = ?), ?)"""
+# A member that was met before in this run, elsewhere in its pack, is one of several of its name.
+AGAIN = "run = excluded.run AND inode IS NOT excluded.inode"
+MEMBER = """INSERT INTO files(folder, name, state, why, size, mtime_ns, ctime_ns, inode, page, run)
+    VALUES(?, ?, ?, ?, ?, ?, ?, ?, (SELECT id FROM pages WHERE own = ?), ?)
+    ON CONFLICT(folder, name) DO UPDATE SET state = CASE WHEN {0} THEN {1} ELSE excluded.state END,
+    why = CASE WHEN {0} THEN '{2}' ELSE excluded.why END, page = CASE WHEN {0} THEN NULL ELSE excluded.page END,
+    size = excluded.size, mtime_ns = NULL, ctime_ns = NULL, inode = excluded.inode, run = excluded.run""".format(
+    AGAIN, UNREADABLE, SEVERAL)
 CURE = """INSERT OR REPLACE INTO cures(page, terms, treatments, entries, copy, why)
     SELECT id, ?, ?, ?, ?, ? FROM pages WHERE own = ?"""
 FOLDER = """INSERT INTO folders(path, state, why, run) VALUES(?, ?, ?, ?)
@@ -42,6 +52,8 @@ class Writer:
         self.answers: List[Answered] = []
         self.gone: List[Tuple[int, bytes]] = []
         self.names: Dict[int, str] = {}
+        self.packs: Set[int] = set()
+        self.unpacked: List[int] = []
         self.began = time.monotonic()
         self._begin()
         self.terms = self._terms(terms)
@@ -71,14 +83,14 @@ class Writer:
         self.connection.execute("INSERT OR REPLACE INTO roots(run, path, why) VALUES(?, ?, ?)", (self.run, path, why))
 
     def folder(self, path: bytes, state: int, why: Optional[str]) -> Tuple[int, bool]:
-        """Notes a folder; its number, and whether it was known."""
+        """Notes a folder or a pack; its number, and whether it was known."""
         self._begin()
         found = self.connection.execute("SELECT id FROM folders WHERE path = ?", (path,)).fetchone()
         self.connection.execute(FOLDER, (path, state, why, self.run))
-        if found is None:
-            found = self.connection.execute("SELECT id FROM folders WHERE path = ?", (path,)).fetchone()
-            return int(found[0]), False
-        return int(found[0]), True
+        number, = found or self.connection.execute("SELECT id FROM folders WHERE path = ?", (path,)).fetchone()
+        if pack_of(path) is not None:
+            self.packs.add(number)
+        return int(number), found is not None
 
     def take(self, piece: Piece) -> None:
         """Takes what a worker found."""
@@ -102,8 +114,7 @@ class Writer:
         if self.files or self.answers or self.gone:
             self._begin()
             self._pages()
-            rows = ((*file, self.run) for file in self.files)
-            self.connection.executemany(FILE, rows)
+            self._files()
             self.connection.executemany(
                 "UPDATE files SET state = %d, why = NULL, run = ? WHERE folder = ? AND name = ?" % GONE,
                 ((self.run, *each) for each in self.gone))
@@ -121,6 +132,34 @@ class Writer:
         if not names.items() <= self.names.items():
             self.names.update(names)
             self.connection.executemany("INSERT OR REPLACE INTO faults(number, name) VALUES(?, ?)", names.items())
+
+    def _files(self) -> None:
+        plain = [file for file in self.files if file.folder not in self.packs] if self.packs else self.files
+        self.connection.executemany(FILE, ((*file, self.run) for file in plain))
+        if len(plain) < len(self.files):
+            some = [file for file in self.files if file.folder in self.packs]
+            self.connection.executemany(MEMBER, ((*file, self.run) for file in some if file.name))
+            for file in some:
+                if not file.name:
+                    self._pack(file)
+
+    def _pack(self, file: File) -> None:
+        """Writes the row of a pack itself, behind those of its members."""
+        self.connection.execute(FILE, (*file, self.run))
+        self.unpacked.append(file.folder)
+        if file.state == READ:
+            self.connection.execute(
+                "UPDATE files SET state = ?, why = NULL, run = ? WHERE folder = ? AND run <> ? AND state <> ?",
+                (GONE, self.run, file.folder, self.run, GONE))
+        elif file.mtime_ns is None and file.state in (UNREADABLE, VANISHED):
+            self.connection.execute("UPDATE folders SET state = ?, why = ? WHERE id = ?",
+                                    (file.state, file.why, file.folder))
+
+    def doubles(self) -> List[Tuple[bytes, bytes]]:
+        """The packs that this run read, and names in them that several members have."""
+        return [each for number in self.unpacked for each in self.connection.execute(
+            "SELECT d.path, f.name FROM files f JOIN folders d ON d.id = f.folder WHERE f.folder = ? AND f.run = ? "
+            "AND f.state = ? AND f.why = ?", (number, self.run, UNREADABLE, SEVERAL))]
 
     def sweep(self, roots: Iterable[bytes]) -> None:
         """Notes as gone what is in folders that this run didn't meet, but where it couldn't have met them."""

@@ -7,12 +7,13 @@ from ..collection.places import Place
 
 # A file, its page, and on which terms that was asked about. (Files that are gone aren't shown.)
 COLUMNS = """d.id, d.path, f.name, f.state, f.why, f.size, p.id, p.own, p.state, p.number, n.name, p.left_out, p.place,
-    p.entries, p.canon, p.canon_size, p.why, t.form, t.budget, c.page IS NOT NULL, c.treatments"""
+    p.entries, p.canon, p.canon_size, p.why, t.form, t.budget, c.page IS NOT NULL, c.treatments,
+    f.inode"""
 JOINS = """JOIN folders d ON d.id = f.folder LEFT JOIN pages p ON p.id = f.page AND f.state = 0
     LEFT JOIN terms t ON t.id = p.terms LEFT JOIN faults n ON n.number = p.number
     LEFT JOIN cures c ON c.page = p.id AND c.terms = p.terms"""
 FROM = "FROM files f " + JOINS
-THERE = "f.state <> %d" % tables.GONE
+THERE = "f.state <> %d AND %s" % (tables.GONE, tables.IS_FILE)
 ALL = "SELECT %s %s WHERE %s ORDER BY d.path, f.name" % (COLUMNS, FROM, THERE)
 # States whose reasons differ by a number only.
 NUMBERED = (tables.TOO_LONG,)
@@ -42,11 +43,12 @@ class File(NamedTuple):
     budget: Optional[int]
     tried: bool
     treatments: Optional[str]
+    begins: Optional[int]
 
     @property
     def place(self) -> Place:
         """Where it is."""
-        return Place(self.path, self.name)
+        return Place(self.path, self.name, self.begins)
 
     @property
     def key(self) -> Optional[Tuple[bytes, str]]:
@@ -76,7 +78,7 @@ class File(NamedTuple):
 
 def read(row: Tuple[Any, ...]) -> File:
     """The file of a row of COLUMNS."""
-    return File._make(row[:19] + (bool(row[19]), row[20]))
+    return File._make(row[:19] + (bool(row[19]), *row[20:]))
 
 
 # What `told` is told of.

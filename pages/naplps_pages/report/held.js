@@ -36,6 +36,7 @@ class Held {
 
   name(key) {
     const folder = this.table.folders[this.columns.folder[key]], name = this.columns.name[key];
+    if (folder.endsWith("!/")) return name ? folder.slice(0, -1) + name : folder.slice(0, -2);
     return folder ? folder + "/" + name : name;
   }
 

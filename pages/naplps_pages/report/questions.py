@@ -5,6 +5,7 @@ from typing import Dict, List, NamedTuple, Optional, Tuple
 
 from ..ask import Program
 from ..collection.store import open_to_read
+from ..packs.naming import MOST_NAME
 from . import files as of_files
 from . import groups as of_groups
 from .document import Document
@@ -17,7 +18,7 @@ from .roots import joined
 Answer = Dict[str, object]
 Words = Dict[str, str]
 GROUP = re.compile(r"group ([0-9]{1,9})", re.IGNORECASE)
-KEY = re.compile(r"([0-9]{1,18})-((?:[0-9a-f]{2}){1,255})")
+KEY = re.compile(r"([0-9]{1,18})-((?:[0-9a-f]{2}){0,%d})" % MOST_NAME)
 NAMES = 12
 HITS = "CREATE TEMP TABLE hits AS SELECT f.folder AS folder, f.name AS name %s WHERE %s ORDER BY d.path, f.name"
 PART = "SELECT %s FROM hits h CROSS JOIN files f ON f.folder = h.folder AND f.name = h.name %s WHERE h.rowid > ? " \

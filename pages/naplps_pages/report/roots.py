@@ -5,6 +5,7 @@ from typing import Dict, List, Tuple
 
 from ..collection.folders import is_within
 from ..names import shown
+from ..packs.naming import MARK, inside
 
 ROOTS = "SELECT DISTINCT path FROM roots ORDER BY path"
 
@@ -20,6 +21,8 @@ class Roots:
     def relative(self, folder: bytes) -> str:
         """The folder's name relative to its root; with the root's own in front where there are several."""
         for path, name in self.names:
+            if folder == inside(path):
+                return name + os.fsdecode(MARK)
             if is_within(folder, path):
                 rest = shown(os.fsdecode(folder[len(path):].lstrip(b"/")))
                 return "/".join(part for part in (name if len(self.names) > 1 else "", rest) if part)
@@ -46,6 +49,8 @@ def load(connection: sqlite3.Connection) -> Roots:
 
 
 def joined(folder: str, name: bytes) -> str:
-    """The name of a file in a folder that is named so."""
+    """The name of a file in a folder that is named so, or of a member of a pack."""
     last = shown(os.fsdecode(name))
+    if folder.endswith(os.fsdecode(MARK)):
+        return folder[:-1] + last if last else folder[:-2]
     return folder + "/" + last if folder else last

@@ -10,10 +10,13 @@ from typing import Callable, Dict, Optional, Tuple
 from urllib.parse import parse_qsl
 
 from ..ask import Program
+from ..packs.naming import MOST_NAME
 from .questions import Questions, Unasked, Words
 
 HERE = "127.0.0.1"
 MOST_WORDS, MOST_WORD = 8, 2000
+# Of a file the key has its name in hexadecimal.
+MOST_KEY = 20 + 2 * MOST_NAME
 # How long a client may be silent, and how long is waited for the program at the end, in seconds.
 SILENCE, GRACE = 30, 5
 WAYS = ("/files", "/groups", "/details", "/drawing")
@@ -132,7 +135,8 @@ def words(query: str) -> Words:
     except ValueError:
         raise Refused(400, "there are too many words") from None
     made: Dict[str, str] = dict(pairs)
-    if len(made) != len(pairs) or any(len(value) > MOST_WORD for value in made.values()):
+    if len(made) != len(pairs) or any(
+            len(value) > (MOST_KEY if name == "key" else MOST_WORD) for name, value in made.items()):
         raise Refused(400, "a word is there twice, or is too long")
     return made
 

@@ -10,8 +10,8 @@ HELP = {
     "serve": "show what a scan found to browsers of this machine"}
 MOST_PROCESSES = 64
 Parser = argparse.ArgumentParser
-EPILOG = ("Status: 0, or 1 where a page that has a place in the report isn't as it was, 2 the words are wrong, 3 the "
-          "store, the program or the output failed.")
+EPILOG = ("Status: 0, or 1 if a page in the report has changed since it was scanned, 2 the command line is wrong, 3 "
+          "the store, the program or the output failed.")
 
 
 def add(commands: "argparse._SubParsersAction[Any]", seconds: Callable[[Parser], None]) -> None:
@@ -23,16 +23,16 @@ def add(commands: "argparse._SubParsersAction[Any]", seconds: Callable[[Parser],
         seconds(one)
         if name == "serve":
             one.add_argument("--port", metavar="N", type=_number(0, 65535), default=0,
-                             help="the port of 127.0.0.1; usually one that is free")
+                             help="the port of 127.0.0.1; by default a free one")
             continue
-        one.add_argument("--into", metavar="FILE", required=True, help="the file to be made")
+        one.add_argument("--into", metavar="FILE", required=True, help="the file that is made")
         some = one.add_mutually_exclusive_group()
         some.add_argument("--sketches", metavar="N", type=_number(0, MOST_SKETCHES), default=USUAL_SKETCHES,
-                          help="how many pages have a sketch in it; usually %d" % USUAL_SKETCHES)
+                          help="how many pages have a sketch in it; the default is %d" % USUAL_SKETCHES)
         some.add_argument("--all", action="store_true", help="a sketch of each page, for up to %d" % MOST_SKETCHES)
         one.add_argument("--processes", metavar="N", type=_number(1, MOST_PROCESSES),
                          default=min(os.cpu_count() or 1, MOST_PROCESSES),
-                         help="how many processes draw; usually one for each processor")
+                         help="how many processes draw; by default one for each processor")
 
 
 def _number(least: int, most: int) -> Callable[[str], int]:

@@ -1,0 +1,97 @@
+"""Asks the library libnaplps.so.0 by ctypes. A call releases the interpreter's lock, and has a room of its own."""
+import ctypes
+from typing import Any, Callable, Tuple
+
+from naplps_pages.answers import MEMORY
+
+from .faults import NoMemory, Refused, WrongLibrary
+from .pages import Backend, Data, Told
+
+SONAME = "libnaplps.so.0"
+ACCEPTED, REFUSED, SMALL_ROOM, NO_BUDGET = range(4)
+TEXTS = ("list", "canon", "canon_form1", "places")
+# The room that most texts find place in; it is asked again with what another one needs.
+FIRST = 1 << 16
+_First = ctypes.c_char * FIRST
+
+
+class Answer(ctypes.Structure):
+    """struct naplps_answer of naplps.h."""
+
+    _fields_ = [("status", ctypes.c_uint32), ("number", ctypes.c_uint32), ("place", ctypes.c_uint64),
+                ("length", ctypes.c_uint64), ("name", ctypes.c_char * 32)]
+
+
+PAGE = ROOM = (ctypes.c_void_p, ctypes.c_size_t)
+
+
+def _lent(page: Data) -> Tuple[object, int]:
+    """A pointer to the bytes and their number. Only what can't be written, or isn't in one piece, is copied for it."""
+    if isinstance(page, memoryview) and (page.readonly or not page.c_contiguous):
+        page = page.tobytes()
+    if isinstance(page, bytes):
+        return page, len(page)
+    length = memoryview(page).nbytes
+    return ctypes.byref(ctypes.c_char.from_buffer(page)) if length else None, length
+
+
+class Library:
+    """The library at a path, or of a name that the system finds. Raises OSError and WrongLibrary."""
+
+    def __init__(self, path: str) -> None:
+        self.backend = Backend("library", path)
+        self._library = ctypes.CDLL(path)
+        self._is_plain = self._function("is_plain", ctypes.c_bool, *PAGE)
+        self._check = self._function("check", Answer, ctypes.c_uint32, *PAGE)
+        self._texts = {name: self._function(name, Answer, ctypes.c_uint32, *PAGE, *ROOM) for name in TEXTS}
+
+    def _function(self, name: str, answer: type, *arguments: type) -> Callable[..., Any]:
+        """A function of the library. Raises WrongLibrary where it isn't there."""
+        try:
+            function = getattr(self._library, "naplps_" + name)
+        except AttributeError as error:
+            raise self._wrong(str(error)) from None
+        function.restype, function.argtypes = answer, arguments
+        called: Callable[..., Any] = function
+        return called
+
+    def tell(self, call: str, page: Data, budget: int) -> Told:
+        """What comes of a page. Raises NoMemory."""
+        lent, length = _lent(page)
+        if call == "check":
+            answer: Answer = self._check(budget, lent, length)
+            return self._told(answer, answer.length, b"")
+        function, room, size = self._texts[call], _First(), FIRST
+        answer = function(budget, lent, length, room, size)
+        while answer.status == SMALL_ROOM:
+            size = answer.length
+            room = self._room(size)
+            answer = function(budget, lent, length, room, size)
+        if answer.length > size:
+            raise self._wrong("its answer is longer than its room")
+        return self._told(answer, 0, ctypes.string_at(room, answer.length))
+
+    def is_plain(self, page: Data) -> bool:
+        """Whether a page is plain."""
+        lent, length = _lent(page)
+        return bool(self._is_plain(lent, length))
+
+    def _told(self, answer: Answer, entries: int, text: bytes) -> Told:
+        if answer.status == ACCEPTED:
+            return Told(entries, text)
+        if answer.status != REFUSED:
+            raise self._wrong("its answer has the status %d" % answer.status)
+        refused = Refused(answer.number, answer.name.decode("ascii", "replace"), answer.place)
+        if refused.number == MEMORY:
+            raise NoMemory("the library had no memory for it (%s)" % refused)
+        return Told(0, text, refused)
+
+    @staticmethod
+    def _room(size: int) -> "ctypes.Array[ctypes.c_char]":
+        try:
+            return ctypes.create_string_buffer(size)
+        except (MemoryError, OverflowError, ValueError):
+            raise NoMemory("there is no memory for an answer of %d bytes" % size) from None
+
+    def _wrong(self, reason: str) -> WrongLibrary:
+        return WrongLibrary("%s isn't the library of this version: %s" % (self.backend.path, reason))

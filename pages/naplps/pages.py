@@ -1,0 +1,53 @@
+"""What is asked of a page, and what comes of it."""
+import operator
+from typing import NamedTuple, Optional, Protocol, Union
+
+from naplps_pages.program import MOST_BUDGET
+
+from .faults import Refused
+
+Data = Union[bytes, bytearray, memoryview]
+
+
+class Backend(NamedTuple):
+    """What answers: its kind, "library" or "program", and its path, or the name by which the system finds it."""
+
+    kind: str
+    path: str
+
+
+class Told(NamedTuple):
+    """What came of a page: the number of its entries, where that was asked; the text; and the refusal, if it is one."""
+
+    entries: int
+    text: bytes
+    refused: Optional[Refused] = None
+
+
+class Teller(Protocol):
+    """What is asked. Its calls are check, list, canon, canon_form1 and places. It may be asked by several threads."""
+
+    backend: Backend
+
+    def tell(self, call: str, page: Data, budget: int) -> Told:
+        """What comes of a page. Raises NoMemory, NoAnswer, NeedsLibrary."""
+        ...
+
+    def is_plain(self, page: Data) -> bool:
+        """Whether a page is plain. Raises NeedsLibrary."""
+        ...
+
+
+def taken(data: Data) -> Data:
+    """The data as they are. Raises TypeError for what is no bytes, bytearray or memoryview."""
+    if isinstance(data, (bytes, bytearray, memoryview)):
+        return data
+    raise TypeError("a page is bytes, bytearray or memoryview, not %s" % type(data).__name__)
+
+
+def budget_of(number: int) -> int:
+    """The budget as an int. Raises TypeError for what is no whole number, and ValueError beyond 0 to MOST_BUDGET."""
+    budget = operator.index(number)
+    if not 0 <= budget <= MOST_BUDGET:
+        raise ValueError("a budget is from 0 to %d, not %d" % (MOST_BUDGET, budget))
+    return budget
