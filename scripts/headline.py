@@ -32,7 +32,7 @@ class Specs:
                 self.texts[current] += line + "\n"
 
     def take_import(self, line):
-        found = re.fullmatch(r"use Rattle\.([\w.]+?)(?:\.\{(.*)\})?(?: as (\w+))?", line)
+        found = re.fullmatch(r"use (?:Rattle\.)?([\w.]+?)(?:\.\{(.*)\})?(?: as (\w+))?", line)
         module = found.group(1)
         if found.group(2) is None:
             self.aliases[found.group(3) or module.split(".")[-1]] = module
@@ -196,7 +196,7 @@ def test_words(page, top, judge):
         elif re.fullmatch(rf"{WORD}(?:::{WORD})*", word):
             right = all(part in known for part in word.split("::"))
         else:
-            right = any(f"`{word}`" in (top / other).read_text(encoding="utf-8") for other in ("README.md",)) or all(
+            right = f"`{word}`" in (top / "docs" / "PROVED.md").read_text(encoding="utf-8") or all(
                 part in known for part in re.findall(WORD, word) if part != "rt"
             )
         if not right:

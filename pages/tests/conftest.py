@@ -73,6 +73,7 @@ def run_as_nobody(naplps: str, tmp_path: pathlib.Path) -> Run:
     copy = tmp_path / "copy"
     unwanted = shutil.ignore_patterns("__pycache__")
     shutil.copytree(os.path.join(PAGES, "naplps_pages"), copy / "naplps_pages", ignore=unwanted)
+    shutil.copy(os.path.join(TOP, "VERSION"), copy / "naplps_pages")
     for source in (COMMAND, naplps):
         shutil.copy(source, copy)
     for folder in (tmp_path, *list(tmp_path.parents)[:2]):

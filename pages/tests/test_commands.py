@@ -342,6 +342,7 @@ def test_a_long_page_has_the_answers_of_the_plain_commands(naplps, run, tmp_path
 def test_an_installed_copy(naplps, tmp_path):
     tree = os.path.join(str(tmp_path), "lib", "naplps", "naplps_pages")
     shutil.copytree(os.path.join(PAGES, "naplps_pages"), tree)
+    shutil.copy(os.path.join(TOP, "VERSION"), tree)
     os.mkdir(os.path.join(str(tmp_path), "bin"))
     for source, name in ((COMMAND, "naplps-pages"), (naplps, "naplps")):
         shutil.copy(source, os.path.join(str(tmp_path), "bin", name))
