@@ -2,9 +2,11 @@
 
    Each call is given a page and a budget. Most are given a room too, into which they put a text:
 
-   page, length  the bytes of the page, which are only read. Any byte may stand in it, NUL too.
-   budget        how many bytes of macro bodies the page may be charged with, up to NAPLPS_BUDGET_MOST. The commands of
-                 the program naplps use NAPLPS_BUDGET_USUAL where none is named.
+   page, length  the bytes of the page, which are only read, and mustn't change before the call returns. Any byte may
+                 stand in it, NUL too.
+   budget        how many bytes of macro bodies the page may be charged with, each time one is used, from 0 to
+                 NAPLPS_BUDGET_MOST. A page that needs more is refused with NAPLPS_BUDGET. The commands of the program
+                 naplps use NAPLPS_BUDGET_USUAL where none is named.
    room, size    where the text goes, and how many bytes there are. The text isn't ended by a NUL, and no byte behind it
                  is changed. The room must not overlap the page.
 
@@ -12,8 +14,9 @@
    and may be null; else it must point to so many bytes.
 
    The answer is a struct that owns nothing. Where the room is too small, nothing is written, and the answer says how
-   many bytes the text has: a call with the size 0 asks for no more than that. Each call reads the whole page, so it is
-   faster to begin with a room that is mostly large enough, and to call again where it wasn't.
+   many bytes the text has. A call with the size 0 only asks for that, but takes as much time and memory as another,
+   since the text is made in memory first; a text of 0 bytes fits any room. So it is faster to begin with a room that is
+   mostly large enough, and to call again where it wasn't.
 
    A call keeps nothing once it returns. The library has no state, opens no file and prints nothing. So threads may call
    at the same time, with rooms of their own, also on one page. Memory comes from malloc and realloc, and is given back
@@ -67,28 +70,39 @@ enum naplps_refusal {
     NAPLPS_MEMORY = 21 /* there was no memory, which says nothing of the page */
 };
 
-/* An answer. Where nothing is refused, number and place are 0, and the name is empty. */
+/* An answer. Where nothing is refused, number and place are 0, and the name is empty; so a number that isn't 0 tells of
+   a refusal by each call. NAPLPS_NO_BUDGET comes before all else. NAPLPS_REFUSED comes before NAPLPS_SMALL_ROOM, but of
+   naplps_places behind it, since a refused page has a text there.
+
+   It is returned by value, has 56 bytes and is aligned to 8: status is at 0, number at 4, place at 8, length at 16 and
+   name at 24. */
 struct naplps_answer {
     uint32_t status; /* one of enum naplps_status */
     uint32_t number; /* one of enum naplps_refusal, or 0 */
-    uint64_t place;  /* the offset of the byte that is refused; for what is found at the page's end, its length */
-    uint64_t length; /* how many bytes the text has, whatever the room; of naplps_check, how many entries there are */
-    char name[32];   /* the name of the refusal, ended by NUL, as in the program's line "refused 10 Outside at 3" */
+    uint64_t place;  /* the offset of the byte that is refused; the length of the page for what is found at its end;
+                        with NAPLPS_MEMORY it says nothing of the page */
+    uint64_t length; /* how many bytes the text has, whatever the room; of naplps_check, how many entries there are;
+                        0 where there is no text or count, so with NAPLPS_NO_BUDGET, and with NAPLPS_REFUSED but of
+                        naplps_places */
+    char name[32];   /* the name of the refusal, in ASCII, the rest NUL, as in the program's line
+                        "refused 10 Outside at 3" */
 };
 
 /* Counts the entries of a page. */
 struct naplps_answer naplps_check(uint32_t budget, const uint8_t *page, size_t length);
 
-/* Gives a line for each entry of a page, each ended by LF, as `naplps list` prints them. Of a page that is refused
-   there is no text: status is NAPLPS_REFUSED, length is 0, and the room is as it was. */
+/* Gives a line for each entry of a page, in ASCII, each ended by LF, as `naplps list` prints them; PROFILE.md says what
+   stands in a line. Of a page that is refused there is no text: status is NAPLPS_REFUSED, length is 0, and the room is
+   as it was. */
 struct naplps_answer naplps_list(uint32_t budget, const uint8_t *page, size_t length, uint8_t *room, size_t size);
 
 /* Gives the canonical stream of a page, as `naplps canon` prints it: two pages have the same exactly if their entries
    are the same. Of a page that is refused there is none, as with naplps_list. */
 struct naplps_answer naplps_canon(uint32_t budget, const uint8_t *page, size_t length, uint8_t *room, size_t size);
 
-/* Gives the text of a page's entries in form 1, which canonical streams had before form 2. It takes more memory than
-   naplps_canon. Of a page that is refused there is none, as with naplps_list. */
+/* Gives the text of a page's entries in form 1, which canonical streams had before form 2: it is for comparing with
+   what was kept then. It takes more memory than naplps_canon. Of a page that is refused there is none, as with
+   naplps_list. */
 struct naplps_answer naplps_canon_form1(uint32_t budget, const uint8_t *page, size_t length, uint8_t *room,
                                         size_t size);
 
@@ -100,8 +114,9 @@ struct naplps_answer naplps_canon_form1(uint32_t budget, const uint8_t *page, si
    there is no line. */
 struct naplps_answer naplps_places(uint32_t budget, const uint8_t *page, size_t length, uint8_t *room, size_t size);
 
-/* Whether a page is plain, as each canonical stream is: it has no part in macros, no displacement from the pen, and
-   operands of eight and four words. It takes no memory, and can't fail. */
+/* Whether a page is plain, as each canonical stream is: it has no part in macros and no displacement from the pen, and
+   reads its operands under the lengths eight and four, which it sets first. That says nothing of whether the page is
+   accepted: a refused page may be plain. It takes no memory, and can't fail. */
 bool naplps_is_plain(const uint8_t *page, size_t length);
 
 #ifdef __cplusplus
