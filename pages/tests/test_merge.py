@@ -1,10 +1,12 @@
 """Merges: what is refused, what is joined all the same, and that none leaves a half or changes a part."""
 import os
 import re
+import shlex
 import shutil
 import signal
 import sqlite3
 import subprocess
+import sys
 
 import pytest
 
@@ -311,12 +313,20 @@ def test_parts_that_may_only_be_read(run, here):
     assert sorted(os.listdir(".")) == ["0.db", "1.db", "all.db"]
 
 
+# The command, which tells how far it is at each look.
+TELLING = ("from naplps_pages import cli; from naplps_pages.collection import progress; "
+           "progress.OFTEN = 1e-9; cli.run(%r)" % COMMAND)
+
+
 def test_progress_on_a_terminal(naplps, large):
-    said = subprocess.run(["script", "-qec", " ".join([COMMAND, "merge", "all.db", *large]), "/dev/null"],
-                          capture_output=True, env=dict(os.environ, NAPLPS=naplps)) if shutil.which("script") else None
-    if said is None:
+    if not shutil.which("script"):
         pytest.skip("there is no command script")
-    assert re.search(rb"\r\x1b\[K[0-9]+ of 8 MiB, [0-9]+ a second", said.stdout) and said.returncode == 0
+    words = [sys.executable, "-c", TELLING, "merge", "all.db", *large]
+    said = subprocess.run(["script", "-qec", " ".join(map(shlex.quote, words)), "/dev/null"], capture_output=True,
+                          env=dict(os.environ, NAPLPS=naplps, PYTHONPATH=os.path.dirname(COMMAND)))
+    told_of = re.findall(rb"\r\x1b\[K([0-9]+) of 8 MiB, [0-9,]+ a second", said.stdout)
+    assert told_of and [int(each) for each in told_of] == sorted(int(each) for each in told_of)
+    assert said.returncode == 0 and said.stdout.endswith(b"40000 files: 40000 accepted, 0 refused; from 2 stores\r\n")
 
 
 def test_more_stores_than_files_may_be_open(naplps, here):
