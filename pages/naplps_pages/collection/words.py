@@ -67,7 +67,7 @@ def _add_merge(one: Parser) -> None:
     one.add_argument("into", metavar="INTO", help="the new store, a file that isn't there yet")
     one.add_argument("parts", metavar="STORE", nargs="+", help="a file that `scan` made, which stays as it is")
     one.add_argument("--unfinished", action="store_true",
-                     help="join also what isn't finished, and stores of which parts lack")
+                     help="join stores that aren't finished too, and parts of which others are missing")
 
 
 def _add_own(one: Parser, name: str) -> None:
