@@ -39,22 +39,6 @@ answers_placed budget p text (Err r) line h is =
       | inr apart ↦ let own = h.refused apart in inr (inl (record { refusal = r; own = apart; refused = own.0; line_is = is; body_is = own.1 }))
     ]
 
--- what `check` prints is an answer to `check`
-pub answers_check : (budget : ℕ) (p line body : List ℕ) (v : Verdict) → PrintsBy action.Check (page_command action.Check budget) p line v → body ≡ [] → IsAnswer question.Check budget p line body
-answers_check budget p line body verdict.Accepted h empty = inl (record { accepted = h.0; line_is = h.1; body_is = empty })
-answers_check budget p line body verdict.Refused (r, is, wanting, says) empty =
-    elim (is_memory r.fault) [
-      | inl lacks ↦
-          inr (inr (record {
-            place = r.place;
-            breaks = is.memory lacks;
-            counting = λ _. wanting lacks;
-            line_is = says ∙ ap (λ (f : Fault). refused_line (record { fault = f; place = r.place })) lacks;
-            body_is = empty;
-          }))
-      | inr apart ↦ inr (inl (record { refusal = r; own = apart; refused = is.refused apart; line_is = says; body_is = empty }))
-    ]
-
 -- A page is accepted, and its entries were counted.
 pub answers_accepted : (q : Question) (budget : ℕ) (p line body : List ℕ) (count : Option ℕ) → IsAccepted budget p → IsCount count (length (list_of budget p)) →
     IfSome count (λ n. line ≡ count_line n) × IsSome count → body ≡ body_of q budget p → IsAnswer q budget p line body

@@ -150,9 +150,6 @@ module _ (bytes : List ℕ) (h : RequestLine) (n : ℕ) (whole : IsWhole bytes h
   pub page_is : take h.size (drop n bytes) ≡ page_of
   page_is = ap (λ (xs : List ℕ). take h.size (drop n xs)) begun ∙ ap (take h.size) (drop_at (whole.line ++ 10 ∷ []) whole.behind n start)
 
-  pub page_small : h.size ≤ 16777216
-  page_small = whole.says.size.within
-
   pub within : n + h.size ≤ length bytes
   within = omega (arith, ap length begun, length-append (whole.line ++ 10 ∷ []) whole.behind, start, whole.enough)
 

@@ -25,10 +25,6 @@ still_refused budget p more r is =
     let all = ap (λ (o : Outcome). o.refusal) (more_bytes_keep_refusal budget p more r is) ∙ is in
     ap (λ (q : Option Refusal). (ended_by (begun budget (p ++ more)) (length (p ++ more)) q).refusal) all ∙ all
 
-pub walks_more : (s : State) (xs : List Entry) (x : Entry) → walk s (xs ++ x ∷ []) ≡ after (walk s xs) x
-unfolding walk
-walks_more s xs x = walks_join s xs (x ∷ [])
-
 pub walks_nothing : walk start [] ≡ start
 unfolding walk
 walks_nothing = refl

@@ -1,13 +1,10 @@
-use Rattle.std.specs.Prelude.{ℕ, ◌≡◌, ◌+◌, List, [], ◌++◌, Option, None, Some, Result, Ok, Err, length}
+use Rattle.std.specs.Prelude.{ℕ, ◌≡◌, ◌+◌, List, [], ◌++◌, Option, None, Some, length}
 use Rattle.std.proofs.Common.{refl, length-append, arith}
 use Rattle.nap_list.specs.declared.entry.Entry.{Entry}
 use Rattle.nap_list.specs.declared.sink.Sink.{Ghosts}
-use Rattle.nap_list.specs.declared.sink.SinkFault.{SinkFault}
-use Rattle.nap_list.specs.declared.sink.SinkFault.TheVariants as faults
-use Rattle.nap_list.specs.declared.sink.TextFault.{TextFault}
 use Rattle.nap_list.specs.Putting.{SinkShows}
 
--- What a sink shows that counts the entries of another: that one, and how many it took, where that is known.
+-- What a sink shows that counts the entries of another: that one, and how many it took, if a `u64` can hold it.
 pub record Counting (S : Type 0) : Type 0 where
   pub sink : S
   pub count : Option ℕ
@@ -16,17 +13,6 @@ pub record Counting (S : Type 0) : Type 0 where
 abbrev pub GrowsBy : ℕ → Option ℕ → Option ℕ → Type 0
 GrowsBy n before None = Unit {0}
 GrowsBy n before (Some k) = (m : ℕ) × (before ≡ Some m) × (k ≡ m + n)
-
--- the count behind a put of so many entries: it is lost where memory was wanting, and stays where a device failed
-abbrev pub CountsOn : Option ℕ → ℕ → Result (Unit {0}) SinkFault → Option ℕ → Type 0
-CountsOn before n (Ok x) after = GrowsBy n before after × (n ≡ 0 → after ≡ before)
-CountsOn before n (Err faults.Memory) after = after ≡ None
-CountsOn before n (Err faults.Write) after = after ≡ before
-
--- what a put of a text came to
-abbrev pub put_of : Result (Unit {0}) TextFault → Result (Unit {0}) SinkFault
-put_of (Ok x) = Ok x
-put_of (Err stop) = Err stop.fault
 
 -- the other sink took these entries, and they were counted
 pub record Took {S : Type 0} (g : Ghosts S) (s : Counting S) (d : List Entry) (t : Counting S) : Type 0 where

@@ -2,7 +2,7 @@
 ghost use Rattle.std.specs.Prelude.{◌≡◌, ◌<◌, ◌^◌, [], false, IfOk, IfSome, IsSome, length};
 ghost use Rattle.nap_list.specs.State.{start};
 ghost use Rattle.nap_command.specs.declared.command.Action.TheVariants.{Check};
-ghost use Rattle.nap_command.specs.Commands.{PrintsBy, count_line, refusal_of_text};
+ghost use Rattle.nap_command.specs.Commands.{PrintsBy, count_line};
 ghost use Rattle.nap_batch.specs.Answers.{IsAnswer, IsCounted, answer_text, ended_line, page_command, refused_line};
 
 use crate::counting::CountingSink;
@@ -10,10 +10,12 @@ use crate::places::read_places;
 use crate::request::Question;
 use itoa::Buffer;
 use nap_canon::CanonSink;
-use nap_command::{Action, Command, Failure, Printout, answer_stream, count_line, read_stream};
+use nap_command::{
+    Action, Command, Failure, Printout, answer_stream, count_line, read_stream, refusal_of_text,
+};
 use nap_lines::LineSink;
 use nap_list::{Sink, Target};
-use nap_reader::{Budget, Fault, Refusal};
+use nap_reader::{Budget, Refusal};
 use std::alloc::{AllocError, Global};
 
 /// A line with its end, and a body.
@@ -84,12 +86,12 @@ fn accepted(alloc: Global, count: Option<u64>, body: Vec<u8>) -> Result<Answer, 
             line: count_line(alloc, count)?,
             body,
         }),
-        // Memory was wanting where the entries were put.
+        // A `u64` can't hold their number.
         None => Err(AllocError),
     }
 }
 
-/// The sink with all entries of a page, and how many they are, if that is known; or why the page is refused.
+/// The sink with all entries of a page, and how many they are, if a `u64` can hold it; or why the page is refused.
 fn read_counted<S: Sink + Drop>(
     alloc: Global,
     budget: Budget,
@@ -118,19 +120,6 @@ fn listed(alloc: Global, budget: Budget, page: &[u8]) -> Result<Answer, AllocErr
     match read_counted(alloc, budget, page, LineSink::new(alloc)) {
         Ok((sink, count)) => accepted(alloc, count, sink.into_text()),
         Err(refusal) => refused(alloc, refusal),
-    }
-}
-
-/// Why a page is refused whose text was taken in memory, which is wanting where its sink failed.
-fn refusal_of_text(refusal: Refusal) -> Refusal
-    ensures { result ≡ refusal_of_text refusal }
-{
-    match refusal.fault {
-        Fault::Sink => Refusal {
-            fault: Fault::Memory,
-            place: refusal.place,
-        },
-        _ => refusal,
     }
 }
 

@@ -1,14 +1,11 @@
 //! A sink with the number of entries that it took.
-ghost use Rattle.std.specs.Prelude.{◌≡◌, Some, None, Option};
-ghost use Rattle.nap_list.specs.declared.sink.SinkFault.{SinkFault};
-ghost use Rattle.nap_batch.specs.Counting.{CountsOn, Took, put_of, took_more, took_none};
+ghost use Rattle.std.specs.Prelude.{◌≡◌, Some, Option};
+ghost use Rattle.nap_batch.specs.Counting.{GrowsBy, Took, took_more, took_none};
 
-use nap_codes::CharSet;
-use nap_list::{Drawing, Entry, Hand, Sink, SinkFault, TextFault};
-use nap_values::Point;
+use nap_list::{Batch, BatchFault, Entry, Sink, SinkFault};
 use std::marker::Model;
 
-/// Counts the entries that another sink takes. Once memory was wanting amid several entries, it doesn't know their number.
+/// Counts the entries that another sink takes, as long as a `u64` holds their number.
 #[derive(Drop)]
 pub(crate) struct CountingSink<S: Sink + Drop> {
     sink: S,
@@ -34,7 +31,7 @@ impl<S: Sink + Drop> CountingSink<S> {
         }
     }
 
-    /// How many entries it took, if that is known.
+    /// How many entries it took, if a `u64` can hold their number.
     pub(crate) fn count(&self) -> Option<u64>
         ensures { result ≡ self.now.count }
     {
@@ -50,25 +47,12 @@ impl<S: Sink + Drop> CountingSink<S> {
     }
 }
 
-/// The count behind a put of so many entries.
-fn counted(count: Option<u64>, entries: usize, put: Result<(), SinkFault>) -> Option<u64>
-    ensures { CountsOn count entries put result }
+/// The count after `entries` more, if a `u64` can hold it.
+fn counted(count: Option<u64>, entries: usize) -> Option<u64>
+    ensures grows { GrowsBy entries count result }
+    ensures none { entries ≡ 0 → result ≡ count }
 {
-    match put {
-        Ok(()) => count?.checked_add(entries as u64),
-        Err(SinkFault::Memory) => None,
-        Err(SinkFault::Write) => count,
-    }
-}
-
-/// What a put of a text came to.
-fn put_of(put: &Result<(), TextFault>) -> Result<(), SinkFault>
-    ensures { result ≡ put_of put.now }
-{
-    match put {
-        Ok(()) => Ok(()),
-        Err(stop) => Err(stop.fault),
-    }
+    count?.checked_add(entries as u64)
 }
 
 impl<S: Sink + Drop> Sink for CountingSink<S> {
@@ -84,30 +68,17 @@ impl<S: Sink + Drop> Sink for CountingSink<S> {
 
     fn put(&mut self, entry: Entry) -> Result<(), SinkFault> {
         self.sink.put(entry)?;
-        self.count = counted(self.count, 1, Ok(()));
+        self.count = counted(self.count, 1);
         Ok(())
     }
 
-    fn put_points(&mut self, points: &[Point], drawing: &Drawing) -> Result<(), SinkFault> {
-        let put = self.sink.put_points(points, drawing);
-        self.count = counted(self.count, points.len(), put);
-        put
-    }
-
-    fn put_lines(
-        &mut self,
-        from: Point,
-        points: &[Point],
-        drawing: &Drawing,
-    ) -> Result<(), SinkFault> {
-        let put = self.sink.put_lines(from, points, drawing);
-        self.count = counted(self.count, points.len(), put);
-        put
-    }
-
-    fn put_text(&mut self, set: CharSet, codes: &[u8], hand: &Hand) -> Result<(), TextFault> {
-        let put = self.sink.put_text(set, codes, hand);
-        self.count = counted(self.count, codes.len(), put_of(&put));
+    fn put_batch(&mut self, batch: &Batch) -> Result<(), BatchFault> {
+        let put = self.sink.put_batch(batch);
+        let taken = match &put {
+            Ok(()) => batch.len(),
+            Err(stop) => stop.taken,
+        };
+        self.count = counted(self.count, taken);
         put
     }
 

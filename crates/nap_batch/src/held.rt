@@ -37,7 +37,7 @@ impl Model for Held {
 }
 
 impl Held {
-    /// Nothing, with the memory for the line of a request and a read behind it.
+    /// Nothing, with the memory for the line of a request and a read after it.
     pub(crate) fn new(alloc: Global) -> Result<Held, AllocError>
         ensures { IfOk result (λ h. h ≡ []) }
     {
@@ -83,7 +83,7 @@ impl Held {
         self.start = 0;
     }
 
-    /// Reads once, into the room and on behind the bytes, and answers how many bytes came. There is memory then for so many
+    /// Reads once, into the room after the bytes, and answers how many bytes came. There is memory then for so many
     /// that are missing.
     pub(crate) fn read<I: Inlet>(
         &mut self,

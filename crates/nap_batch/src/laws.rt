@@ -20,7 +20,7 @@ pub fn answers_are_those_of_commands()
     ensures { AnswersAreThoseOfCommands }
 {}
 
-/// The places are the lines of all entries, each behind a number and a space.
+/// The places are the lines of all entries, each after a number and a space.
 pub fn places_are_lines()
     ensures { PlacesAreLines }
 {}

@@ -14,7 +14,7 @@ pub enum Question {
     List,
     /// Its canonical stream.
     Canon,
-    /// A line for each entry, behind the place of the byte with which it came.
+    /// A line for each entry, after the place of the byte with which it came.
     Places,
 }
 
@@ -50,7 +50,7 @@ impl Question {
     }
 }
 
-/// What stands before the first such byte, and behind it.
+/// What comes before the first such byte, and after it.
 pub(crate) fn cut(bytes: &[u8], byte: u8) -> Option<(&[u8], &[u8])>
     ensures { MatchOption result ((front back : List ℕ) → Cuts byte bytes.now front back → ⊥) (λ parts. Cuts byte bytes.now parts.0.now parts.1.now) }
 {

@@ -43,7 +43,7 @@ fn answer_text(alloc: Global, line: RequestLine, page: &[u8]) -> Result<Vec<u8>,
     answer.spell(alloc)
 }
 
-/// Writes an answer behind so many bytes, and answers how many they are then.
+/// Writes an answer after so many bytes, and returns how many bytes that makes.
 fn send<O: Outlet>(output: &mut O, written: u64, text: &[u8]) -> Result<u64, Ended>
     ensures { IsSent O.Outlet written text.now output.old output.new result }
 {

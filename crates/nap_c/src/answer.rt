@@ -30,7 +30,7 @@ pub struct Answer {
     pub place: u64,
     /// How many bytes the text has, or how many entries there are.
     pub length: u64,
-    /// The name of the refusal, with zeros behind it.
+    /// The name of the refusal, followed by zeros.
     pub name: [u8; NAME],
 }
 

@@ -75,7 +75,7 @@ pub extern "C" fn naplps_canon_form1(
     answer_text(form1_text(alloc, budget, page), room)
 }
 
-/// The lines of a page's entries, also of those before a refusal, each behind the place of the byte that brought it.
+/// The lines of a page's entries, also of those before a refusal, each after the place of the byte that brought it.
 #[unsafe(no_mangle)]
 pub extern "C" fn naplps_places(alloc: Global, budget: u32, page: &[u8], room: &mut [u8]) -> Answer
     requires { length page.now < 2 ^ 63 }

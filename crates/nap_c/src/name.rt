@@ -9,7 +9,7 @@ use nap_reader::Fault;
 /// How many bytes an answer has for a name, with the zero that ends it.
 pub(crate) const NAME: usize = 32;
 
-/// The name of what is left out, behind that of its refusal.
+/// The name of what is left out, after that of its refusal.
 fn left_name(left: Left) -> &'static str
     ensures name { result.now ≡ codes "LeftOut " ++ left_text left }
     ensures short { length result.now < 32 }
@@ -41,7 +41,7 @@ fn fault_name(fault: Fault) -> &'static str
     }
 }
 
-/// The name of a refusal, with zeros behind it.
+/// The name of a refusal, followed by zeros.
 pub(crate) fn padded_name(fault: Fault) -> [u8; NAME]
     ensures { result ≡ padded (fault_text fault) }
 {

@@ -3,12 +3,11 @@ ghost use Rattle.std.specs.Prelude.{◌≡◌, ◌<◌, ◌^◌, length, MatchRe
 ghost use Rattle.nap_reader.specs.Breaking.{BreaksWithin};
 ghost use Rattle.nap_canon.specs.Streams.{list_of};
 ghost use Rattle.nap_canon.specs.Text.{text, text1};
-ghost use Rattle.nap_command.specs.Commands.{refusal_of_text};
 ghost use Rattle.nap_lines.specs.Listing.{lines};
 ghost use Rattle.nap_c.specs.Texts.{IsRefusal, IsTextOf, LacksForText, wanting_at_end};
 
 use nap_canon::{CanonFault, CanonSink, canon_form1};
-use nap_command::read_stream;
+use nap_command::{read_stream, refusal_of_text};
 use nap_lines::LineSink;
 use nap_list::Target;
 use nap_reader::{Budget, Fault, Refusal, read_all};
@@ -21,19 +20,6 @@ pub(crate) fn wanting_at_end(page: &[u8]) -> Refusal
     Refusal {
         fault: Fault::Memory,
         place: page.len() as u64,
-    }
-}
-
-/// Why a page is refused whose text was taken in memory, which is wanting where its sink failed.
-fn refusal_of_text(refusal: Refusal) -> Refusal
-    ensures { result ≡ refusal_of_text refusal }
-{
-    match refusal.fault {
-        Fault::Sink => Refusal {
-            fault: Fault::Memory,
-            place: refusal.place,
-        },
-        _ => refusal,
     }
 }
 

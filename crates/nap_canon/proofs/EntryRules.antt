@@ -1,5 +1,5 @@
 use Rattle.std.proofs.Common.{ℕ, suc, ◌≡◌, ◌≤◌, List, [], ◌∷◌, ◌++◌, length, take, drop, All, true, false, Option, Some, None, Ok, refl, ap, sym, ◌∙◌, append-nil, arith}
-use Rattle.std.specs.Prelude.{◌-◌, nat_lt}
+use Rattle.std.specs.Prelude.{nat_lt}
 use Rattle.std.proofs.lemmas.Bool.Decides.{nat_tests}
 use Rattle.std.proofs.lemmas.List.Elements.{All-head, All-tail}
 use Rattle.nap_values.specs.Coordinates.{Coordinates, Displacement, IsInSquare, displacement_to}
@@ -23,7 +23,7 @@ use Rattle.nap_list.specs.State.{walk, with_colour}
 use Rattle.nap_draw.specs.declared.work.Work.{Work}
 use Rattle.nap_draw.specs.Operands.{operands, moves}
 use Rattle.nap_draw.specs.Geometry.{points_at, joined, between, away, reached, arc_points, poly_points}
-use Rattle.nap_list.specs.Putting.{point_on}
+use Rattle.nap_list.specs.Batches.{point_on}
 use Rattle.nap_draw.specs.Rule.{rule, drawn, line_on, rect_on, field_on, shape_from_point}
 use Rattle.nap_draw.proofs.PublicLaws.{whole_operand_first, no_operands}
 use Rattle.nap_canon.specs.Spelling.{word_byte, onward_bytes, shape_bytes}

@@ -22,7 +22,7 @@ use Rattle.nap_draw.specs.declared.work.Work.{Work}
 use Rattle.nap_draw.specs.Codes.{char_on, copies, puts, with_last, code_rule}
 use Rattle.nap_draw.specs.Geometry.{points_at, reached, joined, between, away, across, arc_points, poly_points}
 use Rattle.nap_draw.specs.Operands.{operands}
-use Rattle.nap_list.specs.Putting.{point_on}
+use Rattle.nap_list.specs.Batches.{point_on}
 use Rattle.nap_draw.specs.Rule.{Drawn, and_then, drawn, with_drawing, moves_of, some_of, pairs_of, first_of, few_of, pen_point, draws, draws_one, goes, with_operands, from_pen, with_pairs, shape_from_pen, shape_from_point, line_on, rect_on, arc_on, poly_on, field_on, area_of, blinks, blink, maps, colours_as, set_color_rule, rule}
 
 -- What opcodes, characters and controls leave as it was: the lengths of operands, those that are saved, and the

@@ -7,10 +7,9 @@ pub mod TextLemmas
 pub mod WriterLemmas
 pub mod SinkingLemmas
 pub mod CutLemmas
-pub mod BatchLemmas
-pub mod BatchTexts
-pub mod BatchRuns
-pub mod BatchParts
+pub mod GatheredLemmas
+pub mod JoinLemmas
+pub mod PutLemmas
 pub mod ConvertLemmas
 pub mod WalkLemmas
 pub mod FaultLemmas

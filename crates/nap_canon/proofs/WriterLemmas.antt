@@ -11,7 +11,7 @@ use Rattle.nap_list.specs.declared.entry.Entry.{Entry}
 use Rattle.nap_list.specs.declared.state.State.{State}
 use Rattle.nap_list.specs.Entry.{held}
 use Rattle.nap_list.specs.State.{taking}
-use Rattle.nap_canon.specs.Batches.{last_of}
+use Rattle.nap_list.specs.Batches.{last_of}
 use Rattle.nap_canon.specs.Bring.{bring}
 use Rattle.nap_canon.specs.Spelling.{Piece, command_piece, onward_bytes, shape, shape_bytes, spelled}
 use Rattle.nap_canon.specs.Text.{gl_of, to_opcodes, piece_bytes, tail_behind, written, tail_after, entry_pieces}

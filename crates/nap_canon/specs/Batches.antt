@@ -1,104 +1,96 @@
-use Rattle.std.specs.Prelude.{ℕ, ◌≡◌, ◌<◌, ◌*◌, ◌/◌, ◌++◌, Bool, true, false, List, [], ◌∷◌, Result, Ok, Err, Some, length, take, slice_index}
+use Rattle.std.specs.Prelude.{ℕ, ◌≡◌, ◌+◌, ◌<◌, ◌≤◌, ◌*◌, ◌/◌, ◌++◌, Bool, true, false, List, [], ◌∷◌, Result, Ok, Err, length, take, drop, slice_index}
 use Rattle.nap_values.specs.Coordinates.{Coordinates}
 use Rattle.nap_values.specs.Spellings.{point_bytes}
-use Rattle.nap_codes.specs.declared.code_set.CharSet.{CharSet}
-use Rattle.nap_list.specs.declared.attribute.Pen.{Pen}
+use Rattle.nap_codes.specs.declared.code_set.CharSet.TheVariants.{Primary}
+use Rattle.nap_codes.specs.declared.code_set.GSet.TheVariants.{G0}
 use Rattle.nap_list.specs.declared.attribute.Pen.TheVariants.{At}
+use Rattle.nap_list.specs.declared.batch.Batch.{Batch}
+use Rattle.nap_list.specs.declared.batch.Batch.TheVariants as batches
 use Rattle.nap_list.specs.declared.device.Outlet as outlet
 use Rattle.nap_list.specs.declared.entry.Entry.{Entry}
-use Rattle.nap_list.specs.declared.entry.Entry.TheVariants as entries
-use Rattle.nap_list.specs.declared.sink.SinkFault.{SinkFault}
 use Rattle.nap_list.specs.declared.sink.SinkFault.TheVariants.{Write}
-use Rattle.nap_list.specs.declared.state.Drawing.{Drawing}
+use Rattle.nap_list.specs.Batches.{last_of}
 use Rattle.nap_list.specs.declared.state.State.{State}
-use Rattle.nap_list.specs.State.{after, base_shown, with_pen, ink_of, hand_of}
-use Rattle.nap_list.specs.Putting.{SinkShows, shows, BreaksAfter}
+use Rattle.nap_list.specs.Putting.{SinkShows, shows, Put, TakesAll}
 use Rattle.nap_canon.specs.declared.form.Form.{Form}
 use Rattle.nap_canon.specs.declared.form.Form.TheVariants.{Two}
 use Rattle.nap_canon.specs.declared.tail.Tail.{Tail}
+use Rattle.nap_canon.specs.declared.tail.Tail.TheVariants.{Apart, InRun}
 use Rattle.nap_canon.specs.Sinking.{Canonical, Took, Broke}
-use Rattle.nap_canon.specs.Spelling.{group}
-use Rattle.nap_canon.specs.Text.{is_joined, entry_pieces}
+use Rattle.nap_canon.specs.Text.{is_joined, run_behind, written, tail_after, entry_pieces}
 
--- Entries that a sink of canonical text puts at once.
+-- Batches in a sink of canonical text.
 
 -- a canonical sink, as any sink shows
 abbrev pub canon_shows : {O : Type 0} → outlet.Ghosts O → SinkShows (Canonical O)
 canon_shows o = shows (λ s. s.state) (λ s d. ⊥) (λ s. o.failed s.outlet) (Took o) (Broke o)
 
--- the colour stands: a direct one is that of mode 0 too
-abbrev pub ColourStands : Drawing → Type 0
-ColourStands d = base_shown d.base (Some d.colour) ≡ d.base
-
--- the states differ in their pens alone
-abbrev pub PensApart : State → State → Type 0
-PensApart s t = (pen : Pen) × (t ≡ record s { drawing = with_pen pen s.drawing })
-
--- a line with the values that stand
-abbrev pub line_on : Drawing → Coordinates → Coordinates → Entry
-line_on d from to = entries.Line from to (ink_of d)
-
--- a character with the values that stand
-abbrev pub char_on : Drawing → CharSet → ℕ → Entry
-char_on d set code = entries.Char set code (hand_of d)
-
--- an entry was put, or broke
-abbrev pub PutsNext : {O : Type 0} → outlet.Ghosts O → Canonical O → Entry → Canonical O → Result (Unit {0}) SinkFault → Type 0
-PutsNext o s e t (Ok _) = Took o s (e ∷ []) t × (o.failed t.outlet ≡ false)
-PutsNext o s e t (Err fault) = (fault ≡ Write) × (o.failed t.outlet ≡ true) × Broke o s [] e t
-
--- all entries were put, or so many of them and the next one broke
-abbrev pub PutsSome : {O : Type 0} → outlet.Ghosts O → Canonical O → List Entry → Canonical O → Result (Unit {0}) ℕ → Type 0
-PutsSome o s list t (Ok _) = Took o s list t × (o.failed t.outlet ≡ false)
-PutsSome o s list t (Err n) = BreaksAfter (Broke o) s list n t × (o.failed t.outlet ≡ true)
-
--- all bytes were taken, or so many of them, and none of what came next
+-- so many of the bytes were taken, and the write of the next one failed
 pub record CutAfter {S : Type 0} (sent : S → List ℕ → Bool → S → Type 0) (s : S) (bytes : List ℕ) (n : ℕ) (t : S) : Type 0 where
   pub less : n < length bytes
   pub mid : S
   pub front : sent s (take n bytes) false mid
   pub next : sent mid (slice_index bytes n ∷ []) true t
 
+-- all of the bytes were taken, or some first ones
 abbrev pub SentUpTo : {S : Type 0} → (S → List ℕ → Bool → S → Type 0) → S → List ℕ → S → Result (Unit {0}) ℕ → Type 0
 SentUpTo sent s bytes t (Ok _) = sent s bytes false t
 SentUpTo sent s bytes t (Err n) = CutAfter sent s bytes n t
-
--- how many were taken, of a list
-abbrev pub front_of : Result (Unit {0}) ℕ → List ℕ → List ℕ
-front_of (Ok _) list = list
-front_of (Err n) list = take n list
 
 -- the operands of points, one behind another
 unfoldable pub points_bytes : List Coordinates → List ℕ
 points_bytes [] = []
 points_bytes (p ∷ ps) = point_bytes p ++ points_bytes ps
 
--- the state with the pen at this point
-abbrev pub pen_at : Coordinates → State → State
-pen_at p s = record s { drawing = with_pen (At p) s.drawing }
-
--- the state with the pen at the last of these points
-unfoldable pub landed : State → List Coordinates → State
-landed s [] = s
-landed s (p ∷ ps) = landed (pen_at p s) ps
-
--- the last of these points, or this one where there is none
-unfoldable pub last_of : Coordinates → List Coordinates → Coordinates
-last_of p [] = p
-last_of p (q ∷ qs) = last_of q qs
-
--- the points of which all bytes were taken
-abbrev pub whole_points : Result (Unit {0}) ℕ → List Coordinates → List Coordinates
-whole_points (Ok _) points = points
-whole_points (Err n) points = take (n / 8) points
-
--- so many points join the run that stands last
+-- so many points join the run of this opcode
 abbrev pub PointsJoin : Form → Tail → ℕ → ℕ → Type 0
-PointsJoin form tail byte count = (form ≡ Two) × (is_joined tail byte (8 * count) ≡ true)
+PointsJoin form tail byte count = (count ≤ 32) × (form ≡ Two) × (is_joined tail byte (8 * count) ≡ true)
 
--- each entry is a point behind this opcode, where the pen is then
-unfoldable pub ArePoints : ℕ → State → List Coordinates → List Entry → Type 0
-ArePoints byte s [] [] = Unit {0}
-ArePoints byte s (p ∷ ps) (e ∷ es) = (entry_pieces Two s e ≡ group byte (point_bytes p) ∷ []) × (after s e ≡ pen_at p s) × ArePoints byte (pen_at p s) ps es
-ArePoints byte s [] (e ∷ es) = ⊥
-ArePoints byte s (p ∷ ps) [] = ⊥
+-- so many entries of a batch, from this index on, join the last run or text
+abbrev pub Joins : Form → Tail → State → Batch → ℕ → ℕ → Type 0
+Joins form tail s (batches.Points points drawing) first count = PointsJoin form tail 0x26 count
+Joins form tail s (batches.Lines from points drawing) first count = PointsJoin form tail 0x28 count × (s.drawing.pen ≡ At (last_of from (take first points.now)))
+Joins form tail s (batches.Text set codes pen drawing) first count = (set ≡ Primary) × (tail ≡ Apart G0)
+
+-- the bytes of each of them
+abbrev pub entry_size : Batch → ℕ
+entry_size (batches.Points points drawing) = 8
+entry_size (batches.Lines from points drawing) = 8
+entry_size (batches.Text set codes pen drawing) = 1
+
+-- the bytes of so many, from this one on
+abbrev pub joined_bytes : Batch → ℕ → ℕ → List ℕ
+joined_bytes (batches.Points points drawing) first count = points_bytes (take count (drop first points.now))
+joined_bytes (batches.Lines from points drawing) first count = points_bytes (take count (drop first points.now))
+joined_bytes (batches.Text set codes pen drawing) first count = take count (drop first codes.now)
+
+-- how the text ends after so many
+abbrev pub joined_tail : Tail → Batch → ℕ → Tail
+joined_tail tail (batches.Points points drawing) count = InRun (run_behind tail 0x26 (8 * count))
+joined_tail tail (batches.Lines from points drawing) count = InRun (run_behind tail 0x28 (8 * count))
+joined_tail tail (batches.Text set codes pen drawing) count = tail
+
+-- how many of so many entries were taken whole
+abbrev pub whole_entries : Batch → ℕ → Result (Unit {0}) ℕ → ℕ
+whole_entries batch count (Ok _) = count
+whole_entries batch count (Err taken) = taken / entry_size batch
+
+-- the first entry of a list, whose values are current, was written
+abbrev pub WritesNext : {S : Type 0} → (S → List ℕ → Bool → S → Type 0) → Form → Tail → State → List Entry → S → Tail → S → Bool → Type 0
+WritesNext sent form tail s list to tail' to' broke =
+    (e : Entry) (es : List Entry) → list ≡ e ∷ es → sent to (written tail (entry_pieces form s e)) broke to' × (tail' ≡ tail_after tail (entry_pieces form s e))
+
+-- a front of the list was put, of one entry or more, or the list was put up to an entry that broke
+abbrev pub PutsSome : {O : Type 0} → outlet.Ghosts O → List Entry → Canonical O → Canonical O → Result ℕ ℕ → Type 0
+PutsSome o list s t (Ok count) = (0 < count) × (count ≤ length list) × TakesAll (canon_shows o) (take count list) s t
+PutsSome o list s t (Err taken) = Put (canon_shows o) list s t (Err (record { taken = taken; fault = Write }))
+
+-- the first entry of a list was put, or it broke
+abbrev pub PutsFirst : {O E : Type 0} → outlet.Ghosts O → List Entry → Canonical O → Canonical O → Result (Unit {0}) E → Type 0
+PutsFirst o list s t (Ok _) = PutsSome o list s t (Ok 1)
+PutsFirst o list s t (Err _) = PutsSome o list s t (Err 0)
+
+-- a list was put from this entry on, and an error counts those before it too
+abbrev pub PutsBehind : {O : Type 0} → outlet.Ghosts O → ℕ → List Entry → Canonical O → Canonical O → Result (Unit {0}) ℕ → Type 0
+PutsBehind o first list s t (Ok _) = TakesAll (canon_shows o) (drop first list) s t
+PutsBehind o first list s t (Err taken) = (n : ℕ) × (taken ≡ first + n) × Put (canon_shows o) (drop first list) s t (Err (record { taken = n; fault = Write }))

@@ -1,18 +1,16 @@
 //! A sink that writes the canonical text of its entries.
-ghost use Rattle.std.specs.Prelude.{◌≡◌, [], ◌∷◌, true, false, OnOk, IsErrOf};
-ghost use Rattle.nap_list.specs.State.{Fits, after};
+ghost use Rattle.std.specs.Prelude.{◌≡◌, ◌<◌, ◌≤◌, [], ◌∷◌, length, drop, true, false, OnOk, IsErrOf};
+ghost use Rattle.nap_list.specs.Batches.{EachStands, FirstStands, listed};
+ghost use Rattle.nap_list.specs.State.{AllFit, Fits, after};
+ghost use Rattle.nap_canon.specs.Batches.{PutsBehind, PutsFirst, PutsSome};
 ghost use Rattle.nap_canon.specs.Sinking.{BegunIn, Begun, Took, Broke};
 ghost use Rattle.nap_canon.specs.SinkLaws.{took_none, took_more, took_broke};
 
 use crate::form::Form;
 use crate::output::Output;
-use crate::writer::Writer;
-use nap_codes::CharSet;
-use nap_list::{Drawing, Entry, Hand, Outlet, Sink, SinkFault, TextFault};
-use nap_values::Point;
+use crate::writer::{Writer, entry_size};
+use nap_list::{Batch, BatchFault, Entry, Outlet, Sink, SinkFault};
 use std::marker::Model;
-
-mod batch;
 
 /// Writes the canonical text of the entries that it takes to an outlet, as they come. It takes no memory.
 ///
@@ -74,6 +72,84 @@ impl<O: Outlet + Drop> CanonSink<O> {
         Ok(())
     }
 
+    /// Whether a batch is a text whose values are current, so that its first character needs no bring either.
+    #[inline(always)]
+    fn goes_on(&self, batch: &Batch) -> bool
+        ensures { result ≡ true → (O.failed self.now.outlet ≡ false) × FirstStands batch.now self.now.state.drawing }
+    {
+        matches!(batch, Batch::Text { .. }) && !self.failed() && self.writer.stands_first(batch)
+    }
+
+    /// Takes the first entry of a batch.
+    #[inline(always)]
+    fn put_first(&mut self, batch: &Batch) -> Result<(), SinkFault>
+        requires some { 0 < length (listed batch.now) }
+        requires fit { AllFit self.old.state (listed batch.now) }
+        ensures { PutsFirst O.Outlet (listed batch.now) self.old self.new result }
+    {
+        self.put_ref(&batch.entry(0))
+    }
+
+    /// Takes entries of a batch from this index on, whose values are current: as many as make one write, at least one.
+    /// Returns how many it took; an error has that number too.
+    #[inline(always)]
+    fn put_some(&mut self, batch: &Batch, first: usize) -> Result<usize, usize>
+        requires some { first < length (listed batch.now) }
+        requires stand { EachStands self.old.state (drop first (listed batch.now)) }
+        requires works { O.failed self.old.outlet ≡ false }
+        ensures { PutsSome O.Outlet (drop first (listed batch.now)) self.old self.new result }
+    {
+        let count = self.writer.joining(batch, first);
+        if count == 0 {
+            return match self.writer.put_next(batch, first) {
+                Ok(()) => Ok(1),
+                Err(_) => Err(0),
+            };
+        }
+        match self.writer.put_joined(batch, first, count) {
+            Ok(()) => Ok(count),
+            Err(taken) => Err(taken / entry_size(batch)),
+        }
+    }
+
+    /// Takes a batch from this index on, where the values of each entry are current. An error has the number of the
+    /// batch's entries that were taken.
+    #[inline(always)]
+    fn put_standing(&mut self, batch: &Batch, first: usize) -> Result<(), usize>
+        requires few { first ≤ length (listed batch.now) }
+        requires stand { EachStands self.old.state (drop first (listed batch.now)) }
+        requires works { O.failed self.old.outlet ≡ false }
+        ensures { PutsBehind O.Outlet first (listed batch.now) self.old self.new result }
+    {
+        let count = batch.len();
+        let mut taken = first;
+        while taken < count {
+            match self.put_some(batch, taken) {
+                Ok(more) => taken += more,
+                Err(more) => return Err(taken + more),
+            }
+        }
+        Ok(())
+    }
+
+    /// Takes a batch up to where a write fails. An error has the number of its entries that were taken.
+    #[inline(always)]
+    fn put_all(&mut self, batch: &Batch) -> Result<(), usize>
+        requires { AllFit self.old.state (listed batch.now) }
+        ensures { PutsBehind O.Outlet 0 (listed batch.now) self.old self.new result }
+    {
+        if self.goes_on(batch) {
+            return self.put_standing(batch, 0);
+        }
+        if batch.is_empty() {
+            return Ok(());
+        }
+        if self.put_first(batch).is_err() {
+            return Err(0);
+        }
+        self.put_standing(batch, 1)
+    }
+
     /// How many bytes the outlet took from this sink; the count stays at the greatest `u64`.
     pub fn written(&self) -> u64
         ensures { result ≡ self.now.written }
@@ -113,56 +189,12 @@ impl<O: Outlet + Drop> Sink for CanonSink<O> {
         self.put_ref(&entry)
     }
 
-    fn put_points(&mut self, points: &[Point], drawing: &Drawing) -> Result<(), SinkFault> {
-        let Some((at, others)) = points.split_first() else {
-            return Ok(());
-        };
-        let first = Entry::Point {
-            at: *at,
-            pel: drawing.pel,
-            colour: drawing.colour,
-        };
-        self.put_ref(&first)?;
-        self.points_on(others)
-    }
-
-    fn put_lines(
-        &mut self,
-        from: Point,
-        points: &[Point],
-        drawing: &Drawing,
-    ) -> Result<(), SinkFault> {
-        let Some((to, others)) = points.split_first() else {
-            return Ok(());
-        };
-        let first = Entry::Line {
-            from,
-            to: *to,
-            ink: drawing.ink(),
-        };
-        self.put_ref(&first)?;
-        self.lines_on(*to, others)
-    }
-
-    fn put_text(&mut self, set: CharSet, codes: &[u8], hand: &Hand) -> Result<(), TextFault> {
-        let Some((code, others)) = codes.split_first() else {
-            return Ok(());
-        };
-        let first = Entry::Char {
-            set,
-            code: *code,
-            hand: *hand,
-        };
-        if self.types_on(&first) {
-            return self.type_on(set, codes);
-        }
-        if let Err(fault) = self.put_ref(&first) {
-            return Err(TextFault { taken: 0, fault });
-        }
-        match self.text_on(set, others) {
+    #[inline(always)]
+    fn put_batch(&mut self, batch: &Batch) -> Result<(), BatchFault> {
+        match self.put_all(batch) {
             Ok(()) => Ok(()),
-            Err(taken) => Err(TextFault {
-                taken: taken + 1,
+            Err(taken) => Err(BatchFault {
+                taken,
                 fault: SinkFault::Write,
             }),
         }

@@ -1,29 +1,28 @@
-//! Operands that are gathered, to be written at once.
-ghost use Rattle.std.specs.Prelude.{◌≡◌, ◌≤◌, ◌*◌, length};
-ghost use Rattle.nap_canon.specs.Batches.{points_bytes, last_of};
+//! Operands that are gathered for one write.
+ghost use Rattle.std.specs.Prelude.{◌≡◌, ◌≤◌, ◌*◌, [], length};
+ghost use Rattle.nap_canon.specs.Batches.{points_bytes};
 ghost use Rattle.nap_canon.specs.Spelling.{onward_bytes};
 
 use arrayvec::ArrayVec;
 use nap_values::{Point, put_move, put_point};
 
-/// So many points are gathered.
+/// At most so many points are gathered.
 pub(crate) const MOST: usize = 32;
 
 /// The operands of that many points.
 const ROOM: usize = 256;
 
-/// The operands of points, one behind another.
+/// Appends the operands of points to an empty buffer.
 #[inline]
-pub(crate) fn operands(points: &[Point]) -> ArrayVec<u8, ROOM>
+pub(crate) fn gather(room: &mut ArrayVec<u8, ROOM>, points: &[Point])
     requires few { length points.now ≤ 32 }
-    ensures bytes { result.items ≡ points_bytes points.now }
-    ensures size { length result.items ≡ 8 * length points.now }
+    requires empty { room.old.items ≡ [] }
+    ensures bytes { room.new.items ≡ points_bytes points.now }
+    ensures size { length room.new.items ≡ 8 * length points.now }
 {
-    let mut bytes = ArrayVec::new();
     for point in points {
-        bytes.try_extend_from_slice(&put_point(*point)).unwrap();
+        room.try_extend_from_slice(&put_point(*point)).unwrap();
     }
-    bytes
 }
 
 /// The displacements from a point to the others in turn.
@@ -41,15 +40,4 @@ pub(crate) fn displacements(first: Point, others: &[Point]) -> ArrayVec<u8, ROOM
         from = *to;
     }
     bytes
-}
-
-/// The last of these points, or this one where there is none.
-#[inline]
-pub(crate) fn last_of(from: Point, points: &[Point]) -> Point
-    ensures { result ≡ last_of from points.now }
-{
-    match points.split_last() {
-        Some((last, _)) => *last,
-        None => from,
-    }
 }

@@ -1,12 +1,12 @@
 //! How the text so far ends.
-ghost use Rattle.std.specs.Prelude.{◌≡◌, ◌≤◌};
+ghost use Rattle.std.specs.Prelude.{ℕ, ◌≡◌, ◌<◌, ◌≤◌, true};
 ghost use Rattle.nap_canon.specs.declared.tail.Tail.TheVariants.{InRun};
 ghost use Rattle.nap_canon.specs.Text.{gl_of, length_of, is_joined, run_behind};
 
 use nap_codes::GSet;
 use nap_reader::RUN_LIMIT;
 
-/// A run of operands behind their opcode.
+/// A run of operands after their opcode.
 #[derive(Clone, Copy, PartialEq, Eq, Drop)]
 pub(crate) struct Run {
     /// The byte of the opcode.
@@ -46,6 +46,16 @@ impl Tail {
         }
     }
 
+    /// How many bytes of operands can still join the run: none if its opcode is another.
+    pub(crate) fn room(self, opcode: u8) -> usize
+        ensures { (count : ℕ) → 0 < count → count ≤ result → is_joined self opcode count ≡ true }
+    {
+        match self {
+            Tail::InRun(run) if run.opcode == opcode => RUN_LIMIT.saturating_sub(run.length),
+            _ => 0,
+        }
+    }
+
     fn length(self) -> usize
         ensures { result ≡ length_of self }
     {
@@ -55,7 +65,7 @@ impl Tail {
         }
     }
 
-    /// The tail behind this many bytes of operands.
+    /// The tail after this many bytes of operands.
     pub(crate) fn behind(self, opcode: u8, count: usize) -> Tail
         requires few { count ≤ 256 }
         ensures { result ≡ InRun (run_behind self opcode count) }

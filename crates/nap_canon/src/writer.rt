@@ -17,9 +17,10 @@ use nap_codes::{GSet, Size};
 use nap_list::{Entry, State};
 use nap_values::{put_addr, put_grb, put_move, put_point};
 
-mod batch;
 mod joining;
 mod spelling;
+
+pub(crate) use joining::entry_size;
 
 pub(crate) mod opcodes {
     pub(crate) const RESET: u8 = 0x20;

@@ -256,7 +256,7 @@ fn names_file(words: &[String], kind: ErrorKind) -> bool {
     }
 }
 
-/// What clap says of these words, with a hint behind it where a word may be meant for a file.
+/// What clap says of these words, with a hint after it if a word may be meant for a file.
 pub fn text_of(alloc: Global, words: &[String], error: &Error) -> Result<String, AllocError> {
     let mut text = error.to_string(alloc)?;
     if names_file(words, error.kind()) {

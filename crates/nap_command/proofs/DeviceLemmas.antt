@@ -18,15 +18,6 @@ pub none_written_amiss : (wrote failed : Bool) → (wrote ≡ true → failed �
 none_written_amiss false failed law works = refl
 none_written_amiss true failed law works = let bad = sym (law refl) ∙ works in cc
 
--- a failed write, behind which nothing is flushed
-pub unflushed : (was now : Bool) (n m k : ℕ) → now ≡ (was || true) → k ≡ m → m ≡ n → k ≡ flushed now n
-unflushed was now n m k fails same kept = subst (λ (b : Bool). k ≡ flushed b n) (sym (fails ∙ or-true was)) (same ∙ kept)
-
--- a flush behind writes that didn't fail
-pub flushed_behind : (first was now : Bool) (n m k : ℕ) → first ≡ false → was ≡ first → now ≡ was → k ≡ min (m + 1) (2 ^ 64 - 1) → m ≡ n → k ≡ flushed now n
-flushed_behind first was now n m k none before after more kept =
-    subst (λ (b : Bool). k ≡ flushed b n) (sym (after ∙ (before ∙ none))) (more ∙ ap (λ (i : ℕ). min (i + 1) (2 ^ 64 - 1)) kept)
-
 -- a call that doesn't fail leaves the flag
 pub flag_stays : (first before after : Bool) → before ≡ first → after ≡ (before || false) → after ≡ first
 flag_stays first before after h k = k ∙ (or-false before ∙ h)

@@ -126,7 +126,20 @@ fn begun<O: Outlet + Drop>(outlet: O) -> Result<CanonSink<O>, Failure>
     Ok(sink)
 }
 
-/// What `canon` prints of a page whose text was taken. The text lacks memory where its growth failed.
+/// Why a page is refused whose text is kept in memory: if the sink of the text failed, memory ran out.
+pub fn refusal_of_text(refusal: Refusal) -> Refusal
+    ensures { result ≡ refusal_of_text refusal }
+{
+    match refusal.fault {
+        Fault::Sink => Refusal {
+            fault: Fault::Memory,
+            place: refusal.place,
+        },
+        _ => refusal,
+    }
+}
+
+/// What `canon` prints of a page whose text was written to memory.
 fn print_text(
     alloc: Global,
     hex: bool,
@@ -148,16 +161,7 @@ fn print_text(
                 verdict: Verdict::Accepted,
             })
         }
-        Err(
-            Refusal {
-                fault: Fault::Sink,
-                place,
-            },
-        ) => Err(Failure::Refused(Refusal {
-            fault: Fault::Memory,
-            place,
-        })),
-        Err(refusal) => Err(Failure::Refused(refusal)),
+        Err(refusal) => Err(Failure::Refused(refusal_of_text(refusal))),
     }
 }
 

@@ -8,7 +8,9 @@ mod device;
 mod execution;
 mod failure;
 
-pub use answer::{Printout, Verdict, answer_input, answer_stream, answer_text, count_line};
+pub use answer::{
+    Printout, Verdict, answer_input, answer_stream, answer_text, count_line, refusal_of_text,
+};
 pub use collect::{read_input, read_stream};
 pub use command::{Action, Command};
 pub use device::{read_whole, write_whole};

@@ -4,6 +4,9 @@ use Rattle.nap_list.specs.declared.sink.Sink.{Ghosts}
 use Rattle.nap_list.specs.declared.sink.SinkFault.{SinkFault}
 use Rattle.nap_list.specs.declared.sink.SinkFault.TheVariants as sink_faults
 use Rattle.nap_list.specs.declared.state.State.{State}
+use Rattle.nap_list.specs.Putting.{WantsMore}
+use Rattle.nap_list.specs.PuttingLaws.{some_stops, some_wants, some_breaks}
+use Rattle.nap_list.specs.Shown.{shows_of}
 use Rattle.nap_list.specs.State.{AllFit, walk}
 use Rattle.nap_list.specs.Agreement.{StatesAgree}
 use Rattle.nap_draw.specs.declared.fault.DrawFault.{DrawFault}
@@ -82,18 +85,18 @@ module _ {S : Type 0} (g : Ghosts S) where
   -- the rule's entries were put
   pub does_put : {A : Type 0} (clears : A → Bool) (by : Result Drawn DrawFault) (w v : Work) (s t : S) (list : List Entry) (x : A) →
       by ≡ Ok (record { entries = list; work = v; clears = clears x }) → Put {S = S} {A = Unit {0}} g list s t (Ok tt) → Does g clears by w v s t (Ok x)
-  does_put clears by w v s t list x is put = (list, is, put.0, put.1, put.2)
+  does_put clears by w v s t list x is put = (list, is, put.took, put.state, put.works)
 
   -- one of them wasn't taken
   pub does_stop : {A : Type 0} (clears : A → Bool) (by : Result Drawn DrawFault) (w : Work) (s t : S) (d : Drawn) (e : SinkFault) →
       by ≡ Ok d → Put {S = S} {A = Unit {0}} g d.entries s t (Err e) → Does g clears by w w s t (Err (fault_of e))
   does_stop clears by w s t d sink_faults.Memory is put = (
     refl,
-    (d, is, inr put.0),
+    (d, is, inr (some_stops (shows_of g) (Unit {0}) s t d.entries put)),
     λ e. (let bad : ⊥ = cc in absurd bad),
-    λ clear failed. let bad : ⊥ = cc ((put.2 refl).works, failed) in absurd bad,
+    λ clear failed. let bad : ⊥ = cc (put.2.memory refl, failed) in absurd bad,
   )
-  does_stop clears by w s t d sink_faults.Write is put = (refl, (d, is, put.0), λ _. put.1 refl, λ clear failed. refl)
+  does_stop clears by w s t d sink_faults.Write is put = (refl, (d, is, some_breaks (shows_of g) (Unit {0}) s t d.entries put), λ _. put.2.write refl, λ clear failed. refl)
 
   -- it acted by another form of the rule
   pub does_as : {A : Type 0} (clears : A → Bool) (by on : Result Drawn DrawFault) (w v : Work) (s t : S) (r : Result A DrawFault) → by ≡ on →
@@ -110,12 +113,12 @@ module _ {S : Type 0} (g : Ghosts S) where
     gives = λ e. let bad : ⊥ = cc in absurd bad;
   }
 
-  pub obeys_stop : (by : Result Drawn DrawFault) (w : Work) (s t : S) (d : Drawn) (e : SinkFault) → by ≡ Ok d → d.entries ≢ [] → Put {S = S} {A = Unit {0}} g d.entries s t (Err e) →
-      Obeys g by w w s t (Err (fault_of e))
-  obeys_stop by w s t d e is some put = record { does = does_stop quiet by w s t d e is put; wants = wanting e put; gives = λ _. subst GivesSome (sym is) some }
+  pub obeys_stop : (by : Result Drawn DrawFault) (w : Work) (s t : S) (d : Drawn) (e : SinkFault) → g.took s [] s → WantsMore (shows_of g) → by ≡ Ok d → d.entries ≢ [] →
+      Put {S = S} {A = Unit {0}} g d.entries s t (Err e) → Obeys g by w w s t (Err (fault_of e))
+  obeys_stop by w s t d e none more is some put = record { does = does_stop quiet by w s t d e is put; wants = wanting e put; gives = λ _. subst GivesSome (sym is) some }
     where
       wanting : (e : SinkFault) → Put {S = S} {A = Unit {0}} g d.entries s t (Err e) → IsErrOf {T = Unit {0}} (Err (fault_of e)) faults.Memory → WantsBy g by s t
-      wanting sink_faults.Memory put _ = subst (λ (by : Result Drawn DrawFault). WantsBy g by s t) (sym is) (record { wants = (put.2 refl).wants; stops = put.0 })
+      wanting sink_faults.Memory put _ = subst (λ (by : Result Drawn DrawFault). WantsBy g by s t) (sym is) (record { wants = some_wants (shows_of g) (Unit {0}) s t d.entries none more put; stops = some_stops (shows_of g) (Unit {0}) s t d.entries put })
       wanting sink_faults.Write put e = let bad : ⊥ = cc in absurd bad
 
   -- nothing is put

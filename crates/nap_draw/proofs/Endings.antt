@@ -1,4 +1,4 @@
-use Rattle.std.proofs.Common.{◌≡◌, [], ◌∷◌, ◌++◌, true, false, Option, Some, None, is_some, refl, sym, ◌∙◌, ap}
+use Rattle.std.proofs.Common.{◌≡◌, ◌≢◌, List, [], ◌∷◌, ◌++◌, true, false, Option, Some, None, is_some, refl, sym, ◌∙◌, ap}
 use Rattle.nap_list.specs.declared.state.Opened.{Opened}
 use Rattle.nap_list.specs.declared.entry.Entry.{Entry}
 use Rattle.nap_list.specs.declared.entry.Entry.TheVariants as entries
@@ -42,3 +42,8 @@ ended_closed work (Some opened) is = refl
 pub start_fits : (work : Work) (what : Definition) → WellMade (start_of what) → Fits (ended work).work.state (start_of what)
 start_fits work (definitions.Glyph code) made = record { values = record { pen = tt; colour = tt; texture = tt }; made = made; comes = ended_closed work work.state.definition refl }
 start_fits work (definitions.Mask mask) made = record { values = record { pen = tt; colour = tt; texture = tt }; made = made; comes = ended_closed work work.state.definition refl }
+
+-- where one is put behind others, something is put
+pub one_behind : (es : List Entry) (e : Entry) → es ++ e ∷ [] ≢ []
+one_behind [] e none = cc
+one_behind (x ∷ es) e none = cc

@@ -1,4 +1,4 @@
-use Rattle.std.proofs.Common.{◌-◌, ◌≡◌, ℕ, ◌+◌, ◌/◌, List, [], ◌∷◌, ◌++◌, map, Bool, true, false, cond, eqb, ltb, ◌<◌, ◌≤◌, length, arith, Option, Some, None, IsSome, Result, Ok, Err, refl, sym, subst, ap, ◌∙◌}
+use Rattle.std.proofs.Common.{◌≡◌, ℕ, ◌+◌, ◌/◌, List, [], ◌∷◌, ◌++◌, map, Bool, true, false, cond, eqb, ltb, ◌<◌, ◌≤◌, length, arith, Option, Some, None, IsSome, Result, Ok, Err, refl, sym, subst, ap, ◌∙◌}
 use Rattle.std.specs.Option.{option_map, option_and_then, option_or}
 use Rattle.nap_list.specs.Limits.{steps_limit}
 use Rattle.nap_values.specs.Coordinates.{Coordinates, Displacement, point_at}
@@ -35,7 +35,7 @@ use Rattle.std.proofs.lemmas.Bool.Decides.{nat_tests}
 use Rattle.nap_draw.specs.declared.fault.DrawFault.{DrawFault}
 use Rattle.nap_draw.specs.declared.fault.DrawFault.TheVariants as faults
 use Rattle.nap_draw.specs.Geometry.{end_of, points_at, reached, joined, between, away, across, arc_points, poly_points}
-use Rattle.nap_list.specs.Putting.{point_on}
+use Rattle.nap_list.specs.Batches.{point_on}
 use Rattle.nap_draw.specs.Rule.{Drawn, and_then, some_of, pairs_of, first_of, few_of, moves_of, pen_point, drawn, mapped, draws, draws_one, goes, with_drawing, domain_rule, domain_in, with_domain, shape_from_pen, shape_from_point, area_of, field_rule, line_on, rect_on, arc_on, poly_on, field_on, reset_rule, colour_of_base, selected, maps, colours_as, set_color_rule, blink, blinks, rule}
 use Rattle.nap_list.specs.State.{hand_of}
 use Rattle.nap_draw.specs.Codes.{IsMade, copies, ended, ended_by, opened_by, opens, puts, with_last, code_rule}

@@ -5,11 +5,10 @@ use Rattle.nap_list.specs.declared.entry.Entry.{Entry}
 use Rattle.nap_list.specs.declared.state.LastChar.{LastChar}
 use Rattle.nap_list.specs.declared.state.State.{State}
 use Rattle.nap_list.specs.Entry.{IsCode}
-use Rattle.nap_list.specs.Putting.{text_in}
+use Rattle.nap_list.specs.Batches.{text_in}
 use Rattle.nap_list.specs.State.{AllFit, after, walk, with_pen, hand_of}
 use Rattle.nap_list.specs.Agreement.{InMode, StatesAgree}
-use Rattle.nap_list.proofs.PublicLaws.{agreeing_fits}
-use Rattle.nap_list.proofs.Repeats.{text_leaves}
+use Rattle.nap_list.proofs.PublicLaws.{agreeing_fits, text_leaves}
 use Rattle.nap_draw.specs.Codes.{char_on, text}
 use Rattle.nap_draw.proofs.Copies.{char_holds, char_left}
 

@@ -15,7 +15,7 @@ use Rattle.nap_draw.specs.declared.spans.Figure.TheVariants as figures
 use Rattle.nap_draw.specs.declared.work.Work.{Work}
 use Rattle.nap_draw.specs.declared.fault.DrawFault.{DrawFault}
 use Rattle.nap_draw.specs.Geometry.{end_of}
-use Rattle.nap_list.specs.Putting.{point_on}
+use Rattle.nap_list.specs.Batches.{point_on}
 use Rattle.nap_draw.specs.Rule.{Drawn, with_drawing, draws, goes, line_on, rect_on}
 use Rattle.nap_draw.specs.Doing.{landed, stroke_on, stroke_end}
 

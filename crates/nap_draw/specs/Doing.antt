@@ -124,7 +124,7 @@ linked (figures.Rect filled) p qs = crossed p qs
 
 -- the list was put into a sink: all of it was taken, or a front of it up to the entry that wasn't
 abbrev pub Put : {S A : Type 0} → Ghosts S → List Entry → S → S → Result A SinkFault → Type 0
-Put g list s t r = puts.Put (shows_of g) list s t r
+Put g list s t r = puts.PutSome (shows_of g) list s t r
 
 -- how far a list is put
 abbrev pub Putting : {S : Type 0} → Ghosts S → S → S → List Entry → List Entry → Type 0

@@ -1,4 +1,4 @@
-use Rattle.std.specs.Prelude.{ℕ, ◌+◌, ◌-◌, ◌/◌, ◌%◌, ◌==◌, Bool, true, false, nat_lt, length, List, [], ◌∷◌, map, slice_get, slice_index, take, drop, Option, Some, None, option_map, option_and_then, ok_or, unwrap_or, ⊤, Result, Ok, Err, if◌then◌else◌}
+use Rattle.std.specs.Prelude.{ℕ, ◌+◌, ◌/◌, ◌%◌, ◌==◌, Bool, true, false, nat_lt, length, List, [], ◌∷◌, map, slice_get, slice_index, take, drop, Option, Some, None, option_map, option_and_then, ok_or, unwrap_or, ⊤, Result, Ok, Err, if◌then◌else◌}
 use Rattle.std.specs.Option.{option_or}
 use Rattle.nap_values.specs.Coordinates.{Coordinates, Displacement, point_at}
 use Rattle.nap_values.specs.Colours.{Components}
@@ -21,7 +21,7 @@ use Rattle.nap_list.specs.declared.state.Drawing.{Drawing}
 use Rattle.nap_list.specs.Limits.{steps_limit}
 use Rattle.nap_list.specs.declared.state.State.{State}
 use Rattle.nap_list.specs.Known.{is_known, setting}
-use Rattle.nap_list.specs.Putting.{point_on}
+use Rattle.nap_list.specs.Batches.{point_on}
 use Rattle.nap_list.specs.State.{start, walk, ink_of, with_colour, with_pen_at}
 use Rattle.nap_draw.specs.declared.work.Work.{Work}
 use Rattle.nap_draw.specs.declared.fault.DrawFault.{DrawFault}

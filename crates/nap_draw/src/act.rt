@@ -19,8 +19,8 @@ use std::alloc::Global;
 pub const RUN_LIMIT: usize = 16_384;
 
 /// Puts the entries that the opcode gives on its whole run, once all its checks have passed (PDI opcodes), and gives
-/// what they leave; the work that is passed stays as it was. A refused opcode puts nothing, but for want of memory or a
-/// sink that fails, where its first entries may stay. The incremental opcodes are no part of our profile.
+/// what they leave; the work that is passed stays as it was. A refused opcode puts nothing, except if memory runs
+/// out or the sink fails: then some of its first entries may stay. The incremental opcodes are no part of our profile.
 pub fn apply<S: Sink>(
     alloc: Global,
     work: &Work,

@@ -3,7 +3,7 @@ ghost use Rattle.std.specs.Prelude.{◌≡◌, All, OnOk, MatchResult};
 ghost use Rattle.nap_codes.specs.declared.code.Code.TheVariants as codes;
 ghost use Rattle.nap_list.specs.Entry.{IsCode};
 ghost use Rattle.nap_list.specs.Agreement.{StatesAgree};
-ghost use Rattle.nap_list.specs.Putting.{PutUpTo};
+ghost use Rattle.nap_list.specs.Putting.{Put};
 ghost use Rattle.nap_list.specs.Shown.{shows_of};
 ghost use Rattle.nap_draw.specs.Codes.{code_rule, text};
 ghost use Rattle.nap_draw.specs.Rule.{drawn};
@@ -13,26 +13,33 @@ use crate::fault::DrawFault;
 use crate::putting::put_copies;
 use crate::work::Work;
 use nap_codes::CharSet;
-use nap_list::{Entry, LastChar, Pen, Sink, TextFault};
+use nap_list::{Batch, BatchFault, Entry, LastChar, Pen, Sink};
 use nap_values::Word;
 
 impl Work {
     /// Puts characters of a set in turn, as `text` does each. An error tells how many of them were put, and leaves the
     /// work as it was.
+    #[inline]
     pub fn characters<S: Sink>(
         &mut self,
         set: CharSet,
         codes: &[u8],
         sink: &mut S,
-    ) -> Result<(), TextFault>
+    ) -> Result<(), BatchFault>
         requires agrees { StatesAgree self.old.state (S.state sink.old) }
         requires made { All IsCode codes.now }
-        ensures put { PutUpTo (shows_of S.Sink) (text self.old.state set codes.now) sink.old sink.new result }
+        ensures put { Put (shows_of S.Sink) (text self.old.state set codes.now) sink.old sink.new result }
         ensures work { MatchResult result (λ _. self.new ≡ (drawn self.old (text self.old.state set codes.now)).work) (λ _. self.new ≡ self.old) }
         ensures agree { OnOk result (StatesAgree self.new.state (S.state sink.new)) }
     {
-        let hand = self.hand();
-        sink.put_text(set, codes, &hand)?;
+        let drawing = &self.state.drawing;
+        let pen = drawing.pen;
+        sink.put_batch(&Batch::Text {
+            set,
+            codes,
+            pen,
+            drawing,
+        })?;
         let Some((code, _)) = codes.split_last() else {
             return Ok(());
         };
@@ -41,7 +48,7 @@ impl Work {
         Ok(())
     }
 
-    /// Puts a character; the pen isn't known behind it.
+    /// Puts a character; the pen isn't known after it.
     pub(crate) fn character<S: Sink>(
         &mut self,
         set: CharSet,

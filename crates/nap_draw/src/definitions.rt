@@ -33,7 +33,7 @@ impl Work {
         Ok(())
     }
 
-    /// DEF DRCS and DEF TEXTURE: opens a definition, behind the end of the one that is open, where one is.
+    /// DEF DRCS and DEF TEXTURE: opens a definition, after the end of the open one, if there is one.
     pub(crate) fn begin<S: Sink>(&mut self, what: Definition, sink: &mut S) -> Result<(), DrawFault>
         requires agrees { StatesAgree self.old.state (S.state sink.old) }
         requires made { WellMade (start_of what) }

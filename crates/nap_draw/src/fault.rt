@@ -3,7 +3,7 @@ ghost use Rattle.std.specs.Prelude.{◌≡◌};
 ghost use Rattle.nap_draw.specs.declared.fault.DrawFault.TheVariants.{Memory};
 ghost use Rattle.nap_draw.specs.Draws.{fault_of};
 
-use nap_list::SinkFault;
+use nap_list::{BatchFault, SinkFault};
 use std::alloc::AllocError;
 use thiserror::Error;
 
@@ -48,6 +48,14 @@ impl From<AllocError> for DrawFault {
 
     fn from(_: AllocError) -> Self {
         DrawFault::Memory
+    }
+}
+
+impl From<BatchFault> for DrawFault {
+    ghost from_gives = { λ why fault. fault ≡ fault_of why.fault };
+
+    fn from(why: BatchFault) -> Self {
+        DrawFault::from(why.fault)
     }
 }
 

@@ -12,7 +12,7 @@ use crate::room::{corners_into, pairs_into, points_into, steps_into};
 use crate::spans::Figure;
 use crate::work::Work;
 use nap_codes::Opcode;
-use nap_list::Sink;
+use nap_list::{Batch, Sink};
 use nap_values::{Point, Word};
 
 impl Work {
@@ -114,7 +114,12 @@ impl Work {
         requires { StatesAgree self.old.state (S.state sink.old) }
         ensures { Does S.Sink quiet (draws self.old line_on (Some (joined from points.now))) self.old self.new sink.old sink.new result }
     {
-        sink.put_lines(from, points, &self.state.drawing)?;
+        let drawing = &self.state.drawing;
+        sink.put_batch(&Batch::Lines {
+            from,
+            points,
+            drawing,
+        })?;
         self.land(points.last().copied());
         Ok(())
     }

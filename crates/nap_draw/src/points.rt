@@ -1,7 +1,7 @@
 //! POINT SET and POINT.
 ghost use Rattle.std.specs.Prelude.{◌≡◌, [], false, Some, Ok};
 ghost use Rattle.nap_list.specs.Agreement.{StatesAgree};
-ghost use Rattle.nap_list.specs.Putting.{point_on};
+ghost use Rattle.nap_list.specs.Batches.{point_on};
 ghost use Rattle.nap_draw.specs.Rule.{draws, goes, rule};
 ghost use Rattle.nap_draw.specs.Doing.{Does, Sets, quiet};
 
@@ -10,7 +10,7 @@ use crate::operands::{some_operand, start};
 use crate::room::{points_into, steps_into};
 use crate::work::Work;
 use nap_codes::Opcode;
-use nap_list::{Pen, Sink};
+use nap_list::{Batch, Pen, Sink};
 use nap_values::{Point, Word};
 
 impl Work {
@@ -83,7 +83,8 @@ impl Work {
         requires { StatesAgree self.old.state (S.state sink.old) }
         ensures { Does S.Sink quiet (draws self.old point_on (Some points.now)) self.old self.new sink.old sink.new result }
     {
-        sink.put_points(points, &self.state.drawing)?;
+        let drawing = &self.state.drawing;
+        sink.put_batch(&Batch::Points { points, drawing })?;
         self.land(points.last().copied());
         Ok(())
     }

@@ -54,7 +54,7 @@ pub(crate) fn put_paired<S: Sink>(
     Ok(last)
 }
 
-/// The character this many times in this hand, and behind the first with the pen as text leaves it.
+/// The character this many times: first in this hand, then with the pen as text leaves it.
 pub(crate) fn put_copies<S: Sink>(
     hand: Hand,
     last: LastChar,

@@ -24,7 +24,7 @@ pub struct Work {
 /// What an opcode leaves.
 #[derive(PartialEq, Eq, Drop)]
 pub struct Effects {
-    /// What the codes behind it work on.
+    /// What the codes after it work on.
     pub work: Work,
     /// Whether all macros are cleared, which RESET alone does.
     pub clears: bool,

@@ -1,5 +1,5 @@
-use Rattle.std.proofs.Common.{rules, ℕ, zero, suc, ◌≡◌, if◌then◌else◌, is_ok, is_err, ◌-◌, ◌+◌, ◌<◌, ◌≤◌, List, [], ◌∷◌, ◌++◌, Bool, true, false, Result, Ok, Err, codes, flat_map, map, length, take, drop, get_or, add-one, refl, ap, sym, subst, ◌∙◌, append-nil, append_assoc, length-append, arith}
-use Rattle.std.proofs.lemmas.List.{take-append-drop, take-map, take_all, take_more, length-take-le}
+use Rattle.std.proofs.Common.{rules, ℕ, ◌≡◌, if◌then◌else◌, is_ok, is_err, ◌-◌, ◌+◌, ◌<◌, List, [], ◌∷◌, ◌++◌, Bool, false, Result, Ok, Err, codes, flat_map, map, length, take, drop, get_or, add-one, refl, ap, sym, ◌∙◌, append-nil, append_assoc, length-append, arith}
+use Rattle.std.proofs.lemmas.List.{take_more}
 use Rattle.std.proofs.lemmas.List.Concat.{flat_map-append}
 use Rattle.std.proofs.Math.Seq.{drop-append_seam, take-append_seam}
 use Rattle.std.specs.Str.{IsUtf8}
@@ -11,12 +11,13 @@ use Rattle.nap_list.specs.declared.attribute.Ink.{Ink}
 use Rattle.nap_list.specs.declared.attribute.Pen.TheVariants.{After}
 use Rattle.nap_list.specs.declared.entry.Entry.{Entry}
 use Rattle.nap_list.specs.declared.entry.Entry.TheVariants as entries
-use Rattle.nap_list.specs.declared.sink.SinkFault.TheVariants.{Memory}
 use Rattle.nap_list.specs.declared.state.Drawing.{Drawing}
-use Rattle.nap_list.specs.declared.state.State.{State}
-use Rattle.nap_list.specs.State.{AllFit, walk, ink_of}
-use Rattle.nap_list.proofs.PublicLaws.{fits_join}
-use Rattle.nap_list.specs.Putting.{SinkShows, shows, Put, PutUpTo, StopsAfter, point_on, lines_on, text_in}
+use Rattle.nap_list.specs.State.{ink_of}
+use Rattle.nap_list.specs.declared.batch.Batch.{Batch}
+use Rattle.nap_list.specs.declared.batch.Batch.TheVariants as batches
+use Rattle.nap_list.specs.Batches.{point_on, lines_on, text_in, listed}
+use Rattle.nap_list.specs.BatchLaws.{points_front, lines_front, text_front}
+use Rattle.nap_list.specs.Putting.{SinkShows, shows}
 use Rattle.nap_lines.specs.Lines.{line, ink_text, pen_text, move_text, colour_text, look_text, set_text}
 use Rattle.nap_lines.specs.Listing.{Listed, Lists, lines}
 use Rattle.nap_lines.specs.Batches.{point_front, point_end, line_front, char_front, written_text, lines_with, Goes}
@@ -53,10 +54,6 @@ pub appended : {T E : Type 0} (r : Result T E) (failed : Bool) (now old bytes : 
     now ≡ old ++ bytes
 appended (Ok _) failed now old bytes is was works = is
 appended (Err _) failed now old bytes is was works = let bad : ⊥ = cc in absurd bad
-
-pub unchanged : {T E : Type 0} (r : Result T E) (failed : Bool) (now old bytes : List ℕ) → now ≡ (if is_ok r then old ++ bytes else old) → failed ≡ is_err r → failed ≡ true → now ≡ old
-unchanged (Ok _) failed now old bytes is was works = let bad : ⊥ = cc in absurd bad
-unchanged (Err _) failed now old bytes is was works = is
 
 pub one_more : {A : Type 0} (f : A → List ℕ) (xs : List A) (i : ℕ) (x d : A) → i < length xs → x ≡ get_or xs i d → flat_map f (take (i + 1) xs) ≡ flat_map f (take i xs) ++ f x
 one_more {A} f xs i x d less is =
@@ -138,60 +135,31 @@ letters_are_lines set hand (c ∷ cs) =
     ap (λ (bytes : List ℕ). bytes ++ flat_map (λ code. char_front set code ++ (codes " pen=after" ++ (written_text hand ++ 10 ∷ []))) cs) (letter_line set (record hand { pen = After }) c)
     ∙ ap (λ (bytes : List ℕ). (line (entries.Char set c (record hand { pen = After })) ++ 10 ∷ []) ++ bytes) (letters_are_lines set hand cs)
 
--- a front of a batch
-
-pub front_of_lines : (d : Drawing) (n : ℕ) (from : Coordinates) (points : List Coordinates) → take n (lines_on d from points) ≡ lines_on d from (take n points)
-unfolding lines_on
-front_of_lines d zero from points = refl
-front_of_lines d (suc n) from [] = refl
-front_of_lines d (suc n) from (p ∷ ps) = ap (λ (list : List Entry). entries.Line from p (ink_of d) ∷ list) (front_of_lines d n p ps)
-
-pub front_of_text : (set : CharSet) (hand : Hand) (n : ℕ) (cs : List ℕ) → take n (text_in set hand cs) ≡ text_in set hand (take n cs)
-unfolding text_in
-front_of_text set hand zero cs = refl
-front_of_text set hand (suc n) [] = refl
-front_of_text set hand (suc n) (c ∷ cs) = ap (λ (list : List Entry). entries.Char set c hand ∷ list) (front_of_text set (record hand { pen = After }) n cs)
-
-pub front_fits : (s t : Listed) (list : List Entry) (n : ℕ) → s ≡ t → AllFit t.state list → AllFit s.state (take n list)
-front_fits s t list n same fit =
-    let parts = sym (take-append-drop n list) in
-    ((fits_join s.state (take n list) (drop n list)).0 (subst (AllFit s.state) parts (subst (λ (v : Listed). AllFit v.state list) (sym same) fit))).0
-
-pub none_leave : {A : Type 0} (s : State) (f : List A → List Entry) (xs : List A) → f [] ≡ [] → length xs ≡ 0 → s ≡ walk s (f xs)
-unfolding walk
-none_leave s f [] none size = ap (walk s) (sym none)
-none_leave s f (x ∷ xs) none size = absurd (omega arith)
-
--- What a sink has taken, by what it wrote and by where it stands.
-
 -- a room with the end of a line, behind which nothing stood
 pub ended : (room pushed cleared end : List ℕ) → room ≡ end ++ pushed → pushed ≡ codes "\n" ++ cleared → cleared ≡ [] → room ≡ end ++ 10 ∷ []
 ended room pushed cleared end is push clear = is ∙ ap (λ (bytes : List ℕ). end ++ bytes) (push ∙ ap (λ (bytes : List ℕ). codes "\n" ++ bytes) clear)
 
-module _ (s t : Listed) (n : ℕ) where
-  pub points_taken : (d : Drawing) (points : List Coordinates) (room : List ℕ) → room ≡ point_end d.pel d.colour ++ 10 ∷ [] →
-      t.text ≡ s.text ++ flat_map (λ at. point_front at ++ room) (take n points) → t.state ≡ walk s.state (map (point_on d) (take n points)) → Lists s (take n (map (point_on d) points)) t
-  points_taken d points room is text state =
-      let front = sym (take-map (point_on d) n points) in
-      let bytes =
-      text
-      ∙ ap (λ (end : List ℕ). s.text ++ flat_map (λ at. point_front at ++ end) (take n points)) is
-      ∙ ap (λ (bytes : List ℕ). s.text ++ bytes) (dots_are_lines d (take n points)) in
-      subst (λ (list : List Entry). Lists s list t) front (record { text = bytes; state = state })
+-- the lines of a batch, of which so many were written
 
-  pub lines_taken : (d : Drawing) (from : Coordinates) (points : List Coordinates) (room : List ℕ) → room ≡ codes " " ++ ink_text (ink_of d) ++ 10 ∷ [] →
-      t.text ≡ s.text ++ lines_with room from (take n points) → t.state ≡ walk s.state (lines_on d from (take n points)) → Lists s (take n (lines_on d from points)) t
-  lines_taken d from points room is text state =
-      let front = sym (front_of_lines d n from points) in
-      let bytes =
-      text
-      ∙ ap (λ (end : List ℕ). s.text ++ lines_with end from (take n points)) is
-      ∙ ap (λ (bytes : List ℕ). s.text ++ bytes) (lines_are_lines d from (take n points)) in
-      subst (λ (list : List Entry). Lists s list t) front (record { text = bytes; state = state })
+pub points_written : (b : Batch) (points : _) (d : _) (n : ℕ) (old new room : List ℕ) → b ≡ batches.Points points d → room ≡ point_end d.now.pel d.now.colour ++ 10 ∷ [] →
+    new ≡ old ++ flat_map (λ at. point_front at ++ room) (take n points.now) → new ≡ old ++ lines (take n (listed b))
+points_written b points d n old new room is end text =
+    let bytes =
+    text
+    ∙ ap (λ (end : List ℕ). old ++ flat_map (λ at. point_front at ++ end) (take n points.now)) end
+    ∙ ap (λ (bytes : List ℕ). old ++ bytes) (dots_are_lines d.now (take n points.now))
+    ∙ ap (λ (list : List Entry). old ++ lines list) (points_front d.now points.now n) in
+    rw is bytes
 
-  pub text_taken : (set : CharSet) (hand : Hand) (cs : List ℕ) → t.text ≡ s.text ++ lines (take n (text_in set hand cs)) →
-      t.state ≡ walk s.state (text_in set hand (take n cs)) → Lists s (take n (text_in set hand cs)) t
-  text_taken set hand cs text state = record { text = text; state = state ∙ ap (walk s.state) (sym (front_of_text set hand n cs)) }
+pub lines_written : (b : Batch) (from : _) (points : _) (d : _) (n : ℕ) (old new room : List ℕ) → b ≡ batches.Lines from points d → room ≡ codes " " ++ ink_text (ink_of d.now) ++ 10 ∷ [] →
+    new ≡ old ++ lines_with room from (take n points.now) → new ≡ old ++ lines (take n (listed b))
+lines_written b from points d n old new room is end text =
+    let bytes =
+    text
+    ∙ ap (λ (end : List ℕ). old ++ lines_with end from (take n points.now)) end
+    ∙ ap (λ (bytes : List ℕ). old ++ bytes) (lines_are_lines d.now from (take n points.now))
+    ∙ ap (λ (list : List Entry). old ++ lines list) (lines_front d.now from points.now n) in
+    rw is bytes
 
 -- the lines of a text, of which the first has a pen of its own
 pub text_written : (set : CharSet) (hand : Hand) (all others : List ℕ) (first n : ℕ) (old mid new bytes room : List ℕ) → all ≡ first ∷ others → mid ≡ old ++ bytes →
@@ -205,7 +173,7 @@ text_written set hand all others first n old mid new bytes room is one front end
     let written : flat_map (λ code. char_front set code ++ room) (take n others) ≡ rest =
     ap (λ (end : List ℕ). flat_map (λ code. char_front set code ++ end) (take n others)) end
     ∙ letters_are_lines set hand (take n others)
-    ∙ ap lines (sym (front_of_text set further n others)) in
+    ∙ ap lines (text_front set further others n) in
     let taken : take (n + 1) (text_in set hand all) ≡ begun ∷ take n (text_in set further others) = rw (is, add-one) refl in
     more
     ∙ ap (λ (bytes : List ℕ). mid ++ bytes) written
@@ -213,35 +181,6 @@ text_written set hand all others first n old mid new bytes room is one front end
     ∙ append_assoc old (line begun ++ 10 ∷ []) rest
     ∙ ap (λ (list : List Entry). old ++ lines list) (sym taken)
 
--- What a sink of lines answers, which took so many entries of a batch.
-
+-- a sink of lines, as any sink shows
 abbrev pub lines_shows : SinkShows Listed
 lines_shows = shows (λ s. s.state) (λ s d. Unit {0}) (λ s. false) Lists (λ s d e t. ⊥)
-
--- the device of a sink of lines never fails
-never : {A : Type 0} → false ≡ true → A
-never failed = let bad : ⊥ = cc in absurd bad
-
-pub all_listed : (s t : Listed) (list : List Entry) (n : ℕ) → length list ≤ n → Lists s (take n list) t → Put {A = Unit {0}} lines_shows list s t (Ok tt)
-all_listed s t list n most took =
-    let all : Lists s list t = subst (λ (l : List Entry). Lists s l t) (take_all n list most) took in
-    (all, all.state, λ _. refl, never)
-
-pub some_listed : (s t : Listed) (list : List Entry) (n : ℕ) → n < length list → Lists s (take n list) t → StopsAfter lines_shows s list n t
-some_listed s t list n less took = by (drop n list) (sym (take-append-drop n list))
-  where
-    size : length (take n list) ≡ n
-    size = length-take-le n list (omega arith)
-
-    by : (rest : List Entry) → list ≡ take n list ++ rest → StopsAfter lines_shows s list n t
-    by [] is = absurd (omega (arith, size, ap length is, length-append (take n list) []))
-    by (x ∷ rest) is = record { front = take n list; next = x; rest = rest; parts = is; count = size; taken = took; wants = tt }
-
-pub batch_put : (s t : Listed) (list : List Entry) (n : ℕ) → n < length list → Lists s (take n list) t → Put {A = Unit {0}} lines_shows list s t (Err Memory)
-batch_put s t list n less took =
-    let stop = some_listed s t list n less took in
-    ((stop.front, stop.next, stop.rest, stop.parts, stop.taken), λ write. let bad : ⊥ = cc in absurd bad, λ _. record { wants = tt; works = refl }, never)
-
-pub batch_put_up_to : (s t : Listed) (list : List Entry) (n : ℕ) → n < length list → Lists s (take n list) t → PutUpTo lines_shows list s t (Err (record { taken = n; fault = Memory }))
-batch_put_up_to s t list n less took =
-    (some_listed s t list n less took, λ write. let bad : ⊥ = cc in absurd bad, λ _. refl, never)

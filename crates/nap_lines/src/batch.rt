@@ -1,10 +1,12 @@
 //! Lines of like entries, which share their ends.
 ghost use Rattle.std.specs.Prelude.{◌≡◌, ◌+◌, ◌≤◌, ◌++◌, flat_map, length, take};
+ghost use Rattle.nap_list.specs.Batches.{listed, text_in};
+ghost use Rattle.nap_lines.specs.Listing.{lines};
 ghost use Rattle.nap_lines.specs.Batches.{point_front, point_end, line_front, char_front, lines_with};
 
 use crate::tail::Tail;
 use nap_codes::CharSet;
-use nap_list::Colour;
+use nap_list::{Batch, Colour, Hand};
 use nap_values::{Move, Point};
 
 impl Tail {
@@ -53,7 +55,7 @@ impl Tail {
 
 /// Writes a line for each point, which ends as the room holds it, and answers how many it wrote: not all of them where
 /// memory is wanting.
-pub(crate) fn write_dots(room: &mut Tail, text: &mut Vec<u8>, points: &[Point]) -> usize
+fn write_dots(room: &mut Tail, text: &mut Vec<u8>, points: &[Point]) -> usize
     requires room { length room.old + 27 ≤ 256 }
     ensures count { result ≤ length points.now }
     ensures text { text.new.items ≡ text.old.items ++ flat_map (λ at. point_front at ++ room.old) (take result points.now) }
@@ -72,12 +74,7 @@ pub(crate) fn write_dots(room: &mut Tail, text: &mut Vec<u8>, points: &[Point]) 
 }
 
 /// Writes a line from this point to the first, and on from each to the next, as `write_dots` does.
-pub(crate) fn write_lines(
-    room: &mut Tail,
-    text: &mut Vec<u8>,
-    from: Point,
-    points: &[Point],
-) -> usize
+fn write_lines(room: &mut Tail, text: &mut Vec<u8>, from: Point, points: &[Point]) -> usize
     requires room { length room.old + 48 ≤ 256 }
     ensures count { result ≤ length points.now }
     ensures text { text.new.items ≡ text.old.items ++ lines_with room.old from (take result points.now) }
@@ -98,12 +95,7 @@ pub(crate) fn write_lines(
 }
 
 /// Writes a line for each character, as `write_dots` does.
-pub(crate) fn write_letters(
-    room: &mut Tail,
-    text: &mut Vec<u8>,
-    set: CharSet,
-    codes: &[u8],
-) -> usize
+fn write_letters(room: &mut Tail, text: &mut Vec<u8>, set: CharSet, codes: &[u8]) -> usize
     requires room { length room.old + 21 ≤ 256 }
     ensures count { result ≤ length codes.now }
     ensures text { text.new.items ≡ text.old.items ++ flat_map (λ code. char_front set code ++ room.old) (take result codes.now) }
@@ -121,4 +113,66 @@ pub(crate) fn write_letters(
         written += 1;
     }
     written
+}
+
+/// Writes a line for each character of a text, the first in this hand, as `write_dots` does.
+fn write_text(room: &mut Tail, text: &mut Vec<u8>, set: CharSet, codes: &[u8], hand: &Hand) -> usize
+    ensures count { result ≤ length codes.now }
+    ensures text { text.new.items ≡ text.old.items ++ lines (take result (text_in set hand.now codes.now)) }
+{
+    let Some((first, others)) = codes.split_first() else {
+        return 0;
+    };
+    room.clear();
+    room.push("\n");
+    room.written(hand);
+    let end = room.len();
+    room.pen(hand.pen);
+    room.push(" pen=");
+    room.letter_front(set, *first);
+    if text.extend_from_slice(room.as_slice()).is_err() {
+        return 0;
+    }
+    room.keep(end);
+    room.push(" pen=after");
+    write_letters(room, text, set, others) + 1
+}
+
+/// Writes a line for each entry of a batch. Returns how many it wrote: fewer if memory runs out.
+#[inline(always)]
+pub(crate) fn write_batch(room: &mut Tail, text: &mut Vec<u8>, batch: &Batch) -> usize
+    ensures count { result ≤ length (listed batch.now) }
+    ensures text { text.new.items ≡ text.old.items ++ lines (take result (listed batch.now)) }
+{
+    match batch {
+        Batch::Points { points, drawing } => {
+            room.clear();
+            room.push("\n");
+            room.dot_end(drawing.pel, &drawing.colour);
+            write_dots(room, text, points)
+        }
+        Batch::Lines {
+            from,
+            points,
+            drawing,
+        } => {
+            room.clear();
+            room.push("\n");
+            room.inked(&drawing.ink());
+            write_lines(room, text, *from, points)
+        }
+        Batch::Text {
+            set,
+            codes,
+            pen,
+            drawing,
+        } => {
+            let hand = Hand {
+                pen: *pen,
+                colour: drawing.colour,
+                text: drawing.text,
+            };
+            write_text(room, text, *set, codes, &hand)
+        }
+    }
 }

@@ -182,7 +182,7 @@ impl Tail {
         self.push("MASK ");
     }
 
-    // Of a shape what stands behind its points, and all of any other line.
+    // Of a shape what comes after its points, and all of any other line.
     fn last_part(&mut self, entry: &Entry)
         requires { length self.old ≤ 1 }
         ensures { self.new ≡ last_part entry.now ++ self.old }
@@ -224,7 +224,7 @@ impl Tail {
     }
 }
 
-// Points, each behind a space.
+// Points, each after a space.
 fn write_points(room: &mut Tail, text: &mut Vec<u8>, points: &[Point]) -> Result<(), AllocError>
     ensures ok { OnOk result (text.new.items ≡ text.old.items ++ points_text points.now) }
     ensures err { OnErr result (take (length text.old.items) text.new.items ≡ text.old.items) }
@@ -292,7 +292,7 @@ fn write_parts(
     Ok(())
 }
 
-/// Writes the line of an entry and an end of it behind the text, by way of a room whose bytes mean nothing.
+/// Appends the line of an entry and an end of it to the text, by way of a buffer whose bytes mean nothing.
 pub(crate) fn write_line(
     room: &mut Tail,
     text: &mut Vec<u8>,
@@ -312,7 +312,7 @@ pub(crate) fn write_line(
     written
 }
 
-/// Writes the line of an entry, with its end, behind the text. It takes no memory but the text's.
+/// Appends the line of an entry, with its end, to the text. It takes no memory but the text's.
 pub fn append_line(text: &mut Vec<u8>, entry: &Entry) -> Result<(), AllocError>
     ensures ok { OnOk result (text.new.items ≡ text.old.items ++ line entry.now ++ 10 ∷ []) }
     ensures err { OnErr result (text.new.items ≡ text.old.items) }

@@ -3,15 +3,12 @@ ghost use Rattle.std.specs.Prelude.{◌≡◌, [], false};
 ghost use Rattle.nap_list.specs.State.{start};
 ghost use Rattle.nap_lines.specs.Listing.{Lists, lists_more, lists_none};
 
+use crate::batch::write_batch;
 use crate::line::write_line;
 use crate::tail::Tail;
-use nap_codes::CharSet;
-use nap_list::{Drawing, Entry, Hand, Sink, SinkFault, State, TextFault};
-use nap_values::Point;
+use nap_list::{Batch, BatchFault, Entry, Sink, SinkFault, State};
 use std::alloc::Global;
 use std::marker::Model;
-
-mod batch;
 
 /// Makes a line of each entry that it takes, with its end, and keeps the lines alone.
 #[derive(Drop)]
@@ -67,34 +64,11 @@ impl Sink for LineSink {
         Ok(())
     }
 
-    fn put_points(&mut self, points: &[Point], drawing: &Drawing) -> Result<(), SinkFault> {
-        if self.take_points(points, drawing) < points.len() {
-            return Err(SinkFault::Memory);
-        }
-        Ok(())
-    }
-
-    fn put_lines(
-        &mut self,
-        from: Point,
-        points: &[Point],
-        drawing: &Drawing,
-    ) -> Result<(), SinkFault> {
-        if self.take_lines(from, points, drawing) < points.len() {
-            return Err(SinkFault::Memory);
-        }
-        Ok(())
-    }
-
-    fn put_text(&mut self, set: CharSet, codes: &[u8], hand: &Hand) -> Result<(), TextFault> {
-        let taken = self.take_text(set, codes, hand);
-        if taken < codes.len() {
-            return Err(TextFault {
-                taken,
-                fault: SinkFault::Memory,
-            });
-        }
-        Ok(())
+    #[inline(always)]
+    fn put_batch(&mut self, batch: &Batch) -> Result<(), BatchFault> {
+        let taken = write_batch(&mut self.room, &mut self.text, batch);
+        self.state.step_front(batch, taken);
+        BatchFault::unless_all(taken, batch)
     }
 
     ghost took_none = { λ s. lists_none s };

@@ -21,7 +21,7 @@ use Rattle.nap_list.specs.Entry.{held, IsCode, WellMade}
 use Rattle.nap_list.specs.State.{PenFits, ColourFits, MaskFits, TextureFits, HeldFits, Comes, base_shown, taking, with_pen, with_pen_at, reset, saved_values, drawn, definition_after, last_after, known_after, start_texture}
 use Rattle.nap_list.specs.Known.{colour_code, is_known}
 use Rattle.nap_list.specs.declared.known.MapColour.{MapColour}
-use Rattle.nap_list.specs.Agreement.{BaseAgrees, ColourAgrees, InMode, Agrees, DefinitionsAgree, StatesAgree, Holds, AgreeingFits}
+use Rattle.nap_list.specs.Agreement.{BaseAgrees, ColourAgrees, InMode, Agrees, DefinitionsAgree, StatesAgree, Holds, AgreeingFits, Stands}
 use Rattle.nap_list.specs.Laws.{StartAgrees, TakingNothing}
 
 -- a value fits where it stands
@@ -248,12 +248,16 @@ base_stays (Some (colours.Pair a b)) d is h = refl
 base_stays (Some (colours.ByReset preset)) d is h = refl
 
 -- where all held values stand already, taking them changes nothing
-pub taking_nothing : TakingNothing
-taking_nothing h d holds mode =
-    let p = is_unwrapped h.pen d.pen holds.pen in
-    let q = is_unwrapped h.pel d.pel holds.pel in
-    let b = base_stays h.colour d holds.colour mode in
-    let c = is_unwrapped h.colour d.colour holds.colour in
-    let t = is_unwrapped h.texture d.texture holds.texture in
-    let x = is_unwrapped h.text d.text holds.text in
+
+pub taking_stands : (h : Held) (d : Drawing) → Stands h d → taking d h ≡ d
+taking_stands h d stands =
+    let p = is_unwrapped h.pen d.pen stands.holds.pen in
+    let q = is_unwrapped h.pel d.pel stands.holds.pel in
+    let b = stands.base in
+    let c = is_unwrapped h.colour d.colour stands.holds.colour in
+    let t = is_unwrapped h.texture d.texture stands.holds.texture in
+    let x = is_unwrapped h.text d.text stands.holds.text in
     rw (p, q, b, c, t, x) refl
+
+pub taking_nothing : TakingNothing
+taking_nothing h d holds mode = taking_stands h d (record { holds = holds; base = base_stays h.colour d holds.colour mode })

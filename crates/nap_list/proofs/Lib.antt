@@ -1,8 +1,5 @@
 pub mod Agreement
 pub mod Breaks
-pub mod Walks
 pub mod PublicLaws
 mod KnownRows
-pub mod Counted
-pub mod Puts
-pub mod Repeats
+pub mod Batches

@@ -1,8 +1,9 @@
 use Rattle.nap_list.specs.Agreement.{AgreeingFits}
-use Rattle.nap_list.specs.Laws.{WalksJoin, FitsJoin, StartAgrees, TakingNothing, LegalNeverBreaks}
-use Rattle.nap_list.proofs.Walks as walks
+use Rattle.nap_list.specs.Laws.{WalksJoin, FitsJoin, StartAgrees, TakingNothing, LegalNeverBreaks, BatchStands, TextLeaves}
+use Rattle.nap_list.specs.Walks as walks
 use Rattle.nap_list.proofs.Agreement as agreement
 use Rattle.nap_list.proofs.Breaks as breaks
+use Rattle.nap_list.proofs.Batches as batches
 
 -- The laws that crates above cite.
 
@@ -23,3 +24,9 @@ taking_nothing = agreement.taking_nothing
 
 pub legal_never_breaks : LegalNeverBreaks
 legal_never_breaks = breaks.legal_never_breaks
+
+pub batch_stands : BatchStands
+batch_stands = batches.batch_stands
+
+pub text_leaves : TextLeaves
+text_leaves = batches.text_leaves

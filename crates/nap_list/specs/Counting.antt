@@ -1,8 +1,10 @@
-use Rattle.std.proofs.Common.{ℕ, ◌≡◌, ◌+◌, ◌^◌, ◌≤◌, List, [], ◌∷◌, ◌++◌, length, refl, ap, ◌∙◌, length-append, arith}
+use Rattle.std.proofs.Common.{ℕ, ◌≡◌, ◌+◌, ◌^◌, ◌≤◌, false, List, [], ◌++◌, length, refl, sym, ap, ◌∙◌, length-append, arith}
 use Rattle.nap_list.specs.declared.count_sink.CountSink.{CountSink}
 use Rattle.nap_list.specs.declared.entry.Entry.{Entry}
 use Rattle.nap_list.specs.declared.state.State.{State}
-use Rattle.nap_list.specs.State.{after, walk}
+use Rattle.nap_list.specs.Putting.{SinkShows, shows}
+use Rattle.nap_list.specs.State.{walk}
+use Rattle.nap_list.specs.Walks.{walks_join}
 
 -- a sink that counts took these entries
 pub record Counts (s : CountSink) (d : List Entry) (t : CountSink) : Type 0 where
@@ -22,15 +24,10 @@ counts_none s = record { count = none s.count; state = refl }
     none : (n : ℕ) → n ≡ n + 0
     none n = omega arith
 
-walks_on : (s : State) (d e : List Entry) → walk (walk s d) e ≡ walk s (d ++ e)
-unfolding walk
-walks_on s [] e = refl
-walks_on s (x ∷ d) e = walks_on (after s x) d e
-
 pub counts_more : (s t u : CountSink) (d e : List Entry) → Counts s d t → Counts t e u → Counts s (d ++ e) u
 counts_more s t u d e first second = record {
   count = more (length d) (length e) (length (d ++ e)) s.count t.count u.count (length-append d e) first.count second.count;
-  state = second.state ∙ ap (λ (state : State). walk state e) first.state ∙ walks_on s.state d e;
+  state = second.state ∙ ap (λ (state : State). walk state e) first.state ∙ sym (walks_join s.state d e);
 }
   where
     more : (a b c i j k : ℕ) → c ≡ a + b → j ≡ i + a → k ≡ j + b → k ≡ i + c
@@ -42,3 +39,7 @@ uncounted_more s t d e f first wants =
   where
     more : (a b c i j m k n : ℕ) → i ≡ b + c → j ≡ a + i → n ≡ k + a → m ≤ n + b → m ≤ k + j
     more a b c i j m k n both all one two = omega arith
+
+-- a sink that counts, as any sink shows
+abbrev pub counting : SinkShows CountSink
+counting = shows (λ s. s.state) Uncounted (λ s. false) Counts (λ s d e t. ⊥)

@@ -1,9 +1,14 @@
-use Rattle.std.specs.Prelude.{ℕ, ◌≡◌, ◌↔◌, List, ◌++◌}
+use Rattle.std.specs.Prelude.{ℕ, ◌≡◌, ◌↔◌, List, [], ◌∷◌, ◌++◌}
+use Rattle.nap_codes.specs.declared.code_set.CharSet.{CharSet}
+use Rattle.nap_list.specs.declared.attribute.Hand.{Hand}
 use Rattle.nap_list.specs.declared.entry.Entry.{Entry}
+use Rattle.nap_list.specs.declared.entry.Entry.TheVariants.{Char}
 use Rattle.nap_list.specs.declared.state.State.{State}
 use Rattle.nap_list.specs.declared.attribute.Held.{Held}
 use Rattle.nap_list.specs.declared.state.Drawing.{Drawing}
-use Rattle.nap_list.specs.State.{start, taking, walk, AllFit, Legal, BreaksAt}
+use Rattle.nap_list.specs.declared.batch.Batch.{Batch}
+use Rattle.nap_list.specs.Batches.{EachStands, listed, text_in}
+use Rattle.nap_list.specs.State.{start, taking, after, walk, AllFit, Legal, BreaksAt}
 use Rattle.nap_list.specs.Agreement.{InMode, StatesAgree, Holds}
 
 -- the walk of two lists joined is that of the second from where the first leads
@@ -25,3 +30,12 @@ TakingNothing = (h : Held) (d : Drawing) → Holds h d → InMode d.base d.colou
 -- a legal list goes wrong nowhere
 abbrev pub LegalNeverBreaks : Type 0
 LegalNeverBreaks = (es : List Entry) (index : ℕ) → Legal es → BreaksAt index es → ⊥
+
+-- behind the first entry of a batch, the values of each further one stand when it comes
+abbrev pub BatchStands : Type 0
+BatchStands = (batch : Batch) (s : State) (e : Entry) (es : List Entry) → listed batch ≡ e ∷ es → EachStands (after s e) es
+
+-- a text leaves what its last character leaves in the hand of the first
+abbrev pub TextLeaves : Type 0
+TextLeaves = (s : State) (set : CharSet) (hand : Hand) (codes front : List ℕ) (last : ℕ) → codes ≡ front ++ last ∷ [] →
+    walk s (text_in set hand codes) ≡ after s (Char set last hand)

@@ -10,5 +10,9 @@ pub mod Reading
 pub mod Known
 pub mod State
 pub mod Counting
+pub mod Batches
+pub mod BatchLaws
 pub mod Putting
+pub mod PuttingLaws
 pub mod Shown
+pub mod Walks

@@ -1,18 +1,12 @@
-use Rattle.std.specs.Prelude.{ℕ, ◌≡◌, ◌⊎◌, ◌++◌, Bool, true, false, List, [], ◌∷◌, length, Result, Ok, Err}
-use Rattle.nap_values.specs.Coordinates.{Coordinates}
-use Rattle.nap_codes.specs.declared.code_set.CharSet.{CharSet}
-use Rattle.nap_list.specs.declared.attribute.Hand.{Hand}
-use Rattle.nap_list.specs.declared.attribute.Pen.TheVariants.{After}
+use Rattle.std.specs.Prelude.{ℕ, ◌≡◌, ◌<◌, ◌≤◌, ◌⊎◌, ◌++◌, Bool, true, false, List, [], ◌∷◌, length, Result, Ok, Err, IsErrOf}
 use Rattle.nap_list.specs.declared.entry.Entry.{Entry}
-use Rattle.nap_list.specs.declared.entry.Entry.TheVariants as entries
-use Rattle.nap_list.specs.declared.state.Drawing.{Drawing}
 use Rattle.nap_list.specs.declared.state.State.{State}
 use Rattle.nap_list.specs.declared.sink.SinkFault.{SinkFault}
 use Rattle.nap_list.specs.declared.sink.SinkFault.TheVariants as faults
-use Rattle.nap_list.specs.declared.sink.TextFault.{TextFault}
-use Rattle.nap_list.specs.State.{walk, ink_of}
+use Rattle.nap_list.specs.declared.sink.BatchFault.{BatchFault}
+use Rattle.nap_list.specs.State.{walk}
 
--- What a sink took of a list that was put, entry by entry or at once.
+-- What a sink took of a list that was put, entry by entry or as a batch.
 
 -- what a sink shows: the members of the trait, apart from it
 pub record SinkShows (S : Type 0) : Type 1 where
@@ -33,32 +27,7 @@ Stops took s list t = (front : List Entry) × (next : Entry) × (rest : List Ent
 abbrev pub Breaks : {S : Type 0} → (S → List Entry → Entry → S → Type 0) → S → List Entry → S → Type 0
 Breaks broke s list t = (front : List Entry) × (next : Entry) × (rest : List Entry) × (list ≡ front ++ next ∷ rest) × broke s front next t
 
--- what a sink took of a list that was put
-abbrev pub PutsAll : {S A : Type 0} → (S → List Entry → S → Type 0) → (S → List Entry → Entry → S → Type 0) → (S → Bool) → List Entry → S → S → Result A SinkFault → Type 0
-PutsAll took broke failed list s t (Ok _) = took s list t
-PutsAll took broke failed list s t (Err faults.Memory) = Stops took s list t
-PutsAll took broke failed list s t (Err faults.Write) = ((failed s ≡ true) × (t ≡ s)) ⊎ Breaks broke s list t
-
--- memory was wanted, where it may be wanting for these entries, and its device hasn't failed
-pub record Short {S : Type 0} (h : SinkShows S) (list : List Entry) (s t : S) : Type 0 where
-  pub wants : h.wants s list
-  pub works : h.failed t ≡ false
-
--- a sink whose device had failed was put nothing
-abbrev pub PutsNone : {S : Type 0} → SinkShows S → List Entry → S → S → Type 0
-PutsNone h list s t = h.failed s ≡ true → (list ≡ []) × (t ≡ s)
-
--- a sink whose device had failed took nothing, and says so
-abbrev pub Refuses : {S : Type 0} → SinkShows S → S → S → SinkFault → Type 0
-Refuses h s t fault = h.failed s ≡ true → (fault ≡ faults.Write) × (t ≡ s)
-
--- the list was put: all of it was taken, or a front of it up to the entry that wasn't
-abbrev pub Put : {S A : Type 0} → (h : SinkShows S) → List Entry → S → S → Result A SinkFault → Type 0
-Put h list s t (Ok _) = h.took s list t × (h.state t ≡ walk (h.state s) list) × (h.failed s ≡ false → h.failed t ≡ false) × PutsNone h list s t
-Put h list s t (Err fault) = PutsAll {A = Unit {0}} h.took h.broke h.failed list s t (Err fault) × (fault ≡ faults.Write → h.failed t ≡ true)
-    × (fault ≡ faults.Memory → Short h list s t) × Refuses h s t fault
-
--- how far a list is put
+-- how far a list is put: these entries were taken, and the rest is left
 pub record Putting {S : Type 0} (h : SinkShows S) (s t : S) (whole rest : List Entry) : Type 0 where
   pub done : List Entry
   pub parts : whole ≡ done ++ rest
@@ -86,29 +55,59 @@ pub record BreaksAfter {S : Type 0} (broke : S → List Entry → Entry → S �
   pub count : length front ≡ n
   pub broken : broke s front next t
 
--- where the putting of a list halts
+-- where the putting of a list halts: a sink whose device had failed takes nothing
 abbrev pub HaltsAfter : {S : Type 0} → SinkShows S → List Entry → S → S → ℕ → SinkFault → Type 0
 HaltsAfter h list s t n faults.Memory = StopsAfter h s list n t
 HaltsAfter h list s t n faults.Write = ((h.failed s ≡ true) × (t ≡ s) × (n ≡ 0)) ⊎ BreaksAfter h.broke s list n t
 
--- the list was put, or so many of its entries
-abbrev pub PutUpTo : {S : Type 0} → (h : SinkShows S) → List Entry → S → S → Result (Unit {0}) TextFault → Type 0
-PutUpTo h list s t (Ok x) = Put {A = Unit {0}} h list s t (Ok x)
-PutUpTo h list s t (Err stop) = HaltsAfter h list s t stop.taken stop.fault × (stop.fault ≡ faults.Write → h.failed t ≡ true)
-    × (stop.fault ≡ faults.Memory → h.failed t ≡ false) × (h.failed s ≡ true → (stop.fault ≡ faults.Write) × (t ≡ s) × (stop.taken ≡ 0))
+-- what the fault tells of the device: one that fails with want of memory works, and one that had failed took nothing
+pub record Tells {S : Type 0} (h : SinkShows S) (s t : S) (n : ℕ) (fault : SinkFault) : Type 0 where
+  pub write : fault ≡ faults.Write → h.failed t ≡ true
+  pub memory : fault ≡ faults.Memory → h.failed t ≡ false
+  pub none : h.failed s ≡ true → (fault ≡ faults.Write) × (t ≡ s) × (n ≡ 0)
 
--- The lists that are put at once.
+-- all of the list was taken; a sink whose device had failed was put nothing
+pub record TakesAll {S : Type 0} (h : SinkShows S) (list : List Entry) (s t : S) : Type 0 where
+  pub took : h.took s list t
+  pub state : h.state t ≡ walk (h.state s) list
+  pub works : h.failed s ≡ false → h.failed t ≡ false
+  pub none : h.failed s ≡ true → (list ≡ []) × (t ≡ s)
 
--- a point, with the values that stand
-abbrev pub point_on : Drawing → Coordinates → Entry
-point_on d at = entries.Point at d.pel d.colour
+-- the list was put: all of it was taken, or so many of its entries
+abbrev pub Put : {S : Type 0} → SinkShows S → List Entry → S → S → Result (Unit {0}) BatchFault → Type 0
+Put h list s t (Ok _) = TakesAll h list s t
+Put h list s t (Err stop) = HaltsAfter h list s t stop.taken stop.fault × Tells h s t stop.taken stop.fault
 
--- lines with the values that stand, from this point to the first, and on from each to the next
-unfoldable pub lines_on : Drawing → Coordinates → List Coordinates → List Entry
-lines_on d p [] = []
-lines_on d p (q ∷ qs) = entries.Line p q (ink_of d) ∷ lines_on d q qs
+-- so many entries were taken of as many as these, and memory ran out if they aren't all
+abbrev pub UnlessAll : ℕ → ℕ → Result (Unit {0}) BatchFault → Type 0
+UnlessAll taken count (Ok _) = count ≤ taken
+UnlessAll taken count (Err stop) = (stop ≡ record { taken = taken; fault = faults.Memory }) × (taken < count)
 
--- the characters of a text: the first in this hand, each further one with the pen as the one before leaves it
-unfoldable pub text_in : CharSet → Hand → List ℕ → List Entry
-text_in set hand [] = []
-text_in set hand (code ∷ codes) = entries.Char set code hand ∷ text_in set (record hand { pen = After }) codes
+-- the list was put, and an error doesn't tell how many of its entries were taken
+abbrev pub PutSome : {S A : Type 0} → SinkShows S → List Entry → S → S → Result A SinkFault → Type 0
+PutSome h list s t (Ok _) = TakesAll h list s t
+PutSome h list s t (Err fault) = (n : ℕ) × HaltsAfter h list s t n fault × Tells h s t n fault
+
+-- What a sink answers of one entry that it doesn't take.
+pub record NotTaken {S : Type 0} (h : SinkShows S) (s t : S) (x : Entry) (fault : SinkFault) : Type 0 where
+  pub memory : IsErrOf {T = Unit {0}} (Err fault) faults.Memory → t ≡ s
+  pub wants : IsErrOf {T = Unit {0}} (Err fault) faults.Memory → h.wants s (x ∷ [])
+  pub refuses : h.failed s ≡ true → IsErrOf {T = Unit {0}} (Err fault) faults.Write
+  pub write : IsErrOf {T = Unit {0}} (Err fault) faults.Write → h.failed t ≡ true
+  pub only_write : h.failed t ≡ true → IsErrOf {T = Unit {0}} (Err fault) faults.Write
+  pub broke : IsErrOf {T = Unit {0}} (Err fault) faults.Write → h.failed s ≡ false → h.broke s [] x t
+  pub still : IsErrOf {T = Unit {0}} (Err fault) faults.Write → h.failed s ≡ true → t ≡ s
+
+-- What every sink keeps.
+
+-- one list was taken after another
+abbrev pub TookMore : {S : Type 0} → SinkShows S → Type 0
+TookMore {S} h = (s t u : S) (d e : List Entry) → h.took s d t → h.took t e u → h.took s (d ++ e) u
+
+-- a failure came after a list was taken
+abbrev pub TookBroke : {S : Type 0} → SinkShows S → Type 0
+TookBroke {S} h = (s t u : S) (d e : List Entry) (x : Entry) → h.took s d t → h.broke t e x u → h.broke s (d ++ e) x u
+
+-- what is wanted behind a list that was taken is wanted for all that is put
+abbrev pub WantsMore : {S : Type 0} → SinkShows S → Type 0
+WantsMore {S} h = (s t : S) (d e f : List Entry) → h.took s d t → h.wants t e → h.wants s (d ++ (e ++ f))

@@ -1,15 +1,12 @@
 //! A sink that counts.
-ghost use Rattle.std.specs.Prelude.{◌≡◌, ◌+◌, ◌^◌, ◌<◌, ◌≤◌, false, length, MatchResult};
-ghost use Rattle.nap_list.specs.State.{AllFit, Fits, after, start};
+ghost use Rattle.std.specs.Prelude.{◌≡◌, ◌+◌, ◌-◌, ◌^◌, false};
+ghost use Rattle.nap_list.specs.State.{start};
 ghost use Rattle.nap_list.specs.Counting.{Counts, Uncounted, counts_more, counts_none, uncounted_more};
-ghost use Rattle.nap_list.specs.Putting.{text_in};
 
-use crate::attribute::Hand;
+use crate::batch::Batch;
 use crate::entry::Entry;
-use crate::sink::{Sink, SinkFault, TextFault};
-use crate::state::{Drawing, State};
-use nap_codes::CharSet;
-use nap_values::Point;
+use crate::sink::{BatchFault, Sink, SinkFault};
+use crate::state::State;
 
 /// Counts the entries that it takes, and keeps none. There is no memory for a count that a `u64` can't hold.
 #[derive(Drop)]
@@ -29,54 +26,19 @@ impl CountSink {
         }
     }
 
+    /// How many entries more the count can hold.
+    #[inline(always)]
+    fn left(&self) -> u64
+        ensures { self.now.count + result ≡ 2 ^ 64 - 1 }
+    {
+        u64::MAX - self.count
+    }
+
     /// How many entries it took.
     pub fn count(&self) -> u64
         ensures { result ≡ self.now.count }
     {
         self.count
-    }
-
-    /// Goes on by as many entries, of which the last leaves what all of them leave.
-    #[inline(always)]
-    fn go_on(&mut self, entries: usize, last: &Entry)
-        requires fits { Fits self.old.state last.now }
-        requires room { self.old.count + entries < 2 ^ 64 }
-        ensures { self.new ≡ record { count = self.old.count + entries; state = after self.old.state last.now } }
-    {
-        let CountSink { count, state } = self;
-        state.step(last);
-        *count += entries as u64;
-    }
-
-    /// Goes on by the characters of a text.
-    #[inline(always)]
-    fn go_on_by_text(&mut self, set: CharSet, codes: &[u8], hand: &Hand)
-        requires fits { AllFit self.old.state (text_in set hand.now codes.now) }
-        requires room { self.old.count + length codes.now < 2 ^ 64 }
-        ensures { Counts self.old (text_in set hand.now codes.now) self.new }
-    {
-        let Some((code, _)) = codes.split_last() else {
-            return;
-        };
-        let last = Entry::Char {
-            set,
-            code: *code,
-            hand: *hand,
-        };
-        self.go_on(codes.len(), &last);
-    }
-
-    /// Goes on by as many entries, of which the last leaves what all of them leave, where the count can hold them.
-    #[inline(always)]
-    fn advance(&mut self, entries: usize, last: &Entry) -> Result<(), SinkFault>
-        requires { Fits self.old.state last.now }
-        ensures { MatchResult result (λ _. self.new ≡ record { count = self.old.count + entries; state = after self.old.state last.now }) (λ fault. (fault ≡ SinkFault.Memory) × (2 ^ 64 ≤ self.old.count + entries) × (self.new ≡ self.old)) }
-    {
-        if u64::MAX - self.count < entries as u64 {
-            return Err(SinkFault::Memory);
-        }
-        self.go_on(entries, last);
-        Ok(())
     }
 }
 
@@ -93,49 +55,20 @@ impl Sink for CountSink {
 
     #[inline(always)]
     fn put(&mut self, entry: Entry) -> Result<(), SinkFault> {
-        self.advance(1, &entry)
-    }
-
-    fn put_points(&mut self, points: &[Point], drawing: &Drawing) -> Result<(), SinkFault> {
-        let Some((at, _)) = points.split_last() else {
-            return Ok(());
+        let Some(count) = self.count.checked_add(1) else {
+            return Err(SinkFault::Memory);
         };
-        let last = Entry::Point {
-            at: *at,
-            pel: drawing.pel,
-            colour: drawing.colour,
-        };
-        self.advance(points.len(), &last)
-    }
-
-    fn put_lines(
-        &mut self,
-        from: Point,
-        points: &[Point],
-        drawing: &Drawing,
-    ) -> Result<(), SinkFault> {
-        let Some((to, _)) = points.split_last() else {
-            return Ok(());
-        };
-        let last = Entry::Line {
-            from,
-            to: *to,
-            ink: drawing.ink(),
-        };
-        self.advance(points.len(), &last)
-    }
-
-    fn put_text(&mut self, set: CharSet, codes: &[u8], hand: &Hand) -> Result<(), TextFault> {
-        let room = (u64::MAX - self.count) as usize;
-        let fit = &codes[..codes.len().min(room)];
-        self.go_on_by_text(set, fit, hand);
-        if fit.len() < codes.len() {
-            return Err(TextFault {
-                taken: fit.len(),
-                fault: SinkFault::Memory,
-            });
-        }
+        self.count = count;
+        self.state.step(&entry);
         Ok(())
+    }
+
+    #[inline(always)]
+    fn put_batch(&mut self, batch: &Batch) -> Result<(), BatchFault> {
+        let taken = (batch.len() as u64).min(self.left()) as usize;
+        self.count += taken as u64;
+        self.state.step_front(batch, taken);
+        BatchFault::unless_all(taken, batch)
     }
 
     ghost took_none = { λ s. counts_none s };

@@ -1,6 +1,6 @@
 //! Laws of states, walks and legal lists, as contracts of functions that do nothing.
 ghost use Rattle.std.specs.Prelude.{◌≡◌};
-ghost use Rattle.nap_list.specs.Laws.{WalksJoin, FitsJoin, StartAgrees, TakingNothing, LegalNeverBreaks};
+ghost use Rattle.nap_list.specs.Laws.{WalksJoin, FitsJoin, StartAgrees, TakingNothing, LegalNeverBreaks, BatchStands, TextLeaves};
 ghost use Rattle.nap_list.specs.Agreement.{AgreeingFits};
 ghost use Rattle.nap_list.specs.Limits.{points_limit, reads_limit, known_limit};
 ghost use Rattle.nap_list.specs.declared.device.TheConstants.{READS};
@@ -8,11 +8,13 @@ ghost use Rattle.nap_list.specs.declared.known.TheConstants.{KNOWN};
 ghost use Rattle.nap_list.specs.declared.points.TheConstants.{SHAPE_POINTS};
 
 /// A walk goes on from where the list before it leads.
+#[tactic(auto, using(crate::proofs::PublicLaws::walks_join))]
 pub fn walks_join()
     ensures { WalksJoin }
 {}
 
 /// A list fits exactly where each front of it does and the rest fits behind that front.
+#[tactic(auto, using(crate::proofs::PublicLaws::fits_join))]
 pub fn fits_join()
     ensures { FitsJoin }
 {}
@@ -24,11 +26,13 @@ pub fn agreeing_fits()
 {}
 
 /// A reader that starts with the start's values agrees with a list that has no entry yet.
+#[tactic(auto, using(crate::proofs::PublicLaws::start_agrees))]
 pub fn start_agrees()
     ensures { StartAgrees }
 {}
 
 /// An entry whose values all stand already leaves the values as they are, before it has its effect.
+#[tactic(auto, using(crate::proofs::PublicLaws::taking_nothing))]
 pub fn taking_nothing()
     ensures { TakingNothing }
 {}
@@ -36,6 +40,17 @@ pub fn taking_nothing()
 /// No index is one where a legal list goes wrong.
 pub fn legal_never_breaks()
     ensures { LegalNeverBreaks }
+{}
+
+/// Behind the first entry of a batch, the values of each further one stand when it comes.
+pub fn batch_stands()
+    ensures { BatchStands }
+{}
+
+/// A text leaves what its last character leaves in the hand of the first.
+#[tactic(auto, using(crate::proofs::PublicLaws::text_leaves))]
+pub fn text_leaves()
+    ensures { TextLeaves }
 {}
 
 /// The limits are those of our profile: 2,001 points, 1,048,576 reads and 16 known colours of the map.

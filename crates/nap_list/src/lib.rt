@@ -2,6 +2,7 @@
 #![tactic(auto)]
 
 mod attribute;
+mod batch;
 mod count_sink;
 mod device;
 mod entry;
@@ -15,11 +16,12 @@ mod state;
 pub use attribute::{
     Area, Base, CharSize, Colour, Hand, Held, Ink, Origin, Pen, Preset, TextLook, Texture,
 };
+pub use batch::{Batch, start_at};
 pub use count_sink::CountSink;
 pub use device::{DeviceFault, Inlet, Outlet, READS, Source, Target};
 pub use entry::Entry;
 pub use known::{KNOWN, Known, MapColour};
 pub use legality::legal;
 pub use points::{Points, SHAPE_POINTS};
-pub use sink::{ListSink, Sink, SinkFault, TextFault};
+pub use sink::{BatchFault, ListSink, Sink, SinkFault};
 pub use state::{Definition, Drawing, LastChar, Opened, State, corner};

@@ -1,17 +1,16 @@
 //! What takes entries, one after another.
-ghost use Rattle.std.specs.Prelude.{◌≡◌, List, [], ◌∷◌, ◌++◌, Bool, true, false, OnOk, IsErrOf, map};
+ghost use Rattle.std.specs.Prelude.{◌≡◌, List, [], ◌∷◌, ◌++◌, Bool, true, false, OnOk, IsErrOf, length};
 ghost use Rattle.std.proofs.Common.{sym, ap, ◌∙◌, append-nil, append_assoc};
 ghost use Rattle.nap_list.specs.declared.state.State.{State};
 ghost use Rattle.nap_list.specs.declared.entry.Entry.{Entry};
 ghost use Rattle.nap_list.specs.declared.sink.SinkFault.TheVariants.{Memory};
 ghost use Rattle.nap_list.specs.State.{AllFit, Fits, after, start, walk};
-ghost use Rattle.nap_list.specs.Putting.{Put, PutUpTo, lines_on, point_on, shows, text_in};
+ghost use Rattle.nap_list.specs.Batches.{listed};
+ghost use Rattle.nap_list.specs.Putting.{Put, UnlessAll, shows};
 
-use crate::attribute::{Hand, Pen};
+use crate::batch::Batch;
 use crate::entry::Entry;
-use crate::state::{Drawing, State};
-use nap_codes::CharSet;
-use nap_values::Point;
+use crate::state::State;
 use std::alloc::{AllocError, AllocFailed, Global};
 use std::marker::Model;
 use thiserror::Error;
@@ -43,13 +42,29 @@ impl<T: Drop> From<AllocFailed<T>> for SinkFault {
     }
 }
 
-/// Why a text was not taken whole.
+/// Why a batch was not taken whole.
 #[derive(Clone, Copy, PartialEq, Eq, Debug, Drop)]
-pub struct TextFault {
-    /// How many of its characters were taken.
+pub struct BatchFault {
+    /// How many of its entries were taken.
     pub taken: usize,
     /// Why the next one was not.
     pub fault: SinkFault,
+}
+
+impl BatchFault {
+    /// The answer of a sink that took so many entries of a batch: an error if these aren't all, since memory ran out.
+    #[inline(always)]
+    pub fn unless_all(taken: usize, batch: &Batch) -> Result<(), BatchFault>
+        ensures { UnlessAll taken (length (listed batch.now)) result }
+    {
+        if taken < batch.len() {
+            return Err(BatchFault {
+                taken,
+                fault: SinkFault::Memory,
+            });
+        }
+        Ok(())
+    }
 }
 
 /// Takes the entries of a display list in their order. It need not keep them.
@@ -84,62 +99,15 @@ pub trait Sink {
         ensures broke { IsErrOf result SinkFault.Write → failed self.old ≡ false → broke self.old [] entry self.new }
         ensures still { IsErrOf result SinkFault.Write → failed self.old ≡ true → self.new ≡ self.old };
 
-    /// Takes a point at each of the points, drawn with the values that stand.
-    fn put_points(&mut self, points: &[Point], drawing: &Drawing) -> Result<(), SinkFault>
-        requires { AllFit (state self.old) (map (point_on drawing.now) points.now) }
-        ensures { Put (shows state wants failed took broke) (map (point_on drawing.now) points.now) self.old self.new result }
+    /// Takes entries together, as `put` takes them one after another. An error tells how many it took.
+    fn put_batch(&mut self, batch: &Batch) -> Result<(), BatchFault>
+        requires { AllFit (state self.old) (listed batch.now) }
+        ensures { Put (shows state wants failed took broke) (listed batch.now) self.old self.new result }
     {
-        for at in points {
-            self.put(Entry::Point {
-                at: *at,
-                pel: drawing.pel,
-                colour: drawing.colour,
-            })?;
-        }
-        Ok(())
-    }
-
-    /// Takes lines, drawn with the values that stand: from this point to the first, and on from each to the next.
-    fn put_lines(
-        &mut self,
-        from: Point,
-        points: &[Point],
-        drawing: &Drawing,
-    ) -> Result<(), SinkFault>
-        requires { AllFit (state self.old) (lines_on drawing.now from points.now) }
-        ensures { Put (shows state wants failed took broke) (lines_on drawing.now from points.now) self.old self.new result }
-    {
-        let mut from = from;
-        for to in points {
-            self.put(Entry::Line {
-                from,
-                to: *to,
-                ink: drawing.ink(),
-            })?;
-            from = *to;
-        }
-        Ok(())
-    }
-
-    /// Takes the characters of a text: the first in this hand, each further one with the pen as text leaves it. An error
-    /// tells how many it took.
-    fn put_text(&mut self, set: CharSet, codes: &[u8], hand: &Hand) -> Result<(), TextFault>
-        requires { AllFit (state self.old) (text_in set hand.now codes.now) }
-        ensures { PutUpTo (shows state wants failed took broke) (text_in set hand.now codes.now) self.old self.new result }
-    {
-        let mut pen = hand.pen;
-        let mut taken = 0;
-        for code in codes {
-            let entry = Entry::Char {
-                set,
-                code: *code,
-                hand: Hand { pen, ..*hand },
-            };
-            match self.put(entry) {
-                Ok(()) => taken += 1,
-                Err(fault) => return Err(TextFault { taken, fault }),
+        for taken in 0..batch.len() {
+            if let Err(fault) = self.put(batch.entry(taken)) {
+                return Err(BatchFault { taken, fault });
             }
-            pen = Pen::After;
         }
         Ok(())
     }
@@ -150,14 +118,14 @@ pub trait Sink {
     /// One list was taken after another.
     ghost took_more: { (s t u : Self) (d e : List Entry) → took s d t → took t e u → took s (d ++ e) u };
 
-    /// What is wanted behind a list that was taken is wanted for all that is put.
+    /// If memory may run out for entries after a list was taken, it may run out for the list, these entries and more.
     ghost wants_more: { (s t : Self) (d e f : List Entry) → took s d t → wants t e → wants s (d ++ (e ++ f)) };
 
     /// A failure came after a list was taken.
     ghost took_broke: { (s t u : Self) (d e : List Entry) (x : Entry) → took s d t → broke t e x u → broke s (d ++ e) x u };
 }
 
-/// Keeps the entries in memory, and fails for want of it alone.
+/// Keeps the entries in memory, and fails only if memory runs out.
 #[derive(Drop)]
 pub struct ListSink {
     list: Vec<Entry>,
@@ -183,6 +151,13 @@ impl ListSink {
     }
 
     /// The entries that were taken.
+    pub fn entries(&self) -> &[Entry]
+        ensures { result.now ≡ self.now }
+    {
+        self.list.as_slice()
+    }
+
+    /// The list of the entries that were taken.
     pub fn into_list(self) -> Vec<Entry>
         ensures { result.items ≡ self }
     {
@@ -202,7 +177,7 @@ impl Sink for ListSink {
 
     ghost broke = { λ s d e t. ⊥ };
 
-    #[tactic(auto, using(crate::proofs::Walks::walk_more))]
+    #[tactic(auto, using(crate::specs::Walks::walk_more))]
     fn put(&mut self, entry: Entry) -> Result<(), SinkFault> {
         self.list.push(entry)?;
         Ok(())

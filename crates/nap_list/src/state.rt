@@ -104,7 +104,7 @@ impl TextLook {
             && self.scroll == wanted.scroll
     }
 
-    fn stands(&self, wanted: &TextLook) -> bool
+    pub(crate) fn stands(&self, wanted: &TextLook) -> bool
         ensures { IsTrue result ↔ wanted.now ≡ self.now }
     {
         self.first == wanted.first
@@ -200,7 +200,7 @@ impl Drawing {
     }
 
     /// Whether a colour stands, which is the colour of mode 0 where it is direct.
-    fn colour_stands(&self, colour: Colour) -> bool
+    pub(crate) fn colour_stands(&self, colour: Colour) -> bool
         ensures { IsTrue result ↔ Stands (colour_alone colour) self.now }
     {
         let in_mode = match colour {
@@ -278,7 +278,7 @@ impl Drawing {
 
     /// Takes the values that an entry holds.
     #[inline(always)]
-    fn show(&mut self, entry: &Entry)
+    pub(crate) fn show(&mut self, entry: &Entry)
         ensures { self.new ≡ taking self.old (held entry.now) }
     {
         match entry {

@@ -31,10 +31,6 @@ all_behind P whole front rest is all = λ i d less.
     subst P (ap (λ xs. get_or xs (length front + i) d) is ∙ get_or-append-add front rest i d)
     (all (length front + i) d (omega (arith, less, ap length is, length-append front rest)))
 
--- nothing was taken
-pub takes_none : {S : Type 0} {g : Ghosts S} (reader : Reader S g) → TakesFront reader reader
-takes_none reader = record { leads = λ s o inputs k. k; places = λ n all. all; open_run = refl; clear = λ before. before; to_come = omega arith }
-
 module _ {S : Type 0} {g : Ghosts S} (old : Reader S g) (place : ℕ) (q : List ℕ) (rest : List Placed) (front : frames_left old ≡ all_at place q ++ rest) where
   -- the front pends first
   pends : (s : S) (o : Outcome) (inputs : List Placed) → Continues g s o old.sink (holding_of old) (frames_left old ++ inputs) →

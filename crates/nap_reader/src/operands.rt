@@ -37,7 +37,7 @@ pub(crate) fn operand(byte: u8) -> Option<Word>
 /// So many words join the run as vector code, with those that go again at once.
 const BLOCK: usize = 32;
 
-/// The words of so many bytes at the front join the run, or none where memory is wanting. Tells how many joined it.
+/// Appends the words of the first `count` bytes to the run, or none if memory runs out. Returns how many it appended.
 #[inline]
 fn join_words(run: &mut Vec<Word>, bytes: &[u8], count: usize) -> usize
     requires { count ≤ length bytes.now }
@@ -53,7 +53,7 @@ fn join_words(run: &mut Vec<Word>, bytes: &[u8], count: usize) -> usize
     join_each(run, &bytes[..count])
 }
 
-/// Of the words of a block the first ones join the run, so many of them.
+/// Appends the words of the first `count` bytes of a block to the run, or none if memory runs out.
 #[inline]
 fn join_front(run: &mut Vec<Word>, block: &[u8], count: usize) -> usize
     requires whole { length block.now ≡ 32 }

@@ -436,7 +436,7 @@ impl<S: Sink> Reader<S> {
         self.keep(body, byte, place)
     }
 
-    /// Takes a byte of the open body, of which no ESC is held.
+    /// Takes a byte of the open body, while no ESC is held back.
     fn keep(&mut self, body: OpenBody, byte: u8, place: u64) -> Result<(), Refused>
         requires live { self.old.refusal ≡ None }
         requires named { IsGraphic body.name }

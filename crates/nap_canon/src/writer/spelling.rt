@@ -10,12 +10,12 @@ ghost use Rattle.nap_canon.specs.Text.{gl_of, piece_bytes, written, tail_behind,
 use crate::byte_sink::ByteSink;
 use crate::command::Commands;
 use crate::form::Form;
-use crate::gathered::{MOST, displacements, last_of};
+use crate::gathered::{MOST, displacements};
 use crate::piece::Piece;
 use crate::tail::Tail;
 use crate::writer::{LENGTHS, Writer, opcodes};
 use nap_codes::{CharSet, CursorKind, GSet, Mask, TextStep};
-use nap_list::{Area, Colour, Entry, Pen};
+use nap_list::{Area, Colour, Entry, Pen, start_at};
 use nap_values::{Addr, Grb, Point, Word, put_addr, put_grb, put_move, put_point};
 
 /// The argument of DEF TEXTURE.
@@ -58,7 +58,7 @@ impl<T: ByteSink + Drop> Writer<T> {
         let mut from = first;
         for chunk in others.chunks(MOST) {
             self.to.take(displacements(from, chunk).as_slice())?;
-            from = last_of(from, chunk);
+            from = start_at(from, chunk, chunk.len());
         }
         Ok(())
     }

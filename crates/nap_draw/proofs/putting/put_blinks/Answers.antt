@@ -7,7 +7,7 @@ use Rattle.nap_draw.specs.Doing.{Putting}
 use Rattle.nap_draw.proofs.Cuts.{operands_none}
 use Rattle.nap_draw.proofs.Still.{blink_left}
 use Rattle.nap_list.specs.Shown.{shows_of}
-use Rattle.nap_list.proofs.Puts.{put_begins, put_fits, put_goes, put_stops, put_ends}
+use Rattle.nap_list.specs.PuttingLaws.{put_begins, one_fits, one_goes, one_stops, put_ends}
 use Rattle.nap_draw.proofs.putting.put_blinks.Goals as goal
 
 pub loop-group-init : goal.loop-group-init
@@ -28,7 +28,7 @@ put-requires g c =
     let inv = c.loop-group.invariant in
     let steps = c.in-Some.ensures.steps in
     let rest = chunks_rest c.next.new.self in
-    put_fits (shows_of g.S.Sink) _ _ _ _ _ c.blink_of.result inv.putting (blink_left c.args.domain.single _ c.args.drawing.now.colour (chunks_rest c.loop-group.group-iterator) c.in-Some.group.now rest c.blink_of.result inv.size steps.1.0 steps.1.1 steps.1.2 c.blink_of.ensures) c.requires
+    one_fits (shows_of g.S.Sink) _ _ _ _ _ c.blink_of.result inv.putting (blink_left c.args.domain.single _ c.args.drawing.now.colour (chunks_rest c.loop-group.group-iterator) c.in-Some.group.now rest c.blink_of.result inv.size steps.1.0 steps.1.1 steps.1.2 c.blink_of.ensures) c.requires
 
 pub loop-group-preserved : goal.loop-group-preserved
 loop-group-preserved g c =
@@ -40,7 +40,7 @@ loop-group-preserved g c =
       can = omega (arith, steps.0, inv.can);
       finite = tt;
       size = steps.0 ∙ inv.size;
-      putting = put_goes (shows_of g.S.Sink) _ _ _ _ _ _ c.blink_of.result g.met.S.Sink.took_more inv.putting (blink_left c.args.domain.single _ c.args.drawing.now.colour (chunks_rest c.loop-group.group-iterator) c.in-Some.group.now rest c.blink_of.result inv.size steps.1.0 steps.1.1 steps.1.2 c.blink_of.ensures)
+      putting = one_goes (shows_of g.S.Sink) _ _ _ _ inv.putting g.met.S.Sink.took_more _ c.blink_of.result _ (blink_left c.args.domain.single _ c.args.drawing.now.colour (chunks_rest c.loop-group.group-iterator) c.in-Some.group.now rest c.blink_of.result inv.size steps.1.0 steps.1.1 steps.1.2 c.blink_of.ensures)
           put.took put.after put.only_write put.refuses;
     }
 
@@ -51,9 +51,9 @@ returns-in_err-put g c =
     let put = c.in_err-put.ensures in
     let rest = chunks_rest c.next.new.self in
     let fault = err_from_is_err_and c.from_residual.result c.from_residual.ensures.1 in
-    rw (fault.1, fault.2) (put_stops (shows_of g.S.Sink) (Unit {0}) _ _ _ _ _ _ c.blink_of.result _ g.met.S.Sink.took_broke g.met.S.Sink.wants_more inv.putting (blink_left c.args.domain.single _ c.args.drawing.now.colour (chunks_rest c.loop-group.group-iterator) c.in-Some.group.now rest c.blink_of.result inv.size steps.1.0 steps.1.1 steps.1.2 c.blink_of.ensures)
-    put.memory put.broke put.still put.write put.wants put.only_write put.refuses)
+    rw (fault.1, fault.2) (one_stops (shows_of g.S.Sink) (Unit {0}) _ _ _ _ inv.putting (g.met.S.Sink.took_none _) g.met.S.Sink.took_more g.met.S.Sink.took_broke g.met.S.Sink.wants_more _ c.blink_of.result _ _ (blink_left c.args.domain.single _ c.args.drawing.now.colour (chunks_rest c.loop-group.group-iterator) c.in-Some.group.now rest c.blink_of.result inv.size steps.1.0 steps.1.1 steps.1.2 c.blink_of.ensures)
+    (record { memory = put.memory; wants = put.wants; refuses = put.refuses; write = put.write; only_write = put.only_write; broke = put.broke; still = put.still }))
 
 pub returns : goal.returns
 returns g c =
-    put_ends (shows_of g.S.Sink) _ _ _ _ (tt {0}) c.loop-group.invariant.putting (ap (map (blink c.args.domain.single c.args.drawing.now.colour)) (operands_none (c.args.domain.single + 3) _ c.in-None.ensures.steps.1.0))
+    put_ends (shows_of g.S.Sink) _ _ _ _ c.loop-group.invariant.putting (ap (map (blink c.args.domain.single c.args.drawing.now.colour)) (operands_none (c.args.domain.single + 3) _ c.in-None.ensures.steps.1.0))

@@ -5,7 +5,8 @@ use Rattle.nap_draw.specs.declared.spans.Span.{Span}
 use Rattle.nap_draw.specs.Doing.{stroke_on}
 use Rattle.nap_draw.proofs.Links.{linked_left, linked_last, linked_end, end_here}
 use Rattle.nap_list.specs.Shown.{shows_of}
-use Rattle.nap_list.proofs.Puts.{put_begins, put_fits, put_goes, put_stops, put_ends, drop_at}
+use Rattle.nap_list.specs.PuttingLaws.{put_begins, one_fits, one_goes, one_stops, put_ends}
+use Rattle.nap_draw.proofs.Links.{drop_at}
 use Rattle.nap_draw.proofs.putting.put_linked.Goals as goal
 
 pub loop-to-init : goal.loop-to-init
@@ -14,7 +15,7 @@ loop-to-init g c = record { last = refl; putting = put_begins (shows_of g.S.Sink
 pub put-requires : goal.put-requires
 put-requires g c =
     let left = drop_at c.args.points.now c.loop-to.to-index c.to-item.result (omega arith) c.to-item.is in
-    put_fits (shows_of g.S.Sink) _ _ _ _ _ c.entry.result c.loop-to.invariant.putting
+    one_fits (shows_of g.S.Sink) _ _ _ _ _ c.entry.result c.loop-to.invariant.putting
     (linked_left c.args.figure c.args.drawing.now c.loop-to.at c.to-item.result _ (drop (c.loop-to.to-index + 1) c.args.points.now) c.entry.result left c.entry.ensures) c.requires
 
 pub loop-to-preserved : goal.loop-to-preserved
@@ -25,7 +26,7 @@ loop-to-preserved g c =
     let left = drop_at c.args.points.now c.loop-to.to-index c.to-item.result (omega arith) c.to-item.is in
     rw c.after-at.ensures (record {
       last = linked_last c.args.figure c.loop-to.last c.loop-to.at c.to-item.result _ rest left ∙ inv.last;
-      putting = put_goes (shows_of g.S.Sink) _ _ _ _ _ _ c.entry.result g.met.S.Sink.took_more inv.putting
+      putting = one_goes (shows_of g.S.Sink) _ _ _ _ inv.putting g.met.S.Sink.took_more _ c.entry.result _
           (linked_left c.args.figure c.args.drawing.now c.loop-to.at c.to-item.result _ rest c.entry.result left c.entry.ensures) put.took put.after put.only_write put.refuses;
     })
 
@@ -34,15 +35,15 @@ returns-in_err-put-clause-put g c =
     let put = c.in_err-put.ensures in
     let left = drop_at c.args.points.now c.loop-to.to-index c.to-item.result (omega arith) c.to-item.is in
     let fault = err_from_is_err_and c.from_residual.result c.from_residual.ensures.1 in
-    rw (fault.1, fault.2) (put_stops (shows_of g.S.Sink) (Option Span) _ _ _ _ _ _ c.entry.result _ g.met.S.Sink.took_broke g.met.S.Sink.wants_more c.loop-to.invariant.putting
+    rw (fault.1, fault.2) (one_stops (shows_of g.S.Sink) (Option Span) _ _ _ _ c.loop-to.invariant.putting (g.met.S.Sink.took_none _) g.met.S.Sink.took_more g.met.S.Sink.took_broke g.met.S.Sink.wants_more _ c.entry.result _ _
     (linked_left c.args.figure c.args.drawing.now c.loop-to.at c.to-item.result _ (drop (c.loop-to.to-index + 1) c.args.points.now) c.entry.result left c.entry.ensures)
-    put.memory put.broke put.still put.write put.wants put.only_write put.refuses)
+    (record { memory = put.memory; wants = put.wants; refuses = put.refuses; write = put.write; only_write = put.only_write; broke = put.broke; still = put.still }))
 
 pub returns : goal.returns
 returns g c =
     let inv = c.loop-to.invariant in
     let none = linked_end c.args.figure c.loop-to.at _ (drop_all c.loop-to.to-index c.args.points.now (omega arith)) in
     record {
-      put = put_ends (shows_of g.S.Sink) _ _ _ _ (tt {0}) inv.putting (ap (map (stroke_on c.args.figure c.args.drawing.now)) none);
+      put = put_ends (shows_of g.S.Sink) _ _ _ _ inv.putting (ap (map (stroke_on c.args.figure c.args.drawing.now)) none);
       last = sym (end_here c.loop-to.last _ none) ∙ inv.last;
     }

@@ -7,7 +7,7 @@ use Rattle.nap_draw.specs.Geometry.{end_of}
 use Rattle.nap_draw.specs.Doing.{Putting, paired, stroke_on}
 use Rattle.nap_draw.proofs.Links.{two_of, paired_left, paired_last, paired_few, end_here}
 use Rattle.nap_list.specs.Shown.{shows_of}
-use Rattle.nap_list.proofs.Puts.{put_begins, put_fits, put_goes, put_stops, put_ends}
+use Rattle.nap_list.specs.PuttingLaws.{put_begins, one_fits, one_goes, one_stops, put_ends}
 use Rattle.nap_draw.proofs.putting.put_paired.Goals as goal
 
 pub loop-pair-init : goal.loop-pair-init
@@ -29,7 +29,7 @@ put-requires g c =
     let steps = c.in-Some.ensures.steps in
     let rest = chunks_exact_rest c.next.new.self in
     let left = two_of c.in-Some.pair.now (chunks_exact_rest c.loop-pair.pair-iterator) rest c.index-pair-0.result c.index-pair-1.result (steps.1.1 ∙ inv.size) c.index-pair-0.is c.index-pair-1.is steps.1.0 in
-    put_fits (shows_of g.S.Sink) _ _ _ _ _ c.entry.result inv.putting
+    one_fits (shows_of g.S.Sink) _ _ _ _ _ c.entry.result inv.putting
     (paired_left c.args.figure c.args.drawing.now c.index-pair-0.result c.index-pair-1.result _ rest c.entry.result left c.entry.ensures) c.requires
 
 pub loop-pair-preserved : goal.loop-pair-preserved
@@ -44,7 +44,7 @@ loop-pair-preserved g c =
       finite = tt;
       size = steps.0 ∙ inv.size;
       last = paired_last c.loop-pair.last c.index-pair-0.result c.index-pair-1.result _ rest left ∙ inv.last;
-      putting = put_goes (shows_of g.S.Sink) _ _ _ _ _ _ c.entry.result g.met.S.Sink.took_more inv.putting
+      putting = one_goes (shows_of g.S.Sink) _ _ _ _ inv.putting g.met.S.Sink.took_more _ c.entry.result _
           (paired_left c.args.figure c.args.drawing.now c.index-pair-0.result c.index-pair-1.result _ rest c.entry.result left c.entry.ensures) put.took put.after put.only_write put.refuses;
     }
 
@@ -56,14 +56,14 @@ returns-in_err-put-clause-put g c =
     let rest = chunks_exact_rest c.next.new.self in
     let left = two_of c.in-Some.pair.now (chunks_exact_rest c.loop-pair.pair-iterator) rest c.index-pair-0.result c.index-pair-1.result (steps.1.1 ∙ inv.size) c.index-pair-0.is c.index-pair-1.is steps.1.0 in
     let fault = err_from_is_err_and c.from_residual.result c.from_residual.ensures.1 in
-    rw (fault.1, fault.2) (put_stops (shows_of g.S.Sink) (Option Span) _ _ _ _ _ _ c.entry.result _ g.met.S.Sink.took_broke g.met.S.Sink.wants_more inv.putting
-    (paired_left c.args.figure c.args.drawing.now c.index-pair-0.result c.index-pair-1.result _ rest c.entry.result left c.entry.ensures) put.memory put.broke put.still put.write put.wants put.only_write put.refuses)
+    rw (fault.1, fault.2) (one_stops (shows_of g.S.Sink) (Option Span) _ _ _ _ inv.putting (g.met.S.Sink.took_none _) g.met.S.Sink.took_more g.met.S.Sink.took_broke g.met.S.Sink.wants_more _ c.entry.result _ _
+    (paired_left c.args.figure c.args.drawing.now c.index-pair-0.result c.index-pair-1.result _ rest c.entry.result left c.entry.ensures) (record { memory = put.memory; wants = put.wants; refuses = put.refuses; write = put.write; only_write = put.only_write; broke = put.broke; still = put.still }))
 
 pub returns : goal.returns
 returns g c =
     let inv = c.loop-pair.invariant in
     let none = paired_few (chunks_exact_rest c.loop-pair.pair-iterator) (omega (arith, c.in-None.ensures.steps.1.0, inv.size)) in
     record {
-      put = put_ends (shows_of g.S.Sink) _ _ _ _ (tt {0}) inv.putting (ap (map (stroke_on c.args.figure c.args.drawing.now)) none);
+      put = put_ends (shows_of g.S.Sink) _ _ _ _ inv.putting (ap (map (stroke_on c.args.figure c.args.drawing.now)) none);
       last = sym (end_here c.loop-pair.last _ none) ∙ inv.last;
     }

@@ -1,4 +1,4 @@
-use Rattle.std.proofs.Common.{◌≤◌, ℕ, List, arith, subst, ◌∙◌, take, drop, length, length-drop}
+use Rattle.std.proofs.Common.{◌≤◌, ℕ, List, arith, subst, take, drop, length, length-drop}
 use Rattle.std.specs.Prelude.{slice_index}
 use Rattle.std.specs.Io.KnownBytes.{Appends}
 use Rattle.nap_canon.specs.Sinking.{sending}

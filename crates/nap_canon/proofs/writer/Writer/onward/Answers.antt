@@ -1,10 +1,11 @@
 use Rattle.std.proofs.Common.{◌++◌, subst, ℕ, [], List, ◌≡◌, ◌∙◌, ap, sym, refl, false, append-nil, arith, rules}
 use Rattle.std.specs.Slice.Iter.{chunks_rest, chunks_size}
+use Rattle.std.proofs.lemmas.List.{take_all}
 use Rattle.std.proofs.lemmas.Result.{err_from_is_err_and}
 use Rattle.nap_values.specs.Coordinates.{Coordinates}
-use Rattle.nap_canon.specs.Batches.{last_of}
+use Rattle.nap_list.specs.Batches.{last_of}
 use Rattle.nap_canon.specs.Spelling.{onward_bytes}
-use Rattle.nap_canon.proofs.BatchLemmas.{no_items}
+use Rattle.nap_canon.proofs.GatheredLemmas.{no_items}
 use Rattle.nap_canon.proofs.WriterLemmas.{onward_part, sent_second}
 use Rattle.nap_canon.proofs.writer.Writer.onward.Goals as goal
 
@@ -27,6 +28,9 @@ loop-chunk-preserved g c =
     let so_far = inv.sent in
     let steps = c.in-Some.ensures.steps in
     let piece = c.as_slice.result.now in
+    let part = c.in-Some.chunk.now in
+    let last : c.start_at-from.result ≡ last_of c.loop-chunk.from part =
+    c.start_at-from.ensures ∙ ap (last_of c.loop-chunk.from) (take_all _ part (omega arith)) in
     record {
       can = omega (arith, steps.0, inv.can);
       finite = tt;
@@ -34,8 +38,8 @@ loop-chunk-preserved g c =
       sent = (
         so_far.0 ++ piece,
         g.met.T.ByteSink.sent_more c.args.self.now.to c.loop-chunk.self.to c.take.new.self so_far.0 piece false so_far.1 c.in_ok-take.ensures,
-        onward_part so_far.0 piece (onward_bytes c.args.first c.args.others.now) c.loop-chunk.from c.last_of-from.result _ c.in-Some.chunk.now (chunks_rest c.next.new.self)
-            steps.1.0 (c.as_slice.ensures.value ∙ c.displacements.ensures) c.last_of-from.ensures so_far.2,
+        onward_part so_far.0 piece (onward_bytes c.args.first c.args.others.now) c.loop-chunk.from c.start_at-from.result _ c.in-Some.chunk.now (chunks_rest c.next.new.self)
+            steps.1.0 (c.as_slice.ensures.value ∙ c.displacements.ensures) last so_far.2,
       );
       tail = inv.tail;
       kept = inv.kept;

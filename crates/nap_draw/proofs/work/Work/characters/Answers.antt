@@ -1,34 +1,33 @@
 use Rattle.std.proofs.Common.{List, Ok, Err, sym, ◌∙◌, ap, subst}
 use Rattle.std.proofs.lemmas.Result.{err_from_is_err_and}
-use Rattle.nap_list.specs.declared.attribute.Hand.{Hand}
 use Rattle.nap_list.specs.declared.entry.Entry.{Entry}
 use Rattle.nap_list.specs.declared.state.State.{State}
 use Rattle.nap_list.specs.Agreement.{StatesAgree}
-use Rattle.nap_list.specs.Putting.{PutUpTo, text_in}
+use Rattle.nap_list.specs.Putting.{Put}
 use Rattle.nap_list.specs.Shown.{shows_of}
 use Rattle.nap_list.specs.State.{AllFit, walk}
 use Rattle.nap_draw.specs.Codes.{text}
 use Rattle.nap_draw.proofs.Texts.{text_is, text_left, text_fits, text_none, no_codes}
 use Rattle.nap_draw.proofs.work.Work.characters.Goals as goal
 
-pub put_text-requires : goal.put_text-requires
-put_text-requires g c =
+pub put_batch-requires : goal.put_batch-requires
+put_batch-requires g c =
     let s = c.args.self.now.state in
-    let list = text_is s c.args.set c.args.codes.now c.requires.agrees.drawing.mode ∙ ap (λ (hand : Hand). text_in c.args.set hand c.args.codes.now) (sym c.hand-hand.ensures) in
+    let list = text_is s c.args.set c.args.codes.now c.requires.agrees.drawing.mode in
     subst (λ (list : List Entry). AllFit (g.S.Sink.state c.args.sink.now) list) list (text_fits s _ c.args.set c.args.codes.now c.requires.agrees c.requires.made).0
 
-pub returns-in_err-put_text-clause-put : goal.returns-in_err-put_text-clause-put
-returns-in_err-put_text-clause-put g c =
+pub returns-in_err-put_batch-clause-put : goal.returns-in_err-put_batch-clause-put
+returns-in_err-put_batch-clause-put g c =
     let s = c.args.self.now.state in
-    let list = text_is s c.args.set c.args.codes.now c.requires.agrees.drawing.mode ∙ ap (λ (hand : Hand). text_in c.args.set hand c.args.codes.now) (sym c.hand-hand.ensures) in
+    let list = text_is s c.args.set c.args.codes.now c.requires.agrees.drawing.mode in
     let fault = err_from_is_err_and c.from_residual.result c.from_residual.ensures.1 in
-    rw (fault.1, fault.2) (subst (λ (list : List Entry). PutUpTo (shows_of g.S.Sink) list c.args.sink.now c.put_text.new.self (Err c.in_err-put_text.field-0.0)) (sym list) c.in_err-put_text.ensures)
+    rw (fault.1, fault.2) (subst (λ (list : List Entry). Put (shows_of g.S.Sink) list c.args.sink.now c.put_batch.new.self (Err c.in_err-put_batch.field-0.0)) (sym list) c.in_err-put_batch.ensures)
 
 pub returns-in_default-clause-put : goal.returns-in_default-clause-put
 returns-in_default-clause-put g c =
     let s = c.args.self.now.state in
-    let list = text_is s c.args.set c.args.codes.now c.requires.agrees.drawing.mode ∙ ap (λ (hand : Hand). text_in c.args.set hand c.args.codes.now) (sym c.hand-hand.ensures) in
-    subst (λ (list : List Entry). PutUpTo (shows_of g.S.Sink) list c.args.sink.now c.put_text.new.self (Ok tt)) (sym list) c.in_ok-put_text.ensures
+    let list = text_is s c.args.set c.args.codes.now c.requires.agrees.drawing.mode in
+    subst (λ (list : List Entry). Put (shows_of g.S.Sink) list c.args.sink.now c.put_batch.new.self (Ok tt)) (sym list) c.in_ok-put_batch.ensures
 
 pub returns-in_default-clause-work : goal.returns-in_default-clause-work
 returns-in_default-clause-work g c =
@@ -40,17 +39,17 @@ pub returns-in_default-clause-agree : goal.returns-in_default-clause-agree
 returns-in_default-clause-agree g c =
     let s = c.args.self.now.state in
     let codes = c.args.codes.now in
-    let list = text_is s c.args.set codes c.requires.agrees.drawing.mode ∙ ap (λ (hand : Hand). text_in c.args.set hand codes) (sym c.hand-hand.ensures) in
+    let list = text_is s c.args.set codes c.requires.agrees.drawing.mode in
     let none = no_codes codes c.in_default.ensures.cases in
-    let there = c.in_ok-put_text.ensures.1 ∙ ap (walk (g.S.Sink.state c.args.sink.now)) (sym list) in
+    let there = c.in_ok-put_batch.ensures.state ∙ ap (walk (g.S.Sink.state c.args.sink.now)) (sym list) in
     rw there (subst (λ (t : State). StatesAgree t (walk (g.S.Sink.state c.args.sink.now) (text s c.args.set codes))) (text_none s c.args.set codes none)
     (text_fits s (g.S.Sink.state c.args.sink.now) c.args.set codes c.requires.agrees c.requires.made).1)
 
 pub returns-clause-put : goal.returns-clause-put
 returns-clause-put g c =
     let s = c.args.self.now.state in
-    let list = text_is s c.args.set c.args.codes.now c.requires.agrees.drawing.mode ∙ ap (λ (hand : Hand). text_in c.args.set hand c.args.codes.now) (sym c.hand-hand.ensures) in
-    subst (λ (list : List Entry). PutUpTo (shows_of g.S.Sink) list c.args.sink.now c.put_text.new.self (Ok tt)) (sym list) c.in_ok-put_text.ensures
+    let list = text_is s c.args.set c.args.codes.now c.requires.agrees.drawing.mode in
+    subst (λ (list : List Entry). Put (shows_of g.S.Sink) list c.args.sink.now c.put_batch.new.self (Ok tt)) (sym list) c.in_ok-put_batch.ensures
 
 pub returns-clause-work : goal.returns-clause-work
 returns-clause-work g c =
@@ -61,8 +60,8 @@ pub returns-clause-agree : goal.returns-clause-agree
 returns-clause-agree g c =
     let s = c.args.self.now.state in
     let codes = c.args.codes.now in
-    let list = text_is s c.args.set codes c.requires.agrees.drawing.mode ∙ ap (λ (hand : Hand). text_in c.args.set hand codes) (sym c.hand-hand.ensures) in
-    let there = c.in_ok-put_text.ensures.1 ∙ ap (walk (g.S.Sink.state c.args.sink.now)) (sym list) in
+    let list = text_is s c.args.set codes c.requires.agrees.drawing.mode in
+    let there = c.in_ok-put_batch.ensures.state ∙ ap (walk (g.S.Sink.state c.args.sink.now)) (sym list) in
     rw there (subst (λ (t : State). StatesAgree t (walk (g.S.Sink.state c.args.sink.now) (text s c.args.set codes)))
     (text_left s c.args.set codes c.in-Some.field-0-1.now c.in-Some.code.now c.requires.agrees.drawing.mode c.in-Some.ensures.cases.0)
     (text_fits s (g.S.Sink.state c.args.sink.now) c.args.set codes c.requires.agrees c.requires.made).1)

@@ -1,24 +1,26 @@
 use Rattle.std.proofs.Common.{None, ◌∙◌, refl}
 use Rattle.std.proofs.lemmas.Result.{err_from_is_err_and}
 use Rattle.nap_draw.specs.Geometry.{end_of}
-use Rattle.nap_list.specs.Putting.{point_on}
+use Rattle.nap_list.specs.Batches.{point_on}
+use Rattle.nap_list.specs.PuttingLaws.{some_put}
+use Rattle.nap_list.specs.Shown.{shows_of}
 use Rattle.nap_draw.specs.Doing.{quiet}
 use Rattle.nap_draw.proofs.Acting.{does_put, does_stop}
 use Rattle.nap_draw.proofs.Fits.{all_fit}
 use Rattle.nap_draw.proofs.Walks.{point_lands, draws_end, end_is_last, itself}
 use Rattle.nap_draw.proofs.work.Work.dots.Goals as goal
 
-pub put_points-requires : goal.put_points-requires
-put_points-requires g c = (all_fit point_on (λ p. p) point_lands c.args.self.now.state None c.args.points.now _ c.requires).0
+pub put_batch-requires : goal.put_batch-requires
+put_batch-requires g c = (all_fit point_on (λ p. p) point_lands c.args.self.now.state None c.args.points.now _ c.requires).0
 
-pub returns-in_err-put_points : goal.returns-in_err-put_points
-returns-in_err-put_points g c =
+pub returns-in_err-put_batch : goal.returns-in_err-put_batch
+returns-in_err-put_batch g c =
     let fault = err_from_is_err_and c.from_residual.result c.from_residual.ensures.1 in
-    rw (fault.1, fault.2) (does_stop g.S.Sink quiet _ _ _ _ _ _ refl c.in_err-put_points.ensures)
+    rw (fault.1, fault.2) (does_stop g.S.Sink quiet _ _ _ _ _ _ refl (some_put (shows_of g.S.Sink) (Unit {0}) _ _ _ _ _ c.in_err-put_batch.ensures))
 
 pub returns : goal.returns
 returns g c =
     let p = c.copied.result in
     let last = end_is_last c.args.points.now p (c.copied.ensures ∙ c.last.ensures.value) in
     rw c.land.ensures (does_put g.S.Sink quiet _ c.args.self.now _ _ _ _ (tt {0})
-    (draws_end point_on (λ p. p) point_lands c.args.self.now c.args.points.now p c.requires.drawing.mode (last ∙ itself (end_of None c.args.points.now))) c.in_ok-put_points.ensures)
+    (draws_end point_on (λ p. p) point_lands c.args.self.now c.args.points.now p c.requires.drawing.mode (last ∙ itself (end_of None c.args.points.now))) c.in_ok-put_batch.ensures)

@@ -1,7 +1,8 @@
 use Rattle.std.proofs.Common.{Ok, ap}
+use Rattle.std.proofs.lemmas.Result.{err_from_is_err_and}
 use Rattle.nap_list.specs.State.{walk}
-use Rattle.nap_draw.proofs.Acting.{obeys_quietly}
-use Rattle.nap_draw.proofs.Endings.{not_ended}
+use Rattle.nap_draw.proofs.Acting.{obeys_quietly, obeys_stop}
+use Rattle.nap_draw.proofs.Endings.{not_ended, is_ended}
 use Rattle.nap_draw.proofs.work.Work.end.Goals as goal
 
 pub returns-then-is_none : goal.returns-then-is_none
@@ -9,3 +10,9 @@ unfolding walk
 returns-then-is_none g c =
     let w = c.args.self.now in
     obeys_quietly g.S.Sink _ w _ c.args.sink.now (g.met.S.Sink.took_none c.args.sink.now) (ap Ok (not_ended w w.state.definition c.if-is_none.ensures))
+
+pub returns-in_err-put : goal.returns-in_err-put
+returns-in_err-put g c =
+    let w = c.args.self.now in
+    let fault = err_from_is_err_and c.from_residual.result c.from_residual.ensures.1 in
+    rw (fault.1, fault.2) (obeys_stop g.S.Sink _ w _ _ _ _ (g.met.S.Sink.took_none _) g.met.S.Sink.wants_more (ap Ok (is_ended w w.state.definition c.if-is_none.ensures)) (λ none. cc) c.in_err-put.ensures)

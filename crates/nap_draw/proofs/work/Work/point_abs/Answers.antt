@@ -2,7 +2,7 @@ use Rattle.std.proofs.Common.{List, [], Some, sym, ◌∙◌, ap, refl}
 use Rattle.std.proofs.lemmas.Result.{err_from_is_err_and}
 use Rattle.nap_values.specs.Coordinates.{Coordinates}
 use Rattle.nap_draw.specs.Geometry.{points_at}
-use Rattle.nap_list.specs.Putting.{point_on}
+use Rattle.nap_list.specs.Batches.{point_on}
 use Rattle.nap_draw.specs.Rule.{moves_of, draws}
 use Rattle.nap_draw.specs.Doing.{quiet}
 use Rattle.nap_draw.proofs.Acting.{does_refused, does_unfilled, does_as}

@@ -1,6 +1,6 @@
 use Rattle.nap_list.proofs.PublicLaws.{agreeing_fits}
 use Rattle.nap_list.specs.Shown.{shows_of}
-use Rattle.nap_list.proofs.Puts.{put_one}
+use Rattle.nap_list.specs.PuttingLaws.{one_put}
 use Rattle.nap_draw.proofs.work.Work.put.Goals as goal
 
 pub put-requires : goal.put-requires
@@ -10,4 +10,4 @@ pub returns : goal.returns
 returns g c =
     let put = c.put.ensures in
     let laws = g.met.S.Sink in
-    put_one (shows_of g.S.Sink) c.args.sink.now c.put.new.self c.args.entry c.put.result (laws.took_none c.args.sink.now) laws.took_more laws.took_broke laws.wants_more put.took put.after put.memory put.wants put.refuses put.write put.only_write put.broke put.still
+    one_put (shows_of g.S.Sink) c.args.sink.now c.put.new.self c.args.entry c.put.result (laws.took_none c.args.sink.now) put.took put.after put.memory put.wants put.refuses put.write put.only_write put.broke put.still

@@ -4,7 +4,7 @@ use Rattle.nap_list.specs.declared.entry.Entry.{Entry}
 use Rattle.nap_list.specs.declared.entry.Entry.TheVariants as entries
 use Rattle.nap_draw.specs.Doing.{Put, Putting, start_of}
 use Rattle.nap_list.specs.Shown.{shows_of}
-use Rattle.nap_list.proofs.Puts.{put_begins, put_goes, put_stops, put_last}
+use Rattle.nap_list.specs.PuttingLaws.{put_begins, one_goes, one_stops, one_put, rest_put}
 use Rattle.nap_draw.proofs.Endings.{with_end}
 use Rattle.nap_draw.proofs.work.Work.put_start.Goals as goal
 
@@ -18,7 +18,8 @@ returns-in_err-put g c =
     let is = with_end c.args.self.now start (start_of c.args.what) c.if-is_none.ensures c.start_of-start.ensures in
     let fault = err_from_is_err_and c.from_residual.result c.from_residual.ensures.1 in
     rw (fault.1, fault.2) (subst (λ (list : List Entry). Put {A = Unit {0}} g.S.Sink list s c.put-2.new.self (Err c.in_err-put.field-0.0)) is
-    (put_stops (shows_of g.S.Sink) (Unit {0}) s s c.put-2.new.self whole (start ∷ []) whole entries.DefEnd _ laws.took_broke laws.wants_more (put_begins (shows_of g.S.Sink) s whole (laws.took_none s)) refl put.memory put.broke put.still put.write put.wants put.only_write put.refuses))
+    (one_stops (shows_of g.S.Sink) (Unit {0}) s s whole whole (put_begins (shows_of g.S.Sink) s whole (laws.took_none s)) (laws.took_none s) laws.took_more laws.took_broke laws.wants_more c.put-2.new.self entries.DefEnd (start ∷ []) _ refl
+    (record { memory = put.memory; wants = put.wants; refuses = put.refuses; write = put.write; only_write = put.only_write; broke = put.broke; still = put.still })))
 
 pub returns : goal.returns
 returns g c =
@@ -31,6 +32,7 @@ returns g c =
     let put = c.put-3.ensures in
     let is = with_end c.args.self.now start (start_of c.args.what) c.if-is_none.ensures c.start_of-start.ensures in
     let begun : Putting g.S.Sink s t whole (start ∷ []) =
-    put_goes (shows_of g.S.Sink) s s t whole (start ∷ []) whole entries.DefEnd laws.took_more (put_begins (shows_of g.S.Sink) s whole (laws.took_none s)) refl first.took first.after first.only_write first.refuses in
+    one_goes (shows_of g.S.Sink) s s whole whole (put_begins (shows_of g.S.Sink) s whole (laws.took_none s)) laws.took_more t entries.DefEnd (start ∷ []) refl first.took first.after first.only_write first.refuses in
     subst (λ (list : List Entry). Put g.S.Sink list s c.put-3.new.self c.put-3.result) is
-    (put_last (shows_of g.S.Sink) s t c.put-3.new.self whole start c.put-3.result laws.took_more laws.took_broke laws.wants_more begun put.took put.after put.memory put.wants put.refuses put.write put.only_write put.broke put.still)
+    (rest_put (shows_of g.S.Sink) (Unit {0}) s t whole (start ∷ []) begun laws.took_more laws.took_broke laws.wants_more c.put-3.new.self c.put-3.result
+    (one_put (shows_of g.S.Sink) t c.put-3.new.self start c.put-3.result (laws.took_none t) put.took put.after put.memory put.wants put.refuses put.write put.only_write put.broke put.still))

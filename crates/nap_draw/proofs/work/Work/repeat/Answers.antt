@@ -32,7 +32,7 @@ returns-in_err-put_copies g c =
     let last = c.in-Some.last in
     let some : 0 < c.args.count = grind (arith, nat_tests) in
     let fault = err_from_is_err_and c.from_residual.result c.from_residual.ensures.1 in
-    rw (fault.1, fault.2) (obeys_stop g.S.Sink _ w _ _ _ _ (repeat_is last w c.hand.result c.args.count c.hand.ensures c.in-Some.is c.requires.drawing.mode some) (copies_some last c.hand.result c.args.count some) c.in_err-put_copies.ensures)
+    rw (fault.1, fault.2) (obeys_stop g.S.Sink _ w _ _ _ _ (g.met.S.Sink.took_none _) g.met.S.Sink.wants_more (repeat_is last w c.hand.result c.args.count c.hand.ensures c.in-Some.is c.requires.drawing.mode some) (copies_some last c.hand.result c.args.count some) c.in_err-put_copies.ensures)
 
 pub returns : goal.returns
 returns g c =

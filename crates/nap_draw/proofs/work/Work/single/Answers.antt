@@ -10,7 +10,7 @@ use Rattle.nap_draw.proofs.work.Work.single.Goals as goal
 pub returns-in_err-put : goal.returns-in_err-put
 returns-in_err-put g c =
     let fault = err_from_is_err_and c.from_residual.result c.from_residual.ensures.1 in
-    rw (fault.1, fault.2) (obeys_stop g.S.Sink _ _ _ _ _ _ refl (λ none. cc) c.in_err-put.ensures)
+    rw (fault.1, fault.2) (obeys_stop g.S.Sink _ _ _ _ _ _ (g.met.S.Sink.took_none _) g.met.S.Sink.wants_more refl (λ none. cc) c.in_err-put.ensures)
 
 pub returns : goal.returns
 unfolding walk

@@ -1,5 +1,7 @@
-use Rattle.nap_list.proofs.Counted.{one}
+use Rattle.std.proofs.Common.{arith}
+use Rattle.nap_list.specs.State.{walk}
 use Rattle.nap_list.proofs.count_sink.CountSinkSink.put.Goals as goal
 
 pub returns-clause-took : goal.returns-clause-took
-returns-clause-took c = one c.args.self.now c.advance.new.self c.args.entry c.advance.result c.advance.ensures
+unfolding walk
+returns-clause-took c = record { count = omega (arith, c.in-Some.ensures); state = c.step.ensures }

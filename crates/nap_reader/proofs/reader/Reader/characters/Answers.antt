@@ -43,7 +43,7 @@ returns-in-Ok-clause-takes g c =
     let q : List ℕ = c.graphic_bytes-text.result.now in
     let front = at_front 32 piece q c.graphic_bytes-text.ensures.bytes in
     text_takes old _ c.in-Some.set piece q front.0 front.1 c.requires.live c.requires.between c.requires.closed ((c.characters.ensures c.in-Some.set).0 c.in-Some.is) c.graphic_bytes-text.ensures.graphic g.met.S.Sink.took_more
-    c.in-Ok.ensures.put.0 c.in-Ok.ensures.put.2 c.requires.live refl (ap (λ (work : Work). record (holding_of old) { machine = record (machine_of old) { work = work } }) c.in-Ok.ensures.work) refl refl refl
+    c.in-Ok.ensures.put.took c.in-Ok.ensures.put.works c.requires.live refl (ap (λ (work : Work). record (holding_of old) { machine = record (machine_of old) { work = work } }) c.in-Ok.ensures.work) refl refl refl
 
 pub returns-in-Err-clause-stops : goal.returns-in-Err-clause-stops
 returns-in-Err-clause-stops g c =

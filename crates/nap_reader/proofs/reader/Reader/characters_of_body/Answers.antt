@@ -73,7 +73,7 @@ returns-in-Ok-clause-takes g c =
     let gives = skipped c.args.self.now.store.bytes c.bytes.result.now c.bytes-in-Ok.result.now c.args.self.now.frames.stack.items c.skip.new.self.stack.items body c.in-Some-innermost.place
     (length q) c.bytes.ensures c.bytes-in-Ok.ensures c.in-Some-innermost.ensures (front.0) c.skip.ensures.given in
     takes_text old _ c.in-Some-innermost.place q c.requires.between (gives ∙ ap (λ (bs : List ℕ). all_at c.in-Some-innermost.place bs ++ unread old.store.bytes c.skip.new.self.stack.items) front.1) c.in-Some.set c.requires.closed ((c.characters.ensures c.in-Some.set).0 c.in-Some.is)
-    c.graphic_bytes-text.ensures.graphic g.met.S.Sink.took_more c.in-Ok.ensures.put.0 c.in-Ok.ensures.put.2 refl refl refl
+    c.graphic_bytes-text.ensures.graphic g.met.S.Sink.took_more c.in-Ok.ensures.put.took c.in-Ok.ensures.put.works refl refl refl
     (ap (λ (work : Work). record (holding_of old) { machine = record (machine_of old) { work = work } }) c.in-Ok.ensures.work)
 
 pub invariant_of-self-in-Ok-clause-framed : goal.invariant_of-self-in-Ok-clause-framed

@@ -1,0 +1,7 @@
+use Rattle.nap_canon.proofs.JoinLemmas.{whole_few}
+use Rattle.nap_canon.proofs.writer.Writer.put_joined.Goals as goal
+
+pub pass_on-requires-clause-few : goal.pass_on-requires-clause-few
+pass_on-requires-clause-few g c =
+    let put = c.write_joined-put in
+    rw c.whole_entries.ensures (whole_few g.T.ByteSink.sent c.args.self.now.to put.new.self.to c.args.batch.now c.args.first c.args.count put.result c.requires.few put.ensures.sent)

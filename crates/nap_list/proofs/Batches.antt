@@ -1,0 +1,180 @@
+use Rattle.std.proofs.Common.{ℕ, zero, suc, ◌≡◌, ◌+◌, ◌-◌, ◌<◌, ◌≤◌, List, [], ◌∷◌, ◌++◌, Some, map, take, drop, length, get_or, refl, sym, ◌∙◌, ap, subst, length-drop, arith}
+use Rattle.std.specs.Prelude.{⊤}
+use Rattle.std.proofs.Math.Seq.{drop-nil}
+use Rattle.std.proofs.lemmas.List.{drop-drop}
+use Rattle.nap_values.specs.Coordinates.{Coordinates}
+use Rattle.nap_codes.specs.declared.code_set.CharSet.{CharSet}
+use Rattle.nap_list.specs.declared.attribute.Base.{Base}
+use Rattle.nap_list.specs.declared.attribute.Colour.{Colour}
+use Rattle.nap_list.specs.declared.attribute.Colour.TheVariants as colours
+use Rattle.nap_list.specs.declared.attribute.Hand.{Hand}
+use Rattle.nap_list.specs.declared.attribute.Pen.{Pen}
+use Rattle.nap_list.specs.declared.attribute.Pen.TheVariants.{After}
+use Rattle.nap_list.specs.declared.batch.Batch.{Batch}
+use Rattle.nap_list.specs.declared.batch.Batch.TheVariants as batches
+use Rattle.nap_list.specs.declared.entry.Entry.{Entry}
+use Rattle.nap_list.specs.declared.entry.Entry.TheVariants as entries
+use Rattle.nap_list.specs.declared.state.Drawing.{Drawing}
+use Rattle.nap_list.specs.declared.state.State.{State}
+use Rattle.nap_list.specs.Agreement.{Stands}
+use Rattle.nap_list.specs.Entry.{held}
+use Rattle.nap_list.specs.Laws.{BatchStands, TextLeaves}
+use Rattle.nap_list.specs.State.{after, walk, taking, hand_of, base_shown}
+use Rattle.nap_list.specs.Batches.{EachStands, marked, point_on, line_on, char_on, lines_on, text_in, listed, last_of}
+use Rattle.nap_list.specs.BatchLaws.{points_rest, lines_rest}
+use Rattle.nap_list.proofs.Agreement.{taking_stands}
+
+-- The entries of a batch: behind the first, each holds what stands, and leaves another pen and another last character.
+
+-- a direct colour that was held stands
+colour_stays : (base : Base) (colour : Colour) → base_shown (base_shown base (Some colour)) (Some colour) ≡ base_shown base (Some colour)
+colour_stays base (colours.Own origin) = refl
+colour_stays base (colours.Direct grb) = refl
+colour_stays base (colours.Front addr) = refl
+colour_stays base (colours.Pair front back) = refl
+colour_stays base (colours.ByReset preset) = refl
+
+-- what an entry holds stands behind another
+abbrev Next : Entry → Entry → Type 0
+Next e x = (s : State) → Stands (held x) (after s e).drawing
+
+-- entries of one kind: the first is one of these, and each further one comes next to the one before
+Chain : (Entry → Type 0) → List Entry → Type 0
+Chain First [] = ⊤
+Chain First (e ∷ es) = First e × ((s : State) → after s e ≡ marked s e (taking s.drawing (held e))) × Chain (Next e) es
+
+points_chain : (First : Entry → Type 0) (d : Drawing) → ((p : Coordinates) → First (point_on d p)) → (points : List Coordinates) → Chain First (map (point_on d) points)
+unfolding Chain
+points_chain First d first [] = tt
+points_chain First d first (p ∷ ps) =
+    let next : (q : Coordinates) → Next (point_on d p) (point_on d q) = λ q s. record { holds = record { pen = tt; pel = refl; colour = refl; texture = tt; text = tt }; base = colour_stays s.drawing.base d.colour } in
+    (first p, λ s. refl, points_chain (Next (point_on d p)) d next ps)
+
+lines_chain : (First : Entry → Type 0) (d : Drawing) (from : Coordinates) → ((p : Coordinates) → First (line_on d from p)) → (points : List Coordinates) → Chain First (lines_on d from points)
+unfolding Chain lines_on
+lines_chain First d from first [] = tt
+lines_chain First d from first (p ∷ ps) =
+    let next : (q : Coordinates) → Next (line_on d from p) (line_on d p q) = λ q s. record { holds = record { pen = tt; pel = refl; colour = refl; texture = refl; text = tt }; base = colour_stays s.drawing.base d.colour } in
+    (first p, λ s. refl, lines_chain (Next (line_on d from p)) d p next ps)
+
+-- a character behind another
+next_char : (set : CharSet) (hand : Hand) (a b : ℕ) → Next (entries.Char set a hand) (entries.Char set b (record hand { pen = After }))
+next_char set hand a b s = record { holds = record { pen = refl; pel = tt; colour = refl; texture = tt; text = refl }; base = colour_stays s.drawing.base hand.colour }
+
+text_chain : (First : Entry → Type 0) (set : CharSet) (hand : Hand) → ((code : ℕ) → First (entries.Char set code hand)) → (codes : List ℕ) → Chain First (text_in set hand codes)
+unfolding Chain text_in
+text_chain First set hand first [] = tt
+text_chain First set hand first (c ∷ cs) = (first c, λ s. refl, text_chain (Next (entries.Char set c hand)) set (record hand { pen = After }) (next_char set hand c) cs)
+
+batch_chain : (b : Batch) → Chain (λ e. ⊤) (listed b)
+batch_chain (batches.Points points d) = points_chain (λ e. ⊤) d.now (λ p. tt) points.now
+batch_chain (batches.Lines from points d) = lines_chain (λ e. ⊤) d.now from (λ p. tt) points.now
+batch_chain (batches.Text set codes pen d) = text_chain (λ e. ⊤) set (record (hand_of d.now) { pen = pen }) (λ c. tt) codes.now
+
+-- the values of each stand, where those of the first do
+chain_stands : (s : State) (First : Entry → Type 0) (es : List Entry) → ((e : Entry) → First e → Stands (held e) s.drawing) → Chain First es → EachStands s es
+unfolding Chain EachStands
+chain_stands s First [] first chain = tt
+chain_stands s First (e ∷ es) first chain = (first e chain.0, chain_stands (after s e) (Next e) es (λ x next. next s) chain.2)
+
+pub batch_stands : BatchStands
+unfolding Chain
+batch_stands b s e es is = chain_stands (after s e) (Next e) es (λ x next. next s) (subst (Chain (λ e. ⊤)) is (batch_chain b)).2
+
+-- where the values of each stand, so many of them leave the mark of the last, and nothing else
+chain_passes : (s : State) (First : Entry → Type 0) (es : List Entry) (m n : ℕ) (x : Entry) (xs : List Entry) → Chain First es → EachStands s (drop m es) → drop n (drop m es) ≡ x ∷ xs →
+    walk s (take (suc n) (drop m es)) ≡ marked s x s.drawing
+unfolding Chain EachStands walk
+chain_passes s First [] m n x xs chain stand is = let bad : ⊥ = cc (ap (drop n) (drop-nil {A = Entry} m), drop-nil {A = Entry} n) in absurd bad
+chain_passes s First (e ∷ es) (suc m) n x xs chain stand is = chain_passes s (Next e) es m n x xs chain.2 stand is
+chain_passes s First (e ∷ es) zero zero x xs chain stand is =
+    let same : e ≡ x = cc in
+    rw (← same) (chain.1 s ∙ ap (marked s e) (taking_stands (held e) s.drawing stand.0))
+chain_passes s First (e ∷ es) zero (suc n) x xs chain stand is =
+    chain_passes (after s e) (Next e) es zero n x xs chain.2 stand.1 is ∙ ap (λ (t : State). marked t x t.drawing) (chain.1 s ∙ ap (marked s e) (taking_stands (held e) s.drawing stand.0))
+
+pub batch_passes : (s t : State) (b : Batch) (m n count : ℕ) → m + n < length (listed b) → EachStands s (drop m (listed b)) → (1 ≤ count) × (n ≡ count - 1) →
+    ((x : Entry) (xs : List Entry) → drop (m + n) (listed b) ≡ x ∷ xs → t ≡ marked s x s.drawing) → t ≡ walk s (take count (drop m (listed b)))
+batch_passes s t b m n count less stand further leaves = by (drop (m + n) (listed b)) refl
+  where
+    by : (rest : List Entry) → drop (m + n) (listed b) ≡ rest → t ≡ walk s (take count (drop m (listed b)))
+    by [] is = absurd (omega (arith, less, ap length is, length-drop (m + n) (listed b)))
+    by (x ∷ xs) is =
+        let size : suc n ≡ count = omega arith in
+        leaves x xs is ∙ rw (← size) (sym (chain_passes s (λ e. ⊤) (listed b) m n x xs (batch_chain b) stand (drop-drop n m (listed b) ∙ is)))
+
+-- the first entries leave the values of the first, and the mark of the last
+pub front_passes : (s t : State) (b : Batch) (n count : ℕ) (e : Entry) (es : List Entry) → n < length (listed b) → (1 ≤ count) × (n ≡ count - 1) → listed b ≡ e ∷ es →
+    ((x : Entry) (xs : List Entry) → drop n (listed b) ≡ x ∷ xs → t ≡ marked s x (taking s.drawing (held e))) → t ≡ walk s (take count (listed b))
+unfolding Chain walk
+front_passes s t b n count e es less further all leaves =
+    let size : suc n ≡ count = omega arith in
+    rw (← size, all) (by n (subst (λ (list : List Entry). n < length list) all less) (λ x xs is. leaves x xs (ap (drop n) all ∙ is)))
+  where
+    chain : Chain (λ e. ⊤) (e ∷ es)
+    chain = subst (Chain (λ e. ⊤)) all (batch_chain b)
+
+    by : (n : ℕ) → n < length (e ∷ es) → ((x : Entry) (xs : List Entry) → drop n (e ∷ es) ≡ x ∷ xs → t ≡ marked s x (taking s.drawing (held e))) → t ≡ walk s (take (suc n) (e ∷ es))
+    by zero less leaves = leaves e es refl ∙ sym (chain.1 s)
+    by (suc n) less leaves = behind (drop n es) refl
+      where
+        behind : (rest : List Entry) → drop n es ≡ rest → t ≡ walk (after s e) (take (suc n) es)
+        behind [] is = absurd (omega (arith, less, ap length is, length-drop n es))
+        behind (x ∷ xs) is =
+            leaves x xs is
+            ∙ sym (chain_passes (after s e) (Next e) es zero n x xs chain.2 (batch_stands b s e es all) is ∙ ap (λ (t : State). marked t x t.drawing) (chain.1 s))
+
+pub text_leaves : TextLeaves
+unfolding walk text_in
+text_leaves s set hand codes front last is = ap (λ (cs : List ℕ). walk s (text_in set hand cs)) is ∙ along s hand front
+  where
+    along : (s : State) (hand : Hand) (front : List ℕ) → walk s (text_in set hand (front ++ last ∷ [])) ≡ after s (entries.Char set last hand)
+    along s hand [] = refl
+    along s hand (c ∷ cs) =
+        let t = after s (entries.Char set c hand) in
+        let x = entries.Char set last (record hand { pen = After }) in
+        along t (record hand { pen = After }) cs ∙ ap (marked t x) (taking_stands (held x) t.drawing (next_char set hand c last s))
+
+-- the one at an index, with those behind it
+
+behind : {A : Type 0} (list : List A) (n : ℕ) (x : A) (xs : List A) → drop n list ≡ x ∷ xs → drop n list ≡ x ∷ drop (n + 1) list
+behind {A = A} list n x xs is = is ∙ ap (λ (l : List A). x ∷ l) (sym (ap (drop 1) is) ∙ drop-drop 1 n list)
+
+pub points_at : (b : Batch) (points : _) (d : _) (n : ℕ) (p : Coordinates) (ps : List Coordinates) → b ≡ batches.Points points d → drop n points.now ≡ p ∷ ps →
+    drop n (listed b) ≡ point_on d.now p ∷ drop (n + 1) (listed b)
+points_at b points d n p ps is cut =
+    behind (listed b) n (point_on d.now p) (map (point_on d.now) ps) (rw is (sym (points_rest d.now points.now n) ∙ ap (map (point_on d.now)) cut))
+
+pub lines_at : (b : Batch) (from : _) (points : _) (d : _) (n : ℕ) (p : Coordinates) (ps : List Coordinates) → b ≡ batches.Lines from points d → drop n points.now ≡ p ∷ ps →
+    drop n (listed b) ≡ line_on d.now (last_of from (take n points.now)) p ∷ drop (n + 1) (listed b)
+unfolding lines_on
+lines_at b from points d n p ps is cut =
+    let start = last_of from (take n points.now) in
+    behind (listed b) n (line_on d.now start p) (lines_on d.now p ps) (rw is (sym (lines_rest d.now from points.now n) ∙ ap (lines_on d.now start) cut))
+
+pub text_at : (b : Batch) (set : _) (codes : _) (first : Pen) (d : _) (n : ℕ) (pen : Pen) (c : ℕ) (cs : List ℕ) → b ≡ batches.Text set codes first d →
+    (n ≡ 0 → pen ≡ first) → (0 < n → pen ≡ After) → drop n codes.now ≡ c ∷ cs → drop n (listed b) ≡ char_on d.now pen set c ∷ drop (n + 1) (listed b)
+unfolding text_in
+text_at b set codes first d n pen c cs is front later cut =
+    let hand : Hand = hand_of d.now in
+    behind (listed b) n (char_on d.now pen set c) (text_in set (record hand { pen = After }) cs) (rw is (at (record hand { pen = first }) codes.now n front later cut))
+  where
+    at : (hand : Hand) (codes : List ℕ) (n : ℕ) → (n ≡ 0 → pen ≡ hand.pen) → (0 < n → pen ≡ After) → drop n codes ≡ c ∷ cs →
+        drop n (text_in set hand codes) ≡ entries.Char set c (record hand { pen = pen }) ∷ text_in set (record hand { pen = After }) cs
+    at hand codes zero front later cut = rw (cut, front refl) refl
+    at hand [] (suc n) front later cut = let bad : ⊥ = cc in absurd bad
+    at hand (a ∷ rest) (suc n) front later cut = let on = later (omega arith) in at (record hand { pen = After }) rest n (λ _. on) (λ _. on) cut
+
+-- the mark of the entry that is at the front of a list
+pub same_mark : (s : State) (list : List Entry) (x e : Entry) (xs es : List Entry) → list ≡ x ∷ xs → list ≡ e ∷ es → marked s x s.drawing ≡ marked s e s.drawing
+same_mark s list x e xs es first second =
+    let same : x ≡ e = cc in
+    ap (λ (e : Entry). marked s e s.drawing) same
+
+-- where a line begins
+
+pub last_of_front : (p : Coordinates) (points : List Coordinates) (i n : ℕ) (z : Coordinates) → i ≡ suc n → n < length points → last_of p (take i points) ≡ get_or points n z
+unfolding last_of
+last_of_front p [] i n z is less = absurd (omega arith)
+last_of_front p (q ∷ qs) i zero z is less = rw is refl
+last_of_front p (q ∷ qs) i (suc n) z is less = rw is (last_of_front q qs (suc n) n z refl (omega arith))

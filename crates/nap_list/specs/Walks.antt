@@ -1,0 +1,44 @@
+use Rattle.std.proofs.Common.{◌≡◌, List, [], ◌∷◌, ◌++◌, refl}
+use Rattle.nap_list.specs.declared.entry.Entry.{Entry}
+use Rattle.nap_list.specs.declared.state.State.{State}
+use Rattle.nap_list.specs.State.{after, walk, AllFit, Fits}
+use Rattle.nap_list.specs.Laws.{WalksJoin, FitsJoin}
+
+-- How walks and fitting lists join.
+
+-- a walk goes on from where the list before it leads
+pub walk-append : (s : State) (xs ys : List Entry) → walk s (xs ++ ys) ≡ walk (walk s xs) ys
+unfolding walk
+walk-append s [] ys = refl
+walk-append s (x ∷ xs) ys = walk-append (after s x) xs ys
+
+pub walk_more : (s : State) (xs : List Entry) (x : Entry) → walk s (xs ++ x ∷ []) ≡ after (walk s xs) x
+unfolding walk
+walk_more s xs x = walk-append s xs (x ∷ [])
+
+-- lists fit one after the other exactly where they fit joined
+
+pub fit-append : (s : State) (xs ys : List Entry) → AllFit s xs → AllFit (walk s xs) ys → AllFit s (xs ++ ys)
+unfolding walk AllFit
+fit-append s [] ys fit more = more
+fit-append s (x ∷ xs) ys fit more = (fit.0, fit-append (after s x) xs ys fit.1 more)
+
+pub fit_front : (s : State) (xs ys : List Entry) → AllFit s (xs ++ ys) → AllFit s xs
+unfolding AllFit
+fit_front s [] ys fit = tt
+fit_front s (x ∷ xs) ys fit = (fit.0, fit_front (after s x) xs ys fit.1)
+
+pub fit_rest : (s : State) (xs ys : List Entry) → AllFit s (xs ++ ys) → AllFit (walk s xs) ys
+unfolding walk AllFit
+fit_rest s [] ys fit = fit
+fit_rest s (x ∷ xs) ys fit = fit_rest (after s x) xs ys fit.1
+
+pub fit_more : (s : State) (xs : List Entry) (x : Entry) → AllFit s xs → Fits (walk s xs) x → AllFit s (xs ++ x ∷ [])
+unfolding AllFit
+fit_more s xs x fit fits = fit-append s xs (x ∷ []) fit (fits, tt)
+
+pub walks_join : WalksJoin
+walks_join = walk-append
+
+pub fits_join : FitsJoin
+fits_join s xs ys = (λ fit. (fit_front s xs ys fit, fit_rest s xs ys fit), λ both. fit-append s xs ys both.0 both.1)
