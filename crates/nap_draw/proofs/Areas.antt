@@ -12,7 +12,7 @@ use Rattle.std.specs.Option.{option_map, ok_or}
 use Rattle.nap_list.specs.declared.attribute.Area.TheVariants as areas
 use Rattle.nap_draw.specs.declared.fault.DrawFault.TheVariants as faults
 
--- a field is refused by the stream alone
+-- A field is refused by the stream alone.
 
 part_stream : (o : Option Coordinates) (m : Displacement) (fault : DrawFault) → part o m ≡ Err fault → cause_of fault ≡ stream
 part_stream o m fault is = at (span_by o m) is

@@ -20,6 +20,8 @@ use Rattle.nap_draw.specs.Rule.{start_domain, reset_rule, drawn, maps, colours_a
 use Rattle.nap_draw.proofs.Cuts.{operands-front, operands_none}
 use Rattle.nap_draw.proofs.Still.{walk_stays, wait_stays, blink_stays}
 
+-- What the rules of colours, times and RESET give.
+
 -- SET COLOR
 
 pub set_none : (work : Work) (k : ℕ) (run : List ℕ) → length run ≡ 0 → set_color_rule work (operands k run) ≡ Err faults.Missing

@@ -1,4 +1,4 @@
-use Rattle.std.proofs.Common.{ℕ, zero, suc, List, [], ◌∷◌, Bool, Option, Some, None, IfSome, Result, Ok, IfOk, subst, arith}
+use Rattle.std.proofs.Common.{ℕ, zero, suc, [], ◌∷◌, Bool, Option, Some, None, IfSome, Result, Ok, subst, arith}
 use Rattle.std.proofs.lemmas.List.Elements.{All-nil, All-cons, All-append}
 use Rattle.nap_codes.specs.declared.code.Code.{Code}
 use Rattle.nap_codes.specs.declared.code.Code.TheVariants as codes
@@ -15,16 +15,14 @@ use Rattle.nap_list.specs.State.{after}
 use Rattle.nap_list.specs.Range.{IsByte, TextInRange, HandInRange, StepInRange, InRange, AllInRange, StateInRange}
 use Rattle.nap_draw.specs.declared.work.Work.{Work}
 use Rattle.nap_draw.specs.declared.fault.DrawFault.{DrawFault}
-use Rattle.nap_draw.specs.Rule.{Drawn, drawn, with_drawing}
+use Rattle.nap_draw.specs.Rule.{Drawn}
 use Rattle.nap_list.specs.State.{hand_of}
-use Rattle.nap_draw.specs.Codes.{IsMade, char_on, copies, ended, ended_by, opens, puts, looks, with_last, code_rule}
+use Rattle.nap_draw.specs.Codes.{IsMade, char_on, copies, ended, ended_by, opens, looks, with_last, code_rule}
 use Rattle.nap_draw.specs.Laws.{CodeValuesAreInRange}
 use Rattle.nap_draw.proofs.WalkRanges.{after_ranged, walk_ranged}
+use Rattle.nap_draw.proofs.RangeLemmas.{Ranged, silent_ranged, list_ranged, one_ranged}
 
 -- What the rules of characters and controls give is in range.
-
-abbrev Ranged : Result Drawn DrawFault → Type 0
-Ranged by = IfOk by (λ d. AllInRange d.entries × StateInRange d.work.state)
 
 byte : (code : ℕ) → IsCode code → IsByte code
 byte code made = omega (arith, made.1)
@@ -45,22 +43,9 @@ copies_ranged s last (suc n) r code =
     All-cons InRange e (copies (after s e) last n) here (copies_ranged (after s e) last n (after_ranged s e r here) code)
 
 module _ (work : Work) (r : StateInRange work.state) where
-  list_ranged : (list : List Entry) → AllInRange list → Ranged (Ok (drawn work list))
-  list_ranged list all = (all, walk_ranged work.state list r all)
-
-  puts_ranged : (e : Entry) → InRange e → Ranged (puts work e)
-  puts_ranged e here = list_ranged (e ∷ []) (All-cons InRange e [] here (All-nil InRange))
-
   looks_ranged : (look : TextLook) → TextInRange look → Ranged (looks work look)
   looks_ranged look text =
-      let d = record work.state.drawing { text = look } in
-      let there : StateInRange (with_drawing work d).state = record {
-        drawing = record { pen = r.drawing.pen; pel = r.drawing.pel; base = r.drawing.base; colour = r.drawing.colour; texture = r.drawing.texture; text = text };
-        definition = r.definition;
-        last = r.last;
-        known = r.known;
-      } in
-      (All-nil InRange, walk_ranged (with_drawing work d).state [] there (All-nil InRange))
+      silent_ranged work _ r (record { pen = r.drawing.pen; pel = r.drawing.pel; base = r.drawing.base; colour = r.drawing.colour; texture = r.drawing.texture; text = text })
 
   last_ranged : (o : Option LastChar) (next : LastChar → Result Drawn DrawFault) → IfSome o (λ last. IsByte last.code) → ((last : LastChar) → IsByte last.code → Ranged (next last)) →
       Ranged (with_last o next)
@@ -71,8 +56,8 @@ module _ (work : Work) (r : StateInRange work.state) where
   flags_ranged reverse underline wrap scroll = looks_ranged _ (record { first = r.drawing.text.first; second = r.drawing.text.second; size = r.drawing.text.size })
 
   ended_ranged : (o : Option Opened) → Ranged (Ok (ended_by work o))
-  ended_ranged None = list_ranged [] (All-nil InRange)
-  ended_ranged (Some opened) = puts_ranged entries.DefEnd tt
+  ended_ranged None = list_ranged work r [] (All-nil InRange)
+  ended_ranged (Some opened) = one_ranged work r entries.DefEnd tt
 
   opens_ranged : (e : Entry) → InRange e → Ranged (opens work e)
   opens_ranged e here =
@@ -81,14 +66,14 @@ module _ (work : Work) (r : StateInRange work.state) where
       (All-append InRange (ended work).entries (e ∷ []) before.0 one, walk_ranged (ended work).work.state (e ∷ []) before.1 one)
 
   code_ranged : (code : Code) → IsMade code → Ranged (code_rule work code)
-  code_ranged (codes.Char set code) made = puts_ranged _ (byte code made, hand_ranged work.state r)
-  code_ranged (codes.Step step) made = puts_ranged _ (step_ranged step made, hand_ranged work.state r)
-  code_ranged codes.Clear made = puts_ranged (entries.Clear work.state.drawing.pen) r.drawing.pen
-  code_ranged codes.Bell made = puts_ranged entries.Bell tt
-  code_ranged (codes.Repeat count) made = last_ranged work.state.last _ r.last (λ last code. list_ranged _ (copies_ranged work.state last count r code))
-  code_ranged codes.ToEol made = last_ranged work.state.last _ r.last (λ last code. puts_ranged (entries.ToEol (hand_of work.state.drawing)) (hand_ranged work.state r))
-  code_ranged (codes.BlinkMark on) made = puts_ranged (entries.BlinkMark on work.state.drawing.colour) r.drawing.colour
-  code_ranged (codes.Cursor kind) made = puts_ranged (entries.Cursor kind) tt
+  code_ranged (codes.Char set code) made = one_ranged work r _ (byte code made, hand_ranged work.state r)
+  code_ranged (codes.Step step) made = one_ranged work r _ (step_ranged step made, hand_ranged work.state r)
+  code_ranged codes.Clear made = one_ranged work r (entries.Clear work.state.drawing.pen) r.drawing.pen
+  code_ranged codes.Bell made = one_ranged work r entries.Bell tt
+  code_ranged (codes.Repeat count) made = last_ranged work.state.last _ r.last (λ last code. list_ranged work r _ (copies_ranged work.state last count r code))
+  code_ranged codes.ToEol made = last_ranged work.state.last _ r.last (λ last code. one_ranged work r (entries.ToEol (hand_of work.state.drawing)) (hand_ranged work.state r))
+  code_ranged (codes.BlinkMark on) made = one_ranged work r (entries.BlinkMark on work.state.drawing.colour) r.drawing.colour
+  code_ranged (codes.Cursor kind) made = one_ranged work r (entries.Cursor kind) tt
   code_ranged (codes.Named size) made = looks_ranged _ (record { first = r.drawing.text.first; second = r.drawing.text.second; size = tt })
   code_ranged (codes.Reverse on) made = let look = work.state.drawing.text in flags_ranged on look.underline look.wrap look.scroll
   code_ranged (codes.Underline on) made = let look = work.state.drawing.text in flags_ranged look.reverse on look.wrap look.scroll
@@ -98,7 +83,7 @@ module _ (work : Work) (r : StateInRange work.state) where
   code_ranged (codes.DefMask mask) made = opens_ranged (entries.MaskStart mask) tt
   code_ranged (codes.DefMacro name show) made = ended_ranged work.state.definition
   code_ranged codes.End made = ended_ranged work.state.definition
-  code_ranged _ made = list_ranged [] (All-nil InRange)
+  code_ranged _ made = list_ranged work r [] (All-nil InRange)
 
 pub code_values_are_in_range : CodeValuesAreInRange
 code_values_are_in_range work code d is made r = subst Ranged is (code_ranged work r code made)

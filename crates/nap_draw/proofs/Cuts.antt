@@ -12,6 +12,8 @@ use Rattle.nap_draw.specs.declared.work.Work.{Work}
 use Rattle.nap_values.specs.Coordinates.{Displacement}
 use Rattle.nap_draw.specs.Rule.{Drawn, and_then, some_of, moves_of, with_operands}
 
+-- How a run is cut into operands.
+
 cut-front : (k room : ℕ) (operand words : List ℕ) →
     cut k room operand words ≡ (operand ++ take (min room (length words)) words) ∷ operands k (drop (min room (length words)) words)
 unfolding cut operands

@@ -10,6 +10,8 @@ use Rattle.nap_draw.specs.declared.fault.DrawFault.{DrawFault}
 use Rattle.nap_draw.specs.Operands.{moves}
 use Rattle.nap_draw.specs.Rule.{Drawn, with_drawing, domain_in, domain_rule}
 
+-- What DOMAIN gives.
+
 with_pel : Work → OperandLengths → Option Displacement → Result Drawn DrawFault
 with_pel work domain pel = Ok (record {
   entries = [];

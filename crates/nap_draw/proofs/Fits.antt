@@ -28,23 +28,27 @@ use Rattle.nap_codes.specs.declared.code.Code.TheVariants as codes
 use Rattle.nap_list.specs.Entry.{held, hand_values, nothing, WellMade}
 use Rattle.nap_list.specs.Known.{is_known, setting}
 use Rattle.nap_list.specs.State.{AllFit, Comes, TextureFits, MaskFits, with_colour, after, walk, with_pen_at}
-use Rattle.nap_list.specs.Agreement.{ColourAgrees, InMode, Holds, StatesAgree}
+use Rattle.nap_list.specs.Agreement.{Agrees, ColourAgrees, InMode, Holds, StatesAgree}
 use Rattle.nap_list.proofs.PublicLaws.{agreeing_fits, fits_join, walks_join}
 use Rattle.nap_draw.specs.declared.work.Work.{Work}
 use Rattle.std.proofs.lemmas.Bool.Decides.{nat_tests}
 use Rattle.nap_draw.specs.declared.fault.DrawFault.{DrawFault}
 use Rattle.nap_draw.specs.declared.fault.DrawFault.TheVariants as faults
-use Rattle.nap_draw.specs.Geometry.{end_of, points_at, reached, joined, between, away, across, arc_points, poly_points}
+use Rattle.nap_draw.specs.Geometry.{end_of, points_at, reached, joined, between, away, across}
 use Rattle.nap_list.specs.Batches.{point_on}
-use Rattle.nap_draw.specs.Rule.{Drawn, and_then, some_of, pairs_of, first_of, few_of, moves_of, pen_point, drawn, mapped, draws, draws_one, goes, with_drawing, domain_rule, domain_in, with_domain, shape_from_pen, shape_from_point, area_of, field_rule, line_on, rect_on, arc_on, poly_on, field_on, reset_rule, colour_of_base, selected, maps, colours_as, set_color_rule, blink, blinks, rule}
+use Rattle.nap_draw.specs.Rule.{Drawn, and_then, some_of, first_of, few_of, moves_of, pen_point, drawn, mapped, draws, draws_one, goes, with_drawing, domain_rule, domain_in, with_domain, shape_from_pen, shape_from_point, area_of, field_rule, line_on, rect_on, field_on, reset_rule, colour_of_base, selected, maps, colours_as, set_color_rule, blink, blinks, rule}
 use Rattle.nap_list.specs.State.{hand_of}
 use Rattle.nap_draw.specs.Codes.{IsMade, copies, ended, ended_by, opened_by, opens, puts, with_last, code_rule}
 use Rattle.nap_draw.specs.Laws.{RuleFits, CodeFits}
-use Rattle.nap_draw.specs.Doing.{MayFollow, landed, start_of}
+use Rattle.nap_draw.specs.Doing.{MayFollow, landed, shape_on, shape_points, start_of}
 use Rattle.nap_draw.proofs.Copies.{copies_fit, last_is_code}
 use Rattle.nap_draw.proofs.Endings.{ended_closed}
 use Rattle.nap_draw.proofs.Walks.{Lands, one, point_lands, line_lands, rect_lands}
-use Rattle.nap_draw.proofs.Outlines.{arc_made, poly_made}
+use Rattle.nap_draw.specs.declared.shapes.Shape.{Shape}
+use Rattle.nap_draw.specs.declared.shapes.Shape.TheVariants as outlines
+use Rattle.nap_draw.proofs.Outlines.{arc_made, poly_made, holds_shape, shape_comes}
+
+-- The entries that a rule gives fit.
 
 -- from agreeing states the entries fit one after another, and the states agree again
 Fitting : Work → Drawn → Type 0
@@ -72,24 +76,17 @@ silent_fits : (work w : Work) → ((shown : State) → StatesAgree work.state sh
 unfolding Fitting AllFit walk
 silent_fits work w agrees shown a = (tt, agrees shown a)
 
+values_agree : (s : State) (d : Drawing) (shown : State) → StatesAgree s shown → Agrees d shown.drawing → StatesAgree (record s { drawing = d }) shown
+values_agree s d shown a new = record { drawing = new; definition = a.definition; last = a.last; known = a.known; made = a.made }
+
 pel_agrees : (s : State) (pel : Displacement) (shown : State) → StatesAgree s shown → StatesAgree (record s { drawing = record s.drawing { pel = pel } }) shown
-pel_agrees s pel shown a = record {
-  drawing = record { pen = a.drawing.pen; base = a.drawing.base; colour = a.drawing.colour; mode = a.drawing.mode; texture = a.drawing.texture };
-  definition = a.definition;
-  last = a.last;
-  known = a.known;
-  made = a.made;
-}
+pel_agrees s pel shown a =
+    values_agree s _ shown a (record { pen = a.drawing.pen; base = a.drawing.base; colour = a.drawing.colour; mode = a.drawing.mode; texture = a.drawing.texture })
 
 pen_agrees : (s : State) (p : Option Coordinates) (shown : State) → StatesAgree s shown → StatesAgree (record s { drawing = with_pen_at p s.drawing }) shown
 pen_agrees s None shown a = a
-pen_agrees s (Some p) shown a = record {
-  drawing = record { pen = tt; base = a.drawing.base; colour = a.drawing.colour; mode = a.drawing.mode; texture = a.drawing.texture };
-  definition = a.definition;
-  last = a.last;
-  known = a.known;
-  made = a.made;
-}
+pen_agrees s (Some p) shown a =
+    values_agree s _ shown a (record { pen = tt; base = a.drawing.base; colour = a.drawing.colour; mode = a.drawing.mode; texture = a.drawing.texture })
 
 module _ {A : Type 0} (entry : Drawing → A → Entry) (at : A → Coordinates) (by : Lands entry at) where
   holds_now : (s : State) (o : Option A) (x : A) → Holds (held (entry s.drawing x)) (landed s (option_map at o)).drawing
@@ -130,18 +127,10 @@ domain_fits work (word ∷ words) =
     cond_fits work (eqb (word / 32) 1) _ (Ok (drawn (with_domain work (domain_in word) words) [])) tt
     (silent_fits work (with_domain work (domain_in word) words) (pel_agrees work.state _))
 
-operands_fit : (work : Work) (run : List ℕ) (f : List Displacement → Result Drawn DrawFault) → ((ms : List Displacement) → IsFitting work (f ms)) →
-    IsFitting work (and_then (some_of (moves_of work run)) f)
-operands_fit work run f each = each_fits work (some_of (moves_of work run)) f each
-
 pen_fits : (work : Work) (run : List ℕ) (f : Coordinates → List Displacement → Result Drawn DrawFault) →
     ((p : Coordinates) (ms : List Displacement) → IsFitting work (f p ms)) →
     IsFitting work (and_then (some_of (moves_of work run)) (λ ms. and_then (pen_point work.state.drawing.pen) (λ p. f p ms)))
-pen_fits work run f each = operands_fit work run _ (λ ms. each_fits work (pen_point work.state.drawing.pen) (λ p. f p ms) (λ p. each p ms))
-
-pairs_fit : (work : Work) (run : List ℕ) (f : List Displacement → Result Drawn DrawFault) → ((ms : List Displacement) → IsFitting work (f ms)) →
-    IsFitting work (and_then (pairs_of (moves_of work run)) f)
-pairs_fit work run f each = each_fits work (pairs_of (moves_of work run)) f each
+pen_fits work run f each = each_fits work (some_of (moves_of work run)) _ (λ ms. each_fits work (pen_point work.state.drawing.pen) (λ p. f p ms) (λ p. each p ms))
 
 -- one entry that holds the values that stand
 single_fits : (work : Work) (e : Entry) → Holds (held e) work.state.drawing → WellMade e → Comes work.state e → Fitting work (drawn work (e ∷ []))
@@ -170,49 +159,35 @@ unfolding IsFitting
 one_fits work entry None fits = tt
 one_fits work entry (Some x) fits = fits x refl
 
-module _ (work : Work) (entry : Drawing → List Coordinates → Entry) (points : Coordinates → List Displacement → Option (List Coordinates))
-    (holds : (d : Drawing) (ps : List Coordinates) → Holds (held (entry d ps)) d) (comes : (d : Drawing) (ps : List Coordinates) (t : State) → Comes t (entry d ps))
-    (made : (d : Drawing) (p : Coordinates) (ms : List Displacement) (ps : List Coordinates) → 0 < length ms → length ms ≤ steps_limit → points p ms ≡ Some ps → WellMade (entry d ps)) where
-  shape_fits : (p : Coordinates) (ms : List Displacement) → 0 < length ms → length ms ≤ steps_limit → IsFitting work (draws_one work entry (points p ms))
+shape_is_made : (shape : Shape) (filled : Bool) (d : Drawing) (p : Coordinates) (ms : List Displacement) (ps : List Coordinates) → 0 < length ms → length ms ≤ steps_limit →
+    shape_points shape p ms ≡ Some ps → WellMade (shape_on shape filled d ps)
+shape_is_made outlines.Arc filled d p ms ps some few is = arc_made p ms ps some few is
+shape_is_made outlines.Poly filled d p ms ps some few is = poly_made p ms ps some few is
+
+module _ (work : Work) (shape : Shape) (filled : Bool) where
+  shape_fits : (p : Coordinates) (ms : List Displacement) → 0 < length ms → length ms ≤ steps_limit → IsFitting work (draws_one work (shape_on shape filled) (shape_points shape p ms))
   shape_fits p ms some few =
       let d = work.state.drawing in
-      one_fits work entry (points p ms) (λ ps is. single_fits work (entry d ps) (holds d ps) (made d p ms ps some few is) (comes d ps work.state))
+      one_fits work (shape_on shape filled) (shape_points shape p ms) (λ ps is.
+      single_fits work (shape_on shape filled d ps) (holds_shape shape filled d ps) (shape_is_made shape filled d p ms ps some few is) (shape_comes shape filled d ps work.state))
 
-  shape_pen_fits : (run : List ℕ) → IsFitting work (shape_from_pen work run entry points)
+  shape_pen_fits : (run : List ℕ) → IsFitting work (shape_from_pen work run (shape_on shape filled) (shape_points shape))
   shape_pen_fits run =
       some_fit work (moves_of work run) _ (λ ms some. few_fit work ms _ (λ few. each_fits work (pen_point work.state.drawing.pen) _ (λ p. shape_fits p ms some few)))
 
   point_fits : (o : Option Coordinates) (ms : List Displacement) → 0 < length ms → length ms ≤ steps_limit →
-      IsFitting work (draws_one work entry (option_and_then (λ p. points p ms) o))
+      IsFitting work (draws_one work (shape_on shape filled) (option_and_then (λ p. shape_points shape p ms) o))
   point_fits None ms some few = fault_fits work faults.Outside
   point_fits (Some p) ms some few = shape_fits p ms some few
 
   first_fits : (xs : List Displacement) →
-      IsFitting work (and_then (first_of xs) (λ (m, ms). and_then (few_of ms) (λ ms. draws_one work entry (option_and_then (λ p. points p ms) (point_at m)))))
+      IsFitting work (and_then (first_of xs) (λ (m, ms). and_then (few_of ms) (λ ms. draws_one work (shape_on shape filled) (option_and_then (λ p. shape_points shape p ms) (point_at m)))))
   first_fits [] = fault_fits work faults.Missing
   first_fits (m ∷ []) = fault_fits work faults.Missing
   first_fits (m ∷ n ∷ ms) = few_fit work (n ∷ ms) _ (λ few. point_fits (point_at m) (n ∷ ms) (omega arith) few)
 
-  shape_point_fits : (run : List ℕ) → IsFitting work (shape_from_point work run entry points)
+  shape_point_fits : (run : List ℕ) → IsFitting work (shape_from_point work run (shape_on shape filled) (shape_points shape))
   shape_point_fits run = first_fits (moves_of work run)
-
-holds_arc : (filled : Bool) (d : Drawing) (ps : List Coordinates) → Holds (held (arc_on filled d ps)) d
-holds_arc filled d ps = record { pen = tt; pel = refl; colour = refl; texture = refl; text = tt }
-
-holds_poly : (filled : Bool) (d : Drawing) (ps : List Coordinates) → Holds (held (poly_on filled d ps)) d
-holds_poly filled d ps = record { pen = tt; pel = refl; colour = refl; texture = refl; text = tt }
-
-arc_pen_fits : (work : Work) (filled : Bool) (run : List ℕ) → IsFitting work (shape_from_pen work run (arc_on filled) arc_points)
-arc_pen_fits work filled = shape_pen_fits work (arc_on filled) arc_points (holds_arc filled) (λ d ps t. tt) (λ d p ms ps some few is. arc_made p ms ps some few is)
-
-arc_point_fits : (work : Work) (filled : Bool) (run : List ℕ) → IsFitting work (shape_from_point work run (arc_on filled) arc_points)
-arc_point_fits work filled = shape_point_fits work (arc_on filled) arc_points (holds_arc filled) (λ d ps t. tt) (λ d p ms ps some few is. arc_made p ms ps some few is)
-
-poly_pen_fits : (work : Work) (filled : Bool) (run : List ℕ) → IsFitting work (shape_from_pen work run (poly_on filled) poly_points)
-poly_pen_fits work filled = shape_pen_fits work (poly_on filled) poly_points (holds_poly filled) (λ d ps t. tt) (λ d p ms ps some few is. poly_made p ms ps some few is)
-
-poly_point_fits : (work : Work) (filled : Bool) (run : List ℕ) → IsFitting work (shape_from_point work run (poly_on filled) poly_points)
-poly_point_fits work filled = shape_point_fits work (poly_on filled) poly_points (holds_poly filled) (λ d ps t. tt) (λ d p ms ps some few is. poly_made p ms ps some few is)
 
 field_fits : (work : Work) (ms : List Displacement) → IsFitting work (field_rule work ms)
 field_fits work ms = each_fits work (area_of work ms) _ (λ area. one_fits work field_on (Some area) (λ a is.
@@ -237,13 +212,8 @@ reset_fits work first second shown a =
     single_fits work (entries.Reset first second work.state.drawing.pen) (record { pen = refl; pel = tt; colour = tt; texture = tt; text = tt }) tt tt shown a
 
 text_agrees : (s : State) (look : TextLook) (shown : State) → StatesAgree s shown → StatesAgree (record s { drawing = record s.drawing { text = look } }) shown
-text_agrees s look shown a = record {
-  drawing = record { pen = a.drawing.pen; base = a.drawing.base; colour = a.drawing.colour; mode = a.drawing.mode; texture = a.drawing.texture };
-  definition = a.definition;
-  last = a.last;
-  known = a.known;
-  made = a.made;
-}
+text_agrees s look shown a =
+    values_agree s _ shown a (record { pen = a.drawing.pen; base = a.drawing.base; colour = a.drawing.colour; mode = a.drawing.mode; texture = a.drawing.texture })
 
 mask_agrees : (t : Texture) (mask : Option Displacement) (shown : Texture) → TextureFits shown (Some t) → MaskFits shown (option_or mask t.mask)
 mask_agrees t None shown a = a
@@ -251,13 +221,8 @@ mask_agrees t (Some m) shown a = tt
 
 texture_agrees : (s : State) (word : ℕ) (mask : Option Displacement) (shown : State) → StatesAgree s shown →
     StatesAgree (record s { drawing = record s.drawing { texture = record { word = word; mask = option_or mask s.drawing.texture.mask } } }) shown
-texture_agrees s word mask shown a = record {
-  drawing = record { pen = a.drawing.pen; base = a.drawing.base; colour = a.drawing.colour; mode = a.drawing.mode; texture = mask_agrees s.drawing.texture mask shown.drawing.texture a.drawing.texture };
-  definition = a.definition;
-  last = a.last;
-  known = a.known;
-  made = a.made;
-}
+texture_agrees s word mask shown a =
+    values_agree s _ shown a (record { pen = a.drawing.pen; base = a.drawing.base; colour = a.drawing.colour; mode = a.drawing.mode; texture = mask_agrees s.drawing.texture mask shown.drawing.texture a.drawing.texture })
 
 base_mode : (base : Base) → InMode base (colour_of_base base)
 base_mode (bases.Own origin) = refl
@@ -268,37 +233,17 @@ base_agrees (bases.Own origin) shown = tt
 base_agrees (bases.Direct grb) shown = tt
 
 select_agrees : (s : State) (addresses : List ℕ) (shown : State) → StatesAgree s shown → StatesAgree (record s { drawing = with_colour (selected s.drawing.base addresses) s.drawing }) shown
-select_agrees s [] shown a = record {
-  drawing = record { pen = a.drawing.pen; base = a.drawing.base; colour = base_agrees s.drawing.base shown.drawing.colour; mode = base_mode s.drawing.base; texture = a.drawing.texture };
-  definition = a.definition;
-  last = a.last;
-  known = a.known;
-  made = a.made;
-}
-select_agrees s (x ∷ []) shown a = record {
-  drawing = record { pen = a.drawing.pen; base = a.drawing.base; colour = tt; mode = tt; texture = a.drawing.texture };
-  definition = a.definition;
-  last = a.last;
-  known = a.known;
-  made = a.made;
-}
-select_agrees s (x ∷ y ∷ more) shown a = record {
-  drawing = record { pen = a.drawing.pen; base = a.drawing.base; colour = tt; mode = tt; texture = a.drawing.texture };
-  definition = a.definition;
-  last = a.last;
-  known = a.known;
-  made = a.made;
-}
+select_agrees s [] shown a =
+    values_agree s _ shown a (record { pen = a.drawing.pen; base = a.drawing.base; colour = base_agrees s.drawing.base shown.drawing.colour; mode = base_mode s.drawing.base; texture = a.drawing.texture })
+select_agrees s (x ∷ []) shown a =
+    values_agree s _ shown a (record { pen = a.drawing.pen; base = a.drawing.base; colour = tt; mode = tt; texture = a.drawing.texture })
+select_agrees s (x ∷ y ∷ more) shown a =
+    values_agree s _ shown a (record { pen = a.drawing.pen; base = a.drawing.base; colour = tt; mode = tt; texture = a.drawing.texture })
 
 direct_agrees : (s : State) (grb : Components) (shown : State) → StatesAgree s shown →
     StatesAgree (record s { drawing = record s.drawing { base = bases.Direct grb; colour = colours.Direct grb } }) shown
-direct_agrees s grb shown a = record {
-  drawing = record { pen = a.drawing.pen; base = tt; colour = tt; mode = refl; texture = a.drawing.texture };
-  definition = a.definition;
-  last = a.last;
-  known = a.known;
-  made = a.made;
-}
+direct_agrees s grb shown a =
+    values_agree s _ shown a (record { pen = a.drawing.pen; base = tt; colour = tt; mode = refl; texture = a.drawing.texture })
 
 -- a colour at an address: the colours chosen stay, and those shown are the address
 abbrev ColourIsMapped : Colour → Type 0
@@ -307,15 +252,9 @@ ColourIsMapped (colours.Pair a b) = Unit {0}
 ColourIsMapped _ = ⊥
 
 mapped_agrees : (colour shown : Colour) → ColourIsMapped colour → ColourAgrees colour shown
-mapped_agrees (colours.Own origin) shown mapped = absurd mapped
-mapped_agrees (colours.Direct grb) shown mapped = absurd mapped
 mapped_agrees (colours.Front a) shown mapped = tt
 mapped_agrees (colours.Pair a b) shown mapped = tt
-mapped_agrees (colours.ByReset preset) shown mapped = absurd mapped
-
-direct_fits : (work : Work) (grb : Components) → IsFitting work (Ok (drawn (with_drawing work (record work.state.drawing { base = bases.Direct grb; colour = colours.Direct grb })) []))
-unfolding IsFitting
-direct_fits work grb = silent_fits work (with_drawing work (record work.state.drawing { base = bases.Direct grb; colour = colours.Direct grb })) (direct_agrees work.state grb)
+mapped_agrees _ shown mapped = absurd mapped
 
 attribute_fits : (work w : Work) → ((shown : State) → StatesAgree work.state shown → StatesAgree w.state shown) → IsFitting work (Ok (drawn w []))
 unfolding IsFitting
@@ -349,8 +288,8 @@ map_fits work a grb chosen = by (is_known a grb work.state.known) refl
     by false is = rw is (new_fits work a grb chosen is)
 
 colours_fit : (work : Work) (colour : Colour) (grb : Components) → work.state.drawing.colour ≡ colour → IsFitting work (colours_as work colour grb)
-colours_fit work (colours.Own origin) grb is = direct_fits work grb
-colours_fit work (colours.Direct old) grb is = direct_fits work grb
+colours_fit work (colours.Own origin) grb is = attribute_fits work _ (direct_agrees work.state grb)
+colours_fit work (colours.Direct old) grb is = attribute_fits work _ (direct_agrees work.state grb)
 colours_fit work (colours.Front a) grb is = map_fits work a grb (subst (λ (c : Colour). ColourIsMapped c) (sym is) tt)
 colours_fit work (colours.Pair a b) grb is = map_fits work a grb (subst (λ (c : Colour). ColourIsMapped c) (sym is) tt)
 colours_fit work (colours.ByReset preset) grb is = fault_fits work faults.NoAddress
@@ -366,26 +305,26 @@ list_fits work list fits = fits
 
 rule_is_fitting : (work : Work) (op : Opcode) (run : List ℕ) → IsFitting work (rule work op run)
 rule_is_fitting work opcodes.Domain run = domain_fits work run
-rule_is_fitting work opcodes.PointSetAbs run = operands_fit work run _ (λ ms. goes_fits work (points_at ms))
+rule_is_fitting work opcodes.PointSetAbs run = each_fits work _ _ (λ ms. goes_fits work (points_at ms))
 rule_is_fitting work opcodes.PointSetRel run = pen_fits work run _ (λ p ms. goes_fits work (reached p ms))
-rule_is_fitting work opcodes.PointAbs run = operands_fit work run _ (λ ms. draws_fit point_on _ point_lands work (points_at ms))
+rule_is_fitting work opcodes.PointAbs run = each_fits work _ _ (λ ms. draws_fit point_on _ point_lands work (points_at ms))
 rule_is_fitting work opcodes.PointRel run = pen_fits work run _ (λ p ms. draws_fit point_on _ point_lands work (reached p ms))
 rule_is_fitting work opcodes.LineAbs run = pen_fits work run _ (λ p ms. draws_fit line_on _ line_lands work (option_map (joined p) (points_at ms)))
 rule_is_fitting work opcodes.LineRel run = pen_fits work run _ (λ p ms. draws_fit line_on _ line_lands work (option_map (joined p) (reached p ms)))
-rule_is_fitting work opcodes.SetLineAbs run = pairs_fit work run _ (λ ms. draws_fit line_on _ line_lands work (between ms))
-rule_is_fitting work opcodes.SetLineRel run = pairs_fit work run _ (λ ms. draws_fit line_on _ line_lands work (away ms))
-rule_is_fitting work opcodes.ArcOutlined run = arc_pen_fits work false run
-rule_is_fitting work opcodes.ArcFilled run = arc_pen_fits work true run
-rule_is_fitting work opcodes.SetArcOutlined run = arc_point_fits work false run
-rule_is_fitting work opcodes.SetArcFilled run = arc_point_fits work true run
+rule_is_fitting work opcodes.SetLineAbs run = each_fits work _ _ (λ ms. draws_fit line_on _ line_lands work (between ms))
+rule_is_fitting work opcodes.SetLineRel run = each_fits work _ _ (λ ms. draws_fit line_on _ line_lands work (away ms))
+rule_is_fitting work opcodes.ArcOutlined run = shape_pen_fits work outlines.Arc false run
+rule_is_fitting work opcodes.ArcFilled run = shape_pen_fits work outlines.Arc true run
+rule_is_fitting work opcodes.SetArcOutlined run = shape_point_fits work outlines.Arc false run
+rule_is_fitting work opcodes.SetArcFilled run = shape_point_fits work outlines.Arc true run
 rule_is_fitting work opcodes.RectOutlined run = pen_fits work run _ (λ p ms. draws_fit (rect_on false) _ (rect_lands false) work (across p ms))
 rule_is_fitting work opcodes.RectFilled run = pen_fits work run _ (λ p ms. draws_fit (rect_on true) _ (rect_lands true) work (across p ms))
-rule_is_fitting work opcodes.SetRectOutlined run = pairs_fit work run _ (λ ms. draws_fit (rect_on false) _ (rect_lands false) work (away ms))
-rule_is_fitting work opcodes.SetRectFilled run = pairs_fit work run _ (λ ms. draws_fit (rect_on true) _ (rect_lands true) work (away ms))
-rule_is_fitting work opcodes.PolyOutlined run = poly_pen_fits work false run
-rule_is_fitting work opcodes.PolyFilled run = poly_pen_fits work true run
-rule_is_fitting work opcodes.SetPolyOutlined run = poly_point_fits work false run
-rule_is_fitting work opcodes.SetPolyFilled run = poly_point_fits work true run
+rule_is_fitting work opcodes.SetRectOutlined run = each_fits work _ _ (λ ms. draws_fit (rect_on false) _ (rect_lands false) work (away ms))
+rule_is_fitting work opcodes.SetRectFilled run = each_fits work _ _ (λ ms. draws_fit (rect_on true) _ (rect_lands true) work (away ms))
+rule_is_fitting work opcodes.PolyOutlined run = shape_pen_fits work outlines.Poly false run
+rule_is_fitting work opcodes.PolyFilled run = shape_pen_fits work outlines.Poly true run
+rule_is_fitting work opcodes.SetPolyOutlined run = shape_point_fits work outlines.Poly false run
+rule_is_fitting work opcodes.SetPolyFilled run = shape_point_fits work outlines.Poly true run
 rule_is_fitting work opcodes.Field run = field_fits work (moves_of work run)
 rule_is_fitting work opcodes.Reset run = reset_fits work _ _
 rule_is_fitting work opcodes.Text run = attribute_fits work _ (text_agrees work.state _)

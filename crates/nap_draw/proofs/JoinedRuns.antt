@@ -22,6 +22,7 @@ use Rattle.nap_list.specs.State.{ink_of}
 use Rattle.nap_draw.specs.Rule.{Drawn, and_then, drawn, draws, moves_of, some_of, pairs_of, pen_point}
 use Rattle.nap_draw.specs.Joining.{IsWhole, RunsJoin}
 use Rattle.nap_draw.proofs.Cuts.{moves_chunk}
+use Rattle.nap_draw.proofs.Outlines.{mapped_some}
 
 -- An opcode with one run, and the same opcode with a second, do what it does with both runs as one.
 
@@ -47,10 +48,6 @@ moves_join k count (word ∷ words) more whole = absurd (omega arith)
 and_ok : {A B : Type 0} (r : Result A DrawFault) (f : A → Result B DrawFault) (y : B) → and_then r f ≡ Ok y → (x : A) × (r ≡ Ok x) × (f x ≡ Ok y)
 and_ok (Ok x) f y is = (x, refl, is)
 and_ok (Err fault) f y is = let bad : ⊥ = cc in absurd bad
-
-map_some : {A B : Type 0} (f : A → B) (o : Option A) (y : B) → option_map f o ≡ Some y → (x : A) × (o ≡ Some x) × (f x ≡ y)
-map_some f None y is = let bad : ⊥ = cc in absurd bad
-map_some f (Some x) y is = let e : f x ≡ y = cc in (x, refl, e)
 
 -- a test of operands: it lets them through as they are, and where it lets through two lists, it lets through both as one
 record Gate (gate : List Displacement → Result (List Displacement) DrawFault) : Type 0 where
@@ -95,7 +92,7 @@ onward_join : {A : Type 0} (o : Option A) (f g : A → Option (List A)) (xs ys :
     ((x : A) (zs : List A) → f x ≡ Some zs → g x ≡ Some (zs ++ ys)) → onward o g ≡ Some (xs ++ ys)
 onward_join {A = A} None f g xs ys is next = cc
 onward_join {A = A} (Some x) f g xs ys is next =
-    let there = map_some (λ (zs : List A). x ∷ zs) (f x) xs is in
+    let there = mapped_some (λ (zs : List A). x ∷ zs) (f x) xs is in
     ap (option_map (λ (zs : List A). x ∷ zs)) (next x there.0 there.1) ∙ ap (λ (zs : List A). Some (zs ++ ys)) there.2
 
 points_join : (ms ns : List Displacement) (ps qs : List Coordinates) → points_at ms ≡ Some ps → points_at ns ≡ Some qs → points_at (ms ++ ns) ≡ Some (ps ++ qs)
@@ -222,8 +219,8 @@ lines_on : (s : State) (p q : Coordinates) (ms ns : List Displacement) (xs ys : 
     pen_point (walk s (map (line_with (ink_of s.drawing)) xs)).drawing.pen ≡ Ok q → option_map (joined q) (points_at ns) ≡ Some ys →
     option_map (joined p) (points_at (ms ++ ns)) ≡ Some (xs ++ ys)
 lines_on s p q ms ns xs ys begins leads then_ more =
-    let one = map_some (joined p) (points_at ms) xs leads in
-    let two = map_some (joined q) (points_at ns) ys more in
+    let one = mapped_some (joined p) (points_at ms) xs leads in
+    let two = mapped_some (joined q) (points_at ns) ys more in
     let last : last_of p one.0 ≡ q = cc (pen_at_last s (ink_of s.drawing) p one.0 begins) in
     ap (option_map (joined p)) (points_join ms ns one.0 two.0 one.1 two.1) ∙ cc (joined_join p one.0 two.0)
 

@@ -1,4 +1,4 @@
-use Rattle.std.proofs.Common.{◌-◌, ℕ, true, ◌≡◌, suc, ◌<◌, ◌≤◌, List, [], ◌∷◌, length, Bool, false, ltb, Option, Some, None, Ok, Err, refl, sym, ◌∙◌, ap, arith}
+use Rattle.std.proofs.Common.{◌-◌, ℕ, true, ◌≡◌, suc, ◌<◌, ◌≤◌, min, List, [], ◌∷◌, length, take, drop, Bool, false, ltb, Option, Some, None, Result, Ok, Err, refl, sym, ◌∙◌, ap, arith}
 use Rattle.std.specs.Option.{option_map, option_and_then, unwrap_or}
 use Rattle.nap_values.specs.Coordinates.{Coordinates, Displacement, moved, point_at}
 use Rattle.std.proofs.lemmas.Bool.Decides.{nat_tests}
@@ -15,10 +15,15 @@ use Rattle.nap_draw.specs.declared.fault.DrawFault.TheVariants.{Missing, ManyPoi
 use Rattle.nap_draw.specs.declared.shapes.Shape.{Shape}
 use Rattle.nap_draw.specs.declared.shapes.Shape.TheVariants as outlines
 use Rattle.nap_draw.specs.declared.work.Work.{Work}
-use Rattle.nap_draw.specs.Rule.{moves_of, shape_from_pen, and_then, some_of, few_of, first_of, pen_point, draws_one}
+use Rattle.nap_draw.specs.Rule.{Drawn, moves_of, and_then, some_of, few_of, first_of, pen_point, draws_one}
+use Rattle.nap_draw.proofs.Cuts.{moves_turn, run_some, one_at_most}
 use Rattle.nap_draw.specs.Doing.{pen_moved, outline, shape_end, shape_on, shape_points}
 use Rattle.nap_list.specs.Limits.{points_limit, steps_limit}
 use Rattle.nap_draw.specs.Geometry.{onward, reached, round, arc_points, poly_points}
+use Rattle.nap_values.specs.Operands.{multi_of}
+use Rattle.nap_draw.specs.declared.fault.DrawFault.{DrawFault}
+
+-- The points of arcs and polygons, and the rules that draw them.
 
 -- all of it is there
 onward_some : {A : Type 0} (x : Option A) (next : A → Option (List A)) (l : List A) → onward x next ≡ Some l → (y : A) × (ys : List A) × (next y ≡ Some ys) × (l ≡ y ∷ ys)
@@ -36,9 +41,9 @@ reached_length p (m ∷ ms) qs is =
     let all = onward_some (moved p m) (λ q. reached q ms) qs is in
     ap length all.3 ∙ ap suc (reached_length all.0 ms all.1 all.2)
 
-mapped_some : {A B : Type 0} (f : A → B) (o : Option A) (y : B) → option_map f o ≡ Some y → (x : A) × (o ≡ Some x) × (y ≡ f x)
+pub mapped_some : {A B : Type 0} (f : A → B) (o : Option A) (y : B) → option_map f o ≡ Some y → (x : A) × (o ≡ Some x) × (f x ≡ y)
 mapped_some f None y is = let bad : ⊥ = cc in absurd bad
-mapped_some f (Some x) y is = (x, refl, cc)
+mapped_some f (Some x) y is = let e : f x ≡ y = cc in (x, refl, e)
 
 pub poly_made : (p : Coordinates) (ms : List Displacement) (ps : List Coordinates) → 0 < length ms → length ms ≤ steps_limit → poly_points p ms ≡ Some ps →
     (2 ≤ length ps) × (length ps ≤ points_limit)
@@ -113,52 +118,77 @@ pub outlined : (shape : Shape) (p : Coordinates) (ms : List Displacement) → sh
 outlined outlines.Arc p ms = refl
 outlined outlines.Poly p ms = refl
 
--- the rule of a shape from the pen on, behind its checks
+-- the rules of a shape, behind their checks
 
-module _ (work : Work) (entry : Drawing → List Coordinates → Entry) (points : Coordinates → List Displacement → Option (List Coordinates)) where
-  pub pen_none : (run : List ℕ) → length (moves_of work run) ≡ 0 → shape_from_pen work run entry points ≡ Err Missing
-  pen_none run none = at (moves_of work run) none
-    where
-      at : (ms : List Displacement) → length ms ≡ 0 → and_then (some_of ms) (λ ms. and_then (few_of ms) (λ ms. and_then (pen_point work.state.drawing.pen) (λ p. draws_one work entry (points p ms)))) ≡ Err Missing
-      at [] none = refl
-      at (m ∷ ms) none = absurd (omega arith)
+module _ (work : Work) (shape : Shape) (filled : Bool) where
+  abbrev on : Drawing → List Coordinates → Entry
+  on = shape_on shape filled
 
-  pub pen_many : (run : List ℕ) → steps_limit < length (moves_of work run) → shape_from_pen work run entry points ≡ Err ManyPoints
-  pen_many run many = at (moves_of work run) many
-    where
-      at : (ms : List Displacement) → steps_limit < length ms → and_then (some_of ms) (λ ms. and_then (few_of ms) (λ ms. and_then (pen_point work.state.drawing.pen) (λ p. draws_one work entry (points p ms)))) ≡ Err ManyPoints
-      at [] many = absurd (omega arith)
-      at (m ∷ ms) many = ap (λ ms. and_then ms (λ ms. and_then (pen_point work.state.drawing.pen) (λ p. draws_one work entry (points p ms)))) (few_not (m ∷ ms) many)
+  -- a shape through this point and those that these lead to
+  abbrev pub drawn_from : Coordinates → Option (List Coordinates) → Result Drawn DrawFault
+  drawn_from p o = draws_one work on (option_map (λ qs. outline shape (p ∷ qs)) o)
 
-  pub pen_few : (run : List ℕ) → 0 < length (moves_of work run) → length (moves_of work run) ≤ steps_limit →
-      shape_from_pen work run entry points ≡ and_then (pen_point work.state.drawing.pen) (λ p. draws_one work entry (points p (moves_of work run)))
-  pen_few run some few = at (moves_of work run) some few
-    where
-      at : (ms : List Displacement) → 0 < length ms → length ms ≤ steps_limit →
-          and_then (some_of ms) (λ ms. and_then (few_of ms) (λ ms. and_then (pen_point work.state.drawing.pen) (λ p. draws_one work entry (points p ms))))
-          ≡ and_then (pen_point work.state.drawing.pen) (λ p. draws_one work entry (points p ms))
-      at [] some few = absurd (omega arith)
-      at (m ∷ ms) some few = ap (λ ms. and_then ms (λ ms. and_then (pen_point work.state.drawing.pen) (λ p. draws_one work entry (points p ms)))) (few_ok (m ∷ ms) few)
+  abbrev from_pen : List Displacement → Result Drawn DrawFault
+  from_pen ms = and_then (pen_point work.state.drawing.pen) (λ p. draws_one work on (shape_points shape p ms))
 
-  -- the same from the point that the first operand is
+  abbrev checked : List Displacement → Result Drawn DrawFault
+  checked xs = and_then (some_of xs) (λ ms. and_then (few_of ms) from_pen)
 
-  pub point_missing : (xs : List Displacement) → length xs ≤ 1 →
-      and_then (first_of xs) (λ (m, ms). and_then (few_of ms) (λ ms. draws_one work entry (option_and_then (λ p. points p ms) (point_at m)))) ≡ Err Missing
-  point_missing [] few = refl
-  point_missing (m ∷ []) few = refl
-  point_missing (m ∷ n ∷ ms) few = absurd (omega arith)
+  pub pen_none : (ms : List Displacement) → length ms ≡ 0 → checked ms ≡ Err Missing
+  pen_none [] none = refl
+  pen_none (m ∷ ms) none = absurd (omega arith)
 
-  pub point_many : (xs ms : List Displacement) (m : Displacement) → xs ≡ m ∷ ms → steps_limit < length ms →
-      and_then (first_of xs) (λ (m, ms). and_then (few_of ms) (λ ms. draws_one work entry (option_and_then (λ p. points p ms) (point_at m)))) ≡ Err ManyPoints
-  point_many xs [] m is many = absurd (omega arith)
-  point_many xs (n ∷ ms) m is many =
-      ap (λ xs. and_then (first_of xs) (λ (m, ms). and_then (few_of ms) (λ ms. draws_one work entry (option_and_then (λ p. points p ms) (point_at m))))) is
-      ∙ ap (λ ms. and_then ms (λ ms. draws_one work entry (option_and_then (λ p. points p ms) (point_at m)))) (few_not (n ∷ ms) many)
+  pub pen_many : (ms : List Displacement) → steps_limit < length ms → checked ms ≡ Err ManyPoints
+  pen_many [] many = absurd (omega arith)
+  pen_many (m ∷ ms) many = ap (λ r. and_then r from_pen) (few_not (m ∷ ms) many)
 
-  pub point_few : (xs ms : List Displacement) (m : Displacement) → xs ≡ m ∷ ms → 0 < length ms → length ms ≤ steps_limit →
-      and_then (first_of xs) (λ (m, ms). and_then (few_of ms) (λ ms. draws_one work entry (option_and_then (λ p. points p ms) (point_at m)))) ≡
-      draws_one work entry (option_and_then (λ p. points p ms) (point_at m))
-  point_few xs [] m is some few = absurd (omega arith)
-  point_few xs (n ∷ ms) m is some few =
-      ap (λ xs. and_then (first_of xs) (λ (m, ms). and_then (few_of ms) (λ ms. draws_one work entry (option_and_then (λ p. points p ms) (point_at m))))) is
-      ∙ ap (λ ms. and_then ms (λ ms. draws_one work entry (option_and_then (λ p. points p ms) (point_at m)))) (few_ok (n ∷ ms) few)
+  pen_few : (ms : List Displacement) → 0 < length ms → length ms ≤ steps_limit → checked ms ≡ from_pen ms
+  pen_few [] some few = absurd (omega arith)
+  pen_few (m ∷ ms) some few = ap (λ r. and_then r from_pen) (few_ok (m ∷ ms) few)
+
+  pub pen_lost : (ms : List Displacement) (fault : DrawFault) → 0 < length ms → length ms ≤ steps_limit → Err fault ≡ pen_point work.state.drawing.pen → checked ms ≡ Err fault
+  pen_lost ms fault some few is = pen_few ms some few ∙ ap (λ r. and_then r (λ p. draws_one work on (shape_points shape p ms))) (sym is)
+
+  pub pen_goes : (ms : List Displacement) (p : Coordinates) → 0 < length ms → length ms ≤ steps_limit → Ok p ≡ pen_point work.state.drawing.pen → checked ms ≡ drawn_from p (reached p ms)
+  pen_goes ms p some few is =
+      pen_few ms some few ∙ (ap (λ r. and_then r (λ p. draws_one work on (shape_points shape p ms))) (sym is) ∙ ap (draws_one work on) (outlined shape p ms))
+
+  -- the same from the point that the first operand is, where the run is cut behind it
+
+  abbrev from_first : Displacement → List Displacement → Result Drawn DrawFault
+  from_first m ms = draws_one work on (option_and_then (λ p. shape_points shape p ms) (point_at m))
+
+  abbrev rest_checked : List Displacement → Result Drawn DrawFault
+  rest_checked xs = and_then (first_of xs) (λ (m, ms). and_then (few_of ms) (from_first m))
+
+  few_first : (xs ms : List Displacement) (m : Displacement) → xs ≡ m ∷ ms → 0 < length ms → rest_checked xs ≡ and_then (few_of ms) (from_first m)
+  few_first xs [] m is some = absurd (omega arith)
+  few_first xs (n ∷ ms) m is some = ap rest_checked is
+
+  none_first : (xs : List Displacement) → length xs ≤ 1 → rest_checked xs ≡ Err Missing
+  none_first [] few = refl
+  none_first (m ∷ []) few = refl
+  none_first (m ∷ n ∷ ms) few = absurd (omega arith)
+
+  module _ (size most n : ℕ) (run front after : List ℕ) (value : size ≡ work.domain.multi) (least : 1 ≤ size) (same : most ≡ size) (is : n ≡ min most (length run))
+      (first : front ≡ take n run) (rest : after ≡ drop n run) where
+    pub point_missing : length (moves_of work after) ≡ 0 → rest_checked (moves_of work run) ≡ Err Missing
+    point_missing none = none_first (moves_of work run) (one_at_most work.domain.multi n run front after (omega arith) (omega arith) first rest none)
+
+    cut : 0 < length (moves_of work after) → rest_checked (moves_of work run) ≡ and_then (few_of (moves_of work after)) (from_first (multi_of front))
+    cut some =
+        let more = run_some work.domain.multi n run after rest some in
+        few_first (moves_of work run) (moves_of work after) (multi_of front) (moves_turn work.domain.multi n run front after (omega arith) more (omega arith) first rest) some
+
+    pub point_many : steps_limit < length (moves_of work after) → rest_checked (moves_of work run) ≡ Err ManyPoints
+    point_many many = cut (omega arith) ∙ ap (λ r. and_then r (from_first (multi_of front))) (few_not (moves_of work after) many)
+
+    pub point_few : (o : Option Coordinates) → 0 < length (moves_of work after) → length (moves_of work after) ≤ steps_limit → point_at (multi_of front) ≡ o →
+        rest_checked (moves_of work run) ≡ draws_one work on (option_and_then (λ p. shape_points shape p (moves_of work after)) o)
+    point_few o some few at =
+        cut some ∙ (ap (λ r. and_then r (from_first (multi_of front))) (few_ok (moves_of work after) few)
+        ∙ ap (λ o. draws_one work on (option_and_then (λ p. shape_points shape p (moves_of work after)) o)) at)
+
+    pub point_goes : (p : Coordinates) → 0 < length (moves_of work after) → length (moves_of work after) ≤ steps_limit → point_at (multi_of front) ≡ Some p →
+        rest_checked (moves_of work run) ≡ drawn_from p (reached p (moves_of work after))
+    point_goes p some few at = point_few (Some p) some few at ∙ ap (draws_one work on) (outlined shape p (moves_of work after))

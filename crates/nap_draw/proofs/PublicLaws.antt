@@ -1,12 +1,10 @@
-use Rattle.std.proofs.Common.{◌≡◌, ℕ, min, List, ◌++◌, length, take, drop, refl, ap, ◌∙◌, arith, length-append}
-use Rattle.std.proofs.lemmas.List.{take-append-le, take_all, drop-append-le}
-use Rattle.std.proofs.Math.ListN.{drop_of_length-le}
+use Rattle.std.proofs.Common.{◌++◌, refl, arith, length-append}
 use Rattle.nap_codes.specs.declared.opcode.Opcode.TheVariants as opcodes
 use Rattle.nap_codes.specs.Tables.{left_out_opcode}
 use Rattle.nap_draw.specs.Operands.{operands}
 use Rattle.nap_draw.specs.Laws.{RuleFits, CodeFits, CodeValuesAreInRange, DrawnValuesAreInRange, OpcodesAreDrawn, WholeOperandFirst, NoOperands}
 use Rattle.nap_draw.specs.Joining.{RunsJoin}
-use Rattle.nap_draw.proofs.Cuts.{operands-front}
+use Rattle.nap_draw.proofs.Cuts.{operands_chunk}
 use Rattle.nap_draw.proofs.Fits as fits
 use Rattle.nap_draw.proofs.RangeLemmas as ranges
 use Rattle.nap_draw.proofs.CodeRanges as code_ranges
@@ -35,12 +33,7 @@ opcodes_are_drawn _ e = tt
 
 pub whole_operand_first : WholeOperandFirst
 whole_operand_first k operand rest some is =
-    let words : List ℕ = operand ++ rest in
-    let whole : min k (length words) ≡ length operand = omega (arith, length-append operand rest) in
-    let taken : take (length operand) words ≡ operand = take-append-le (length operand) operand rest (omega arith) ∙ take_all (length operand) operand (omega arith) in
-    let left : drop (length operand) words ≡ rest =
-    drop-append-le (length operand) operand rest (omega arith) ∙ ap (λ (xs : List ℕ). xs ++ rest) (drop_of_length-le operand {i = length operand} (omega arith)) in
-    operands-front k words some (omega (arith, length-append operand rest)) ∙ rw (whole, taken, left) refl
+    operands_chunk k k (operand ++ rest) operand rest refl some refl (omega (arith, length-append operand rest)) (omega (arith, length-append operand rest))
 
 pub no_operands : NoOperands
 unfolding operands

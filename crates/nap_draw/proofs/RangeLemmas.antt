@@ -33,7 +33,7 @@ use Rattle.nap_draw.specs.Operands.{cut, operands, moves, addresses}
 use Rattle.nap_draw.specs.Geometry.{onward, end_of, points_at, reached, joined, span, span_by, between, away, across, round, arc_points, poly_points}
 use Rattle.nap_list.specs.State.{ink_of}
 use Rattle.nap_list.specs.Batches.{point_on}
-use Rattle.nap_draw.specs.Rule.{Drawn, rule, drawn, with_drawing, draws, draws_one, goes, and_then, some_of, moves_of, first_move, pen_point, pairs_of, first_of, few_of, with_operands, from_pen, with_pairs, shape_from_pen, shape_from_point, domain_in, domain_rule, part, area_of, field_rule, reset_rule, text_rule, texture_rule, colour_of_base, selected, select_rule, maps, colours_as, set_color_rule, blink, blinks, blink_rule, line_on, rect_on, arc_on, poly_on, field_on}
+use Rattle.nap_draw.specs.Rule.{Drawn, rule, drawn, with_drawing, draws, draws_one, goes, and_then, some_of, moves_of, first_move, pen_point, first_of, few_of, from_pen, shape_from_pen, shape_from_point, domain_in, domain_rule, part, area_of, field_rule, text_rule, texture_rule, colour_of_base, selected, select_rule, maps, colours_as, set_color_rule, blink, blinks, blink_rule, line_on, rect_on, arc_on, poly_on, field_on}
 use Rattle.nap_draw.specs.Laws.{DrawnValuesAreInRange}
 use Rattle.nap_draw.proofs.WalkRanges.{setting_ranged, unwrap_ranged, with_pen_at_ranged, with_colour_ranged, at_ranged, walk_ranged}
 
@@ -175,7 +175,7 @@ end_ranged o (p ∷ ps) from all = end_ranged (Some p) ps (All-head IsInSquare p
 
 -- what rules give
 
-abbrev Ranged : Result Drawn DrawFault → Type 0
+abbrev pub Ranged : Result Drawn DrawFault → Type 0
 Ranged by = IfOk by (λ d. AllInRange d.entries × StateInRange d.work.state)
 
 each_ranged : {A : Type 0} (P : A → Type 0) (by : Result A DrawFault) (next : A → Result Drawn DrawFault) → IfOk by P → ((x : A) → P x → Ranged (next x)) →
@@ -196,15 +196,15 @@ ink_ranged : (d : Drawing) → DrawingInRange d → InkInRange (ink_of d)
 ink_ranged d r = record { pel = r.pel; colour = r.colour; texture = r.texture }
 
 -- the values change, and nothing is drawn
-silent_ranged : (work : Work) (d : Drawing) → StateInRange work.state → DrawingInRange d → Ranged (Ok (drawn (with_drawing work d) []))
+pub silent_ranged : (work : Work) (d : Drawing) → StateInRange work.state → DrawingInRange d → Ranged (Ok (drawn (with_drawing work d) []))
 unfolding walk
 silent_ranged work d r new = (All-nil InRange, record { drawing = new; definition = r.definition; last = r.last; known = r.known })
 
 module _ (work : Work) (r : StateInRange work.state) where
-  list_ranged : (es : List Entry) → AllInRange es → Ranged (Ok (drawn work es))
+  pub list_ranged : (es : List Entry) → AllInRange es → Ranged (Ok (drawn work es))
   list_ranged es all = (all, walk_ranged work.state es r all)
 
-  one_ranged : (e : Entry) → InRange e → Ranged (Ok (drawn work (e ∷ [])))
+  pub one_ranged : (e : Entry) → InRange e → Ranged (Ok (drawn work (e ∷ [])))
   one_ranged e new = list_ranged (e ∷ []) (All-cons InRange e [] new (All-nil InRange))
 
   module _ {A : Type 0} (P : A → Type 0) (entry : Drawing → A → Entry) (new : (x : A) → P x → InRange (entry work.state.drawing x)) where
@@ -235,19 +235,13 @@ module _ (work : Work) (r : StateInRange work.state) where
 
   -- the kinds of operands
 
-  some_ranged : (run : List ℕ) (f : List Displacement → Result Drawn DrawFault) → ((ms : List Displacement) → Ranged (f ms)) → Ranged (with_operands work run f)
-  some_ranged run f each = any_ranged (some_of (moves_of work run)) f each
-
   pen_ranged : (f : Coordinates → Result Drawn DrawFault) → ((p : Coordinates) → IsInSquare p → Ranged (f p)) → Ranged (and_then (pen_point work.state.drawing.pen) f)
   pen_ranged f each = each_ranged IsInSquare (pen_point work.state.drawing.pen) f (pen_point_ranged work.state.drawing.pen r.drawing.pen) each
 
   from_pen_ranged : (run : List ℕ) (f : Coordinates → List Displacement → Result Drawn DrawFault) →
       ((p : Coordinates) (ms : List Displacement) → IsInSquare p → Ranged (f p ms)) → Ranged (from_pen work run f)
   from_pen_ranged run f each =
-      some_ranged run (λ ms. and_then (pen_point work.state.drawing.pen) (λ p. f p ms)) (λ ms. pen_ranged (λ p. f p ms) (λ p inside. each p ms inside))
-
-  pairs_ranged : (run : List ℕ) (f : List Displacement → Result Drawn DrawFault) → ((ms : List Displacement) → Ranged (f ms)) → Ranged (with_pairs work run f)
-  pairs_ranged run f each = any_ranged (pairs_of (moves_of work run)) f each
+      any_ranged (some_of (moves_of work run)) (λ ms. and_then (pen_point work.state.drawing.pen) (λ p. f p ms)) (λ ms. pen_ranged (λ p. f p ms) (λ p inside. each p ms inside))
 
   module _ (entry : Drawing → List Coordinates → Entry) (points : Coordinates → List Displacement → Option (List Coordinates))
       (new : (ps : List Coordinates) → All IsInSquare ps → InRange (entry work.state.drawing ps))
@@ -257,7 +251,7 @@ module _ (work : Work) (r : StateInRange work.state) where
 
     shape_from_pen_ranged : (run : List ℕ) → Ranged (shape_from_pen work run entry points)
     shape_from_pen_ranged run =
-        some_ranged run _ (λ ms. any_ranged (few_of ms) _ (λ few. pen_ranged (λ p. draws_one work entry (points p few)) (λ p from. shape_ranged p few from)))
+        any_ranged (some_of (moves_of work run)) _ (λ ms. any_ranged (few_of ms) _ (λ few. pen_ranged (λ p. draws_one work entry (points p few)) (λ p from. shape_ranged p few from)))
 
     shape_at_ranged : (o : Option Coordinates) (ms : List Displacement) → IfSome o IsInSquare →
         Ranged (draws_one work entry (option_and_then (λ p. points p ms) o))
@@ -319,9 +313,6 @@ module _ (work : Work) (r : StateInRange work.state) where
       at [] = tt
       at (m ∷ []) = from_pen_area (pen_point work.state.drawing.pen) m (pen_point_ranged work.state.drawing.pen r.drawing.pen)
       at (m ∷ n ∷ ms) = area_ranged (point_at m) n (point_at_ranged m)
-
-  reset_gives_ranged : (first second : ℕ) → IsWord first → IsWord second → Ranged (reset_rule work first second)
-  reset_gives_ranged first second one two = one_ranged (entries.Reset first second work.state.drawing.pen) (one, two, r.drawing.pen)
 
   size_ranged : (o : Option Displacement) (size : CharSize) → IfSome o IsInRange → SizeInRange size → SizeInRange (unwrap_or (option_map sizes.Given o) size)
   size_ranged None size new old = old
@@ -427,26 +418,26 @@ module _ (work : Work) (r : StateInRange work.state) where
       list_ranged (blinks k work.state.drawing.colour (operands (k + 3) run)) (blinks_ranged k (operands (k + 3) run) (operands_ranged (k + 3) run all))
 
   rule_ranged : (op : Opcode) (run : List ℕ) → All IsWord run → Ranged (rule work op run)
-  rule_ranged opcodes.Reset run all = reset_gives_ranged (slice_index run 0) (slice_index run 1) (word_ranged run 0 all) (word_ranged run 1 all)
+  rule_ranged opcodes.Reset run all = one_ranged (entries.Reset (slice_index run 0) (slice_index run 1) work.state.drawing.pen) (word_ranged run 0 all, word_ranged run 1 all, r.drawing.pen)
   rule_ranged opcodes.Domain run all = domain_ranged run all
   rule_ranged opcodes.Text run all = text_ranged run all
   rule_ranged opcodes.Texture run all = texture_ranged run all
-  rule_ranged opcodes.PointSetAbs run all = some_ranged run _ (λ ms. goes_ranged (points_at ms) (points_at_ranged ms))
+  rule_ranged opcodes.PointSetAbs run all = any_ranged _ _ (λ ms. goes_ranged (points_at ms) (points_at_ranged ms))
   rule_ranged opcodes.PointSetRel run all = from_pen_ranged run _ (λ p ms _. goes_ranged (reached p ms) (reached_ranged p ms))
-  rule_ranged opcodes.PointAbs run all = some_ranged run _ (λ ms. points_ranged (points_at ms) (points_at_ranged ms))
+  rule_ranged opcodes.PointAbs run all = any_ranged _ _ (λ ms. points_ranged (points_at ms) (points_at_ranged ms))
   rule_ranged opcodes.PointRel run all = from_pen_ranged run _ (λ p ms _. points_ranged (reached p ms) (reached_ranged p ms))
   rule_ranged opcodes.LineAbs run all = from_pen_ranged run _ (λ p ms from. strokes_ranged _ (lines_ranged p (points_at ms) from (points_at_ranged ms)))
   rule_ranged opcodes.LineRel run all = from_pen_ranged run _ (λ p ms from. strokes_ranged _ (lines_ranged p (reached p ms) from (reached_ranged p ms)))
-  rule_ranged opcodes.SetLineAbs run all = pairs_ranged run _ (λ ms. strokes_ranged (between ms) (between_ranged ms))
-  rule_ranged opcodes.SetLineRel run all = pairs_ranged run _ (λ ms. strokes_ranged (away ms) (away_ranged ms))
+  rule_ranged opcodes.SetLineAbs run all = any_ranged _ _ (λ ms. strokes_ranged (between ms) (between_ranged ms))
+  rule_ranged opcodes.SetLineRel run all = any_ranged _ _ (λ ms. strokes_ranged (away ms) (away_ranged ms))
   rule_ranged opcodes.ArcOutlined run all = shape_from_pen_ranged (arc_on false) arc_points (arc_new false) arc_ranged run
   rule_ranged opcodes.ArcFilled run all = shape_from_pen_ranged (arc_on true) arc_points (arc_new true) arc_ranged run
   rule_ranged opcodes.SetArcOutlined run all = shape_from_point_ranged (arc_on false) arc_points (arc_new false) arc_ranged run
   rule_ranged opcodes.SetArcFilled run all = shape_from_point_ranged (arc_on true) arc_points (arc_new true) arc_ranged run
   rule_ranged opcodes.RectOutlined run all = from_pen_ranged run _ (λ p ms from. rects_ranged false (across p ms) (across_ranged p ms from))
   rule_ranged opcodes.RectFilled run all = from_pen_ranged run _ (λ p ms from. rects_ranged true (across p ms) (across_ranged p ms from))
-  rule_ranged opcodes.SetRectOutlined run all = pairs_ranged run _ (λ ms. rects_ranged false (away ms) (away_ranged ms))
-  rule_ranged opcodes.SetRectFilled run all = pairs_ranged run _ (λ ms. rects_ranged true (away ms) (away_ranged ms))
+  rule_ranged opcodes.SetRectOutlined run all = any_ranged _ _ (λ ms. rects_ranged false (away ms) (away_ranged ms))
+  rule_ranged opcodes.SetRectFilled run all = any_ranged _ _ (λ ms. rects_ranged true (away ms) (away_ranged ms))
   rule_ranged opcodes.PolyOutlined run all = shape_from_pen_ranged (poly_on false) poly_points (poly_new false) poly_ranged run
   rule_ranged opcodes.PolyFilled run all = shape_from_pen_ranged (poly_on true) poly_points (poly_new true) poly_ranged run
   rule_ranged opcodes.SetPolyOutlined run all = shape_from_point_ranged (poly_on false) poly_points (poly_new false) poly_ranged run

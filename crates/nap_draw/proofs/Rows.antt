@@ -8,6 +8,8 @@ use Rattle.nap_draw.specs.Geometry.{onward, points_at, span, between, away, acro
 use Rattle.nap_draw.specs.Rule.{from_pen, with_pairs, draws, rect_on, rule}
 use Rattle.nap_draw.specs.Doing.{paired}
 
+-- Rules in other words.
+
 -- pairs of points, where no operand lacks its second
 
 pair_first : (p q : Option Coordinates) (rest : Option (List Coordinates)) →

@@ -1,6 +1,5 @@
-use Rattle.std.proofs.Common.{◌≡◌, ℕ, ◌+◌, List, [], ◌∷◌, ◌++◌, map, length, take, drop, get_or, min, ◌<◌, ◌≤◌, leb, arith, Bool, true, false, Option, None, refl, sym, ◌∙◌, ap, subst}
-use Rattle.std.proofs.lemmas.Bool.Decides.{nat_tests}
-use Rattle.std.proofs.lemmas.List.{take_all, drop_all}
+use Rattle.std.proofs.Common.{◌≡◌, ℕ, ◌+◌, List, [], ◌∷◌, ◌++◌, map, length, take, drop, get_or, min, ◌<◌, arith, Option, None, refl, sym, ◌∙◌, ap, subst}
+use Rattle.std.proofs.lemmas.List.{take_min, drop_min}
 use Rattle.nap_values.specs.Operands.{single_of}
 use Rattle.nap_draw.specs.Operands.{operands}
 use Rattle.nap_draw.proofs.Cuts.{operands_chunk}
@@ -16,6 +15,8 @@ use Rattle.nap_list.specs.Agreement.{InMode, Holds, StatesAgree}
 use Rattle.nap_list.proofs.PublicLaws.{agreeing_fits}
 use Rattle.nap_draw.specs.Rule.{blink}
 use Rattle.nap_draw.proofs.Walks.{left_by}
+
+-- Entries that leave the values as they stand.
 
 -- the state with these values, and with this last character
 abbrev at : Drawing → State → Option LastChar → State
@@ -61,34 +62,12 @@ blink_stays d k mode = record {
   comes = λ group s. tt;
 }
 
-take_least : (k : ℕ) (xs : List ℕ) → take (min k (length xs)) xs ≡ take k xs
-take_least k xs = at (leb k (length xs)) refl
-  where
-    at : (b : Bool) → leb k (length xs) ≡ b → take (min k (length xs)) xs ≡ take k xs
-    at true all = let e : min k (length xs) ≡ k = grind (arith, nat_tests) in ap (λ (n : ℕ). take n xs) e
-    at false few =
-        let e : min k (length xs) ≡ length xs = grind (arith, nat_tests) in
-        let most : length xs ≤ k = grind (arith, nat_tests) in
-        ap (λ (n : ℕ). take n xs) e ∙ (take_all (length xs) xs (omega arith) ∙ sym (take_all k xs most))
-
-drop_least : (k : ℕ) (xs : List ℕ) → drop (min k (length xs)) xs ≡ drop k xs
-drop_least k xs = at (leb k (length xs)) refl
-  where
-    at : (b : Bool) → leb k (length xs) ≡ b → drop (min k (length xs)) xs ≡ drop k xs
-    at true all = let e : min k (length xs) ≡ k = grind (arith, nat_tests) in ap (λ (n : ℕ). drop n xs) e
-    at false few =
-        let e : min k (length xs) ≡ length xs = grind (arith, nat_tests) in
-        let most : length xs ≤ k = grind (arith, nat_tests) in
-        ap (λ (n : ℕ). drop n xs) e ∙ (drop_all (length xs) xs (omega arith) ∙ sym (drop_all k xs most))
-
--- a run that was cut behind its first group
-
 -- a blink of its parts
 pub blink_made : (k m : ℕ) (colour : Colour) (group address times : List ℕ) (a on off delay : ℕ) → m ≡ min k (length group) → address ≡ take m group → times ≡ drop m group →
     a ≡ single_of address → on ≡ get_or times 0 0 → off ≡ get_or times 1 0 → delay ≡ get_or times 2 0 → entries.Blink a on off delay colour ≡ blink k colour group
 blink_made k m colour group address times a on off delay part front back at one two three =
-    let by = front ∙ (ap (λ (m : ℕ). take m group) part ∙ take_least k group) in
-    let behind = back ∙ (ap (λ (m : ℕ). drop m group) part ∙ drop_least k group) in
+    let by = front ∙ (ap (λ (m : ℕ). take m group) part ∙ take_min k group) in
+    let behind = back ∙ (ap (λ (m : ℕ). drop m group) part ∙ drop_min k group) in
     rw (at, one, two, three, by, behind) refl
 
 -- the first blink of what is left

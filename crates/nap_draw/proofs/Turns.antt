@@ -4,6 +4,8 @@ use Rattle.nap_values.specs.Coordinates.{Coordinates, Displacement, point_at, mo
 use Rattle.nap_list.specs.State.{corner}
 use Rattle.nap_draw.specs.Geometry.{onward, points_at, reached, span_by, away, across}
 
+-- Where operands lead, one further on.
+
 -- the first is this
 pub onward_more : {A : Type 0} (l : Option (List A)) (x : Option A) (y : A) (next : A → Option (List A)) →
     l ≡ onward x next → x ≡ Some y → l ≡ option_map (λ xs. y ∷ xs) (next y)

@@ -19,6 +19,8 @@ use Rattle.nap_list.specs.Batches.{point_on}
 use Rattle.nap_draw.specs.Rule.{Drawn, with_drawing, draws, goes, line_on, rect_on}
 use Rattle.nap_draw.specs.Doing.{landed, stroke_on, stroke_end}
 
+-- Where entries lead that only move the pen.
+
 -- entries of one shape that only move the pen, each to a point of its own
 pub record Lands {A : Type 0} (entry : Drawing → A → Entry) (at : A → Coordinates) : Type 0 where
   pub keeps : (pen : Pen) (d : Drawing) → entry (with_pen pen d) ≡ entry d

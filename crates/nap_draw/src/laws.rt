@@ -26,21 +26,25 @@ pub fn code_values_are_in_range()
 {}
 
 /// Each opcode that is not left out has a rule.
+#[tactic(auto, using(crate::proofs::PublicLaws::opcodes_are_drawn))]
 pub fn opcodes_are_drawn()
     ensures { OpcodesAreDrawn }
 {}
 
 /// A run is cut into operands from its front.
+#[tactic(auto, using(crate::proofs::PublicLaws::whole_operand_first))]
 pub fn whole_operand_first()
     ensures { WholeOperandFirst }
 {}
 
 /// A run of no words has no operands.
+#[tactic(auto, using(crate::proofs::PublicLaws::no_operands))]
 pub fn no_operands()
     ensures { NoOperands }
 {}
 
 /// An opcode with a run of whole operands, and the same opcode with one more run, do what it does with both runs as one.
+#[tactic(auto, using(crate::proofs::PublicLaws::runs_join))]
 pub fn runs_join()
     ensures { RunsJoin }
 {}

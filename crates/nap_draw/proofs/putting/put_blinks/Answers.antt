@@ -27,20 +27,18 @@ pub put-requires : goal.put-requires
 put-requires g c =
     let inv = c.loop-group.invariant in
     let steps = c.in-Some.ensures.steps in
-    let rest = chunks_rest c.next.new.self in
-    one_fits (shows_of g.S.Sink) _ _ _ _ _ c.blink_of.result inv.putting (blink_left c.args.domain.single _ c.args.drawing.now.colour (chunks_rest c.loop-group.group-iterator) c.in-Some.group.now rest c.blink_of.result inv.size steps.1.0 steps.1.1 steps.1.2 c.blink_of.ensures) c.requires
+    one_fits (shows_of g.S.Sink) _ _ _ _ _ c.blink_of.result inv.putting (blink_left c.args.domain.single _ _ _ _ _ _ inv.size steps.1.0 steps.1.1 steps.1.2 c.blink_of.ensures) c.requires
 
 pub loop-group-preserved : goal.loop-group-preserved
 loop-group-preserved g c =
     let inv = c.loop-group.invariant in
     let steps = c.in-Some.ensures.steps in
     let put = c.in_ok-put.ensures in
-    let rest = chunks_rest c.next.new.self in
     record {
       can = omega (arith, steps.0, inv.can);
       finite = tt;
       size = steps.0 ∙ inv.size;
-      putting = one_goes (shows_of g.S.Sink) _ _ _ _ inv.putting g.met.S.Sink.took_more _ c.blink_of.result _ (blink_left c.args.domain.single _ c.args.drawing.now.colour (chunks_rest c.loop-group.group-iterator) c.in-Some.group.now rest c.blink_of.result inv.size steps.1.0 steps.1.1 steps.1.2 c.blink_of.ensures)
+      putting = one_goes (shows_of g.S.Sink) _ _ _ _ inv.putting g.met.S.Sink.took_more _ c.blink_of.result _ (blink_left c.args.domain.single _ _ _ _ _ _ inv.size steps.1.0 steps.1.1 steps.1.2 c.blink_of.ensures)
           put.took put.after put.only_write put.refuses;
     }
 
@@ -49,9 +47,8 @@ returns-in_err-put g c =
     let inv = c.loop-group.invariant in
     let steps = c.in-Some.ensures.steps in
     let put = c.in_err-put.ensures in
-    let rest = chunks_rest c.next.new.self in
     let fault = err_from_is_err_and c.from_residual.result c.from_residual.ensures.1 in
-    rw (fault.1, fault.2) (one_stops (shows_of g.S.Sink) (Unit {0}) _ _ _ _ inv.putting (g.met.S.Sink.took_none _) g.met.S.Sink.took_more g.met.S.Sink.took_broke g.met.S.Sink.wants_more _ c.blink_of.result _ _ (blink_left c.args.domain.single _ c.args.drawing.now.colour (chunks_rest c.loop-group.group-iterator) c.in-Some.group.now rest c.blink_of.result inv.size steps.1.0 steps.1.1 steps.1.2 c.blink_of.ensures)
+    rw (fault.1, fault.2) (one_stops (shows_of g.S.Sink) (Unit {0}) _ _ _ _ inv.putting (g.met.S.Sink.took_none _) g.met.S.Sink.took_more g.met.S.Sink.took_broke g.met.S.Sink.wants_more _ c.blink_of.result _ _ (blink_left c.args.domain.single _ _ _ _ _ _ inv.size steps.1.0 steps.1.1 steps.1.2 c.blink_of.ensures)
     (record { memory = put.memory; wants = put.wants; refuses = put.refuses; write = put.write; only_write = put.only_write; broke = put.broke; still = put.still }))
 
 pub returns : goal.returns

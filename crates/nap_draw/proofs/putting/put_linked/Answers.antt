@@ -1,4 +1,4 @@
-use Rattle.std.proofs.Common.{◌+◌, drop, map, sym, refl, ◌∙◌, ap, arith, Option}
+use Rattle.std.proofs.Common.{map, sym, refl, ◌∙◌, ap, arith, Option}
 use Rattle.std.proofs.lemmas.List.{drop_all}
 use Rattle.std.proofs.lemmas.Result.{err_from_is_err_and}
 use Rattle.nap_draw.specs.declared.spans.Span.{Span}
@@ -15,19 +15,17 @@ loop-to-init g c = record { last = refl; putting = put_begins (shows_of g.S.Sink
 pub put-requires : goal.put-requires
 put-requires g c =
     let left = drop_at c.args.points.now c.loop-to.to-index c.to-item.result (omega arith) c.to-item.is in
-    one_fits (shows_of g.S.Sink) _ _ _ _ _ c.entry.result c.loop-to.invariant.putting
-    (linked_left c.args.figure c.args.drawing.now c.loop-to.at c.to-item.result _ (drop (c.loop-to.to-index + 1) c.args.points.now) c.entry.result left c.entry.ensures) c.requires
+    one_fits (shows_of g.S.Sink) _ _ _ _ _ _ c.loop-to.invariant.putting (linked_left _ c.args.drawing.now _ _ _ _ _ left c.entry.ensures) c.requires
 
 pub loop-to-preserved : goal.loop-to-preserved
 loop-to-preserved g c =
     let inv = c.loop-to.invariant in
     let put = c.in_ok-put.ensures in
-    let rest = drop (c.loop-to.to-index + 1) c.args.points.now in
     let left = drop_at c.args.points.now c.loop-to.to-index c.to-item.result (omega arith) c.to-item.is in
     rw c.after-at.ensures (record {
-      last = linked_last c.args.figure c.loop-to.last c.loop-to.at c.to-item.result _ rest left ∙ inv.last;
+      last = linked_last _ _ _ _ _ _ left ∙ inv.last;
       putting = one_goes (shows_of g.S.Sink) _ _ _ _ inv.putting g.met.S.Sink.took_more _ c.entry.result _
-          (linked_left c.args.figure c.args.drawing.now c.loop-to.at c.to-item.result _ rest c.entry.result left c.entry.ensures) put.took put.after put.only_write put.refuses;
+          (linked_left _ c.args.drawing.now _ _ _ _ _ left c.entry.ensures) put.took put.after put.only_write put.refuses;
     })
 
 pub returns-in_err-put-clause-put : goal.returns-in_err-put-clause-put
@@ -35,8 +33,7 @@ returns-in_err-put-clause-put g c =
     let put = c.in_err-put.ensures in
     let left = drop_at c.args.points.now c.loop-to.to-index c.to-item.result (omega arith) c.to-item.is in
     let fault = err_from_is_err_and c.from_residual.result c.from_residual.ensures.1 in
-    rw (fault.1, fault.2) (one_stops (shows_of g.S.Sink) (Option Span) _ _ _ _ c.loop-to.invariant.putting (g.met.S.Sink.took_none _) g.met.S.Sink.took_more g.met.S.Sink.took_broke g.met.S.Sink.wants_more _ c.entry.result _ _
-    (linked_left c.args.figure c.args.drawing.now c.loop-to.at c.to-item.result _ (drop (c.loop-to.to-index + 1) c.args.points.now) c.entry.result left c.entry.ensures)
+    rw (fault.1, fault.2) (one_stops (shows_of g.S.Sink) (Option Span) _ _ _ _ c.loop-to.invariant.putting (g.met.S.Sink.took_none _) g.met.S.Sink.took_more g.met.S.Sink.took_broke g.met.S.Sink.wants_more _ c.entry.result _ _ (linked_left _ c.args.drawing.now _ _ _ _ _ left c.entry.ensures)
     (record { memory = put.memory; wants = put.wants; refuses = put.refuses; write = put.write; only_write = put.only_write; broke = put.broke; still = put.still }))
 
 pub returns : goal.returns

@@ -25,39 +25,33 @@ loop-pair-init g c =
 
 pub put-requires : goal.put-requires
 put-requires g c =
-    let inv = c.loop-pair.invariant in
     let steps = c.in-Some.ensures.steps in
-    let rest = chunks_exact_rest c.next.new.self in
-    let left = two_of c.in-Some.pair.now (chunks_exact_rest c.loop-pair.pair-iterator) rest c.index-pair-0.result c.index-pair-1.result (steps.1.1 ∙ inv.size) c.index-pair-0.is c.index-pair-1.is steps.1.0 in
-    one_fits (shows_of g.S.Sink) _ _ _ _ _ c.entry.result inv.putting
-    (paired_left c.args.figure c.args.drawing.now c.index-pair-0.result c.index-pair-1.result _ rest c.entry.result left c.entry.ensures) c.requires
+    let left = two_of _ _ _ _ _ (steps.1.1 ∙ c.loop-pair.invariant.size) c.index-pair-0.is c.index-pair-1.is steps.1.0 in
+    one_fits (shows_of g.S.Sink) _ _ _ _ _ _ c.loop-pair.invariant.putting (paired_left _ c.args.drawing.now _ _ _ _ _ left c.entry.ensures) c.requires
 
 pub loop-pair-preserved : goal.loop-pair-preserved
 loop-pair-preserved g c =
     let inv = c.loop-pair.invariant in
     let steps = c.in-Some.ensures.steps in
     let put = c.in_ok-put.ensures in
-    let rest = chunks_exact_rest c.next.new.self in
-    let left = two_of c.in-Some.pair.now (chunks_exact_rest c.loop-pair.pair-iterator) rest c.index-pair-0.result c.index-pair-1.result (steps.1.1 ∙ inv.size) c.index-pair-0.is c.index-pair-1.is steps.1.0 in
+    let left = two_of _ _ _ _ _ (steps.1.1 ∙ c.loop-pair.invariant.size) c.index-pair-0.is c.index-pair-1.is steps.1.0 in
     record {
       can = omega (arith, steps.0, inv.can);
       finite = tt;
       size = steps.0 ∙ inv.size;
-      last = paired_last c.loop-pair.last c.index-pair-0.result c.index-pair-1.result _ rest left ∙ inv.last;
+      last = paired_last _ _ _ _ _ left ∙ inv.last;
       putting = one_goes (shows_of g.S.Sink) _ _ _ _ inv.putting g.met.S.Sink.took_more _ c.entry.result _
-          (paired_left c.args.figure c.args.drawing.now c.index-pair-0.result c.index-pair-1.result _ rest c.entry.result left c.entry.ensures) put.took put.after put.only_write put.refuses;
+          (paired_left _ c.args.drawing.now _ _ _ _ _ left c.entry.ensures) put.took put.after put.only_write put.refuses;
     }
 
 pub returns-in_err-put-clause-put : goal.returns-in_err-put-clause-put
 returns-in_err-put-clause-put g c =
-    let inv = c.loop-pair.invariant in
     let steps = c.in-Some.ensures.steps in
     let put = c.in_err-put.ensures in
-    let rest = chunks_exact_rest c.next.new.self in
-    let left = two_of c.in-Some.pair.now (chunks_exact_rest c.loop-pair.pair-iterator) rest c.index-pair-0.result c.index-pair-1.result (steps.1.1 ∙ inv.size) c.index-pair-0.is c.index-pair-1.is steps.1.0 in
+    let left = two_of _ _ _ _ _ (steps.1.1 ∙ c.loop-pair.invariant.size) c.index-pair-0.is c.index-pair-1.is steps.1.0 in
     let fault = err_from_is_err_and c.from_residual.result c.from_residual.ensures.1 in
-    rw (fault.1, fault.2) (one_stops (shows_of g.S.Sink) (Option Span) _ _ _ _ inv.putting (g.met.S.Sink.took_none _) g.met.S.Sink.took_more g.met.S.Sink.took_broke g.met.S.Sink.wants_more _ c.entry.result _ _
-    (paired_left c.args.figure c.args.drawing.now c.index-pair-0.result c.index-pair-1.result _ rest c.entry.result left c.entry.ensures) (record { memory = put.memory; wants = put.wants; refuses = put.refuses; write = put.write; only_write = put.only_write; broke = put.broke; still = put.still }))
+    rw (fault.1, fault.2) (one_stops (shows_of g.S.Sink) (Option Span) _ _ _ _ c.loop-pair.invariant.putting (g.met.S.Sink.took_none _) g.met.S.Sink.took_more g.met.S.Sink.took_broke g.met.S.Sink.wants_more _ c.entry.result _ _
+    (paired_left _ c.args.drawing.now _ _ _ _ _ left c.entry.ensures) (record { memory = put.memory; wants = put.wants; refuses = put.refuses; write = put.write; only_write = put.only_write; broke = put.broke; still = put.still }))
 
 pub returns : goal.returns
 returns g c =

@@ -1,11 +1,7 @@
 use Rattle.std.proofs.Common.{sym, ◌∙◌, ap, arith, Some}
-use Rattle.std.specs.Slice.Iter.{chunks_rest}
 use Rattle.nap_values.specs.Coordinates.{moved}
-use Rattle.nap_values.specs.Operands.{multi_of}
-use Rattle.nap_list.specs.State.{corner}
 use Rattle.nap_draw.specs.declared.spans.Span.{Span}
-use Rattle.nap_draw.specs.Operands.{moves}
-use Rattle.nap_draw.specs.Geometry.{span, across}
+use Rattle.nap_draw.specs.Geometry.{span}
 use Rattle.nap_draw.proofs.Cuts.{moves_chunk, moves_none}
 use Rattle.nap_draw.proofs.Decoding.{filling_more, filling_none, filled, still_kept, pushed, crossed_more, crossed_all}
 use Rattle.nap_draw.proofs.Turns.{across_end, across_turn, onward_more, onward_none}
@@ -15,37 +11,28 @@ pub returns-in_default : goal.returns-in_default
 returns-in_default c =
     let inv = c.loop-operand.invariant in
     let steps = c.in-Some.ensures.steps in
-    let k = c.args.domain.multi in
-    let at = c.loop-operand.at in
-    let rest = chunks_rest c.next.new.self in
-    let cut = moves_chunk k _ (chunks_rest c.loop-operand.operand-iterator) c.in-Some.operand.now rest inv.size (omega (arith, c.multi-size.ensures.value, c.multi-size.ensures.least)) steps.1.0 steps.1.1 steps.1.2 in
-    let out = sym (c.by.ensures ∙ ap (moved at) c.multi.ensures) ∙ c.in_default.is in
-    filling_none _ _ _ _ inv.filling (onward_none _ _ _ (across_turn at _ (moves k rest) (multi_of c.in-Some.operand.now) cut) (ap (span (Some at)) out))
+    let cut = moves_chunk c.args.domain.multi _ _ _ _ inv.size (omega (arith, c.multi-size.ensures.value, c.multi-size.ensures.least)) steps.1.0 steps.1.1 steps.1.2 in
+    let out = sym (c.by.ensures ∙ ap (moved c.loop-operand.at) c.multi.ensures) ∙ c.in_default.is in
+    filling_none _ _ _ _ inv.filling (onward_none _ _ _ (across_turn _ _ _ _ cut) (ap (span (Some c.loop-operand.at)) out))
 
 pub loop-operand-preserved : goal.loop-operand-preserved
 loop-operand-preserved c =
     let inv = c.loop-operand.invariant in
     let steps = c.in-Some.ensures.steps in
-    let k = c.args.domain.multi in
     let at = c.loop-operand.at in
-    let rest = chunks_rest c.next.new.self in
-    let p = c.in-Some-by.point in
-    let here : Span = record { from = at; to = p } in
-    let cut = moves_chunk k _ (chunks_rest c.loop-operand.operand-iterator) c.in-Some.operand.now rest inv.size (omega (arith, c.multi-size.ensures.value, c.multi-size.ensures.least)) steps.1.0 steps.1.1 steps.1.2 in
+    let here : Span = record { from = at; to = c.in-Some-by.point } in
+    let cut = moves_chunk c.args.domain.multi _ _ _ _ inv.size (omega (arith, c.multi-size.ensures.value, c.multi-size.ensures.least)) steps.1.0 steps.1.1 steps.1.2 in
     let inside = sym (c.by.ensures ∙ ap (moved at) c.multi.ensures) ∙ c.in-Some-by.is in
     rw c.corner-at.ensures (record {
       can = omega (arith, steps.0, inv.can);
       finite = tt;
       size = steps.0 ∙ inv.size;
-      filling = filling_more _ _ (across (corner at p) (moves k rest)) here _ _ _ _ inv.filling
-          (onward_more _ _ here _ (across_turn at _ (moves k rest) (multi_of c.in-Some.operand.now) cut) (ap (span (Some at)) inside))
-          (still_kept c.loop-operand.full c.is_err-full.result)
-          (λ front e kept. crossed_more c.args.from at p c.loop-operand.room.items _ front
-          (pushed c.push.result c.loop-operand.full c.is_err-full.result _ _ p c.push.ensures.items c.is_err-full.ensures.value e) kept);
+      filling = filling_more _ _ _ here _ _ _ _ inv.filling
+          (onward_more _ _ here _ (across_turn at _ _ _ cut) (ap (span (Some at)) inside))
+          (still_kept _ _)
+          (λ front e kept. crossed_more _ at _ _ _ front (pushed _ _ _ _ _ _ c.push.ensures.items c.is_err-full.ensures.value e) kept);
     })
 
 pub returns : goal.returns
 returns c =
-    let inv = c.loop-operand.invariant in
-    let none = moves_none c.args.domain.multi _ c.in-None.ensures.steps.1.0 in
-    filled _ _ c.loop-operand.full _ _ c.settled.result inv.filling (across_end _ _ none) (λ front kept. crossed_all c.args.from c.loop-operand.at c.loop-operand.room.items front kept) c.settled.ensures.ok c.settled.ensures.err
+    filled _ _ _ _ _ _ c.loop-operand.invariant.filling (across_end _ _ (moves_none _ _ c.in-None.ensures.steps.1.0)) (λ front kept. crossed_all _ _ _ front kept) c.settled.ensures.ok c.settled.ensures.err

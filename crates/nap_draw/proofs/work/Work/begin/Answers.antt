@@ -1,5 +1,4 @@
 use Rattle.std.proofs.Common.{refl}
-use Rattle.std.proofs.lemmas.Result.{err_from_is_err_and}
 use Rattle.nap_list.specs.State.{walk}
 use Rattle.nap_draw.specs.Codes.{ended}
 use Rattle.nap_draw.specs.Doing.{start_of}
@@ -17,5 +16,4 @@ returns g c = rw (c.step.ensures, c.start_of.ensures, c.go_back.ensures) (obeys_
 pub returns-in_err-put_start : goal.returns-in_err-put_start
 returns-in_err-put_start g c =
     let w = c.args.self.now in
-    let fault = err_from_is_err_and c.from_residual.result c.from_residual.ensures.1 in
-    rw (fault.1, fault.2) (obeys_stop g.S.Sink _ w _ _ _ _ (g.met.S.Sink.took_none _) g.met.S.Sink.wants_more refl (one_behind (ended w).entries (start_of c.args.what)) c.in_err-put_start.ensures)
+    obeys_stop g.S.Sink _ w _ _ _ _ _ c.from_residual.ensures.1 (g.met.S.Sink.took_none _) g.met.S.Sink.wants_more refl (one_behind (ended w).entries (start_of c.args.what)) c.in_err-put_start.ensures

@@ -1,5 +1,4 @@
 use Rattle.std.proofs.Common.{◌≡◌, ◌<◌, ◌+◌, Ok, [], ◌∷◌, length, refl, sym, ap, ◌∙◌, arith}
-use Rattle.std.proofs.lemmas.Result.{err_from_is_err_and}
 use Rattle.std.proofs.lemmas.Bool.Decides.{nat_tests}
 use Rattle.nap_list.specs.declared.attribute.Colour.{Colour}
 use Rattle.nap_list.specs.declared.entry.Entry.TheVariants.{BlinkEnd}
@@ -38,8 +37,7 @@ put_blinks-requires g c =
 pub returns-in_err-put_blinks : goal.returns-in_err-put_blinks
 returns-in_err-put_blinks g c =
     let some : 0 < length c.args.run.now = grind (arith, nat_tests) in
-    let fault = err_from_is_err_and c.from_residual.result c.from_residual.ensures.1 in
-    rw (fault.1, fault.2) (does_stop g.S.Sink quiet _ _ _ _ _ _ (blink_some c.args.self.now c.args.run.now c.requires.drawing.mode some) c.in_err-put_blinks.ensures)
+    does_stop g.S.Sink quiet _ _ _ _ _ _ _ c.from_residual.ensures.1 (blink_some c.args.self.now c.args.run.now c.requires.drawing.mode some) c.in_err-put_blinks.ensures
 
 pub returns : goal.returns
 returns g c =

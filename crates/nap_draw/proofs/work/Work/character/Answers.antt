@@ -1,5 +1,4 @@
 use Rattle.std.proofs.Common.{[], ◌∷◌, Ok, Result, Some, false, sym, ap, ◌∙◌}
-use Rattle.std.proofs.lemmas.Result.{err_from_is_err_and}
 use Rattle.nap_list.specs.declared.attribute.Hand.{Hand}
 use Rattle.nap_list.specs.declared.attribute.Pen.TheVariants as pens
 use Rattle.nap_list.specs.declared.entry.Entry.TheVariants as entries
@@ -24,8 +23,7 @@ pub returns-in_err-put : goal.returns-in_err-put
 returns-in_err-put g c =
     let w = c.args.self.now in
     let by = ap (λ (hand : Hand). Ok (drawn w (entries.Char c.args.set c.args.code hand ∷ []))) (sym c.hand-hand.ensures) in
-    let fault = err_from_is_err_and c.from_residual.result c.from_residual.ensures.1 in
-    rw (fault.1, fault.2) (obeys_stop g.S.Sink _ _ _ _ _ _ (g.met.S.Sink.took_none _) g.met.S.Sink.wants_more by (λ none. cc) c.in_err-put.ensures)
+    obeys_stop g.S.Sink _ _ _ _ _ _ _ c.from_residual.ensures.1 (g.met.S.Sink.took_none _) g.met.S.Sink.wants_more by (λ none. cc) c.in_err-put.ensures
 
 pub returns : goal.returns
 unfolding walk

@@ -1,10 +1,8 @@
-use Rattle.std.proofs.Common.{List, Ok, Err, sym, ◌∙◌, ap, subst}
+use Rattle.std.proofs.Common.{List, sym, ◌∙◌, ap, subst}
 use Rattle.std.proofs.lemmas.Result.{err_from_is_err_and}
 use Rattle.nap_list.specs.declared.entry.Entry.{Entry}
 use Rattle.nap_list.specs.declared.state.State.{State}
 use Rattle.nap_list.specs.Agreement.{StatesAgree}
-use Rattle.nap_list.specs.Putting.{Put}
-use Rattle.nap_list.specs.Shown.{shows_of}
 use Rattle.nap_list.specs.State.{AllFit, walk}
 use Rattle.nap_draw.specs.Codes.{text}
 use Rattle.nap_draw.proofs.Texts.{text_is, text_left, text_fits, text_none, no_codes}
@@ -18,16 +16,11 @@ put_batch-requires g c =
 
 pub returns-in_err-put_batch-clause-put : goal.returns-in_err-put_batch-clause-put
 returns-in_err-put_batch-clause-put g c =
-    let s = c.args.self.now.state in
-    let list = text_is s c.args.set c.args.codes.now c.requires.agrees.drawing.mode in
     let fault = err_from_is_err_and c.from_residual.result c.from_residual.ensures.1 in
-    rw (fault.1, fault.2) (subst (λ (list : List Entry). Put (shows_of g.S.Sink) list c.args.sink.now c.put_batch.new.self (Err c.in_err-put_batch.field-0.0)) (sym list) c.in_err-put_batch.ensures)
+    rw (fault.1, fault.2) (rw (text_is c.args.self.now.state c.args.set c.args.codes.now c.requires.agrees.drawing.mode) c.in_err-put_batch.ensures)
 
 pub returns-in_default-clause-put : goal.returns-in_default-clause-put
-returns-in_default-clause-put g c =
-    let s = c.args.self.now.state in
-    let list = text_is s c.args.set c.args.codes.now c.requires.agrees.drawing.mode in
-    subst (λ (list : List Entry). Put (shows_of g.S.Sink) list c.args.sink.now c.put_batch.new.self (Ok tt)) (sym list) c.in_ok-put_batch.ensures
+returns-in_default-clause-put g c = rw (text_is c.args.self.now.state c.args.set c.args.codes.now c.requires.agrees.drawing.mode) c.in_ok-put_batch.ensures
 
 pub returns-in_default-clause-work : goal.returns-in_default-clause-work
 returns-in_default-clause-work g c =
@@ -46,10 +39,7 @@ returns-in_default-clause-agree g c =
     (text_fits s (g.S.Sink.state c.args.sink.now) c.args.set codes c.requires.agrees c.requires.made).1)
 
 pub returns-clause-put : goal.returns-clause-put
-returns-clause-put g c =
-    let s = c.args.self.now.state in
-    let list = text_is s c.args.set c.args.codes.now c.requires.agrees.drawing.mode in
-    subst (λ (list : List Entry). Put (shows_of g.S.Sink) list c.args.sink.now c.put_batch.new.self (Ok tt)) (sym list) c.in_ok-put_batch.ensures
+returns-clause-put g c = rw (text_is c.args.self.now.state c.args.set c.args.codes.now c.requires.agrees.drawing.mode) c.in_ok-put_batch.ensures
 
 pub returns-clause-work : goal.returns-clause-work
 returns-clause-work g c =

@@ -1,5 +1,4 @@
 use Rattle.std.proofs.Common.{None, ◌∙◌, refl}
-use Rattle.std.proofs.lemmas.Result.{err_from_is_err_and}
 use Rattle.nap_draw.specs.Geometry.{end_of}
 use Rattle.nap_list.specs.Batches.{point_on}
 use Rattle.nap_list.specs.PuttingLaws.{some_put}
@@ -14,9 +13,7 @@ pub put_batch-requires : goal.put_batch-requires
 put_batch-requires g c = (all_fit point_on (λ p. p) point_lands c.args.self.now.state None c.args.points.now _ c.requires).0
 
 pub returns-in_err-put_batch : goal.returns-in_err-put_batch
-returns-in_err-put_batch g c =
-    let fault = err_from_is_err_and c.from_residual.result c.from_residual.ensures.1 in
-    rw (fault.1, fault.2) (does_stop g.S.Sink quiet _ _ _ _ _ _ refl (some_put (shows_of g.S.Sink) (Unit {0}) _ _ _ _ _ c.in_err-put_batch.ensures))
+returns-in_err-put_batch g c = does_stop g.S.Sink quiet _ _ _ _ _ _ _ c.from_residual.ensures.1 refl (some_put (shows_of g.S.Sink) (Unit {0}) _ _ _ _ _ c.in_err-put_batch.ensures)
 
 pub returns : goal.returns
 returns g c =

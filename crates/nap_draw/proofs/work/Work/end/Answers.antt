@@ -1,5 +1,4 @@
 use Rattle.std.proofs.Common.{Ok, ap}
-use Rattle.std.proofs.lemmas.Result.{err_from_is_err_and}
 use Rattle.nap_list.specs.State.{walk}
 use Rattle.nap_draw.proofs.Acting.{obeys_quietly, obeys_stop}
 use Rattle.nap_draw.proofs.Endings.{not_ended, is_ended}
@@ -14,5 +13,4 @@ returns-then-is_none g c =
 pub returns-in_err-put : goal.returns-in_err-put
 returns-in_err-put g c =
     let w = c.args.self.now in
-    let fault = err_from_is_err_and c.from_residual.result c.from_residual.ensures.1 in
-    rw (fault.1, fault.2) (obeys_stop g.S.Sink _ w _ _ _ _ (g.met.S.Sink.took_none _) g.met.S.Sink.wants_more (ap Ok (is_ended w w.state.definition c.if-is_none.ensures)) (λ none. cc) c.in_err-put.ensures)
+    obeys_stop g.S.Sink _ w _ _ _ _ _ c.from_residual.ensures.1 (g.met.S.Sink.took_none _) g.met.S.Sink.wants_more (ap Ok (is_ended w w.state.definition c.if-is_none.ensures)) (λ none. cc) c.in_err-put.ensures

@@ -1,5 +1,4 @@
 use Rattle.std.proofs.Common.{refl, [], ◌∷◌, Ok, Some, Result, sym, ap, ◌∙◌}
-use Rattle.std.proofs.lemmas.Result.{err_from_is_err_and}
 use Rattle.nap_list.specs.declared.attribute.Area.{Area}
 use Rattle.nap_list.specs.declared.attribute.Pen.{Pen}
 use Rattle.nap_list.specs.declared.entry.Entry.TheVariants as entries
@@ -26,9 +25,8 @@ single-requires g c =
 pub returns-in_err-area : goal.returns-in_err-area
 returns-in_err-area g c =
     let w = c.args.self.now in
-    let fault = err_from_is_err_and c.from_residual.result c.from_residual.ensures.1 in
     let by = ap (λ (r : Result Area DrawFault). and_then r (λ area. draws_one w field_on (Some area))) (sym c.in_err-area.ensures) in
-    rw (fault.1, fault.2) (does_refused g.S.Sink c.args.sink.now (g.met.S.Sink.took_none c.args.sink.now) quiet _ _ _ (area_stream w (moves_of w c.args.run.now) _ (sym c.in_err-area.ensures)) by)
+    does_refused g.S.Sink _ (g.met.S.Sink.took_none _) _ _ _ _ c.from_residual.ensures.1 (area_stream w (moves_of w c.args.run.now) _ (sym c.in_err-area.ensures)) by
 
 pub returns : goal.returns
 returns g c =

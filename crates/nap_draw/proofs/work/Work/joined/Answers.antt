@@ -1,5 +1,4 @@
 use Rattle.std.proofs.Common.{None, Ok, false, List, subst, ◌∙◌, ap}
-use Rattle.std.proofs.lemmas.Result.{err_from_is_err_and}
 use Rattle.nap_list.specs.declared.entry.Entry.{Entry}
 use Rattle.nap_list.specs.State.{AllFit}
 use Rattle.nap_draw.specs.Geometry.{joined}
@@ -23,8 +22,7 @@ pub returns-in_err-put_batch : goal.returns-in_err-put_batch
 returns-in_err-put_batch g c =
     let w = c.args.self.now in
     let by = ap (λ (list : List Entry). Ok (drawn w list)) (joined_lines w.state.drawing c.args.from c.args.points.now) in
-    let fault = err_from_is_err_and c.from_residual.result c.from_residual.ensures.1 in
-    rw (fault.1, fault.2) (does_stop g.S.Sink quiet _ _ _ _ _ _ by (some_put (shows_of g.S.Sink) (Unit {0}) _ _ _ _ _ c.in_err-put_batch.ensures))
+    does_stop g.S.Sink quiet _ _ _ _ _ _ _ c.from_residual.ensures.1 by (some_put (shows_of g.S.Sink) (Unit {0}) _ _ _ _ _ c.in_err-put_batch.ensures)
 
 pub returns : goal.returns
 returns g c =

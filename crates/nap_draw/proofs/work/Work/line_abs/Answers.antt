@@ -1,24 +1,16 @@
-use Rattle.std.proofs.Common.{List, [], Some, sym, ◌∙◌, ap, refl}
+use Rattle.std.proofs.Common.{refl}
 use Rattle.std.specs.Option.{option_map}
-use Rattle.std.proofs.lemmas.Result.{err_from_is_err_and}
-use Rattle.nap_values.specs.Coordinates.{Coordinates}
-use Rattle.nap_draw.specs.Geometry.{points_at, joined}
-use Rattle.nap_draw.specs.Rule.{moves_of, draws, line_on}
-use Rattle.nap_draw.specs.Doing.{quiet}
-use Rattle.nap_draw.proofs.Acting.{does_refused, does_unfilled, does_as}
+use Rattle.nap_draw.specs.Geometry.{joined}
+use Rattle.nap_draw.specs.Rule.{draws, line_on}
+use Rattle.nap_draw.proofs.Acting.{does_refused, does_unfilled, does_filled}
 use Rattle.nap_draw.proofs.work.Work.line_abs.Goals as goal
 
 pub returns-in_err-from : goal.returns-in_err-from
-returns-in_err-from g c =
-    let fault = err_from_is_err_and c.from_residual.result c.from_residual.ensures.1 in
-    rw (fault.1, fault.2) (does_refused g.S.Sink c.args.sink.now (g.met.S.Sink.took_none c.args.sink.now) quiet _ _ _ c.in_err-from.ensures.err.0 (c.in_err-from.ensures.err.1 (λ p ms. draws c.args.self.now line_on (option_map (joined p) (points_at ms)))))
+returns-in_err-from g c = does_refused g.S.Sink _ (g.met.S.Sink.took_none _) _ _ _ _ c.from_residual.ensures.1 c.in_err-from.ensures.err.0 (c.in_err-from.ensures.err.1 _)
 
 pub returns-in_err-points_into : goal.returns-in_err-points_into
 returns-in_err-points_into g c =
-    let fault = err_from_is_err_and c.from_residual-in_err-points_into.result c.from_residual-in_err-points_into.ensures.1 in
-    rw (fault.1, fault.2) (does_unfilled g.S.Sink c.args.sink.now (g.met.S.Sink.took_none c.args.sink.now) _ _ (points_at (moves_of c.args.self.now c.args.run.now)) [] _ (λ o. draws c.args.self.now line_on (option_map (joined c.in_ok-from.from) o)) (c.in_ok-from.ensures.ok (λ p ms. draws c.args.self.now line_on (option_map (joined p) (points_at ms)))) refl (λ xs. (_, refl)) c.in_err-points_into.ensures)
+    does_unfilled g.S.Sink _ (g.met.S.Sink.took_none _) _ _ _ _ _ c.from_residual-in_err-points_into.ensures.1 (λ o. draws c.args.self.now line_on (option_map (joined c.in_ok-from.from) o)) (c.in_ok-from.ensures.ok _) refl (λ xs. (_, refl)) c.in_err-points_into.ensures
 
 pub returns : goal.returns
-returns g c =
-    let all = c.in_ok-points_into.ensures ∙ ap Some (ap (λ (ps : List Coordinates). ps) (sym c.deref.ensures.value)) in
-    does_as g.S.Sink quiet _ _ _ _ _ _ _ ((c.in_ok-from.ensures.ok (λ p ms. draws c.args.self.now line_on (option_map (joined p) (points_at ms)))) ∙ ap (λ o. draws c.args.self.now line_on (option_map (joined c.in_ok-from.from) o)) all) c.joined.ensures
+returns g c = does_filled g.S.Sink _ _ _ _ _ _ (λ o. draws c.args.self.now line_on (option_map (joined c.in_ok-from.from) o)) (λ ps. ps) _ _ _ (c.in_ok-from.ensures.ok _) c.in_ok-points_into.ensures c.deref.ensures.value c.joined.ensures

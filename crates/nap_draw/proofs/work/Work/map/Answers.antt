@@ -1,5 +1,4 @@
 use Rattle.std.proofs.Common.{Ok, refl, sym, ◌∙◌}
-use Rattle.std.proofs.lemmas.Result.{err_from_is_err_and}
 use Rattle.nap_list.specs.State.{walk}
 use Rattle.nap_draw.specs.Doing.{quiet}
 use Rattle.nap_draw.proofs.Acting.{sets_does, does_stop, does_put}
@@ -17,8 +16,7 @@ put-requires g c = record { agrees = c.requires; follows = record { holds = reco
 
 pub returns-in_err-put : goal.returns-in_err-put
 returns-in_err-put g c =
-    let fault = err_from_is_err_and c.from_residual.result c.from_residual.ensures.1 in
-    rw (fault.1, fault.2) (does_stop g.S.Sink quiet _ _ _ _ _ _ (new_colour c.args.self.now c.args.addr c.args.grb _ (sym c.has.ensures ∙ c.if-has.false) refl) c.in_err-put.ensures)
+    does_stop g.S.Sink quiet _ _ _ _ _ _ _ c.from_residual.ensures.1 (new_colour c.args.self.now c.args.addr c.args.grb _ (sym c.has.ensures ∙ c.if-has.false) refl) c.in_err-put.ensures
 
 pub returns : goal.returns
 returns g c = does_put g.S.Sink quiet _ c.args.self.now _ _ _ _ (tt {0}) (new_colour c.args.self.now c.args.addr c.args.grb _ (sym c.has.ensures ∙ c.if-has.false) c.set.ensures) c.in_ok-put.ensures

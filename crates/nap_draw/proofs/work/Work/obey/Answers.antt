@@ -9,33 +9,23 @@ use Rattle.nap_draw.proofs.work.Work.obey.Goals as goal
 
 pub returns-in-Named : goal.returns-in-Named
 unfolding walk
-returns-in-Named g c =
-    let w = c.args.self.now in
-    obeys_quietly g.S.Sink _ w _ c.args.sink.now (g.met.S.Sink.took_none c.args.sink.now) (ap (code_rule w) c.in-Named.is)
+returns-in-Named g c = obeys_quietly g.S.Sink _ c.args.self.now _ _ (g.met.S.Sink.took_none _) (ap (code_rule c.args.self.now) c.in-Named.is)
 
 pub returns-in-Reverse : goal.returns-in-Reverse
 unfolding walk
-returns-in-Reverse g c =
-    let w = c.args.self.now in
-    obeys_quietly g.S.Sink _ w _ c.args.sink.now (g.met.S.Sink.took_none c.args.sink.now) (ap (code_rule w) c.in-Reverse.is)
+returns-in-Reverse g c = obeys_quietly g.S.Sink _ c.args.self.now _ _ (g.met.S.Sink.took_none _) (ap (code_rule c.args.self.now) c.in-Reverse.is)
 
 pub returns-in-Underline : goal.returns-in-Underline
 unfolding walk
-returns-in-Underline g c =
-    let w = c.args.self.now in
-    obeys_quietly g.S.Sink _ w _ c.args.sink.now (g.met.S.Sink.took_none c.args.sink.now) (ap (code_rule w) c.in-Underline.is)
+returns-in-Underline g c = obeys_quietly g.S.Sink _ c.args.self.now _ _ (g.met.S.Sink.took_none _) (ap (code_rule c.args.self.now) c.in-Underline.is)
 
 pub returns-in-Wrap : goal.returns-in-Wrap
 unfolding walk
-returns-in-Wrap g c =
-    let w = c.args.self.now in
-    obeys_quietly g.S.Sink _ w _ c.args.sink.now (g.met.S.Sink.took_none c.args.sink.now) (ap (code_rule w) c.in-Wrap.is)
+returns-in-Wrap g c = obeys_quietly g.S.Sink _ c.args.self.now _ _ (g.met.S.Sink.took_none _) (ap (code_rule c.args.self.now) c.in-Wrap.is)
 
 pub returns-in-Scroll : goal.returns-in-Scroll
 unfolding walk
-returns-in-Scroll g c =
-    let w = c.args.self.now in
-    obeys_quietly g.S.Sink _ w _ c.args.sink.now (g.met.S.Sink.took_none c.args.sink.now) (ap (code_rule w) c.in-Scroll.is)
+returns-in-Scroll g c = obeys_quietly g.S.Sink _ c.args.self.now _ _ (g.met.S.Sink.took_none _) (ap (code_rule c.args.self.now) c.in-Scroll.is)
 
 pub returns-in_default : goal.returns-in_default
 unfolding walk

@@ -1,6 +1,5 @@
 use Rattle.std.proofs.Common.{None, ◌∙◌, ap, refl}
 use Rattle.std.specs.Option.{option_map}
-use Rattle.std.proofs.lemmas.Result.{err_from_is_err_and}
 use Rattle.nap_draw.specs.Doing.{quiet, paired, stroke_on, stroke_end}
 use Rattle.nap_draw.proofs.Acting.{does_put, does_stop}
 use Rattle.nap_draw.proofs.Fits.{all_fit}
@@ -11,9 +10,7 @@ pub put_paired-requires : goal.put_paired-requires
 put_paired-requires g c = (all_fit (stroke_on c.args.figure) (stroke_end c.args.figure) (stroke_lands c.args.figure) c.args.self.now.state None (paired c.args.points.now) _ c.requires).0
 
 pub returns-in_err-last : goal.returns-in_err-last
-returns-in_err-last g c =
-    let fault = err_from_is_err_and c.from_residual.result c.from_residual.ensures.1 in
-    rw (fault.1, fault.2) (does_stop g.S.Sink quiet _ _ _ _ _ _ refl c.in_err-last.ensures.put)
+returns-in_err-last g c = does_stop g.S.Sink quiet _ _ _ _ _ _ _ c.from_residual.ensures.1 refl c.in_err-last.ensures.put
 
 pub returns : goal.returns
 returns g c =

@@ -1,5 +1,4 @@
 use Rattle.std.proofs.Common.{◌≡◌, ◌<◌, Ok, Option, refl, ap, ◌∙◌, subst, arith, List}
-use Rattle.std.proofs.lemmas.Result.{err_from_is_err_and}
 use Rattle.std.proofs.lemmas.Bool.Decides.{nat_tests}
 use Rattle.nap_list.specs.declared.entry.Entry.{Entry}
 use Rattle.nap_list.specs.declared.state.LastChar.{LastChar}
@@ -31,8 +30,7 @@ returns-in_err-put_copies g c =
     let w = c.args.self.now in
     let last = c.in-Some.last in
     let some : 0 < c.args.count = grind (arith, nat_tests) in
-    let fault = err_from_is_err_and c.from_residual.result c.from_residual.ensures.1 in
-    rw (fault.1, fault.2) (obeys_stop g.S.Sink _ w _ _ _ _ (g.met.S.Sink.took_none _) g.met.S.Sink.wants_more (repeat_is last w c.hand.result c.args.count c.hand.ensures c.in-Some.is c.requires.drawing.mode some) (copies_some last c.hand.result c.args.count some) c.in_err-put_copies.ensures)
+    obeys_stop g.S.Sink _ w _ _ _ _ _ c.from_residual.ensures.1 (g.met.S.Sink.took_none _) g.met.S.Sink.wants_more (repeat_is last w c.hand.result c.args.count c.hand.ensures c.in-Some.is c.requires.drawing.mode some) (copies_some last c.hand.result c.args.count some) c.in_err-put_copies.ensures
 
 pub returns : goal.returns
 returns g c =

@@ -1,5 +1,4 @@
 use Rattle.std.proofs.Common.{refl}
-use Rattle.std.proofs.lemmas.Result.{err_from_is_err_and}
 use Rattle.nap_draw.specs.Acts.{told}
 use Rattle.nap_draw.proofs.Acting.{does_put, does_stop}
 use Rattle.nap_draw.proofs.Attributes.{reset_is}
@@ -15,8 +14,7 @@ pub returns-in_err-put : goal.returns-in_err-put
 returns-in_err-put g c =
     let first = c.word_at-first.result in
     let by = reset_is c.args.self.now c.args.run.now first _ _ _ _ _ _ c.requires.drawing.mode c.word_at-first.ensures c.word_at-second.ensures c.pen-pen.ensures c.domain_after-domain.ensures refl refl refl in
-    let fault = err_from_is_err_and c.from_residual.result c.from_residual.ensures.1 in
-    rw (fault.1, fault.2) (does_stop g.S.Sink told _ _ _ _ _ _ by c.in_err-put.ensures)
+    does_stop g.S.Sink told _ _ _ _ _ _ _ c.from_residual.ensures.1 by c.in_err-put.ensures
 
 pub returns : goal.returns
 returns g c =

@@ -1,4 +1,4 @@
-use Rattle.std.proofs.Common.{Ok, refl, sym, ap}
+use Rattle.std.proofs.Common.{Ok, Err, refl, sym, ap}
 use Rattle.nap_list.specs.declared.attribute.Colour.{Colour}
 use Rattle.nap_list.specs.State.{walk}
 use Rattle.nap_draw.specs.Rule.{colours_as}
@@ -24,4 +24,4 @@ returns-in-Pair g c = does_as g.S.Sink quiet _ _ _ _ _ _ _ (ap (λ (colour : Col
 
 pub returns-in-ByReset : goal.returns-in-ByReset
 returns-in-ByReset g c =
-    does_refused g.S.Sink c.args.sink.now (g.met.S.Sink.took_none c.args.sink.now) quiet _ _ _ refl (ap (λ (colour : Colour). colours_as c.args.self.now colour c.args.grb) (sym c.in-ByReset.ensures))
+    does_refused g.S.Sink _ (g.met.S.Sink.took_none _) _ _ _ (Err _) refl refl (ap (λ (colour : Colour). colours_as c.args.self.now colour c.args.grb) (sym c.in-ByReset.ensures))

@@ -1,4 +1,4 @@
-use Rattle.std.proofs.Common.{◌≡◌, ◌≤◌, ◌<◌, length, refl, sym, ap, ◌∙◌, arith}
+use Rattle.std.proofs.Common.{◌≡◌, ◌≤◌, ◌<◌, length, Err, refl, sym, ap, ◌∙◌, arith}
 use Rattle.std.proofs.lemmas.Bool.Decides.{nat_tests}
 use Rattle.nap_values.specs.Colours.{Components}
 use Rattle.nap_draw.specs.Rule.{colours_as}
@@ -10,14 +10,14 @@ use Rattle.nap_draw.proofs.work.Work.set_color.Goals as goal
 pub returns-then-is_empty : goal.returns-then-is_empty
 returns-then-is_empty g c =
     let none : length c.args.run.now ≡ 0 = grind (arith, nat_tests) in
-    does_refused g.S.Sink c.args.sink.now (g.met.S.Sink.took_none c.args.sink.now) quiet _ _ _ refl (set_none c.args.self.now c.args.self.now.domain.multi c.args.run.now none)
+    does_refused g.S.Sink _ (g.met.S.Sink.took_none _) _ _ _ (Err _) refl refl (set_none c.args.self.now c.args.self.now.domain.multi c.args.run.now none)
 
 pub returns-then-run-from : goal.returns-then-run-from
 returns-then-run-from g c =
     let k = c.args.self.now.domain.multi in
     let some : 1 ≤ k = omega (arith, c.multi-size.ensures.value, c.multi-size.ensures.least) in
     let many : k < length c.args.run.now = omega (arith, c.multi-size.ensures.value, c.from.ensures, c.if-run-from.true) in
-    does_refused g.S.Sink c.args.sink.now (g.met.S.Sink.took_none c.args.sink.now) quiet _ _ _ refl (set_many c.args.self.now k c.args.run.now some many)
+    does_refused g.S.Sink _ (g.met.S.Sink.took_none _) _ _ _ (Err _) refl refl (set_many c.args.self.now k c.args.run.now some many)
 
 pub returns : goal.returns
 returns g c =

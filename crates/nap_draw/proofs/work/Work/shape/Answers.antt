@@ -1,5 +1,4 @@
 use Rattle.std.proofs.Common.{[], ◌∷◌, Ok, refl, sym, ap, ◌∙◌}
-use Rattle.std.proofs.lemmas.Result.{err_from_is_err_and}
 use Rattle.nap_list.specs.declared.entry.Entry.{Entry}
 use Rattle.nap_draw.specs.Rule.{drawn}
 use Rattle.nap_draw.specs.Doing.{outline, quiet, shape_entry, shape_on}
@@ -8,9 +7,7 @@ use Rattle.nap_draw.proofs.Outlines.{holds_shape, shape_made, shape_comes, shape
 use Rattle.nap_draw.proofs.work.Work.shape.Goals as goal
 
 pub returns-in_err-outline : goal.returns-in_err-outline
-returns-in_err-outline g c =
-    let fault = err_from_is_err_and c.from_residual.result c.from_residual.ensures.1 in
-    rw (fault.1, fault.2) (does_short g.S.Sink c.args.sink.now (g.met.S.Sink.took_none c.args.sink.now) _ _ _ refl)
+returns-in_err-outline g c = does_short g.S.Sink _ (g.met.S.Sink.took_none _) _ _ _ _ c.from_residual.ensures.1 refl
 
 pub single-requires : goal.single-requires
 single-requires g c =

@@ -1,5 +1,4 @@
 use Rattle.std.proofs.Common.{[], ◌∷◌, false, Ok, Result, refl, ap}
-use Rattle.std.proofs.lemmas.Result.{err_from_is_err_and}
 use Rattle.nap_list.specs.State.{walk}
 use Rattle.nap_list.specs.declared.state.State.{State}
 use Rattle.nap_draw.specs.declared.fault.DrawFault.{DrawFault}
@@ -8,9 +7,7 @@ use Rattle.nap_draw.proofs.Acting.{obeys_put, obeys_stop}
 use Rattle.nap_draw.proofs.work.Work.single.Goals as goal
 
 pub returns-in_err-put : goal.returns-in_err-put
-returns-in_err-put g c =
-    let fault = err_from_is_err_and c.from_residual.result c.from_residual.ensures.1 in
-    rw (fault.1, fault.2) (obeys_stop g.S.Sink _ _ _ _ _ _ (g.met.S.Sink.took_none _) g.met.S.Sink.wants_more refl (λ none. cc) c.in_err-put.ensures)
+returns-in_err-put g c = obeys_stop g.S.Sink _ _ _ _ _ _ _ c.from_residual.ensures.1 (g.met.S.Sink.took_none _) g.met.S.Sink.wants_more refl (λ none. cc) c.in_err-put.ensures
 
 pub returns : goal.returns
 unfolding walk

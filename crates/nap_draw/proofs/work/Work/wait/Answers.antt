@@ -1,5 +1,4 @@
 use Rattle.std.proofs.Common.{◌≡◌, ◌≢◌, Ok, length, refl, ap, arith}
-use Rattle.std.proofs.lemmas.Result.{err_from_is_err_and}
 use Rattle.std.proofs.lemmas.Bool.Decides.{nat_tests}
 use Rattle.nap_list.specs.declared.entry.Entry.TheVariants.{Wait}
 use Rattle.nap_list.specs.State.{walk}
@@ -21,9 +20,7 @@ put_pauses-requires g c =
     (stays_fit s.drawing Wait (wait_stays s.drawing) s s.last c.args.run.now _ c.requires).0
 
 pub returns-in_err-put_pauses : goal.returns-in_err-put_pauses
-returns-in_err-put_pauses g c =
-    let fault = err_from_is_err_and c.from_residual.result c.from_residual.ensures.1 in
-    rw (fault.1, fault.2) (does_stop g.S.Sink quiet _ _ _ _ _ _ refl c.in_err-put_pauses.ensures)
+returns-in_err-put_pauses g c = does_stop g.S.Sink quiet _ _ _ _ _ _ _ c.from_residual.ensures.1 refl c.in_err-put_pauses.ensures
 
 pub returns : goal.returns
 returns g c =
