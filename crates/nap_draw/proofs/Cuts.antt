@@ -114,9 +114,18 @@ pub moves_chunk : (k size : ℕ) (left x rest : List ℕ) → size ≡ k → 1 �
     moves k left ≡ multi_of x ∷ moves k rest
 moves_chunk k size left x rest is some parts long more = ap (map multi_of) (operands_chunk k size left x rest is some parts long more)
 
-pub addresses_chunk : (k size : ℕ) (left x rest : List ℕ) → size ≡ k → 1 ≤ k → left ≡ x ++ rest → length x ≡ min size (length left) → 0 < length left →
-    addresses k left ≡ single_of x ∷ addresses k rest
-addresses_chunk k size left x rest is some parts long more = ap (map single_of) (operands_chunk k size left x rest is some parts long more)
+-- a run whose first chunk was taken, or its first two
+module _ (k size most value : ℕ) (run left x rest : List ℕ) (all : left ≡ run) (cut_by : size ≡ most) (same : most ≡ value) (is : value ≡ k) (least : 1 ≤ value)
+    (parts : left ≡ x ++ rest) (long : length x ≡ min size (length left)) (more : 0 < length left) where
+  pub first_operand : operands k run ≡ x ∷ operands k rest
+  first_operand = ap (operands k) (sym all) ∙ operands_chunk k size left x rest (omega arith) (omega arith) parts long more
+
+  pub only_operand : length rest ≡ 0 → operands k run ≡ x ∷ []
+  only_operand none = first_operand ∙ ap (λ (os : List (List ℕ)). x ∷ os) (operands_none k rest none)
+
+  pub two_operands : (still : ℕ) (y behind : List ℕ) → still ≡ size → rest ≡ y ++ behind → length y ≡ min still (length rest) → 0 < length rest → operands k run ≡ x ∷ y ∷ operands k behind
+  two_operands still y behind kept parts long more =
+      first_operand ∙ ap (λ (os : List (List ℕ)). x ∷ os) (operands_chunk k still rest y behind (omega arith) (omega arith) parts long more)
 
 -- a run that is cut behind its first operand
 
