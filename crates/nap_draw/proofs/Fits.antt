@@ -14,7 +14,7 @@ use Rattle.nap_list.specs.declared.attribute.Texture.{Texture}
 use Rattle.nap_values.specs.Colours.{Components}
 use Rattle.nap_values.specs.Operands.{colour_of}
 use Rattle.nap_draw.specs.Operands.{operands}
-use Rattle.nap_draw.proofs.Still.{wait_stays, blink_stays, stays_fit}
+use Rattle.nap_draw.proofs.Still.{Stays, wait_stays, blink_stays, stays_fit}
 use Rattle.nap_list.specs.declared.entry.Entry.TheVariants as entries
 use Rattle.nap_list.specs.declared.entry.Entry.{Entry}
 use Rattle.nap_list.specs.declared.state.Definition.{Definition}
@@ -193,18 +193,14 @@ field_fits : (work : Work) (ms : List Displacement) → IsFitting work (field_ru
 field_fits work ms = each_fits work (area_of work ms) _ (λ area. one_fits work field_on (Some area) (λ a is.
     single_fits work (field_on work.state.drawing a) (record { pen = refl; pel = tt; colour = tt; texture = tt; text = tt }) tt tt))
 
-wait_fits : (work : Work) (run : List ℕ) → Fitting work (drawn work (map entries.Wait run))
+stay_fits : {A : Type 0} (work : Work) (entry : A → Entry) → (InMode work.state.drawing.base work.state.drawing.colour → Stays work.state.drawing entry) → (xs : List A) →
+    Fitting work (drawn work (map entry xs))
 unfolding Fitting
-wait_fits work run shown a = stays_fit work.state.drawing entries.Wait (wait_stays work.state.drawing) work.state work.state.last run shown a
-
-blink_groups_fit : (work : Work) (k : ℕ) (groups : List (List ℕ)) → Fitting work (drawn work (map (blink k work.state.drawing.colour) groups))
-unfolding Fitting
-blink_groups_fit work k groups shown a =
-    let d = work.state.drawing in stays_fit d (blink k d.colour) (blink_stays d k a.drawing.mode) work.state work.state.last groups shown a
+stay_fits work entry stays xs shown a = stays_fit work.state.drawing entry (stays a.drawing.mode) work.state work.state.last xs shown a
 
 blink_fits : (work : Work) (k : ℕ) (groups : List (List ℕ)) → Fitting work (drawn work (blinks k work.state.drawing.colour groups))
 blink_fits work k [] = single_fits work (entries.BlinkEnd work.state.drawing.colour) (record { pen = tt; pel = tt; colour = refl; texture = tt; text = tt }) tt tt
-blink_fits work k (group ∷ groups) = blink_groups_fit work k (group ∷ groups)
+blink_fits work k (group ∷ groups) = stay_fits work (blink k work.state.drawing.colour) (blink_stays work.state.drawing k) (group ∷ groups)
 
 reset_fits : (work : Work) (first second : ℕ) → IsFitting work (reset_rule work first second)
 unfolding IsFitting Fitting
@@ -331,7 +327,7 @@ rule_is_fitting work opcodes.Text run = attribute_fits work _ (text_agrees work.
 rule_is_fitting work opcodes.Texture run = attribute_fits work _ (texture_agrees work.state _ _)
 rule_is_fitting work opcodes.SelectColor run = attribute_fits work _ (select_agrees work.state _)
 rule_is_fitting work opcodes.SetColor run = set_color_fits work (operands work.domain.multi run)
-rule_is_fitting work opcodes.Wait run = list_fits work _ (wait_fits work run)
+rule_is_fitting work opcodes.Wait run = list_fits work _ (stay_fits work entries.Wait (λ _. wait_stays work.state.drawing) run)
 rule_is_fitting work opcodes.Blink run = list_fits work _ (blink_fits work work.domain.single (operands (work.domain.single + 3) run))
 rule_is_fitting work _ run = attribute_fits work work (λ shown agrees. agrees)
 

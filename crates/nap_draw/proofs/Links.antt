@@ -1,5 +1,4 @@
-use Rattle.std.proofs.Common.{ℕ, suc, ◌≡◌, ◌+◌, ◌<◌, ◌≤◌, List, [], ◌∷◌, ◌++◌, length, get_or, map, drop, drop-cons, add-one, Option, Some, refl, sym, ◌∙◌, ap, arith}
-use Rattle.std.proofs.lemmas.List.{drop_all}
+use Rattle.std.proofs.Common.{ℕ, suc, ◌≡◌, ◌+◌, ◌<◌, List, [], ◌∷◌, ◌++◌, length, get_or, map, drop, drop-cons, add-one, Option, Some, refl, sym, ◌∙◌, ap, arith}
 use Rattle.nap_values.specs.Coordinates.{Coordinates}
 use Rattle.std.specs.Option.{option_map}
 use Rattle.nap_list.specs.declared.entry.Entry.{Entry}
@@ -15,12 +14,6 @@ use Rattle.nap_draw.specs.Rule.{line_on}
 use Rattle.nap_draw.specs.Doing.{linked, crossed, paired, stroke_on, stroke_end}
 
 -- What a loop over a list has left.
-
-pub left_at : {A B : Type 0} (f : A → B) (xs : List A) (i : ℕ) (x : A) → i < length xs → x ≡ get_or xs i x → map f (drop i xs) ≡ f x ∷ map f (drop (i + 1) xs)
-left_at {A} f xs i x less is = rw add-one (ap (map f) (drop-cons xs i x less) ∙ ap (λ (y : A). f y ∷ map f (drop (suc i) xs)) (sym is))
-
-pub left_end : {A B : Type 0} (f : A → B) (xs : List A) (i : ℕ) → length xs ≤ i → map f (drop i xs) ≡ []
-left_end f xs i most = ap (map f) (drop_all i xs most)
 
 pub drop_at : {A : Type 0} (xs : List A) (i : ℕ) (x : A) → i < length xs → x ≡ get_or xs i x → drop i xs ≡ x ∷ drop (i + 1) xs
 drop_at xs i x less is = rw add-one (drop-cons xs i x less ∙ ap (λ y. y ∷ drop (suc i) xs) (sym is))

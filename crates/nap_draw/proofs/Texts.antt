@@ -1,4 +1,4 @@
-use Rattle.std.proofs.Common.{◌≡◌, ℕ, suc, length, List, [], ◌∷◌, ◌++◌, All, Some, refl, ◌∙◌, ap, arith}
+use Rattle.std.proofs.Common.{◌≡◌, ℕ, suc, length, List, [], ◌∷◌, ◌++◌, All, Some, refl, sym, ◌∙◌, ap, subst, arith}
 use Rattle.nap_codes.specs.declared.code_set.CharSet.{CharSet}
 use Rattle.nap_list.specs.declared.attribute.Pen.TheVariants as pens
 use Rattle.nap_list.specs.declared.entry.Entry.{Entry}
@@ -43,6 +43,12 @@ text_fits s shown set (code ∷ codes) agrees made =
 pub text_none : (s : State) (set : CharSet) (codes : List ℕ) → codes ≡ [] → walk s (text s set codes) ≡ s
 unfolding text walk
 text_none s set codes is = ap (λ (codes : List ℕ). walk s (text s set codes)) is
+
+-- the state that a text leaves agrees with the one that it leads to
+pub text_agrees : (s shown there left : State) (set : CharSet) (codes : List ℕ) → StatesAgree s shown → All IsCode codes → there ≡ walk shown (text_in set (hand_of s.drawing) codes) →
+    walk s (text s set codes) ≡ left → StatesAgree left there
+text_agrees s shown there left set codes agrees made leads is =
+    rw (leads ∙ ap (walk shown) (sym (text_is s set codes agrees.drawing.mode))) (subst (λ (t : State). StatesAgree t (walk shown (text s set codes))) is (text_fits s shown set codes agrees made).1)
 
 pub no_codes : (codes : List ℕ) → length codes ≡ 0 → codes ≡ []
 no_codes [] none = refl

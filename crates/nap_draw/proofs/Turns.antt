@@ -15,34 +15,18 @@ onward_more l x y next is first = is ∙ ap (λ o. onward o next) first
 pub onward_none : {A : Type 0} (l : Option (List A)) (x : Option A) (next : A → Option (List A)) → l ≡ onward x next → x ≡ None → l ≡ None
 onward_none l x next is first = is ∙ ap (λ o. onward o next) first
 
-pub points_end : (ms : List Displacement) → ms ≡ [] → points_at ms ≡ Some []
-unfolding points_at
-points_end ms is = ap points_at is
-
 pub points_turn : (ms rest : List Displacement) (m : Displacement) → ms ≡ m ∷ rest → points_at ms ≡ onward (point_at m) (λ _. points_at rest)
 unfolding points_at
 points_turn ms rest m is = ap points_at is
-
-pub reached_end : (p : Coordinates) (ms : List Displacement) → ms ≡ [] → reached p ms ≡ Some []
-unfolding reached
-reached_end p ms is = ap (reached p) is
 
 pub reached_turn : (p : Coordinates) (ms rest : List Displacement) (m : Displacement) → ms ≡ m ∷ rest → reached p ms ≡ onward (moved p m) (λ q. reached q rest)
 unfolding reached
 reached_turn p ms rest m is = ap (reached p) is
 
-pub across_end : (p : Coordinates) (ms : List Displacement) → ms ≡ [] → across p ms ≡ Some []
-unfolding across
-across_end p ms is = ap (across p) is
-
 pub across_turn : (p : Coordinates) (ms rest : List Displacement) (m : Displacement) → ms ≡ m ∷ rest →
     across p ms ≡ onward (span_by (Some p) m) (λ s. across (corner s.from s.to) rest)
 unfolding across
 across_turn p ms rest m is = ap (across p) is
-
-pub away_end : (ms : List Displacement) → ms ≡ [] → away ms ≡ Some []
-unfolding away
-away_end ms is = ap away is
 
 pub away_lacks : (ms rest : List Displacement) (m : Displacement) → ms ≡ m ∷ rest → rest ≡ [] → away ms ≡ None
 unfolding away

@@ -1,10 +1,10 @@
 use Rattle.std.proofs.Common.{sym, ◌∙◌, ap, arith, Some}
 use Rattle.nap_values.specs.Coordinates.{moved}
 use Rattle.nap_draw.specs.declared.spans.Span.{Span}
-use Rattle.nap_draw.specs.Geometry.{span}
+use Rattle.nap_draw.specs.Geometry.{across, span}
 use Rattle.nap_draw.proofs.Cuts.{moves_chunk, moves_none}
 use Rattle.nap_draw.proofs.Decoding.{filling_more, filling_none, filled, still_kept, pushed, crossed_more, crossed_all}
-use Rattle.nap_draw.proofs.Turns.{across_end, across_turn, onward_more, onward_none}
+use Rattle.nap_draw.proofs.Turns.{across_turn, onward_more, onward_none}
 use Rattle.nap_draw.proofs.room.corners_into.Goals as goal
 
 pub returns-in_default : goal.returns-in_default
@@ -34,5 +34,6 @@ loop-operand-preserved c =
     })
 
 pub returns : goal.returns
+unfolding across
 returns c =
-    filled _ _ _ _ _ _ c.loop-operand.invariant.filling (across_end _ _ (moves_none _ _ c.in-None.ensures.steps.1.0)) (λ front kept. crossed_all _ _ _ front kept) c.settled.ensures.ok c.settled.ensures.err
+    filled _ _ _ _ _ _ c.loop-operand.invariant.filling (ap (across _) (moves_none _ _ c.in-None.ensures.steps.1.0)) (λ front kept. crossed_all _ _ _ front kept) c.settled.ensures.ok c.settled.ensures.err

@@ -5,7 +5,7 @@ use Rattle.nap_draw.specs.Operands.{moves}
 use Rattle.nap_draw.specs.Geometry.{span_by, away}
 use Rattle.nap_draw.proofs.Cuts.{moves_chunk, moves_none}
 use Rattle.nap_draw.proofs.Decoding.{filling_begins, filling_more, filling_none, filled, still_kept, pushed, flat_none, flat_kept, paired_flat}
-use Rattle.nap_draw.proofs.Turns.{away_end, away_lacks, away_turn, onward_more, onward_none}
+use Rattle.nap_draw.proofs.Turns.{away_lacks, away_turn, onward_more, onward_none}
 use Rattle.nap_draw.proofs.room.pairs_into.Goals as goal
 
 pub returns-in_default-next : goal.returns-in_default-next
@@ -52,5 +52,6 @@ loop-first-preserved c =
     }
 
 pub returns : goal.returns
+unfolding away
 returns c =
-    filled _ _ _ _ _ _ c.loop-first.invariant.filling (away_end _ (moves_none _ _ c.in_default.ensures.steps.1.0)) (paired_flat c.loop-first.room.items) c.settled.ensures.ok c.settled.ensures.err
+    filled _ _ _ _ _ _ c.loop-first.invariant.filling (ap away (moves_none _ _ c.in_default.ensures.steps.1.0)) (paired_flat c.loop-first.room.items) c.settled.ensures.ok c.settled.ensures.err

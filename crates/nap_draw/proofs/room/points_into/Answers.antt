@@ -1,8 +1,9 @@
 use Rattle.std.proofs.Common.{[], ◌∷◌, ◌++◌, sym, ◌∙◌, ap, arith}
 use Rattle.nap_values.specs.Coordinates.{point_at}
+use Rattle.nap_draw.specs.Geometry.{points_at}
 use Rattle.nap_draw.proofs.Cuts.{moves_chunk, moves_none}
 use Rattle.nap_draw.proofs.Decoding.{filling_more, filling_none, filled, still_kept, pushed}
-use Rattle.nap_draw.proofs.Turns.{points_end, points_turn, onward_more, onward_none}
+use Rattle.nap_draw.proofs.Turns.{points_turn, onward_more, onward_none}
 use Rattle.nap_draw.proofs.room.points_into.Goals as goal
 
 pub returns-in_default : goal.returns-in_default
@@ -28,4 +29,5 @@ loop-operand-preserved c =
     }
 
 pub returns : goal.returns
-returns c = filled _ _ _ _ _ _ c.loop-operand.invariant.filling (points_end _ (moves_none _ _ c.in-None.ensures.steps.1.0)) (λ front kept. kept) c.settled.ensures.ok c.settled.ensures.err
+unfolding points_at
+returns c = filled _ _ _ _ _ _ c.loop-operand.invariant.filling (ap points_at (moves_none _ _ c.in-None.ensures.steps.1.0)) (λ front kept. kept) c.settled.ensures.ok c.settled.ensures.err

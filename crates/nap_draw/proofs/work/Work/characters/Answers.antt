@@ -1,11 +1,9 @@
-use Rattle.std.proofs.Common.{List, sym, ◌∙◌, ap, subst}
+use Rattle.std.proofs.Common.{List, sym, ap, subst}
 use Rattle.std.proofs.lemmas.Result.{err_from_is_err_and}
 use Rattle.nap_list.specs.declared.entry.Entry.{Entry}
 use Rattle.nap_list.specs.declared.state.State.{State}
-use Rattle.nap_list.specs.Agreement.{StatesAgree}
-use Rattle.nap_list.specs.State.{AllFit, walk}
-use Rattle.nap_draw.specs.Codes.{text}
-use Rattle.nap_draw.proofs.Texts.{text_is, text_left, text_fits, text_none, no_codes}
+use Rattle.nap_list.specs.State.{AllFit}
+use Rattle.nap_draw.proofs.Texts.{text_is, text_left, text_fits, text_agrees, text_none, no_codes}
 use Rattle.nap_draw.proofs.work.Work.characters.Goals as goal
 
 pub put_batch-requires : goal.put_batch-requires
@@ -30,13 +28,8 @@ returns-in_default-clause-work g c =
 
 pub returns-in_default-clause-agree : goal.returns-in_default-clause-agree
 returns-in_default-clause-agree g c =
-    let s = c.args.self.now.state in
-    let codes = c.args.codes.now in
-    let list = text_is s c.args.set codes c.requires.agrees.drawing.mode in
-    let none = no_codes codes c.in_default.ensures.cases in
-    let there = c.in_ok-put_batch.ensures.state ∙ ap (walk (g.S.Sink.state c.args.sink.now)) (sym list) in
-    rw there (subst (λ (t : State). StatesAgree t (walk (g.S.Sink.state c.args.sink.now) (text s c.args.set codes))) (text_none s c.args.set codes none)
-    (text_fits s (g.S.Sink.state c.args.sink.now) c.args.set codes c.requires.agrees c.requires.made).1)
+    let none = no_codes c.args.codes.now c.in_default.ensures.cases in
+    text_agrees c.args.self.now.state _ _ _ c.args.set c.args.codes.now c.requires.agrees c.requires.made c.in_ok-put_batch.ensures.state (text_none c.args.self.now.state c.args.set c.args.codes.now none)
 
 pub returns-clause-put : goal.returns-clause-put
 returns-clause-put g c = rw (text_is c.args.self.now.state c.args.set c.args.codes.now c.requires.agrees.drawing.mode) c.in_ok-put_batch.ensures
@@ -48,10 +41,5 @@ returns-clause-work g c =
 
 pub returns-clause-agree : goal.returns-clause-agree
 returns-clause-agree g c =
-    let s = c.args.self.now.state in
-    let codes = c.args.codes.now in
-    let list = text_is s c.args.set codes c.requires.agrees.drawing.mode in
-    let there = c.in_ok-put_batch.ensures.state ∙ ap (walk (g.S.Sink.state c.args.sink.now)) (sym list) in
-    rw there (subst (λ (t : State). StatesAgree t (walk (g.S.Sink.state c.args.sink.now) (text s c.args.set codes)))
-    (text_left s c.args.set codes c.in-Some.field-0-1.now c.in-Some.code.now c.requires.agrees.drawing.mode c.in-Some.ensures.cases.0)
-    (text_fits s (g.S.Sink.state c.args.sink.now) c.args.set codes c.requires.agrees c.requires.made).1)
+    text_agrees c.args.self.now.state _ _ _ c.args.set c.args.codes.now c.requires.agrees c.requires.made c.in_ok-put_batch.ensures.state
+    (text_left c.args.self.now.state c.args.set c.args.codes.now c.in-Some.field-0-1.now c.in-Some.code.now c.requires.agrees.drawing.mode c.in-Some.ensures.cases.0)

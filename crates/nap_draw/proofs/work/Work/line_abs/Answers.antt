@@ -10,7 +10,8 @@ returns-in_err-from g c = does_refused g.S.Sink _ (g.met.S.Sink.took_none _) _ _
 
 pub returns-in_err-points_into : goal.returns-in_err-points_into
 returns-in_err-points_into g c =
-    does_unfilled g.S.Sink _ (g.met.S.Sink.took_none _) _ _ _ _ _ c.from_residual-in_err-points_into.ensures.1 (λ o. draws c.args.self.now line_on (option_map (joined c.in_ok-from.from) o)) (c.in_ok-from.ensures.ok _) refl (λ xs. (_, refl)) c.in_err-points_into.ensures
+    does_unfilled g.S.Sink _ (g.met.S.Sink.took_none _) _ _ _ _ _ c.from_residual-in_err-points_into.ensures.1 (λ o. draws c.args.self.now line_on (option_map (joined c.in_ok-from.from) o))
+    (c.in_ok-from.ensures.ok _) refl (λ xs. (_, refl)) c.in_err-points_into.ensures
 
 pub returns : goal.returns
 returns g c = does_filled g.S.Sink _ _ _ _ _ _ (λ o. draws c.args.self.now line_on (option_map (joined c.in_ok-from.from) o)) (λ ps. ps) _ _ _ (c.in_ok-from.ensures.ok _) c.in_ok-points_into.ensures c.deref.ensures.value c.joined.ensures

@@ -10,7 +10,10 @@ returns-in_err-from g c = does_refused g.S.Sink _ (g.met.S.Sink.took_none _) _ _
 
 pub returns-in_err-corners_into : goal.returns-in_err-corners_into
 returns-in_err-corners_into g c =
-    does_unfilled g.S.Sink _ (g.met.S.Sink.took_none _) _ _ _ _ _ c.from_residual-in_err-corners_into.ensures.1 (draws c.args.self.now (rect_on c.args.filled)) (rect_rule c.args.self.now c.args.filled c.args.run.now ∙ c.in_ok-from.ensures.ok _) refl (λ xs. (_, refl)) c.in_err-corners_into.ensures
+    does_unfilled g.S.Sink _ (g.met.S.Sink.took_none _) _ _ _ _ _ c.from_residual-in_err-corners_into.ensures.1 (draws c.args.self.now (rect_on c.args.filled))
+    (rect_rule c.args.self.now c.args.filled c.args.run.now ∙ c.in_ok-from.ensures.ok _) refl (λ xs. (_, refl)) c.in_err-corners_into.ensures
 
 pub returns : goal.returns
-returns g c = does_filled g.S.Sink _ _ _ _ _ _ (draws c.args.self.now (rect_on c.args.filled)) (crossed c.in_ok-from.from) _ _ _ (rect_rule c.args.self.now c.args.filled c.args.run.now ∙ c.in_ok-from.ensures.ok _) c.in_ok-corners_into.ensures c.deref.ensures.value c.linked.ensures
+returns g c =
+    does_filled g.S.Sink _ _ _ _ _ _ (draws c.args.self.now (rect_on c.args.filled)) (crossed c.in_ok-from.from) _ _ _
+    (rect_rule c.args.self.now c.args.filled c.args.run.now ∙ c.in_ok-from.ensures.ok _) c.in_ok-corners_into.ensures c.deref.ensures.value c.linked.ensures

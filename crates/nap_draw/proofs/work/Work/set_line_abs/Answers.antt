@@ -11,7 +11,10 @@ returns-in_err-some_pairs g c = does_refused g.S.Sink _ (g.met.S.Sink.took_none 
 
 pub returns-in_err-points_into : goal.returns-in_err-points_into
 returns-in_err-points_into g c =
-    does_unfilled g.S.Sink _ (g.met.S.Sink.took_none _) _ _ _ _ _ c.from_residual-in_err-points_into.ensures.1 (λ o. draws c.args.self.now line_on (option_map paired o)) (c.in_ok-some_pairs.ensures.ok _ ∙ ap (draws c.args.self.now line_on) (between_points _ c.in_ok-some_pairs.ensures.even)) refl (λ xs. (_, refl)) c.in_err-points_into.ensures
+    does_unfilled g.S.Sink _ (g.met.S.Sink.took_none _) _ _ _ _ _ c.from_residual-in_err-points_into.ensures.1 (λ o. draws c.args.self.now line_on (option_map paired o))
+    (c.in_ok-some_pairs.ensures.ok _ ∙ ap (draws c.args.self.now line_on) (between_points _ c.in_ok-some_pairs.ensures.even)) refl (λ xs. (_, refl)) c.in_err-points_into.ensures
 
 pub returns : goal.returns
-returns g c = does_filled g.S.Sink _ _ _ _ _ _ (λ o. draws c.args.self.now line_on (option_map paired o)) (λ ps. ps) _ _ _ (c.in_ok-some_pairs.ensures.ok _ ∙ ap (draws c.args.self.now line_on) (between_points _ c.in_ok-some_pairs.ensures.even)) c.in_ok-points_into.ensures c.deref.ensures.value c.paired.ensures
+returns g c =
+    does_filled g.S.Sink _ _ _ _ _ _ (λ o. draws c.args.self.now line_on (option_map paired o)) (λ ps. ps) _ _ _
+    (c.in_ok-some_pairs.ensures.ok _ ∙ ap (draws c.args.self.now line_on) (between_points _ c.in_ok-some_pairs.ensures.even)) c.in_ok-points_into.ensures c.deref.ensures.value c.paired.ensures

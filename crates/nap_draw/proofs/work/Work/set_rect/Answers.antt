@@ -10,7 +10,10 @@ returns-in_err-some_pairs g c = does_refused g.S.Sink _ (g.met.S.Sink.took_none 
 
 pub returns-in_err-pairs_into : goal.returns-in_err-pairs_into
 returns-in_err-pairs_into g c =
-    does_unfilled g.S.Sink _ (g.met.S.Sink.took_none _) _ _ _ _ _ c.from_residual-in_err-pairs_into.ensures.1 (draws c.args.self.now (rect_on c.args.filled)) (set_rect_rule c.args.self.now c.args.filled c.args.run.now ∙ c.in_ok-some_pairs.ensures.ok _) refl (λ xs. (_, refl)) c.in_err-pairs_into.ensures
+    does_unfilled g.S.Sink _ (g.met.S.Sink.took_none _) _ _ _ _ _ c.from_residual-in_err-pairs_into.ensures.1 (draws c.args.self.now (rect_on c.args.filled))
+    (set_rect_rule c.args.self.now c.args.filled c.args.run.now ∙ c.in_ok-some_pairs.ensures.ok _) refl (λ xs. (_, refl)) c.in_err-pairs_into.ensures
 
 pub returns : goal.returns
-returns g c = does_filled g.S.Sink _ _ _ _ _ _ (draws c.args.self.now (rect_on c.args.filled)) paired _ _ _ (set_rect_rule c.args.self.now c.args.filled c.args.run.now ∙ c.in_ok-some_pairs.ensures.ok _) c.in_ok-pairs_into.ensures c.deref.ensures.value c.paired.ensures
+returns g c =
+    does_filled g.S.Sink _ _ _ _ _ _ (draws c.args.self.now (rect_on c.args.filled)) paired _ _ _
+    (set_rect_rule c.args.self.now c.args.filled c.args.run.now ∙ c.in_ok-some_pairs.ensures.ok _) c.in_ok-pairs_into.ensures c.deref.ensures.value c.paired.ensures

@@ -9,12 +9,14 @@ use Rattle.nap_draw.proofs.work.Work.shape_from_point.Goals as goal
 pub returns-then-count-eq0 : goal.returns-then-count-eq0
 returns-then-count-eq0 g c =
     does_refused g.S.Sink _ (g.met.S.Sink.took_none _) _ _ _ (Err _) refl refl
-    (point_missing c.args.self.now c.args.shape c.args.filled _ _ _ c.args.run.now _ _ c.multi-size.ensures.value c.multi-size.ensures.least c.from.ensures c.min.ensures c.split_at.ensures.front c.split_at.ensures.back (sym c.count-count.ensures ∙ c.if-count-eq0.true))
+    (point_missing c.args.self.now c.args.shape c.args.filled _ _ _ c.args.run.now _ _ c.multi-size.ensures.value c.multi-size.ensures.least c.from.ensures c.min.ensures c.split_at.ensures.front c.split_at.ensures.back
+    (sym c.count-count.ensures ∙ c.if-count-eq0.true))
 
 pub returns-then-count-gt-MOST_STEPS : goal.returns-then-count-gt-MOST_STEPS
 returns-then-count-gt-MOST_STEPS g c =
     does_refused g.S.Sink _ (g.met.S.Sink.took_none _) _ _ _ (Err _) refl refl
-    (point_many c.args.self.now c.args.shape c.args.filled _ _ _ c.args.run.now _ _ c.multi-size.ensures.value c.multi-size.ensures.least c.from.ensures c.min.ensures c.split_at.ensures.front c.split_at.ensures.back (omega (arith, c.count-count.ensures, c.if-count-gt-MOST_STEPS.true)))
+    (point_many c.args.self.now c.args.shape c.args.filled _ _ _ c.args.run.now _ _ c.multi-size.ensures.value c.multi-size.ensures.least c.from.ensures c.min.ensures c.split_at.ensures.front c.split_at.ensures.back
+    (omega (arith, c.count-count.ensures, c.if-count-gt-MOST_STEPS.true)))
 
 pub multi-requires-clause-some : goal.multi-requires-clause-some
 multi-requires-clause-some g c =
@@ -24,12 +26,16 @@ multi-requires-clause-some g c =
 pub returns-in_default : goal.returns-in_default
 returns-in_default g c =
     does_refused g.S.Sink _ (g.met.S.Sink.took_none _) _ _ _ (Err _) refl refl
-    (point_few c.args.self.now c.args.shape c.args.filled _ _ _ c.args.run.now _ _ c.multi-size.ensures.value c.multi-size.ensures.least c.from.ensures c.min.ensures c.split_at.ensures.front c.split_at.ensures.back None (omega (arith, c.count-count.ensures, c.if-count-eq0.false)) (omega (arith, c.count-count.ensures, c.if-count-gt-MOST_STEPS.false)) (sym (c.point.ensures ∙ ap point_at c.multi.ensures) ∙ c.in_default.is))
+    (point_few c.args.self.now c.args.shape c.args.filled _ _ _ c.args.run.now _ _ c.multi-size.ensures.value c.multi-size.ensures.least c.from.ensures c.min.ensures c.split_at.ensures.front c.split_at.ensures.back
+    None (omega (arith, c.count-count.ensures, c.if-count-eq0.false)) (omega (arith, c.count-count.ensures, c.if-count-gt-MOST_STEPS.false))
+    (sym (c.point.ensures ∙ ap point_at c.multi.ensures) ∙ c.in_default.is))
 
 pub returns-in_err-steps_into : goal.returns-in_err-steps_into
 returns-in_err-steps_into g c =
     does_unfilled g.S.Sink _ (g.met.S.Sink.took_none _) _ _ _ _ _ c.from_residual.ensures.1 (drawn_from c.args.self.now c.args.shape c.args.filled c.in-Some.from)
-    (point_goes c.args.self.now c.args.shape c.args.filled _ _ _ c.args.run.now _ _ c.multi-size.ensures.value c.multi-size.ensures.least c.from.ensures c.min.ensures c.split_at.ensures.front c.split_at.ensures.back c.in-Some.from (omega (arith, c.count-count.ensures, c.if-count-eq0.false)) (omega (arith, c.count-count.ensures, c.if-count-gt-MOST_STEPS.false)) (sym (c.point.ensures ∙ ap point_at c.multi.ensures) ∙ c.in-Some.is))
+    (point_goes c.args.self.now c.args.shape c.args.filled _ _ _ c.args.run.now _ _ c.multi-size.ensures.value c.multi-size.ensures.least c.from.ensures c.min.ensures c.split_at.ensures.front c.split_at.ensures.back
+    c.in-Some.from (omega (arith, c.count-count.ensures, c.if-count-eq0.false)) (omega (arith, c.count-count.ensures, c.if-count-gt-MOST_STEPS.false))
+    (sym (c.point.ensures ∙ ap point_at c.multi.ensures) ∙ c.in-Some.is))
     refl (λ xs. (_, refl)) c.in_err-steps_into.ensures
 
 pub shape-requires : goal.shape-requires
@@ -45,5 +51,7 @@ shape-requires g c =
 pub returns : goal.returns
 returns g c =
     does_filled g.S.Sink _ _ _ _ _ _ (drawn_from c.args.self.now c.args.shape c.args.filled c.in-Some.from) (λ ps. ps) _ _ _
-    (point_goes c.args.self.now c.args.shape c.args.filled _ _ _ c.args.run.now _ _ c.multi-size.ensures.value c.multi-size.ensures.least c.from.ensures c.min.ensures c.split_at.ensures.front c.split_at.ensures.back c.in-Some.from (omega (arith, c.count-count.ensures, c.if-count-eq0.false)) (omega (arith, c.count-count.ensures, c.if-count-gt-MOST_STEPS.false)) (sym (c.point.ensures ∙ ap point_at c.multi.ensures) ∙ c.in-Some.is))
+    (point_goes c.args.self.now c.args.shape c.args.filled _ _ _ c.args.run.now _ _ c.multi-size.ensures.value c.multi-size.ensures.least c.from.ensures c.min.ensures c.split_at.ensures.front c.split_at.ensures.back
+    c.in-Some.from (omega (arith, c.count-count.ensures, c.if-count-eq0.false)) (omega (arith, c.count-count.ensures, c.if-count-gt-MOST_STEPS.false))
+    (sym (c.point.ensures ∙ ap point_at c.multi.ensures) ∙ c.in-Some.is))
     c.in_ok-steps_into.ensures c.deref.ensures.value c.shape.ensures
