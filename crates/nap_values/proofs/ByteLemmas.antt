@@ -12,6 +12,8 @@ use Rattle.nap_values.proofs.DigitLemmas.{value_of-below, value_of-digits_of}
 use Rattle.nap_values.proofs.CoordinateLemmas.{bits_of-signed_of}
 use Rattle.nap_values.proofs.PackedLemmas.{length-words_in, holding_fits, pair_words-values, x_in-below, y_in-below}
 
+-- The bytes that carry words, from a number of 64 bits.
+
 byte_at-quotient : (i n : ℕ) → byte_at i n ≡ n / 256 ^ i % 256
 byte_at-quotient zero n = ap (λ m. m % 256) (sym (div-one n))
 byte_at-quotient (suc i) n = refl
@@ -21,8 +23,6 @@ bytes_of_value : (places high : ℕ) (bytes : List ℕ) → All (λ b. b < 256) 
     bytes_high_first places (high * 256 ^ places + value_of 256 places bytes) ≡ bytes
 unfolding value_of
 bytes_of_value zero high [] all len = refl
-bytes_of_value zero high (byte ∷ bytes) all len = absurd (omega arith)
-bytes_of_value (suc places) high [] all len = absurd (omega arith)
 bytes_of_value (suc places) high (byte ∷ bytes) all len =
     let byte_fits : byte < 256 = All-head (λ b. b < 256) byte bytes all in
     let others = All-tail (λ b. b < 256) byte bytes all in
@@ -38,6 +38,7 @@ bytes_of_value (suc places) high (byte ∷ bytes) all len =
       mod-mul-add high 256 byte byte_fits,
       bytes_of_value places higher bytes others rest_len,
     ) refl
+bytes_of_value _ high bytes all len = absurd (omega arith)
 
 -- bytes have the value of their words and of the mark in each
 value_of-bytes_of : (places : ℕ) (words : List ℕ) → length words ≡ places →

@@ -3,6 +3,8 @@ use Rattle.std.proofs.lemmas.Bool.Decides.{nat_tests}
 use Rattle.nap_values.specs.Coordinates.{Coordinates, IsInSquare, point_with}
 use Rattle.nap_values.specs.TwosComplement.{signed_of, bits_of}
 
+-- Signed numbers of 24 bits, and which of them are coordinates of a point.
+
 pub bits_of-signed_of : (n : ℕ) → n < 16777216 → bits_of (signed_of n) ≡ n
 bits_of-signed_of n fits = grind (arith, nat_tests)
 

@@ -4,6 +4,8 @@ use Rattle.std.proofs.lemmas.Nat.{div-add-mod', mod_below, div_below, div-mul-ad
 use Rattle.std.proofs.lemmas.List.Elements.{All-nil, All-cons, All-head, All-tail}
 use Rattle.nap_values.specs.Digits.{value_of, digits_of}
 
+-- The digits of a number, and the value of digits.
+
 pub pow_pos : (base places : ℕ) → 0 < base → 0 < base ^ places
 pow_pos base places pos = one-le-pow places base pos
 
@@ -43,8 +45,6 @@ pub digits_of-value_of : (base places : ℕ) (digits : List ℕ) → 0 < base �
     digits_of base places (value_of base places digits) ≡ digits
 unfolding value_of digits_of
 digits_of-value_of base zero [] pos all len = refl
-digits_of-value_of base zero (digit ∷ digits) pos all len = absurd (omega arith)
-digits_of-value_of base (suc places) [] pos all len = absurd (omega arith)
 digits_of-value_of base (suc places) (digit ∷ digits) pos all len =
     let others = All-tail (λ d. d < base) digit digits all in
     let rest = value_of-below base places digits pos others in
@@ -53,6 +53,7 @@ digits_of-value_of base (suc places) (digit ∷ digits) pos all len =
       mod-mul-add digit (base ^ places) (value_of base places digits) rest,
       digits_of-value_of base places digits pos others (omega arith),
     ) refl
+digits_of-value_of base _ digits pos all len = absurd (omega arith)
 
 value_of-zeros : (base places n : ℕ) → value_of base places (replicate n 0) ≡ 0
 unfolding value_of

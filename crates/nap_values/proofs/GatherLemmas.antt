@@ -4,6 +4,8 @@ use Rattle.nap_values.specs.Digits.{value_of, digits_of}
 use Rattle.nap_values.proofs.DigitLemmas.{value_of-digits_of, value_of-below, digits_of-value_of}
 use Rattle.nap_values.proofs.MaskLemmas.{masked}
 
+-- Eight digits in base 8, a byte for each, are gathered into one number.
+
 -- the lower half of each of four digits
 lower_of_four : (a b c d : ℕ) → a < 65536 → b < 65536 → c < 65536 → d < 65536 →
     bit_and (((a * 65536 + b) * 65536 + c) * 65536 + d) 0x00FF_00FF_00FF_00FF
@@ -35,6 +37,12 @@ lower_of_two a b a_fits b_fits =
     ∙ masked 32 16 0 (omega arith) 2 (value_of 4294967296 2 digits)
     ∙ ap (λ ds. value_of 4294967296 2 (map (λ k. (k / 1 % 65536) * 1) ds)) (digits_of-value_of 4294967296 2 digits (omega arith) fit refl)
     ∙ lower
+
+abbrev pub pairs_of : ℕ → ℕ
+pairs_of n = n - bit_and (n / 256) 0x00FF_00FF_00FF_00FF * 248
+
+abbrev pub quads_of : ℕ → ℕ
+quads_of n = n - bit_and (n / 65536) 0x0000_FFFF_0000_FFFF * 65472
 
 -- Eight digits in base 8, a byte for each, are made into four numbers of 6 bits, two of 12 bits and one of 24 bits.
 module _ (a b c d e f g h : ℕ) (a_fits : a < 8) (b_fits : b < 8) (c_fits : c < 8) (d_fits : d < 8)
@@ -80,34 +88,12 @@ module _ (a b c d e f g h : ℕ) (a_fits : a < 8) (b_fits : b < 8) (c_fits : c <
   unfolding value_of
   quads_split = omega arith
 
-abbrev pub pairs_of : ℕ → ℕ
-pairs_of n = n - bit_and (n / 256) 0x00FF_00FF_00FF_00FF * 248
-
-abbrev pub quads_of : ℕ → ℕ
-quads_of n = n - bit_and (n / 65536) 0x0000_FFFF_0000_FFFF * 65472
-
--- what the three steps leave of eight digits in base 8
-gathered-digits : (a b c d e f g h : ℕ) → a < 8 → b < 8 → c < 8 → d < 8 → e < 8 → f < 8 → g < 8 → h < 8 →
-    let n = value_of 256 8 (a ∷ b ∷ c ∷ d ∷ e ∷ f ∷ g ∷ h ∷ []) in
-    quads_of (pairs_of n) - quads_of (pairs_of n) / 4294967296 * 4294963200 ≡ value_of 8 8 (a ∷ b ∷ c ∷ d ∷ e ∷ f ∷ g ∷ h ∷ [])
-gathered-digits a b c d e f g h a_fits b_fits c_fits d_fits e_fits f_fits g_fits h_fits =
-    let n = value_of 256 8 (a ∷ b ∷ c ∷ d ∷ e ∷ f ∷ g ∷ h ∷ []) in
-    let two = pairs a b c d e f g h a_fits b_fits c_fits d_fits e_fits f_fits g_fits h_fits in
-    let four = quads a b c d e f g h a_fits b_fits c_fits d_fits e_fits f_fits g_fits h_fits in
-    let is_two : pairs_of n ≡ two = omega (
-      arith,
-      upper_bytes_are a b c d e f g h a_fits b_fits c_fits d_fits e_fits f_fits g_fits h_fits,
-      bytes_split a b c d e f g h a_fits b_fits c_fits d_fits e_fits f_fits g_fits h_fits,
-    ) in
-    let is_four : quads_of (pairs_of n) ≡ four =
-    ap quads_of is_two
-    ∙ omega (
-      arith,
-      upper_pairs_are a b c d e f g h a_fits b_fits c_fits d_fits e_fits f_fits g_fits h_fits,
-      pairs_split a b c d e f g h a_fits b_fits c_fits d_fits e_fits f_fits g_fits h_fits,
-    ) in
-    ap (λ m. m - m / 4294967296 * 4294963200) is_four
-    ∙ omega (arith, quads_split a b c d e f g h a_fits b_fits c_fits d_fits e_fits f_fits g_fits h_fits)
+  -- what the three steps leave of these digits
+  gathered-digits : quads_of (pairs_of bytes) - quads_of (pairs_of bytes) / 4294967296 * 4294963200 ≡ value_of 8 8 (a ∷ b ∷ c ∷ d ∷ e ∷ f ∷ g ∷ h ∷ [])
+  gathered-digits =
+      let is_two : pairs_of bytes ≡ pairs = omega (arith, upper_bytes_are, bytes_split) in
+      let is_four : quads_of (pairs_of bytes) ≡ quads = ap quads_of is_two ∙ omega (arith, upper_pairs_are, pairs_split) in
+      ap (λ m. m - m / 4294967296 * 4294963200) is_four ∙ omega (arith, quads_split)
 
 -- the three steps gather the digits of a number
 module _ (n : ℕ) (fit : All (λ d. d < 8) (digits_of 256 8 n)) where

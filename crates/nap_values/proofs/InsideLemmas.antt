@@ -7,6 +7,8 @@ use Rattle.nap_values.specs.Operands.{multi_of}
 use Rattle.nap_values.specs.Packed.{words_in, HoldsWords, x_in, y_in}
 use Rattle.nap_values.proofs.PackedLemmas.{x_in-below, y_in-below}
 
+-- Where the numbers that words hold are inside the unit square.
+
 -- the point with the coordinates that two numbers of 24 bits stand for
 inside-signed : (x y : ℕ) → x < 8388608 → y < 8388608 → point_with (signed_of x) (signed_of y) ≡ Some (record { x = x; y = y })
 inside-signed x y x_below y_below = grind (arith, nat_tests)

@@ -4,6 +4,8 @@ use Rattle.std.proofs.lemmas.Nat.{div_below}
 use Rattle.std.proofs.Math.ListN.{drop_of_length-le}
 use Rattle.nap_values.specs.Digits.{value_of, digits_of}
 
+-- Loops over the digits of a number, from the front.
+
 -- the digit at an index, and those after it
 value_of-drop : (base places : ℕ) (digit : ℕ → ℕ) (words : List ℕ) (i : ℕ) → i < length words → i < places →
     value_of base (places - i) (map digit (drop i words))

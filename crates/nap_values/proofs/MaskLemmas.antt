@@ -7,6 +7,8 @@ use lib.Bits.{and_high}
 use Rattle.nap_values.specs.Digits.{value_of, digits_of}
 use Rattle.nap_values.proofs.DigitLemmas.{value_of-below}
 
+-- The same bits of each digit, where a mask keeps them.
+
 pow_of_pow : (width places : ℕ) → (2 ^ width) ^ places ≡ 2 ^ (width * places)
 pow_of_pow width zero = pow-zero (2 ^ width) ∙ ap (λ k. 2 ^ k) (sym (mul-zero width))
 pow_of_pow width (suc places) =

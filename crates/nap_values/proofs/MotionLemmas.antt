@@ -9,6 +9,8 @@ use Rattle.nap_values.proofs.MaskLemmas.{masked, value_of-scaled, everywhere}
 use Rattle.nap_values.proofs.SumLemmas.{bytes_sum, digits_sum, sum-digits}
 use Rattle.nap_values.proofs.PackedLemmas.{length-words_in, x_masked, y_masked, packed-parts, packed-words, x_in-packed, y_in-packed}
 
+-- Sums and differences of the numbers that words hold, in 24 bits.
+
 -- a sum whose other bits are masked out is the sum of the digits
 module _ (low pad : ℕ) (within : 3 + low ≤ 8) (byte : (sum carry : ℕ) → sum < 15 → carry < 2 →
     ((sum * 2 ^ low + pad + carry) / 256 ≡ (sum + carry) / 8) × ((sum * 2 ^ low + pad + carry) % 256 / 2 ^ low % 8 ≡ (sum + carry) % 8)) where
@@ -57,17 +59,8 @@ module _ (m n : ℕ) (m_words : HoldsWords m) (n_words : HoldsWords n) where
   abbrev ys : ℕ → List ℕ
   ys k = map y_digit (words_in k)
 
-  x_len : (k : ℕ) → HoldsWords k → length (xs k) ≡ 8
-  x_len k words = length-map (words_in k) x_digit ∙ length-words_in k words
-
-  y_len : (k : ℕ) → HoldsWords k → length (ys k) ≡ 8
-  y_len k words = length-map (words_in k) y_digit ∙ length-words_in k words
-
-  x_fit : (k : ℕ) → HoldsWords k → All (λ d. d < 8) (xs k)
-  x_fit k words = x_digits-below (words_in k) words
-
-  y_fit : (k : ℕ) → HoldsWords k → All (λ d. d < 8) (ys k)
-  y_fit k words = y_digits-below (words_in k) words
+  len : (digit : ℕ → ℕ) (k : ℕ) → HoldsWords k → length (map digit (words_in k)) ≡ 8
+  len digit k words = length-map (words_in k) digit ∙ length-words_in k words
 
   x_added : bit_and ((bit_and m 0x3838_3838_3838_3838 + 0xC7C7_C7C7_C7C7_C7C7 + bit_and n 0x3838_3838_3838_3838) % 18446744073709551616) 0x3838_3838_3838_3838
       ≡ value_of 256 8 (digits_of 8 8 ((x_in m + x_in n) % 16777216)) * 8
@@ -77,7 +70,7 @@ module _ (m n : ℕ) (m_words : HoldsWords m) (n_words : HoldsWords n) where
       omega (arith, x_masked m m_words, x_masked n n_words) in
       let digits : digits_sum 8 199 x_byte 8 (xs m) (xs n) 0 ≡ x_in m + x_in n = omega arith in
       ap (λ k. bit_and (k % 18446744073709551616) 0x3838_3838_3838_3838) whole
-      ∙ masked-sum 3 199 (omega arith) x_byte (xs m) (xs n) 0 (x_len m m_words) (x_len n n_words) (x_fit m m_words) (x_fit n n_words) (omega arith)
+      ∙ masked-sum 3 199 (omega arith) x_byte (xs m) (xs n) 0 (len x_digit m m_words) (len x_digit n n_words) (x_digits-below (words_in m) m_words) (x_digits-below (words_in n) n_words) (omega arith)
       ∙ ap (λ k. value_of 256 8 (digits_of 8 8 (k % 16777216)) * 8) digits
 
   y_added : bit_and ((bit_and m 0x0707_0707_0707_0707 + 0xF8F8_F8F8_F8F8_F8F8 + bit_and n 0x0707_0707_0707_0707) % 18446744073709551616) 0x0707_0707_0707_0707
@@ -88,7 +81,7 @@ module _ (m n : ℕ) (m_words : HoldsWords m) (n_words : HoldsWords n) where
       omega (arith, y_masked m m_words, y_masked n n_words) in
       let digits : digits_sum 1 248 y_byte 8 (ys m) (ys n) 0 ≡ y_in m + y_in n = omega arith in
       ap (λ k. bit_and (k % 18446744073709551616) 0x0707_0707_0707_0707) whole
-      ∙ masked-sum 0 248 (omega arith) y_byte (ys m) (ys n) 0 (y_len m m_words) (y_len n n_words) (y_fit m m_words) (y_fit n n_words) (omega arith)
+      ∙ masked-sum 0 248 (omega arith) y_byte (ys m) (ys n) 0 (len y_digit m m_words) (len y_digit n n_words) (y_digits-below (words_in m) m_words) (y_digits-below (words_in n) n_words) (omega arith)
       ∙ ap (λ k. value_of 256 8 (digits_of 8 8 (k % 16777216)) * 1) digits
       ∙ omega arith
 
@@ -96,28 +89,28 @@ module _ (m n : ℕ) (m_words : HoldsWords m) (n_words : HoldsWords n) where
       ≡ value_of 256 8 (digits_of 8 8 ((x_in m + (16777216 - x_in n)) % 16777216)) * 8
   unfolding x_in value_of
   x_taken =
-      let in_bytes = complements-value 256 8 (xs n) (x_len n n_words) (x_fit n n_words) in
-      let in_digits = complements-value 8 8 (xs n) (x_len n n_words) (x_fit n n_words) in
+      let in_bytes = complements-value 256 8 (xs n) (len x_digit n n_words) (x_digits-below (words_in n) n_words) in
+      let in_digits = complements-value 8 8 (xs n) (len x_digit n n_words) (x_digits-below (words_in n) n_words) in
       let whole : bit_and m 0x3838_3838_3838_3838 + (18446744073709551616 - bit_and n 0x3838_3838_3838_3838)
       ≡ bytes_sum 8 199 x_byte 8 (xs m) (complements (xs n)) 1 = omega (arith, in_bytes, x_masked m m_words, x_masked n n_words) in
       let digits : digits_sum 8 199 x_byte 8 (xs m) (complements (xs n)) 1 ≡ x_in m + (16777216 - x_in n) = omega (arith, in_digits) in
       ap (λ k. bit_and (k % 18446744073709551616) 0x3838_3838_3838_3838) whole
       ∙ masked-sum 3 199 (omega arith) x_byte (xs m) (complements (xs n)) 1
-      (x_len m m_words) (length-map (xs n) (λ d. 7 - d) ∙ x_len n n_words) (x_fit m m_words) (complements-below (xs n)) (omega arith)
+      (len x_digit m m_words) (length-map (xs n) (λ d. 7 - d) ∙ len x_digit n n_words) (x_digits-below (words_in m) m_words) (complements-below (xs n)) (omega arith)
       ∙ ap (λ k. value_of 256 8 (digits_of 8 8 (k % 16777216)) * 8) digits
 
   y_taken : bit_and ((bit_and m 0x0707_0707_0707_0707 + (18446744073709551616 - bit_and n 0x0707_0707_0707_0707)) % 18446744073709551616) 0x0707_0707_0707_0707
       ≡ value_of 256 8 (digits_of 8 8 ((y_in m + (16777216 - y_in n)) % 16777216))
   unfolding y_in value_of
   y_taken =
-      let in_bytes = complements-value 256 8 (ys n) (y_len n n_words) (y_fit n n_words) in
-      let in_digits = complements-value 8 8 (ys n) (y_len n n_words) (y_fit n n_words) in
+      let in_bytes = complements-value 256 8 (ys n) (len y_digit n n_words) (y_digits-below (words_in n) n_words) in
+      let in_digits = complements-value 8 8 (ys n) (len y_digit n n_words) (y_digits-below (words_in n) n_words) in
       let whole : bit_and m 0x0707_0707_0707_0707 + (18446744073709551616 - bit_and n 0x0707_0707_0707_0707)
       ≡ bytes_sum 1 248 y_byte 8 (ys m) (complements (ys n)) 1 = omega (arith, in_bytes, y_masked m m_words, y_masked n n_words) in
       let digits : digits_sum 1 248 y_byte 8 (ys m) (complements (ys n)) 1 ≡ y_in m + (16777216 - y_in n) = omega (arith, in_digits) in
       ap (λ k. bit_and (k % 18446744073709551616) 0x0707_0707_0707_0707) whole
       ∙ masked-sum 0 248 (omega arith) y_byte (ys m) (complements (ys n)) 1
-      (y_len m m_words) (length-map (ys n) (λ d. 7 - d) ∙ y_len n n_words) (y_fit m m_words) (complements-below (ys n)) (omega arith)
+      (len y_digit m m_words) (length-map (ys n) (λ d. 7 - d) ∙ len y_digit n n_words) (y_digits-below (words_in m) m_words) (complements-below (ys n)) (omega arith)
       ∙ ap (λ k. value_of 256 8 (digits_of 8 8 (k % 16777216)) * 1) digits
       ∙ omega arith
 
@@ -133,24 +126,13 @@ module _ (m n : ℕ) (m_words : HoldsWords m) (n_words : HoldsWords n) where
       ap₂ (λ x y. x + y) x_taken y_taken
       ∙ sym (packed-parts ((x_in m + (16777216 - x_in n)) % 16777216) ((y_in m + (16777216 - y_in n)) % 16777216))
 
--- 24 bits are kept
-cut : (n : ℕ) → n % 16777216 < 16777216
-cut n = omega arith
+-- two numbers of which 24 bits are kept
+module _ (x y : ℕ) where
+  pub kept-words : HoldsWords (packed (x % 16777216) (y % 16777216))
+  kept-words = packed-words (x % 16777216) (y % 16777216) (omega arith) (omega arith)
 
-pub added-words : (m n : ℕ) → HoldsWords (packed ((x_in m + x_in n) % 16777216) ((y_in m + y_in n) % 16777216))
-added-words m n = packed-words ((x_in m + x_in n) % 16777216) ((y_in m + y_in n) % 16777216) (cut _) (cut _)
+  pub kept-x : x_in (packed (x % 16777216) (y % 16777216)) ≡ x % 16777216
+  kept-x = x_in-packed (x % 16777216) (y % 16777216) (omega arith) (omega arith)
 
-pub taken-words : (m n : ℕ) → HoldsWords (packed ((x_in m + (16777216 - x_in n)) % 16777216) ((y_in m + (16777216 - y_in n)) % 16777216))
-taken-words m n = packed-words ((x_in m + (16777216 - x_in n)) % 16777216) ((y_in m + (16777216 - y_in n)) % 16777216) (cut _) (cut _)
-
-pub added-x : (m n : ℕ) → x_in (packed ((x_in m + x_in n) % 16777216) ((y_in m + y_in n) % 16777216)) ≡ (x_in m + x_in n) % 16777216
-added-x m n = x_in-packed ((x_in m + x_in n) % 16777216) ((y_in m + y_in n) % 16777216) (cut _) (cut _)
-
-pub added-y : (m n : ℕ) → y_in (packed ((x_in m + x_in n) % 16777216) ((y_in m + y_in n) % 16777216)) ≡ (y_in m + y_in n) % 16777216
-added-y m n = y_in-packed ((x_in m + x_in n) % 16777216) ((y_in m + y_in n) % 16777216) (cut _) (cut _)
-
-pub taken-x : (m n : ℕ) → x_in (packed ((x_in m + (16777216 - x_in n)) % 16777216) ((y_in m + (16777216 - y_in n)) % 16777216)) ≡ (x_in m + (16777216 - x_in n)) % 16777216
-taken-x m n = x_in-packed ((x_in m + (16777216 - x_in n)) % 16777216) ((y_in m + (16777216 - y_in n)) % 16777216) (cut _) (cut _)
-
-pub taken-y : (m n : ℕ) → y_in (packed ((x_in m + (16777216 - x_in n)) % 16777216) ((y_in m + (16777216 - y_in n)) % 16777216)) ≡ (y_in m + (16777216 - y_in n)) % 16777216
-taken-y m n = y_in-packed ((x_in m + (16777216 - x_in n)) % 16777216) ((y_in m + (16777216 - y_in n)) % 16777216) (cut _) (cut _)
+  pub kept-y : y_in (packed (x % 16777216) (y % 16777216)) ≡ y % 16777216
+  kept-y = y_in-packed (x % 16777216) (y % 16777216) (omega arith) (omega arith)

@@ -13,6 +13,8 @@ use Rattle.nap_values.proofs.SpellingLemmas.{length-words_of_pairs, words_of_pai
 use Rattle.nap_values.proofs.CoordinateLemmas.{bits_of-signed_of}
 use Rattle.nap_values.proofs.MaskLemmas.{masked, value_of-scaled}
 
+-- The two numbers of 24 bits that eight words hold.
+
 -- the words that hold two numbers of 24 bits
 abbrev pub pair_words : ℕ → ℕ → List ℕ
 pair_words x y = words_of_pairs (digits_of 8 8 x) (digits_of 8 8 y)

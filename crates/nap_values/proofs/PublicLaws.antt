@@ -13,6 +13,8 @@ use Rattle.nap_values.proofs.SpellingLemmas.{words_of-bytes_of, bytes_of-operand
 use Rattle.nap_values.proofs.PackedLemmas.{pair_words, length-pair_words, pair_words-words, x_value-pair_words, y_value-pair_words, pair_words-values, x_value-below, y_value-below}
 use Rattle.nap_values.proofs.CoordinateLemmas.{bits_of-signed_of, signed_of-bits_of, bits_of-below, signed_of-low, signed_of-high, point_with-in_square, point_with-back}
 
+-- The laws that crates above cite.
+
 -- what the words say of the bytes that carry them
 spelling_of_words : {V : Type 0} (read : List ℕ → V) (size : ℕ) (value : V) (words : List ℕ) →
     length words ≡ size → All IsWord words → read words ≡ value →

@@ -9,6 +9,8 @@ use Rattle.nap_values.specs.Packed.{words_in, HoldsWords}
 use Rattle.nap_values.proofs.DigitLemmas.{digits_of-value_of, value_of-append-zeros}
 use Rattle.nap_values.proofs.PublicLaws.{missing_words_are_zero}
 
+-- Fewer words than eight, with zeros in place of those that are missing.
+
 zeros-words : (n : ℕ) → All IsWord (replicate n 0)
 zeros-words zero = All-nil IsWord
 zeros-words (suc n) = All-cons IsWord 0 (replicate n 0) (omega arith) (zeros-words n)

@@ -10,6 +10,8 @@ use Rattle.nap_values.specs.Packed.{words_in, HoldsWords, x_in, y_in}
 use Rattle.nap_values.proofs.DigitLemmas.{value_of-below}
 use Rattle.nap_values.proofs.SpellingLemmas.{x_digits-below, y_digits-below}
 
+-- The signs of both numbers that words hold.
+
 -- the highest bits of both digits of a word
 signs_of_word : (word : ℕ) → bit_and word 36 ≡ (word / 8 / 4 % 2) * 32 + (word % 8 / 4 % 2) * 4
 signs_of_word word =

@@ -4,6 +4,8 @@ use Rattle.nap_values.specs.Operands.{x_digit, y_digit, g_digit, r_digit, b_digi
 use Rattle.nap_values.specs.Spellings.{words_of_pairs, words_of_triples, colour_word, bytes_of, words_of}
 use Rattle.nap_values.specs.Laws.{IsWord, IsOperandByte}
 
+-- The bytes that carry words, and the digits that words hold.
+
 pub words_of-bytes_of : (words : List ℕ) → words_of (bytes_of words) ≡ words
 words_of-bytes_of [] = refl
 words_of-bytes_of (word ∷ words) =
@@ -15,26 +17,9 @@ bytes_of-operand_bytes words all =
     All-map IsOperandByte (λ word. 64 + word) words
     (All-weaker IsWord (λ word. IsOperandByte (64 + word)) (λ word below. (omega arith, omega arith)) words all)
 
-x_digit-pair : (x y : ℕ) → y < 8 → (8 * x + y) / 8 ≡ x
-x_digit-pair x y small = omega arith
-
-y_digit-pair : (x y : ℕ) → y < 8 → (8 * x + y) % 8 ≡ y
-y_digit-pair x y small = omega arith
-
-g_digit-triple : (g r b : ℕ) → g < 4 → r < 4 → b < 4 → g_digit (colour_word g r b) ≡ g
-g_digit-triple g r b hg hr hb = omega arith
-
-r_digit-triple : (g r b : ℕ) → g < 4 → r < 4 → b < 4 → r_digit (colour_word g r b) ≡ r
-r_digit-triple g r b hg hr hb = omega arith
-
-b_digit-triple : (g r b : ℕ) → g < 4 → r < 4 → b < 4 → b_digit (colour_word g r b) ≡ b
-b_digit-triple g r b hg hr hb = omega arith
-
-colour_word-digits : (w : ℕ) → w < 64 → colour_word (g_digit w) (r_digit w) (b_digit w) ≡ w
-colour_word-digits w h = omega arith
-
-colour_word-below : (g r b : ℕ) → g < 4 → r < 4 → b < 4 → colour_word g r b < 64
-colour_word-below g r b hg hr hb = omega arith
+triple_digits : (g r b : ℕ) → g < 4 → r < 4 → b < 4 →
+    (g_digit (colour_word g r b) ≡ g) × (r_digit (colour_word g r b) ≡ r) × (b_digit (colour_word g r b) ≡ b) × (colour_word g r b < 64)
+triple_digits g r b g_fits r_fits b_fits = omega arith
 
 -- words of two digits of three bits
 
@@ -46,34 +31,26 @@ length-words_of_pairs (x ∷ xs) (y ∷ ys) same = ap suc (length-words_of_pairs
 
 pub words_of_pairs-words : (xs ys : List ℕ) → All (λ d. d < 8) xs → All (λ d. d < 8) ys → All IsWord (words_of_pairs xs ys)
 unfolding words_of_pairs
-words_of_pairs-words [] ys all_x all_y = All-nil IsWord
-words_of_pairs-words (x ∷ xs) [] all_x all_y = All-nil IsWord
 words_of_pairs-words (x ∷ xs) (y ∷ ys) all_x all_y =
-    let x_below : x < 8 = All-head (λ d. d < 8) x xs all_x in
-    let y_below : y < 8 = All-head (λ d. d < 8) y ys all_y in
-    All-cons IsWord (8 * x + y) (words_of_pairs xs ys) (omega arith)
+    All-cons IsWord (8 * x + y) (words_of_pairs xs ys) (omega (arith, All-head (λ d. d < 8) x xs all_x, All-head (λ d. d < 8) y ys all_y))
     (words_of_pairs-words xs ys (All-tail (λ d. d < 8) x xs all_x) (All-tail (λ d. d < 8) y ys all_y))
+words_of_pairs-words _ _ all_x all_y = All-nil IsWord
 
 pub x_digits-words_of_pairs : (xs ys : List ℕ) → length xs ≡ length ys → All (λ d. d < 8) ys → map x_digit (words_of_pairs xs ys) ≡ xs
 unfolding words_of_pairs
 x_digits-words_of_pairs [] ys same all = refl
 x_digits-words_of_pairs (x ∷ xs) [] same all = absurd (omega arith)
 x_digits-words_of_pairs (x ∷ xs) (y ∷ ys) same all =
-    rw (
-      x_digit-pair x y (All-head (λ d. d < 8) y ys all),
-      x_digits-words_of_pairs xs ys (omega arith) (All-tail (λ d. d < 8) y ys all),
-    ) refl
+    let first : (8 * x + y) / 8 ≡ x = omega (arith, All-head (λ d. d < 8) y ys all) in
+    rw (first, x_digits-words_of_pairs xs ys (omega arith) (All-tail (λ d. d < 8) y ys all)) refl
 
 pub y_digits-words_of_pairs : (xs ys : List ℕ) → length xs ≡ length ys → All (λ d. d < 8) ys → map y_digit (words_of_pairs xs ys) ≡ ys
 unfolding words_of_pairs
 y_digits-words_of_pairs [] [] same all = refl
-y_digits-words_of_pairs [] (y ∷ ys) same all = absurd (omega arith)
-y_digits-words_of_pairs (x ∷ xs) [] same all = absurd (omega arith)
 y_digits-words_of_pairs (x ∷ xs) (y ∷ ys) same all =
-    rw (
-      y_digit-pair x y (All-head (λ d. d < 8) y ys all),
-      y_digits-words_of_pairs xs ys (omega arith) (All-tail (λ d. d < 8) y ys all),
-    ) refl
+    let first : (8 * x + y) % 8 ≡ y = omega (arith, All-head (λ d. d < 8) y ys all) in
+    rw (first, y_digits-words_of_pairs xs ys (omega arith) (All-tail (λ d. d < 8) y ys all)) refl
+y_digits-words_of_pairs xs ys same all = absurd (omega arith)
 
 pub words_of_pairs-digits : (words : List ℕ) → words_of_pairs (map x_digit words) (map y_digit words) ≡ words
 unfolding words_of_pairs
@@ -96,9 +73,8 @@ pub length-words_of_triples : (gs rs bs : List ℕ) → length gs ≡ length rs 
     length (words_of_triples gs rs bs) ≡ length gs
 unfolding words_of_triples
 length-words_of_triples [] rs bs same_r same_b = refl
-length-words_of_triples (g ∷ gs) [] bs same_r same_b = absurd (omega arith)
-length-words_of_triples (g ∷ gs) (r ∷ rs) [] same_r same_b = absurd (omega arith)
 length-words_of_triples (g ∷ gs) (r ∷ rs) (b ∷ bs) same_r same_b = ap suc (length-words_of_triples gs rs bs (omega arith) (omega arith))
+length-words_of_triples gs rs bs same_r same_b = absurd (omega arith)
 
 -- a list of digits of two bits
 abbrev pub AreTwoBits : List ℕ → Type 0
@@ -112,13 +88,11 @@ tail_below d ds all = All-tail (λ k. k < 4) d ds all
 
 pub words_of_triples-words : (gs rs bs : List ℕ) → AreTwoBits gs → AreTwoBits rs → AreTwoBits bs → All IsWord (words_of_triples gs rs bs)
 unfolding words_of_triples
-words_of_triples-words [] rs bs all_g all_r all_b = All-nil IsWord
-words_of_triples-words (g ∷ gs) [] bs all_g all_r all_b = All-nil IsWord
-words_of_triples-words (g ∷ gs) (r ∷ rs) [] all_g all_r all_b = All-nil IsWord
 words_of_triples-words (g ∷ gs) (r ∷ rs) (b ∷ bs) all_g all_r all_b =
     All-cons IsWord (colour_word g r b) (words_of_triples gs rs bs)
-    (colour_word-below g r b (head_below g gs all_g) (head_below r rs all_r) (head_below b bs all_b))
+    (triple_digits g r b (head_below g gs all_g) (head_below r rs all_r) (head_below b bs all_b)).3
     (words_of_triples-words gs rs bs (tail_below g gs all_g) (tail_below r rs all_r) (tail_below b bs all_b))
+words_of_triples-words _ _ _ all_g all_r all_b = All-nil IsWord
 
 -- the words of triples hold the digits that they are made of
 pub digits-words_of_triples : (gs rs bs : List ℕ) → length gs ≡ length rs → length gs ≡ length bs → AreTwoBits gs → AreTwoBits rs → AreTwoBits bs →
@@ -127,30 +101,20 @@ pub digits-words_of_triples : (gs rs bs : List ℕ) → length gs ≡ length rs 
     × (map b_digit (words_of_triples gs rs bs) ≡ bs)
 unfolding words_of_triples
 digits-words_of_triples [] [] [] same_r same_b all_g all_r all_b = (refl, refl, refl)
-digits-words_of_triples [] (r ∷ rs) bs same_r same_b all_g all_r all_b = absurd (omega arith)
-digits-words_of_triples [] [] (b ∷ bs) same_r same_b all_g all_r all_b = absurd (omega arith)
-digits-words_of_triples (g ∷ gs) [] bs same_r same_b all_g all_r all_b = absurd (omega arith)
-digits-words_of_triples (g ∷ gs) (r ∷ rs) [] same_r same_b all_g all_r all_b = absurd (omega arith)
 digits-words_of_triples (g ∷ gs) (r ∷ rs) (b ∷ bs) same_r same_b all_g all_r all_b =
-    let g_below = head_below g gs all_g in
-    let r_below = head_below r rs all_r in
-    let b_below = head_below b bs all_b in
+    let first = triple_digits g r b (head_below g gs all_g) (head_below r rs all_r) (head_below b bs all_b) in
     let rest =
-    digits-words_of_triples gs rs bs (omega arith) (omega arith) (tail_below g gs all_g) (tail_below r rs all_r) (tail_below b bs all_b) in (
-      rw (g_digit-triple g r b g_below r_below b_below, rest.0) refl,
-      rw (r_digit-triple g r b g_below r_below b_below, rest.1) refl,
-      rw (b_digit-triple g r b g_below r_below b_below, rest.2) refl,
-    )
+    digits-words_of_triples gs rs bs (omega arith) (omega arith) (tail_below g gs all_g) (tail_below r rs all_r) (tail_below b bs all_b) in
+    (rw (first.0, rest.0) refl, rw (first.1, rest.1) refl, rw (first.2, rest.2) refl)
+digits-words_of_triples gs rs bs same_r same_b all_g all_r all_b = absurd (omega arith)
 
 pub words_of_triples-digits : (words : List ℕ) → All IsWord words →
     words_of_triples (map g_digit words) (map r_digit words) (map b_digit words) ≡ words
 unfolding words_of_triples
 words_of_triples-digits [] all = refl
 words_of_triples-digits (word ∷ words) all =
-    rw (
-      colour_word-digits word (All-head IsWord word words all),
-      words_of_triples-digits words (All-tail IsWord word words all),
-    ) refl
+    let first : colour_word (g_digit word) (r_digit word) (b_digit word) ≡ word = omega (arith, All-head IsWord word words all) in
+    rw (first, words_of_triples-digits words (All-tail IsWord word words all)) refl
 
 pub g_digits-below : (words : List ℕ) → All IsWord words → AreTwoBits (map g_digit words)
 g_digits-below words all =

@@ -5,6 +5,8 @@ use Rattle.std.proofs.lemmas.Nat.{and_block, or_block, or_lt, and_mask, and_le_r
 use Rattle.nap_values.specs.Digits.{value_of, digits_of}
 use Rattle.nap_values.proofs.DigitLemmas.{value_of-digits_of}
 
+-- Eight digits in base 8 are spread from one number, a byte for each.
+
 -- A number beside itself so many bits higher, as far as a mask lets them through.
 abbrev pub parted : ℕ → ℕ → ℕ → ℕ
 parted gap mask n = bit_and (bit_or n (n * 2 ^ gap)) mask

@@ -4,6 +4,8 @@ use Rattle.std.proofs.lemmas.List.Elements.{All-head, All-tail}
 use Rattle.nap_values.specs.Digits.{value_of, digits_of}
 use Rattle.nap_values.proofs.DigitLemmas.{pow_pos, value_of-below}
 
+-- Digits that stand in bytes are added, and carries go on to the next byte.
+
 -- the digit in front of a unit, and what is behind it
 module _ (n unit base top low : ℕ) (split : n ≡ top * unit + low) (fits : low < unit) (pos : 0 < base) where
   rearranged : n ≡ top / base * (unit * base) + (top % base * unit + low)

@@ -4,12 +4,12 @@ use Rattle.nap_values.specs.Operands.{multi_of}
 use Rattle.nap_values.specs.TwosComplement.{signed_of}
 use Rattle.nap_values.specs.Packed.{HoldsWords, x_in, y_in}
 use Rattle.nap_values.proofs.PackedLemmas.{x_in-below, y_in-below}
-use Rattle.nap_values.proofs.MotionLemmas.{added-words, added-x, added-y}
+use Rattle.nap_values.proofs.MotionLemmas.{kept-words, kept-x, kept-y}
 use Rattle.nap_values.proofs.InsideLemmas.{sum_leads}
 use Rattle.nap_values.proofs.point.Point.by.Goals as goal
 
 pub spelled-requires : goal.spelled-requires
-spelled-requires c = subst HoldsWords (sym c.sum.ensures) (added-words c.words.result c.words-2.result)
+spelled-requires c = subst HoldsWords (sym c.sum.ensures) (kept-words _ _)
 
 pub returns : goal.returns
 unfolding point_at multi_of moved x_in y_in
@@ -18,7 +18,7 @@ returns c =
     let step = c.words-2.ensures in
     c.spelled.ensures
     ∙ ap (λ n. point_with (signed_of (x_in n)) (signed_of (y_in n))) c.sum.ensures
-    ∙ ap₂ (λ x y. point_with (signed_of x) (signed_of y)) (added-x c.words.result c.words-2.result) (added-y c.words.result c.words-2.result)
+    ∙ ap₂ (λ x y. point_with (signed_of x) (signed_of y)) (kept-x _ _) (kept-y _ _)
     ∙ sum_leads (x_in c.words.result) (y_in c.words.result) (x_in c.words-2.result) (y_in c.words-2.result) here.x_below here.y_below
     (x_in-below c.words-2.result step.words) (y_in-below c.words-2.result step.words)
     ∙ rw (here.x, here.y, step.x, step.y) refl

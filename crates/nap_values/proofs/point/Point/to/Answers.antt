@@ -3,12 +3,12 @@ use Rattle.nap_values.specs.Coordinates.{displacement_to}
 use Rattle.nap_values.specs.Operands.{multi_of}
 use Rattle.nap_values.specs.TwosComplement.{signed_of}
 use Rattle.nap_values.specs.Packed.{HoldsWords, x_in, y_in}
-use Rattle.nap_values.proofs.MotionLemmas.{taken-words, taken-x, taken-y}
+use Rattle.nap_values.proofs.MotionLemmas.{kept-words, kept-x, kept-y}
 use Rattle.nap_values.proofs.InsideLemmas.{way_is}
 use Rattle.nap_values.proofs.point.Point.to.Goals as goal
 
 pub spelled-requires : goal.spelled-requires
-spelled-requires c = subst HoldsWords (sym c.difference.ensures) (taken-words c.words.result c.words-2.result)
+spelled-requires c = subst HoldsWords (sym c.difference.ensures) (kept-words _ _)
 
 pub returns : goal.returns
 unfolding multi_of displacement_to x_in y_in
@@ -17,7 +17,7 @@ returns c =
     let here = c.words-2.ensures in
     c.spelled.ensures
     ∙ ap (λ n. record { x = signed_of (x_in n); y = signed_of (y_in n) }) c.difference.ensures
-    ∙ ap₂ (λ x y. record { x = signed_of x; y = signed_of y }) (taken-x c.words.result c.words-2.result) (taken-y c.words.result c.words-2.result)
+    ∙ ap₂ (λ x y. record { x = signed_of x; y = signed_of y }) (kept-x _ _) (kept-y _ _)
     ∙ ap₂ (λ x y. record { x = x; y = y })
     (way_is (x_in c.words-2.result) (x_in c.words.result) here.x_below there.x_below)
     (way_is (y_in c.words-2.result) (y_in c.words.result) here.y_below there.y_below)
