@@ -1,4 +1,4 @@
-use Rattle.std.proofs.Common.{ℕ, ◌≡◌, ◌↔◌, [], ◌∷◌, Option, Some, None, refl, arith}
+use Rattle.std.proofs.Common.{ℕ, ◌≡◌, ◌↔◌, [], ◌∷◌, Option, Some, None}
 use Rattle.nap_codes.specs.declared.code.Code.TheVariants as codes
 use Rattle.nap_codes.specs.declared.code_set.CharSet.{CharSet}
 use Rattle.nap_codes.specs.declared.code_set.CodeSet.{CodeSet}
@@ -10,8 +10,8 @@ use Rattle.nap_codes.specs.CodeSets.{characters_of, set_at}
 use Rattle.nap_codes.specs.Front.{whole, plain_code, opcode_front, pdi_front, gl_front, control0_front, front}
 use Rattle.nap_codes.specs.Laws.{IsGraphic}
 use Rattle.nap_codes.specs.Lexer.{LexerState, IsCharacter}
-use Rattle.nap_codes.specs.Tables.{row_of, control0_rows, opcode_rows, left_out_opcode}
-use Rattle.nap_codes.proofs.TableLemmas.{graphic_test, no_control0}
+use Rattle.nap_codes.specs.Tables.{row_of, opcode_rows, left_out_opcode}
+use Rattle.nap_codes.proofs.TableLemmas.{graphic_test, no_control0, space}
 use Rattle.nap_codes.proofs.CodeRanges.{code_ranges}
 
 -- Which bytes are characters by themselves.
@@ -34,24 +34,16 @@ no_char_of_pdi sets (Some op) set byte e = no_char_of_opcode sets op (left_out_o
 in_set : (sets : CodeSets) (byte : ℕ) (at : CodeSet) (set : CharSet) →
     (characters_of at ≡ Some set) ↔ (gl_front sets byte (plain_code at byte) ≡ whole (codes.Char set byte) 1 sets)
 unfolding plain_code gl_front
-in_set sets byte code_sets.Primary set = (λ e. cc, λ e. cc)
-in_set sets byte code_sets.Supplementary set = (λ e. cc, λ e. cc)
-in_set sets byte code_sets.Mosaic set = (λ e. cc, λ e. cc)
-in_set sets byte code_sets.Drcs set = (λ e. cc, λ e. cc)
-in_set sets byte code_sets.Macros set = (λ e. cc, λ e. cc)
 in_set sets byte code_sets.Pdi set = (λ e. cc, λ e. absurd (no_char_of_pdi sets (row_of opcode_rows byte) set byte e))
+in_set sets byte _ set = (λ e. cc, λ e. cc)
 
 -- a byte from 20 to 7F is a character where a set of characters is in GL
 pub in_gl : (sets : CodeSets) (byte : ℕ) (set : CharSet) → IsGraphic byte →
     (characters_of (set_at sets sets.gl) ≡ Some set) ↔ (front sets (byte ∷ []) ≡ whole (codes.Char set byte) 1 sets)
 unfolding front control0_front
 in_gl sets byte set range =
-    rw (no_control0 byte (row_of control0_rows byte) range.0 refl, graphic_test byte range.0 range.1)
+    rw (no_control0 byte range.0, graphic_test byte range)
     (in_set sets byte (set_at sets sets.gl) set)
-
--- the first of them
-space : IsGraphic 0x20
-space = (omega arith, omega arith)
 
 -- where one of them is a character, all are, and of the same set
 pub all_alike : (lexer : LexerState) (byte : ℕ) (set : CharSet) → IsGraphic byte → IsCharacter lexer byte set →

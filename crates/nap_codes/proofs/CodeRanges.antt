@@ -1,23 +1,23 @@
-use Rattle.std.proofs.Common.{ℕ, ◌≡◌, ◌<◌, List, length, take, Some, Bool, true, false, ltb, refl, sym, ◌∙◌, subst, arith}
-use Rattle.std.proofs.lemmas.Bool.{ltb-true}
+use Rattle.std.proofs.Common.{ℕ, ◌≡◌, ◌<◌, List, length, take, Some, IfSome, Bool, true, false, refl, sym, ◌∙◌, arith}
 use Rattle.std.proofs.lemmas.List.{length-take-le}
 use Rattle.nap_codes.specs.declared.code.Code.{Code}
 use Rattle.nap_codes.specs.declared.code.Code.TheVariants as codes
-use Rattle.nap_codes.specs.declared.code_set.CharSet.TheVariants as chars
 use Rattle.nap_codes.specs.declared.code_set.CodeSet.{CodeSet}
 use Rattle.nap_codes.specs.declared.code_set.CodeSet.TheVariants as code_sets
 use Rattle.nap_codes.specs.declared.code_set.CodeSets.{CodeSets}
 use Rattle.nap_codes.specs.declared.control.Row.{Row}
-use Rattle.nap_codes.specs.declared.control.Row.TheVariants.{Whole, More, Out}
-use Rattle.nap_codes.specs.declared.control.TextStep.TheVariants.{Aps}
+use Rattle.nap_codes.specs.declared.control.Row.TheVariants.{Whole}
+use Rattle.nap_codes.specs.CodeSets.{set_at}
 use Rattle.nap_codes.specs.Tables.{row_of, number_rows, control0_rows, control1_rows}
 use Rattle.nap_codes.specs.Front.{whole, plain_code, front}
 use Rattle.nap_codes.specs.Laws.{IsGraphic, IsInRange, CodeRanges, OneByteOpcode, OneByteOperand}
 use Rattle.nap_codes.specs.Spelling.{Spells}
 use Rattle.nap_codes.specs.Spelling as spelling
-use Rattle.nap_codes.proofs.RowLemmas.{each_row, row_found}
+use Rattle.nap_codes.proofs.RowLemmas.{row_found}
 use Rattle.nap_codes.proofs.FrontLaws.{whole_length}
 use Rattle.nap_codes.proofs.SpellingLaws.{whole_is_spelled}
+
+-- The ranges of a code's numbers.
 
 -- whether a code is of the PDI set
 abbrev is_pdi : Code → Bool
@@ -29,76 +29,27 @@ is_pdi _ = false
 abbrev IsPlain : Code → Type 0
 IsPlain code = IsInRange code × (is_pdi code ≡ false)
 
--- whether a code has no number in it
-abbrev is_bare : Code → Bool
-is_bare (codes.Step (Aps row column)) = false
-is_bare (codes.Designated number set) = false
-is_bare (codes.Char set byte) = false
-is_bare (codes.Call byte) = false
-is_bare (codes.Op op) = false
-is_bare (codes.Operand word) = false
-is_bare (codes.DefMacro name show) = false
-is_bare (codes.DefGlyph byte) = false
-is_bare (codes.Repeat count) = false
-is_bare _ = true
-
-bare_is_plain : (code : Code) → is_bare code ≡ true → IsPlain code
-bare_is_plain (codes.Step (Aps row column)) e = let bad : ⊥ = cc in absurd bad
-bare_is_plain (codes.Designated number set) e = let bad : ⊥ = cc in absurd bad
-bare_is_plain (codes.Char set byte) e = let bad : ⊥ = cc in absurd bad
-bare_is_plain (codes.Call byte) e = let bad : ⊥ = cc in absurd bad
-bare_is_plain (codes.Op op) e = let bad : ⊥ = cc in absurd bad
-bare_is_plain (codes.Operand word) e = let bad : ⊥ = cc in absurd bad
-bare_is_plain (codes.DefMacro name show) e = let bad : ⊥ = cc in absurd bad
-bare_is_plain (codes.DefGlyph byte) e = let bad : ⊥ = cc in absurd bad
-bare_is_plain (codes.Repeat count) e = let bad : ⊥ = cc in absurd bad
-bare_is_plain _ e = (tt, refl)
-
-is_bare_row : ℕ → Row → Bool
-is_bare_row byte (Whole code) = is_bare code
-is_bare_row byte More = true
-is_bare_row byte (Out name) = true
-
-each_control0 : each_row is_bare_row control0_rows ≡ true
-unfolding is_bare_row control0_rows
-each_control0 = refl
-
-each_control1 : each_row is_bare_row control1_rows ≡ true
-unfolding is_bare_row control1_rows
-each_control1 = refl
-
 -- The codes of the tables of controls have no numbers.
-row_is_plain : (rows : List (ℕ × Row)) (byte : ℕ) (code : Code) → each_row is_bare_row rows ≡ true →
-    row_of rows byte ≡ Some (Whole code) → IsPlain code
-unfolding is_bare_row
-row_is_plain rows byte code each e = bare_is_plain code (row_found is_bare_row rows byte (Whole code) each e)
+abbrev PlainRow : ℕ → Row → Type 0
+PlainRow byte (Whole code) = IsPlain code
+PlainRow byte _ = Unit {0}
 
-each_number : each_row (λ _ n. ltb n 4) number_rows ≡ true
-unfolding number_rows
-each_number = refl
+control0_is_plain : (byte : ℕ) (code : Code) → row_of control0_rows byte ≡ Some (Whole code) → IsPlain code
+unfolding control0_rows
+control0_is_plain byte code e = row_found PlainRow control0_rows byte (Whole code) (assumption) e
+
+control1_is_plain : (byte : ℕ) (code : Code) → row_of control1_rows byte ≡ Some (Whole code) → IsPlain code
+unfolding control1_rows
+control1_is_plain byte code e = row_found PlainRow control1_rows byte (Whole code) (assumption) e
 
 number_below : (intermediate number : ℕ) → row_of number_rows intermediate ≡ Some number → number < 4
-number_below intermediate number e =
-    ltb-true number 4 (row_found (λ _ n. ltb n 4) number_rows intermediate number each_number e)
+unfolding number_rows
+number_below intermediate number e = row_found (λ _ n. n < 4) number_rows intermediate number (omega arith) e
 
-plain_code_is_plain : (set : CodeSet) (byte : ℕ) (code : Code) → IsGraphic byte → plain_code set byte ≡ Some code → IsPlain code
+plain_code_is_plain : (set : CodeSet) (byte : ℕ) → IsGraphic byte → IfSome (plain_code set byte) IsPlain
 unfolding plain_code
-plain_code_is_plain code_sets.Primary byte code range e =
-    let is : codes.Char chars.Primary byte ≡ code = cc in
-    subst IsPlain is (range, refl)
-plain_code_is_plain code_sets.Supplementary byte code range e =
-    let is : codes.Char chars.Supplementary byte ≡ code = cc in
-    subst IsPlain is (range, refl)
-plain_code_is_plain code_sets.Mosaic byte code range e =
-    let is : codes.Char chars.Mosaic byte ≡ code = cc in
-    subst IsPlain is (range, refl)
-plain_code_is_plain code_sets.Drcs byte code range e =
-    let is : codes.Char chars.Drcs byte ≡ code = cc in
-    subst IsPlain is (range, refl)
-plain_code_is_plain code_sets.Macros byte code range e =
-    let is : codes.Call byte ≡ code = cc in
-    subst IsPlain is (range, refl)
-plain_code_is_plain code_sets.Pdi byte code range e = let bad : ⊥ = cc in absurd bad
+plain_code_is_plain code_sets.Pdi byte range = tt
+plain_code_is_plain _ byte range = (range, refl)
 
 -- A spelling has a code with its numbers in their ranges, and one byte where the code is of the PDI set.
 data IsSound (sets : CodeSets) (xs : List ℕ) (code : Code) (after : CodeSets) : Type 0 where
@@ -108,28 +59,24 @@ data IsSound (sets : CodeSets) (xs : List ℕ) (code : Code) (after : CodeSets) 
 spelled_is_sound : (sets : CodeSets) (xs : List ℕ) (code : Code) (after : CodeSets) → Spells sets xs code after →
     IsSound sets xs code after
 spelled_is_sound sets _ _ _ (spelling.control0 {byte = byte} {code = code} row differs) =
-    plain (row_is_plain control0_rows byte code each_control0 row)
-spelled_is_sound sets _ _ _ spelling.shift_out = plain (tt, refl)
-spelled_is_sound sets _ _ _ spelling.shift_in = plain (tt, refl)
-spelled_is_sound sets _ _ _ spelling.locking_shift2 = plain (tt, refl)
-spelled_is_sound sets _ _ _ spelling.locking_shift3 = plain (tt, refl)
+    plain (control0_is_plain byte code row)
 spelled_is_sound sets _ _ _ (spelling.position row column) = plain ((row, column), refl)
 spelled_is_sound sets _ _ _ (spelling.control1 {byte = byte} {code = code} row) =
-    plain (row_is_plain control1_rows byte code each_control1 row)
+    plain (control1_is_plain byte code row)
 spelled_is_sound sets _ _ _ (spelling.def_macro range) = plain (range, refl)
 spelled_is_sound sets _ _ _ (spelling.defp_macro range) = plain (range, refl)
 spelled_is_sound sets _ _ _ (spelling.def_drcs range) = plain (range, refl)
-spelled_is_sound sets _ _ _ (spelling.def_texture row) = plain (tt, refl)
 spelled_is_sound sets _ _ _ (spelling.repeat least below) = plain (omega arith, refl)
 spelled_is_sound sets _ _ _ (spelling.designation {intermediate = intermediate} {number = number} n s) =
     plain (number_below intermediate number n, refl)
 spelled_is_sound sets _ _ _ (spelling.spaced_designation {intermediate = intermediate} {number = number} n s) =
     plain (number_below intermediate number n, refl)
-spelled_is_sound sets _ _ _ (spelling.in_gl {byte = byte} {code = code} range e) = plain (plain_code_is_plain _ byte code range e)
+spelled_is_sound sets _ _ _ (spelling.in_gl {byte = byte} range e) = plain (rw e at (plain_code_is_plain (set_at sets sets.gl) byte range))
 spelled_is_sound sets _ _ _ (spelling.opcode gl row e) = pdi e refl refl
 spelled_is_sound sets _ _ _ (spelling.operand gl least below) = pdi (omega arith) refl refl
-spelled_is_sound sets _ _ _ (spelling.single_shift2 {byte = byte} {code = code} range e) = plain (plain_code_is_plain _ byte code range e)
-spelled_is_sound sets _ _ _ (spelling.single_shift3 {byte = byte} {code = code} range e) = plain (plain_code_is_plain _ byte code range e)
+spelled_is_sound sets _ _ _ (spelling.single_shift2 {byte = byte} range e) = plain (rw e at (plain_code_is_plain sets.g2 byte range))
+spelled_is_sound sets _ _ _ (spelling.single_shift3 {byte = byte} range e) = plain (rw e at (plain_code_is_plain sets.g3 byte range))
+spelled_is_sound sets _ _ _ _ = plain (tt, refl)
 
 sound_range : {sets : CodeSets} {xs : List ℕ} {code : Code} {after : CodeSets} → IsSound sets xs code after → IsInRange code
 sound_range (plain is) = is.0

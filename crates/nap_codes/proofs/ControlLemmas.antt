@@ -1,5 +1,6 @@
-use Rattle.std.proofs.Common.{ℕ, ◌≡◌, ◌≢◌, [], ◌∷◌, Some, refl, sym, ap, ◌∙◌, ◌⊎◌, inl, inr}
+use Rattle.std.proofs.Common.{ℕ, ◌≡◌, ◌≢◌, [], ◌∷◌, Some, refl, ◌⊎◌, inl, inr}
 use Rattle.std.proofs.lemmas.Bool.{ne_eqb}
+use Rattle.nap_codes.specs.declared.code.Code.{Code}
 use Rattle.nap_codes.specs.declared.code.Code.TheVariants as codes
 use Rattle.nap_codes.specs.declared.code.Step.TheVariants as steps
 use Rattle.nap_codes.specs.declared.code_set.CodeSets.{CodeSets}
@@ -13,17 +14,23 @@ use Rattle.nap_codes.proofs.TableLemmas.{shift_out_row, shift_in_row}
 
 -- Controls of the C0 set that are whole codes by themselves.
 
--- a move of the active position is no shift
-no_shift : (byte at : ℕ) (step : TextStep) → row_of control0_rows at ≡ Some (Whole codes.Shifted) → row_of control0_rows byte ≡ Some (Whole (codes.Step step)) → byte ≢ at
-no_shift byte at step shifts is same =
-    let both : Some (Whole codes.Shifted) ≡ Some (Whole (codes.Step step)) = sym shifts ∙ ap (row_of control0_rows) (sym same) ∙ is in cc
+-- the code at a byte that shifts
+pub is_shift : {byte known : ℕ} {code : Code} → row_of control0_rows known ≡ Some (Whole codes.Shifted) → byte ≡ known →
+    row_of control0_rows byte ≡ Some (Whole code) → code ≡ codes.Shifted
+is_shift shifts is row = cc
+
+-- A control that is no shift leaves the code sets.
+pub no_shift_after : (sets : CodeSets) (byte : ℕ) (code : Code) → row_of control0_rows byte ≡ Some (Whole code) → code ≢ codes.Shifted →
+    after_control0 sets byte ≡ sets
+unfolding after_control0
+no_shift_after sets byte code row differs =
+    rw (ne_eqb byte 0x0E (λ is. differs (is_shift shift_out_row is row)), ne_eqb byte 0x0F (λ is. differs (is_shift shift_in_row is row))) refl
 
 -- a move stands at the front as that move, and leaves the code sets
 pub format_effector_alone : (sets : CodeSets) (byte : ℕ) (step : TextStep) → row_of control0_rows byte ≡ Some (Whole (codes.Step step)) →
     front sets (byte ∷ []) ≡ whole (codes.Step step) 1 sets
-unfolding front control0_front after_control0
-format_effector_alone sets byte step is =
-    rw (is, ne_eqb byte 0x0E (no_shift byte 0x0E step shift_out_row is), ne_eqb byte 0x0F (no_shift byte 0x0F step shift_in_row is)) refl
+unfolding front control0_front
+format_effector_alone sets byte step row = rw (row, no_shift_after sets byte (codes.Step step) row (λ is. cc)) refl
 
 -- SO or SI stands at the front as a shift
 shift_front : (sets : CodeSets) (byte : ℕ) → (byte ≡ 0x0E) ⊎ (byte ≡ 0x0F) → front sets (byte ∷ []) ≡ whole codes.Shifted 1 (after_control0 sets byte)

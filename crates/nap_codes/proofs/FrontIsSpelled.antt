@@ -1,4 +1,4 @@
-use Rattle.std.proofs.Common.{ℕ, suc, ◌+◌, ◌≡◌, ◌≢◌, ◌<◌, ◌≤◌, ◌⊎◌, inl, inr, List, [], ◌∷◌, ◌++◌, take, get_or, Option, Some, None, Bool, true, false, cond, eqb, ltb, leb, ◌&&◌, ◌||◌, not, refl, ap, sym, ◌∙◌, subst, arith, append_assoc, append-nil}
+use Rattle.std.proofs.Common.{ℕ, suc, ◌≡◌, ◌≢◌, ◌<◌, ◌≤◌, ◌⊎◌, inl, inr, List, [], ◌∷◌, ◌++◌, take, get_or, Option, Some, None, Bool, true, false, cond, eqb, ltb, leb, ◌&&◌, refl, ap, ◌∙◌, subst, arith, append_assoc, append-nil}
 use Rattle.std.proofs.lemmas.Bool.{eqb-true}
 use Rattle.std.proofs.lemmas.Bool.Decides.{nat_tests}
 use Rattle.std.specs.Option.{option_map}
@@ -9,7 +9,7 @@ use Rattle.nap_codes.specs.declared.code.CodeFault.TheVariants.{BadEscape, Shift
 use Rattle.nap_codes.specs.declared.code_set.CodeSet.{CodeSet}
 use Rattle.nap_codes.specs.declared.code_set.CodeSet.TheVariants as code_sets
 use Rattle.nap_codes.specs.declared.code_set.CodeSets.{CodeSets}
-use Rattle.nap_codes.specs.declared.code_set.GSet.TheVariants.{G0, G1, G2, G3}
+use Rattle.nap_codes.specs.declared.code_set.GSet.TheVariants.{G0, G1}
 use Rattle.nap_codes.specs.declared.control.Argument.{Argument}
 use Rattle.nap_codes.specs.declared.control.Argument.TheVariants as arguments
 use Rattle.nap_codes.specs.declared.control.Mask.{Mask}
@@ -25,8 +25,11 @@ use Rattle.nap_codes.specs.Half.{control_of}
 use Rattle.nap_codes.specs.Laws.{IsGraphic}
 use Rattle.nap_codes.specs.Spelling.{Spells, SpellsRefused, IsSpelling, IsProperPrefix, accepted, refusal, escape_fault, escaped_fault, place_fault, stray_fault}
 use Rattle.nap_codes.specs.Spelling as spelling
-use Rattle.nap_codes.proofs.RowLemmas.{each_row, row_found, row_missing, row_at}
-use Rattle.nap_codes.proofs.TableLemmas.{graphic_range, control0_missing, opcode_missing, no_control1, shift_out_row, shift_in_row, one_of_four, control_of-argument_of, no_plain_code, paired-rows}
+use Rattle.nap_codes.proofs.RowLemmas.{row_missing}
+use Rattle.nap_codes.proofs.TableLemmas.{graphic_range, space, control0_missing, opcode_missing, no_control1, Leads, leads, shift2, escape, position, shift3, shifts_alone, shift_out_row, shift_in_row, control_of-argument_of, no_plain_code, paired-rows}
+use Rattle.nap_codes.proofs.ControlLemmas.{is_shift}
+
+-- What stands at the front of a list is told by the spellings.
 
 -- What is said of the bytes behind those that were read is true of the spellings.
 pub data Answers (sets : CodeSets) (read xs : List ℕ) : Front → Type 0 where
@@ -92,20 +95,7 @@ module _ (sets : CodeSets) (lead : ℕ) (set : CodeSet)
       Answers-cond (is_graphic byte) (λ e. shifted_found byte bytes (plain_code set byte) (graphic_range byte e) refl)
       (λ _. bad_byte-Answers sets (lead ∷ []) ShiftAlone byte bytes place)
 
-single_shift2-Answers : (sets : CodeSets) (bytes : List ℕ) → Answers sets (0x19 ∷ []) bytes (single_shift_front sets sets.g2 bytes)
-unfolding place_fault
-single_shift2-Answers sets bytes =
-    single_shift-Answers sets 0x19 sets.g2 (λ byte code range e. spelling.single_shift2 range e) (λ byte range e. spelling.shifted2 range e) refl bytes
-
-single_shift3-Answers : (sets : CodeSets) (bytes : List ℕ) → Answers sets (0x1D ∷ []) bytes (single_shift_front sets sets.g3 bytes)
-unfolding place_fault
-single_shift3-Answers sets bytes =
-    single_shift-Answers sets 0x1D sets.g3 (λ byte code range e. spelling.single_shift3 range e) (λ byte range e. spelling.shifted3 range e) refl bytes
-
 -- a position
-space : IsGraphic 0x20
-space = (omega arith, omega arith)
-
 column-Answers : (sets : CodeSets) (row : ℕ) (bytes : List ℕ) → IsGraphic row →
     Answers sets (0x1C ∷ row ∷ []) bytes (column_front sets row bytes)
 unfolding column_front place_fault
@@ -129,11 +119,8 @@ unfolding last_byte place_fault escaped_fault escape_fault row_of control1_rows
 mask_found sets byte bytes (Some mask) e = whole_at (spelling.def_texture e)
 mask_found sets byte bytes None e = bad_byte-Answers sets (0x1B ∷ 0x44 ∷ []) BadArgument byte bytes refl
 
-count_above : (byte : ℕ) → leb 0x40 byte && ltb byte 0x80 ≡ true → 0x40 ≤ byte
-count_above byte e = grind (arith, nat_tests)
-
-count_below : (byte : ℕ) → leb 0x40 byte && ltb byte 0x80 ≡ true → byte < 0x80
-count_below byte e = grind (arith, nat_tests)
+count_range : (byte : ℕ) → leb 0x40 byte && ltb byte 0x80 ≡ true → (0x40 ≤ byte) × (byte < 0x80)
+count_range byte e = grind (arith, nat_tests)
 
 argument-Answers : (sets : CodeSets) (argument : Argument) (bytes : List ℕ) →
     Answers sets (0x1B ∷ control_of argument ∷ []) bytes (argument_front sets argument bytes)
@@ -152,7 +139,7 @@ argument-Answers sets arguments.Mask (byte ∷ bytes) = mask_found sets byte byt
 argument-Answers sets arguments.Count [] = unfinished_at 0x40 [] (accepted (spelling.repeat (omega arith) (omega arith)))
 argument-Answers sets arguments.Count (byte ∷ bytes) =
     passed sets _ BadArgument byte bytes _ (leb 0x40 byte && ltb byte 0x80) refl
-    (λ e. spelling.repeat (count_above byte e) (count_below byte e))
+    (λ e. let range = count_range byte e in spelling.repeat range.0 range.1)
 
 designated_found : (sets : CodeSets) (read : List ℕ) (intermediate byte : ℕ) (bytes : List ℕ) (found : Option (ℕ × CodeSet)) →
     place_fault read ≡ BadEscape →
@@ -167,47 +154,43 @@ designated_found sets read intermediate byte bytes None place spells e =
     bad_byte-Answers sets read BadEscape byte bytes place
 
 -- Each byte from 28 to 2F names a G set.
-has_number : (intermediate : ℕ) (found : Option ℕ) → 0x28 ≤ intermediate → intermediate ≤ 0x2F →
-    row_of number_rows intermediate ≡ found → (number : ℕ) × (row_of number_rows intermediate ≡ Some number)
+has_number : (intermediate : ℕ) → (0x28 ≤ intermediate) × (intermediate ≤ 0x2F) →
+    (number : ℕ) × (row_of number_rows intermediate ≡ Some number)
 unfolding row_of number_rows
-has_number intermediate (Some number) from to e = (number, e)
-has_number intermediate None from to e =
-    let past : 0x28 + 8 ≤ intermediate = row_missing number_rows 0x28 8 intermediate refl e from in
-    absurd (omega arith)
+has_number intermediate range = at (row_of number_rows intermediate) refl
+  where
+    at : (found : Option ℕ) → row_of number_rows intermediate ≡ found → (number : ℕ) × (found ≡ Some number)
+    at (Some number) e = (number, refl)
+    at None e = absurd (omega (arith, row_missing number_rows 0x28 8 intermediate (assumption) e range.0, range.1))
 
 no_control_place : (intermediate : ℕ) (bytes : List ℕ) → intermediate ≤ 0x2F → place_fault (0x1B ∷ intermediate ∷ bytes) ≡ BadEscape
 unfolding place_fault escaped_fault escape_fault
-no_control_place intermediate bytes to = rw (no_control1 intermediate _ (omega arith) refl) refl
+no_control_place intermediate bytes to = rw (no_control1 intermediate (omega arith)) refl
 
 primary_row : row_of set_rows 0x42 ≡ Some code_sets.Primary
 unfolding row_of set_rows
 primary_row = refl
 
-final-Answers : (sets : CodeSets) (intermediate : ℕ) (bytes : List ℕ) → 0x28 ≤ intermediate → intermediate ≤ 0x2F →
+final-Answers : (sets : CodeSets) (intermediate : ℕ) (bytes : List ℕ) → (0x28 ≤ intermediate) × (intermediate ≤ 0x2F) →
     Answers sets (0x1B ∷ intermediate ∷ 0x20 ∷ []) bytes (final_front sets intermediate bytes)
 unfolding final_front
-final-Answers sets intermediate [] from to =
-    let number = has_number intermediate _ from to refl in
-    unfinished_at 0x42 [] (accepted (spelling.spaced_designation number.1 primary_row))
-final-Answers sets intermediate (byte ∷ bytes) from to =
+final-Answers sets intermediate [] range =
+    unfinished_at 0x42 [] (accepted (spelling.spaced_designation (has_number intermediate range).1 primary_row))
+final-Answers sets intermediate (byte ∷ bytes) range =
     designated_found sets (0x1B ∷ intermediate ∷ 0x20 ∷ []) intermediate byte bytes (designation intermediate byte)
-    (no_control_place intermediate (0x20 ∷ []) to) (λ number set n s. spelling.spaced_designation n s) refl
+    (no_control_place intermediate (0x20 ∷ []) range.1) (λ number set n s. spelling.spaced_designation n s) refl
 
-designation-Answers : (sets : CodeSets) (intermediate : ℕ) (bytes : List ℕ) → 0x28 ≤ intermediate → intermediate ≤ 0x2F →
+designation-Answers : (sets : CodeSets) (intermediate : ℕ) (bytes : List ℕ) → (0x28 ≤ intermediate) × (intermediate ≤ 0x2F) →
     Answers sets (0x1B ∷ intermediate ∷ []) bytes (designation_front sets intermediate bytes)
 unfolding designation_front final_front
-designation-Answers sets intermediate [] from to =
-    let number = has_number intermediate _ from to refl in
-    unfinished_at 0x42 [] (accepted (spelling.designation number.1 primary_row))
-designation-Answers sets intermediate (byte ∷ bytes) from to =
+designation-Answers sets intermediate [] range =
+    unfinished_at 0x42 [] (accepted (spelling.designation (has_number intermediate range).1 primary_row))
+designation-Answers sets intermediate (byte ∷ bytes) range =
     Answers-cond (eqb byte 0x20)
-    (λ e.
-    one_further-Answers sets (0x1B ∷ intermediate ∷ []) byte bytes _
-    (subst (λ k. Answers sets (0x1B ∷ intermediate ∷ k ∷ []) bytes (final_front sets intermediate bytes)) (sym (eqb-true byte 0x20 e))
-    (final-Answers sets intermediate bytes from to)))
+    (λ e. one_further-Answers sets (0x1B ∷ intermediate ∷ []) byte bytes _ (rw (eqb-true byte 0x20 e) (final-Answers sets intermediate bytes range)))
     (λ _.
     designated_found sets (0x1B ∷ intermediate ∷ []) intermediate byte bytes (designation intermediate byte)
-    (no_control_place intermediate [] to) (λ number set n s. spelling.designation n s) refl)
+    (no_control_place intermediate [] range.1) (λ number set n s. spelling.designation n s) refl)
 
 intermediate_test : (byte : ℕ) → leb 0x28 byte && leb byte 0x2F ≡ true → (0x28 ≤ byte) × (byte ≤ 0x2F)
 intermediate_test byte e = grind (arith, nat_tests)
@@ -217,18 +200,12 @@ sequence-Answers : (sets : CodeSets) (byte : ℕ) (bytes : List ℕ) →
     Answers sets (0x1B ∷ []) (byte ∷ bytes) (sequence_front sets byte bytes)
 unfolding sequence_front place_fault escaped_fault
 sequence-Answers sets byte bytes =
-    Answers-cond (eqb byte 0x6E)
-    (λ e.
-    whole_at (subst (λ k. Spells sets (0x1B ∷ k ∷ []) codes.Shifted (record sets { gl = G2 })) (sym (eqb-true byte 0x6E e)) spelling.locking_shift2))
+    Answers-cond (eqb byte 0x6E) (λ e. whole_at (rw (eqb-true byte 0x6E e) spelling.locking_shift2))
     (λ _.
-    Answers-cond (eqb byte 0x6F)
-    (λ e.
-    whole_at (subst (λ k. Spells sets (0x1B ∷ k ∷ []) codes.Shifted (record sets { gl = G3 })) (sym (eqb-true byte 0x6F e)) spelling.locking_shift3))
+    Answers-cond (eqb byte 0x6F) (λ e. whole_at (rw (eqb-true byte 0x6F e) spelling.locking_shift3))
     (λ _.
     Answers-cond (leb 0x28 byte && leb byte 0x2F)
-    (λ e.
-    let range = intermediate_test byte e in
-    one_further-Answers sets (0x1B ∷ []) byte bytes _ (designation-Answers sets byte bytes range.0 range.1))
+    (λ e. one_further-Answers sets (0x1B ∷ []) byte bytes _ (designation-Answers sets byte bytes (intermediate_test byte e)))
     (λ _. bad_byte-Answers sets (0x1B ∷ []) BadEscape byte bytes refl)))
 
 control1-Answers : (sets : CodeSets) (byte : ℕ) (bytes : List ℕ) (found : Option Row) → row_of control1_rows byte ≡ found →
@@ -248,33 +225,14 @@ escape-Answers sets [] = unfinished_at 0x45 [] (accepted (spelling.control1 refl
 escape-Answers sets (byte ∷ bytes) = control1-Answers sets byte bytes _ refl
 
 -- what follows a control of the C0 set that further bytes belong to
-last_of_four : (byte : ℕ) → row_of control0_rows byte ≡ Some More → eqb byte 0x1B ≡ false → eqb byte 0x1C ≡ false →
-    eqb byte 0x19 ≡ false → byte ≡ 0x1D
-last_of_four byte row not_escape not_position not_shift2 =
-    at (eqb byte 0x19) (eqb byte 0x1B) (eqb byte 0x1C) (eqb byte 0x1D) refl (one_of_four byte row) not_shift2 not_escape not_position
-  where
-    at : (a b c d : Bool) → eqb byte 0x1D ≡ d → a || b || c || d ≡ true → a ≡ false → b ≡ false → c ≡ false → byte ≡ 0x1D
-    at false false false true is e f g h = eqb-true byte 0x1D is
-    at false false false false is e f g h = let bad : ⊥ = cc in absurd bad
-    at true b c d is e f g h = let bad : ⊥ = cc in absurd bad
-    at false true c d is e f g h = let bad : ⊥ = cc in absurd bad
-    at false false true d is e f g h = let bad : ⊥ = cc in absurd bad
-
-more-Answers : (sets : CodeSets) (byte : ℕ) (bytes : List ℕ) → row_of control0_rows byte ≡ Some More →
-    Answers sets (byte ∷ []) bytes (more_front sets byte bytes)
-unfolding more_front
-more-Answers sets byte bytes row =
-    Answers-cond (eqb byte 0x1B)
-    (λ e. subst (λ k. Answers sets (k ∷ []) bytes (escape_front sets bytes)) (sym (eqb-true byte 0x1B e)) (escape-Answers sets bytes))
-    (λ not_escape.
-    Answers-cond (eqb byte 0x1C)
-    (λ e. subst (λ k. Answers sets (k ∷ []) bytes (position_front sets bytes)) (sym (eqb-true byte 0x1C e)) (position-Answers sets bytes))
-    (λ not_position.
-    Answers-cond (eqb byte 0x19)
-    (λ e.
-    subst (λ k. Answers sets (k ∷ []) bytes (single_shift_front sets sets.g2 bytes)) (sym (eqb-true byte 0x19 e)) (single_shift2-Answers sets bytes))
-    (λ not_shift2.
-    subst (λ k. Answers sets (k ∷ []) bytes (single_shift_front sets sets.g3 bytes)) (sym (last_of_four byte row not_escape not_position not_shift2)) (single_shift3-Answers sets bytes))))
+more-Answers : (sets : CodeSets) (byte : ℕ) (bytes : List ℕ) → Leads byte → Answers sets (byte ∷ []) bytes (more_front sets byte bytes)
+unfolding more_front place_fault
+more-Answers sets _ bytes shift2 =
+    single_shift-Answers sets 0x19 sets.g2 (λ byte code range e. spelling.single_shift2 range e) (λ byte range e. spelling.shifted2 range e) refl bytes
+more-Answers sets _ bytes escape = escape-Answers sets bytes
+more-Answers sets _ bytes position = position-Answers sets bytes
+more-Answers sets _ bytes shift3 =
+    single_shift-Answers sets 0x1D sets.g3 (λ byte code range e. spelling.single_shift3 range e) (λ byte range e. spelling.shifted3 range e) refl bytes
 
 -- a code of the set in GL
 left_out_found : (sets : CodeSets) (byte : ℕ) (bytes : List ℕ) (op : Opcode) (found : Option Left) → set_at sets sets.gl ≡ code_sets.Pdi →
@@ -297,52 +255,19 @@ gl_found sets byte bytes None range e =
     pdi_found sets byte bytes (row_of opcode_rows byte) (no_plain_code (set_at sets sets.gl) byte e) range refl
 
 -- a control of the C0 set with no more bytes
-is_shifted : Code → Bool
-is_shifted codes.Shifted = true
-is_shifted _ = false
-
-shifts_alone : ℕ → Row → Bool
-shifts_alone byte (Whole code) = not (is_shifted code) || eqb byte 0x0E || eqb byte 0x0F
-shifts_alone byte More = true
-shifts_alone byte (Out name) = true
-
-each_shifts_alone : each_row shifts_alone control0_rows ≡ true
-unfolding shifts_alone is_shifted control0_rows
-each_shifts_alone = refl
-
--- A control that is neither SO nor SI shifts nothing.
-no_shift : (byte : ℕ) (code : Code) → row_of control0_rows byte ≡ Some (Whole code) → eqb byte 0x0E ≡ false → eqb byte 0x0F ≡ false →
-    code ≢ codes.Shifted
-unfolding shifts_alone is_shifted
-no_shift byte code row not_out not_in is =
-    let row_is : row_of control0_rows byte ≡ Some (Whole codes.Shifted) = row ∙ ap (λ c. Some (Whole c)) is in
-    let passes : eqb byte 0x0E || eqb byte 0x0F ≡ true = row_found shifts_alone control0_rows byte (Whole codes.Shifted) each_shifts_alone row_is in
-    at (eqb byte 0x0E) (eqb byte 0x0F) passes not_out not_in
-  where
-    at : (a b : Bool) → a || b ≡ true → a ≡ false → b ≡ false → ⊥
-    at true b e f g = cc
-    at false true e f g = cc
-    at false false e f g = cc
-
 control0_whole : (sets : CodeSets) (byte : ℕ) (code : Code) → row_of control0_rows byte ≡ Some (Whole code) →
     Spells sets (byte ∷ []) code (after_control0 sets byte)
 unfolding after_control0
 control0_whole sets byte code row = at (eqb byte 0x0E) (eqb byte 0x0F) refl refl
   where
-    code_at : {known : ℕ} → byte ≡ known → row_of control0_rows known ≡ Some (Whole codes.Shifted) → code ≡ codes.Shifted
-    code_at {known} is shift =
-        let same : Whole code ≡ Whole codes.Shifted = row_at control0_rows byte known (Whole code) (Whole codes.Shifted) is shift row in
-        cc
-
     at : (a b : Bool) → eqb byte 0x0E ≡ a → eqb byte 0x0F ≡ b →
         Spells sets (byte ∷ []) code (cond a (record sets { gl = G1 }) (cond b (record sets { gl = G0 }) sets))
-    at true b e f =
-        let is = eqb-true byte 0x0E e in
-        rw (is, code_at is shift_out_row) spelling.shift_out
-    at false true e f =
-        let is = eqb-true byte 0x0F f in
-        rw (is, code_at is shift_in_row) spelling.shift_in
-    at false false e f = spelling.control0 row (no_shift byte code row e f)
+    at true b e f = let is = eqb-true byte 0x0E e in rw (is, is_shift shift_out_row is row) spelling.shift_out
+    at false true e f = let is = eqb-true byte 0x0F f in rw (is, is_shift shift_in_row is row) spelling.shift_in
+    at false false e f =
+        spelling.control0 row (λ is.
+        let shifts = shifts_alone byte (row ∙ ap (λ c. Some (Whole c)) is) in
+        cc)
 
 eighth_bit : (byte : ℕ) → 0x20 ≤ byte → is_graphic byte ≡ false → leb 0x80 byte ≡ true
 eighth_bit byte least e = grind (arith, nat_tests)
@@ -352,7 +277,7 @@ control0-Answers : (sets : CodeSets) (byte : ℕ) (bytes : List ℕ) (found : Op
 unfolding control0_front stray_fault
 control0-Answers sets byte bytes (Some (Whole code)) e = whole_at (control0_whole sets byte code e)
 control0-Answers sets byte bytes (Some (Out name)) e = refused_at (spelling.left_out_control0 e)
-control0-Answers sets byte bytes (Some More) e = one_further-Answers sets [] byte bytes _ (more-Answers sets byte bytes e)
+control0-Answers sets byte bytes (Some More) e = one_further-Answers sets [] byte bytes _ (more-Answers sets byte bytes (leads byte e))
 control0-Answers sets byte bytes None e =
     Answers-cond (is_graphic byte) (λ g. gl_found sets byte bytes _ (graphic_range byte g) refl)
     (λ g. stray_at (rw (eighth_bit byte (control0_missing byte e) g) refl))

@@ -1,46 +1,56 @@
-use Rattle.std.proofs.Common.{ℕ, zero, suc, ◌≡◌, ◌≤◌, List, [], take, arith}
+use Rattle.std.proofs.Common.{ℕ, zero, suc, ◌≡◌, ◌≢◌, ◌≤◌, List, take, refl, ap, sym, ◌∙◌, arith}
 use Rattle.nap_codes.specs.declared.code.Code.{Code}
+use Rattle.nap_codes.specs.declared.code.CodeFault.{CodeFault}
 use Rattle.nap_codes.specs.declared.code_set.CodeSets.{CodeSets}
-use Rattle.nap_codes.specs.Front.{whole, front}
+use Rattle.nap_codes.specs.Front.{Front, unfinished, whole, refused, front}
 use Rattle.nap_codes.specs.Laws.{WholeStays, RefusedStays, WholeLength, RefusedIndex, WholeTaken, RefusedTaken, EarlierUnfinished, UnfinishedBefore}
-use Rattle.nap_codes.proofs.FrontLemmas.{unfinished-fewer, unfinished-before}
+use Rattle.nap_codes.proofs.FrontLemmas.{size, from_taken, earlier}
 use Rattle.nap_codes.proofs.FrontIsSteady.{front-Steady}
 
+-- The public laws of what stands at the front.
+
+-- an answer, to these bytes
+module _ (sets : CodeSets) (xs : List ℕ) where
+  pub is_whole : {code : Code} {n : ℕ} {after : CodeSets} → front sets xs ≡ whole code n after → front sets xs ≢ unfinished
+  is_whole e none = cc
+
+  pub is_refused : {fault : CodeFault} {i : ℕ} → front sets xs ≡ refused fault i → front sets xs ≢ unfinished
+  is_refused e none = cc
+
 pub whole_stays : WholeStays
-whole_stays sets xs ys code n after e = (front-Steady sets).whole_stays xs ys code n after e
+whole_stays sets xs ys code n after e = (front-Steady sets).stays xs ys (is_whole sets xs e) ∙ e
 
 pub refused_stays : RefusedStays
-refused_stays sets xs ys fault i e = (front-Steady sets).refused_stays xs ys fault i e
+refused_stays sets xs ys fault i e = (front-Steady sets).stays xs ys (is_refused sets xs e) ∙ e
 
 pub whole_taken : WholeTaken
-whole_taken sets xs code n after e = (front-Steady sets).whole_taken xs code n after e
+whole_taken sets xs code n after e =
+    ap (λ r. front sets (take (size r) xs)) (sym e) ∙ (front-Steady sets).taken xs (is_whole sets xs e) ∙ e
 
 pub refused_taken : RefusedTaken
-refused_taken sets xs fault i e = (front-Steady sets).refused_taken xs fault i e
+refused_taken sets xs fault i e =
+    ap (λ r. front sets (take (size r) xs)) (sym e) ∙ (front-Steady sets).taken xs (is_refused sets xs e) ∙ e
 
--- no code is spelled by no byte
-no_bytes : (sets : CodeSets) (code : Code) (n : ℕ) (after : CodeSets) → front sets [] ≡ whole code n after → ⊥
+some_bytes : (sets : CodeSets) (xs : List ℕ) (m : ℕ) → front sets (take m xs) ≢ unfinished → 1 ≤ m
 unfolding front
-no_bytes sets code n after e = cc
-
-some_bytes : (sets : CodeSets) (xs : List ℕ) (code : Code) (n m : ℕ) (after : CodeSets) →
-    front sets (take m xs) ≡ whole code n after → 1 ≤ m
-some_bytes sets xs code n zero after e = absurd (no_bytes sets code n after e)
-some_bytes sets xs code n (suc m) after e = omega arith
+some_bytes sets xs zero some = absurd (some refl)
+some_bytes sets xs (suc m) some = omega arith
 
 pub whole_length : WholeLength
 whole_length sets xs code n after e = (
-  some_bytes sets xs code n n after (whole_taken sets xs code n after e),
-  (front-Steady sets).whole_within xs code n after e,
+  some_bytes sets xs n (is_whole sets (take n xs) (whole_taken sets xs code n after e)),
+  omega (arith, ap size e, (front-Steady sets).within xs),
 )
 
 pub refused_index : RefusedIndex
-refused_index sets xs fault i e = (front-Steady sets).refused_within xs fault i e
+refused_index sets xs fault i e = omega (arith, ap size e, (front-Steady sets).within xs)
 
 pub earlier_unfinished : EarlierUnfinished
-earlier_unfinished sets xs code n after k e less =
-    unfinished-fewer (front sets) (front-Steady sets) xs code n after k e less
+earlier_unfinished sets xs code n after k e less = earlier (front sets) (front-Steady sets) xs k (omega (arith, ap size e, less))
 
 pub unfinished_before : UnfinishedBefore
-unfinished_before sets xs fault i k e less =
-    unfinished-before (front sets) (front-Steady sets) xs fault i k e less
+unfinished_before sets xs fault i k e less = earlier (front sets) (front-Steady sets) xs k (omega (arith, ap size e, less))
+
+-- What stands at the front of fewer bytes stands there.
+pub front_from_taken : (sets : CodeSets) (k : ℕ) (xs : List ℕ) {r : Front} → front sets (take k xs) ≡ r → r ≢ unfinished → front sets xs ≡ r
+front_from_taken sets k xs e some = from_taken (front sets) (front-Steady sets) k xs (rw e some) ∙ e

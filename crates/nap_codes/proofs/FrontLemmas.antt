@@ -1,24 +1,22 @@
-use Rattle.std.proofs.Common.{ℕ, suc, ◌≡◌, ◌<◌, ◌≤◌, List, [], ◌∷◌, ◌++◌, length, take, drop, Bool, true, false, cond, refl, ap, sym, ◌∙◌, subst, arith, length-take}
-use Rattle.std.proofs.lemmas.List.{take-append-drop}
+use Rattle.std.proofs.Common.{ℕ, suc, ◌≡◌, ◌≢◌, ◌<◌, ◌≤◌, List, [], ◌∷◌, ◌++◌, length, take, drop, Bool, true, false, cond, refl, ap, sym, ◌∙◌, subst, arith, length-take, lt_of_not-le}
+use Rattle.std.proofs.lemmas.List.{take-append-drop, take-take}
 use Rattle.nap_codes.specs.declared.code.Code.{Code}
 use Rattle.nap_codes.specs.declared.code.CodeFault.{CodeFault}
 use Rattle.nap_codes.specs.declared.code_set.CodeSets.{CodeSets}
 use Rattle.nap_codes.specs.Front.{Front, unfinished, whole, refused, one_further}
 
--- A function from lists to fronts that decides by the bytes of its answer alone.
+-- Functions from lists to fronts that decide by the bytes of their answer alone.
+
+-- how many bytes an answer has: those of a code, or those up to the refused one
+abbrev pub size : Front → ℕ
+size unfinished = 0
+size (whole code n after) = n
+size (refused fault i) = suc i
+
 pub record Steady (f : List ℕ → Front) : Type 0 where
-  pub whole_stays : (xs ys : List ℕ) (code : Code) (n : ℕ) (after : CodeSets) →
-      f xs ≡ whole code n after → f (xs ++ ys) ≡ whole code n after
-  pub whole_within : (xs : List ℕ) (code : Code) (n : ℕ) (after : CodeSets) →
-      f xs ≡ whole code n after → n ≤ length xs
-  pub whole_taken : (xs : List ℕ) (code : Code) (n : ℕ) (after : CodeSets) →
-      f xs ≡ whole code n after → f (take n xs) ≡ whole code n after
-  pub refused_stays : (xs ys : List ℕ) (fault : CodeFault) (i : ℕ) →
-      f xs ≡ refused fault i → f (xs ++ ys) ≡ refused fault i
-  pub refused_within : (xs : List ℕ) (fault : CodeFault) (i : ℕ) →
-      f xs ≡ refused fault i → i < length xs
-  pub refused_taken : (xs : List ℕ) (fault : CodeFault) (i : ℕ) →
-      f xs ≡ refused fault i → f (take (suc i) xs) ≡ refused fault i
+  pub stays : (xs ys : List ℕ) → f xs ≢ unfinished → f (xs ++ ys) ≡ f xs
+  pub within : (xs : List ℕ) → size (f xs) ≤ length xs
+  pub taken : (xs : List ℕ) → f xs ≢ unfinished → f (take (size (f xs)) xs) ≡ f xs
 
 -- what a function of the bytes behind a first byte may be: that byte decides, or the bytes behind it do
 pub data Opens : (List ℕ → Front) → Type 0 where
@@ -30,162 +28,87 @@ pub Opens-cond : (b : Bool) {f g : List ℕ → Front} → Opens f → Opens g �
 Opens-cond true p q = p
 Opens-cond false p q = q
 
--- a code that stands one byte further
-further_whole : (r : Front) (code : Code) (n : ℕ) (after : CodeSets) → one_further r ≡ whole code n after →
-    (m : ℕ) × (n ≡ suc m) × (r ≡ whole code m after)
+-- an answer that stands one byte further
+further_most : (r : Front) → size (one_further r) ≤ suc (size r)
 unfolding one_further
-further_whole unfinished code n after e = let bad : ⊥ = cc in absurd bad
-further_whole (whole c m s) code n after e = (m, cc, cc)
-further_whole (refused f i) code n after e = let bad : ⊥ = cc in absurd bad
+further_most unfinished = omega arith
+further_most (whole code n after) = omega arith
+further_most (refused fault i) = omega arith
 
--- a refusal that stands one byte further
-further_refused : (r : Front) (fault : CodeFault) (i : ℕ) → one_further r ≡ refused fault i →
-    (j : ℕ) × (i ≡ suc j) × (r ≡ refused fault j)
+further_size : (r : Front) → r ≢ unfinished → size (one_further r) ≡ suc (size r)
 unfolding one_further
-further_refused unfinished fault i e = let bad : ⊥ = cc in absurd bad
-further_refused (whole c m s) fault i e = let bad : ⊥ = cc in absurd bad
-further_refused (refused f j) fault i e = (j, cc, cc)
+further_size unfinished some = absurd (some refl)
+further_size (whole code n after) some = refl
+further_size (refused fault i) some = refl
+
+not_further : {r : Front} → one_further r ≢ unfinished → r ≢ unfinished
+unfolding one_further
+not_further some none = some (ap one_further none)
 
 -- the facts of a function that opens so
-opened_whole_stays : (f : List ℕ → Front) → Opens f → (xs ys : List ℕ) (code : Code) (n : ℕ) (after : CodeSets) →
-    f xs ≡ whole code n after → f (xs ++ ys) ≡ whole code n after
-unfolding one_further
-opened_whole_stays _ (ends c s) xs ys code n after e = e
-opened_whole_stays _ (fails f) xs ys code n after e = e
-opened_whole_stays _ (goes_on f steady) xs ys code n after e =
-    let r = further_whole (f xs) code n after e in
-    ap one_further (steady.whole_stays xs ys code r.0 after r.2) ∙ sym (ap (λ k. whole code k after) r.1)
+opened_stays : (f : List ℕ → Front) → Opens f → (xs ys : List ℕ) → f xs ≢ unfinished → f (xs ++ ys) ≡ f xs
+opened_stays _ (ends code after) xs ys some = refl
+opened_stays _ (fails fault) xs ys some = refl
+opened_stays _ (goes_on f steady) xs ys some = ap one_further (steady.stays xs ys (not_further some))
 
-opened_whole_within : (f : List ℕ → Front) → Opens f → (xs : List ℕ) (code : Code) (n : ℕ) (after : CodeSets) →
-    f xs ≡ whole code n after → n ≤ suc (length xs)
-opened_whole_within _ (ends c s) xs code n after e = let is : 1 ≡ n = cc in omega arith
-opened_whole_within _ (fails f) xs code n after e = let bad : ⊥ = cc in absurd bad
-opened_whole_within _ (goes_on f steady) xs code n after e =
-    let r = further_whole (f xs) code n after e in
-    let within = steady.whole_within xs code r.0 after r.2 in
-    omega arith
+opened_within : (f : List ℕ → Front) → Opens f → (xs : List ℕ) → size (f xs) ≤ suc (length xs)
+opened_within _ (ends code after) xs = omega arith
+opened_within _ (fails fault) xs = omega arith
+opened_within _ (goes_on f steady) xs = omega (arith, further_most (f xs), steady.within xs)
 
-opened_refused_stays : (f : List ℕ → Front) → Opens f → (xs ys : List ℕ) (fault : CodeFault) (i : ℕ) →
-    f xs ≡ refused fault i → f (xs ++ ys) ≡ refused fault i
-unfolding one_further
-opened_refused_stays _ (ends c s) xs ys fault i e = e
-opened_refused_stays _ (fails f) xs ys fault i e = e
-opened_refused_stays _ (goes_on f steady) xs ys fault i e =
-    let r = further_refused (f xs) fault i e in
-    ap one_further (steady.refused_stays xs ys fault r.0 r.2) ∙ sym (ap (refused fault) r.1)
-
-opened_refused_within : (f : List ℕ → Front) → Opens f → (xs : List ℕ) (fault : CodeFault) (i : ℕ) →
-    f xs ≡ refused fault i → i < suc (length xs)
-opened_refused_within _ (ends c s) xs fault i e = let bad : ⊥ = cc in absurd bad
-opened_refused_within _ (fails f) xs fault i e = let is : 0 ≡ i = cc in omega arith
-opened_refused_within _ (goes_on f steady) xs fault i e =
-    let r = further_refused (f xs) fault i e in
-    let within = steady.refused_within xs fault r.0 r.2 in
-    omega arith
-
-opened_refused_taken : (f : List ℕ → Front) → Opens f → (xs : List ℕ) (fault : CodeFault) (i : ℕ) →
-    f xs ≡ refused fault i → f (take i xs) ≡ refused fault i
-unfolding one_further
-opened_refused_taken _ (ends c s) xs fault i e = e
-opened_refused_taken _ (fails f) xs fault i e = e
-opened_refused_taken _ (goes_on f steady) xs fault i e =
-    let r = further_refused (f xs) fault i e in
-    let taken : f (take i xs) ≡ refused fault r.0 =
-    subst (λ k. f (take k xs) ≡ refused fault r.0) (sym r.1) (steady.refused_taken xs fault r.0 r.2) in
-    ap one_further taken ∙ sym (ap (refused fault) r.1)
-
--- A code has the byte that it opens with.
-opened_whole_some : (f : List ℕ → Front) → Opens f → (xs : List ℕ) (code : Code) (n : ℕ) (after : CodeSets) →
-    f xs ≡ whole code n after → (m : ℕ) × (n ≡ suc m) × (f (take m xs) ≡ whole code n after)
-unfolding one_further
-opened_whole_some _ (ends c s) xs code n after e = (0, cc, e)
-opened_whole_some _ (fails f) xs code n after e = let bad : ⊥ = cc in absurd bad
-opened_whole_some _ (goes_on f steady) xs code n after e =
-    let r = further_whole (f xs) code n after e in
-    (r.0, r.1, ap one_further (steady.whole_taken xs code r.0 after r.2) ∙ sym (ap (λ k. whole code k after) r.1))
+opened_taken : (f : List ℕ → Front) → Opens f → (xs : List ℕ) → f xs ≢ unfinished →
+    (m : ℕ) × (size (f xs) ≡ suc m) × (f (take m xs) ≡ f xs)
+opened_taken _ (ends code after) xs some = (0, refl, refl)
+opened_taken _ (fails fault) xs some = (0, refl, refl)
+opened_taken _ (goes_on f steady) xs some =
+    let inner = not_further some in
+    (size (f xs), further_size (f xs) inner, ap one_further (steady.taken xs inner))
 
 module _ (f : List ℕ → Front) (empty : f [] ≡ unfinished) (opens : (x : ℕ) → Opens (λ xs. f (x ∷ xs))) where
-  none_whole : (code : Code) (n : ℕ) (after : CodeSets) → f [] ≡ whole code n after → ⊥
-  none_whole code n after e = cc
+  steady_stays : (xs ys : List ℕ) → f xs ≢ unfinished → f (xs ++ ys) ≡ f xs
+  steady_stays [] ys some = absurd (some empty)
+  steady_stays (x ∷ xs) ys some = opened_stays _ (opens x) xs ys some
 
-  none_refused : (fault : CodeFault) (i : ℕ) → f [] ≡ refused fault i → ⊥
-  none_refused fault i e = cc
+  steady_within : (xs : List ℕ) → size (f xs) ≤ length xs
+  steady_within [] = rw empty (omega arith)
+  steady_within (x ∷ xs) = opened_within _ (opens x) xs
 
-  steady_whole_stays : (xs ys : List ℕ) (code : Code) (n : ℕ) (after : CodeSets) →
-      f xs ≡ whole code n after → f (xs ++ ys) ≡ whole code n after
-  steady_whole_stays [] ys code n after e = absurd (none_whole code n after e)
-  steady_whole_stays (x ∷ xs) ys code n after e = opened_whole_stays _ (opens x) xs ys code n after e
-
-  steady_whole_within : (xs : List ℕ) (code : Code) (n : ℕ) (after : CodeSets) →
-      f xs ≡ whole code n after → n ≤ length xs
-  steady_whole_within [] code n after e = absurd (none_whole code n after e)
-  steady_whole_within (x ∷ xs) code n after e = opened_whole_within _ (opens x) xs code n after e
-
-  steady_whole_taken : (xs : List ℕ) (code : Code) (n : ℕ) (after : CodeSets) →
-      f xs ≡ whole code n after → f (take n xs) ≡ whole code n after
-  steady_whole_taken [] code n after e = absurd (none_whole code n after e)
-  steady_whole_taken (x ∷ xs) code n after e =
-      let r = opened_whole_some _ (opens x) xs code n after e in
-      subst (λ k. f (take k (x ∷ xs)) ≡ whole code n after) (sym r.1) r.2
-
-  steady_refused_stays : (xs ys : List ℕ) (fault : CodeFault) (i : ℕ) →
-      f xs ≡ refused fault i → f (xs ++ ys) ≡ refused fault i
-  steady_refused_stays [] ys fault i e = absurd (none_refused fault i e)
-  steady_refused_stays (x ∷ xs) ys fault i e = opened_refused_stays _ (opens x) xs ys fault i e
-
-  steady_refused_within : (xs : List ℕ) (fault : CodeFault) (i : ℕ) → f xs ≡ refused fault i → i < length xs
-  steady_refused_within [] fault i e = absurd (none_refused fault i e)
-  steady_refused_within (x ∷ xs) fault i e = opened_refused_within _ (opens x) xs fault i e
-
-  steady_refused_taken : (xs : List ℕ) (fault : CodeFault) (i : ℕ) →
-      f xs ≡ refused fault i → f (take (suc i) xs) ≡ refused fault i
-  steady_refused_taken [] fault i e = absurd (none_refused fault i e)
-  steady_refused_taken (x ∷ xs) fault i e = opened_refused_taken _ (opens x) xs fault i e
+  steady_taken : (xs : List ℕ) → f xs ≢ unfinished → f (take (size (f xs)) xs) ≡ f xs
+  steady_taken [] some = absurd (some empty)
+  steady_taken (x ∷ xs) some =
+      let r = opened_taken _ (opens x) xs some in
+      subst (λ k. f (take k (x ∷ xs)) ≡ f (x ∷ xs)) (sym r.1) r.2
 
   -- A function is steady where it is so from its first byte on.
   pub opens-Steady : Steady f
-  opens-Steady = record {
-    whole_stays = steady_whole_stays;
-    whole_within = steady_whole_within;
-    whole_taken = steady_whole_taken;
-    refused_stays = steady_refused_stays;
-    refused_within = steady_refused_within;
-    refused_taken = steady_refused_taken;
-  }
+  opens-Steady = record { stays = steady_stays; within = steady_within; taken = steady_taken }
+
+decided : (r : Front) → (r ≢ unfinished → ⊥) → r ≡ unfinished
+decided unfinished none = refl
+decided (whole code n after) none = absurd (none (λ e. cc))
+decided (refused fault i) none = absurd (none (λ e. cc))
 
 module _ (f : List ℕ → Front) (steady : Steady f) where
-  -- what stands at the front of fewer bytes than a code has
-  at_fewer : (r : Front) (xs : List ℕ) (code : Code) (n : ℕ) (after : CodeSets) (k : ℕ) →
-      f xs ≡ whole code n after → k < n → f (take k xs) ≡ r → r ≡ unfinished
-  at_fewer unfinished xs code n after k e less is = refl
-  at_fewer (whole c m s) xs code n after k e less is =
-      let stays : f xs ≡ whole c m s = subst (λ ys. f ys ≡ whole c m s) (take-append-drop k xs) (steady.whole_stays (take k xs) (drop k xs) c m s is) in
-      let within : m ≤ length (take k xs) = steady.whole_within (take k xs) c m s is in
-      let same : m ≡ n = cc in
-      absurd (omega (arith, length-take k xs))
-  at_fewer (refused fault i) xs code n after k e less is =
-      let stays : f xs ≡ refused fault i = subst (λ ys. f ys ≡ refused fault i) (take-append-drop k xs) (steady.refused_stays (take k xs) (drop k xs) fault i is) in
-      let bad : ⊥ = cc in
-      absurd bad
+  -- An answer to fewer bytes is that to all.
+  pub from_taken : (k : ℕ) (xs : List ℕ) → f (take k xs) ≢ unfinished → f xs ≡ f (take k xs)
+  from_taken k xs some =
+      subst (λ ys. f ys ≡ f (take k xs)) (take-append-drop k xs) (steady.stays (take k xs) (drop k xs) some)
 
-  -- what stands at the front of the bytes before a refused one
-  at_before : (r : Front) (xs : List ℕ) (fault : CodeFault) (i k : ℕ) →
-      f xs ≡ refused fault i → k ≤ i → f (take k xs) ≡ r → r ≡ unfinished
-  at_before unfinished xs fault i k e less is = refl
-  at_before (whole c m s) xs fault i k e less is =
-      let stays : f xs ≡ whole c m s = subst (λ ys. f ys ≡ whole c m s) (take-append-drop k xs) (steady.whole_stays (take k xs) (drop k xs) c m s is) in
-      let bad : ⊥ = cc in
-      absurd bad
-  at_before (refused g j) xs fault i k e less is =
-      let stays : f xs ≡ refused g j = subst (λ ys. f ys ≡ refused g j) (take-append-drop k xs) (steady.refused_stays (take k xs) (drop k xs) g j is) in
-      let within : j < length (take k xs) = steady.refused_within (take k xs) g j is in
-      let same : j ≡ i = cc in
-      absurd (omega (arith, length-take k xs))
+  -- Fewer bytes than those of an answer have none.
+  pub earlier : (xs : List ℕ) (k : ℕ) → k < size (f xs) → f (take k xs) ≡ unfinished
+  earlier xs k less =
+      decided (f (take k xs)) (λ some. omega (arith, less, ap size (from_taken k xs some), steady.within (take k xs), length-take k xs))
 
-  pub unfinished-fewer : (xs : List ℕ) (code : Code) (n : ℕ) (after : CodeSets) (k : ℕ) →
-      f xs ≡ whole code n after → k < n → f (take k xs) ≡ unfinished
-  unfinished-fewer xs code n after k e less = at_fewer (f (take k xs)) xs code n after k e less refl
+  -- Where bytes have no answer, fewer have none.
+  begins : (xs : List ℕ) (n i : ℕ) → n ≤ i → f (take i xs) ≡ unfinished → f (take n xs) ≡ unfinished
+  begins xs n i less none =
+      decided (f (take n xs)) (λ some.
+      let there = subst (λ ys. f ys ≢ unfinished) (sym (take-take n i xs less)) some in
+      there (sym (from_taken n (take i xs) there) ∙ none))
 
-  pub unfinished-before : (xs : List ℕ) (fault : CodeFault) (i k : ℕ) →
-      f xs ≡ refused fault i → k ≤ i → f (take k xs) ≡ unfinished
-  unfinished-before xs fault i k e less = at_before (f (take k xs)) xs fault i k e less refl
+  -- The byte behind such bytes is the last of the answer's, if they have one with it.
+  pub last : (xs : List ℕ) (i : ℕ) → f (take i xs) ≡ unfinished → f (take (suc i) xs) ≢ unfinished → i < size (f (take (suc i) xs))
+  last xs i none some =
+      let n = size (f (take (suc i) xs)) in
+      lt_of_not-le (λ early.
+      some (sym (steady.taken (take (suc i) xs) some) ∙ ap f (take-take n (suc i) xs (omega arith)) ∙ begins xs n i early none))

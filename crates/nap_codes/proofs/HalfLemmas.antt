@@ -1,14 +1,12 @@
-use Rattle.std.proofs.Common.{ℕ, zero, suc, ◌+◌, ◌≡◌, ◌≢◌, ◌<◌, ◌≤◌, List, [], ◌∷◌, ◌++◌, length, Some, None, Bool, true, false, cond, eqb, ◌||◌, refl, ap, sym, ◌∙◌, subst, arith, append-nil, length-append}
-use Rattle.std.proofs.lemmas.Bool.{eqb-true, ne_eqb}
-use Rattle.nap_codes.specs.declared.code.Code.{Code}
-use Rattle.nap_codes.specs.declared.code.CodeFault.{CodeFault}
+use Rattle.std.proofs.Common.{ℕ, ◌≡◌, ◌≢◌, ◌<◌, ◌≤◌, [], ◌∷◌, length, Some, None, refl, ap, sym, ◌∙◌, subst, arith, append-nil, length-append}
+use Rattle.std.proofs.lemmas.Bool.{ne_eqb}
 use Rattle.nap_codes.specs.declared.code.Step.{Step}
 use Rattle.nap_codes.specs.declared.code.Step.TheVariants as steps
 use Rattle.nap_codes.specs.declared.code_set.CodeSets.{CodeSets}
 use Rattle.nap_codes.specs.declared.control.Argument.{Argument}
 use Rattle.nap_codes.specs.declared.control.Row.TheVariants.{More}
 use Rattle.nap_codes.specs.declared.lexer.Half.{Half}
-use Rattle.nap_codes.specs.declared.lexer.Half.TheVariants.{Nothing, Escape, Control, Designation, SpacedDesignation, SingleShift2, SingleShift3, Position, PositionRow}
+use Rattle.nap_codes.specs.declared.lexer.Half.TheVariants.{Nothing, Escape, Control, Designation}
 use Rattle.nap_codes.specs.declared.lexer.Turn.{Turn}
 use Rattle.nap_codes.specs.declared.lexer.Turn.TheVariants as turns
 use Rattle.nap_codes.specs.Tables.{row_of, control0_rows, control1_rows}
@@ -16,61 +14,34 @@ use Rattle.nap_codes.specs.Front.{Front, unfinished, whole, refused, one_further
 use Rattle.nap_codes.specs.CodeSets.{set_at}
 use Rattle.nap_codes.specs.Half.{control_of, half_bytes, half_after, IsHalf, rest_front, Ends, TurnsBy, TurnsTo}
 use Rattle.nap_codes.specs.Lexer.{LexerState, StepsBy, Steps}
-use Rattle.nap_codes.proofs.TableLemmas.{graphic_test, one_of_four, control_of-argument_of}
-use Rattle.nap_codes.proofs.FrontBegins.{escape_begins, designation_begins, spaced_begins, control_begins, position_begins, row_begins, single_shift2_begins, single_shift3_begins}
+use Rattle.nap_codes.proofs.TableLemmas.{graphic_test, Leads, leads, shift2, escape, position, shift3, control_of-argument_of}
+use Rattle.nap_codes.proofs.FrontBegins.{further, further-unfinished, further-whole, further-refused, front_of_half}
 
-pub half_bytes-half_after : (byte : ℕ) → row_of control0_rows byte ≡ Some More → half_bytes (half_after byte) ≡ byte ∷ []
-unfolding half_after
-half_bytes-half_after byte e =
-    at (eqb byte 0x19) (eqb byte 0x1B) (eqb byte 0x1C) (eqb byte 0x1D) refl refl refl refl (one_of_four byte e)
-  where
-    at : (a b c d : Bool) → eqb byte 0x19 ≡ a → eqb byte 0x1B ≡ b → eqb byte 0x1C ≡ c → eqb byte 0x1D ≡ d →
-        a || b || c || d ≡ true →
-        half_bytes (cond a SingleShift2 (cond b Escape (cond c Position SingleShift3))) ≡ byte ∷ []
-    at true b c d is is' is'' is''' e = ap (λ k. k ∷ []) (sym (eqb-true byte 0x19 is))
-    at false true c d is is' is'' is''' e = ap (λ k. k ∷ []) (sym (eqb-true byte 0x1B is'))
-    at false false true d is is' is'' is''' e = ap (λ k. k ∷ []) (sym (eqb-true byte 0x1C is''))
-    at false false false true is is' is'' is''' e = ap (λ k. k ∷ []) (sym (eqb-true byte 0x1D is'''))
-    at false false false false is is' is'' is''' e = let bad : ⊥ = cc in absurd bad
-
-pub half_after-IsHalf : (byte : ℕ) → IsHalf (half_after byte)
-unfolding half_after
-half_after-IsHalf byte = at (eqb byte 0x19) (eqb byte 0x1B) (eqb byte 0x1C)
-  where
-    at : (a b c : Bool) → IsHalf (cond a SingleShift2 (cond b Escape (cond c Position SingleShift3)))
-    at true b c = tt
-    at false true c = tt
-    at false false true = tt
-    at false false false = tt
-
-pub more_front-nothing : (sets : CodeSets) (byte : ℕ) → more_front sets byte [] ≡ unfinished
-unfolding more_front escape_front position_front single_shift_front
-more_front-nothing sets byte = at (eqb byte 0x1B) (eqb byte 0x1C) (eqb byte 0x19)
-  where
-    at : (a b c : Bool) → cond a unfinished (cond b unfinished (cond c unfinished unfinished)) ≡ unfinished
-    at true b c = refl
-    at false true c = refl
-    at false false true = refl
-    at false false false = refl
+-- What a byte makes of a half-read code.
 
 -- the last byte of a code, as any byte of it
-pub Ends-TurnsBy : (r : Front) (half : Half) (byte : ℕ) (turn : Turn) → Ends r turn → TurnsBy r half byte turn
+Ends-TurnsBy : (r : Front) (half : Half) (byte : ℕ) (turn : Turn) → Ends r turn → TurnsBy r half byte turn
 Ends-TurnsBy unfinished half byte turn e = absurd e
-Ends-TurnsBy (whole code n after) half byte turn e = e
-Ends-TurnsBy (refused fault i) half byte turn e = e
+Ends-TurnsBy _ half byte turn e = e
+
+first_led : (sets : CodeSets) (byte : ℕ) (more : Half) → Leads byte → more ≡ half_after byte →
+    TurnsBy (one_further (more_front sets byte [])) Nothing byte (turns.More more)
+unfolding one_further more_front escape_front position_front single_shift_front half_after
+first_led sets _ more shift2 is = (more, refl, ap half_bytes is, subst IsHalf (sym is) tt)
+first_led sets _ more escape is = (more, refl, ap half_bytes is, subst IsHalf (sym is) tt)
+first_led sets _ more position is = (more, refl, ap half_bytes is, subst IsHalf (sym is) tt)
+first_led sets _ more shift3 is = (more, refl, ap half_bytes is, subst IsHalf (sym is) tt)
 
 pub first_more : (sets : CodeSets) (byte : ℕ) (more : Half) → row_of control0_rows byte ≡ Some More → more ≡ half_after byte →
     TurnsTo sets Nothing byte (turns.More more)
-unfolding front control0_front one_further
-first_more sets byte more e is =
-    rw (e, more_front-nothing sets byte)
-    (more, refl, ap half_bytes is ∙ half_bytes-half_after byte e, subst IsHalf (sym is) (half_after-IsHalf byte))
+unfolding front control0_front
+first_more sets byte more e is = rw e (first_led sets byte more (leads byte e) is)
 
 pub first_graphic : (sets : CodeSets) (byte : ℕ) (turn : Turn) → row_of control0_rows byte ≡ None → 0x20 ≤ byte → byte < 0x80 →
     Ends (gl_front sets byte (plain_code (set_at sets sets.gl) byte)) turn → TurnsTo sets Nothing byte turn
 unfolding front control0_front
 first_graphic sets byte turn e least most ends =
-    rw (e, graphic_test byte least most) (Ends-TurnsBy _ Nothing byte turn ends)
+    rw (e, graphic_test byte (least, most)) (Ends-TurnsBy _ Nothing byte turn ends)
 
 pub escaped_more : (sets : CodeSets) (byte : ℕ) (argument : Argument) → row_of control1_rows byte ≡ Some More →
     argument ≡ argument_of byte → TurnsTo sets Escape byte (turns.More (Control argument))
@@ -84,55 +55,10 @@ unfolding designation_front
 designation_final sets intermediate byte turn differs ends =
     rw (ne_eqb byte 0x20 differs) (Ends-TurnsBy _ (Designation intermediate) byte turn ends)
 
--- a front so many bytes further
-abbrev further : ℕ → Front → Front
-further zero r = r
-further (suc n) r = one_further (further n r)
-
-further-unfinished : (n : ℕ) → further n unfinished ≡ unfinished
-unfolding one_further
-further-unfinished zero = refl
-further-unfinished (suc n) = ap one_further (further-unfinished n)
-
-further-whole : (n : ℕ) (code : Code) (m : ℕ) (after : CodeSets) → further n (whole code m after) ≡ whole code (n + m) after
-unfolding one_further
-further-whole zero code m after = ap (λ k. whole code k after) (omega arith)
-further-whole (suc n) code m after =
-    ap one_further (further-whole n code m after) ∙ ap (λ k. whole code k after) (omega arith)
-
-further-refused : (n : ℕ) (fault : CodeFault) (i : ℕ) → further n (refused fault i) ≡ refused fault (n + i)
-unfolding one_further
-further-refused zero fault i = ap (refused fault) (omega arith)
-further-refused (suc n) fault i = ap one_further (further-refused n fault i) ∙ ap (refused fault) (omega arith)
-
--- what stands at the front of a half-read code and the bytes behind it
-front_of_half : (sets : CodeSets) (half : Half) (bytes : List ℕ) → IsHalf half →
-    front sets (half_bytes half ++ bytes) ≡ further (length (half_bytes half)) (rest_front sets half bytes)
-front_of_half sets Nothing bytes is = refl
-front_of_half sets Escape bytes is = escape_begins sets bytes
-front_of_half sets (Control argument) bytes is = rw (escape_begins sets (control_of argument ∷ bytes), control_begins sets argument bytes) refl
-front_of_half sets (Designation intermediate) bytes is =
-    rw (escape_begins sets (intermediate ∷ bytes), designation_begins sets intermediate bytes is.0 is.1) refl
-front_of_half sets (SpacedDesignation intermediate) bytes is =
-    rw (escape_begins sets (intermediate ∷ 0x20 ∷ bytes), designation_begins sets intermediate (0x20 ∷ bytes) is.0 is.1, spaced_begins sets intermediate bytes)
-    refl
-front_of_half sets SingleShift2 bytes is = single_shift2_begins sets bytes
-front_of_half sets SingleShift3 bytes is = single_shift3_begins sets bytes
-front_of_half sets Position bytes is = position_begins sets bytes
-front_of_half sets (PositionRow row) bytes is =
-    rw (position_begins sets (row ∷ bytes), row_begins sets row bytes is) refl
-
 rest_front-nothing : (sets : CodeSets) (half : Half) → rest_front sets half [] ≡ unfinished
 unfolding front escape_front argument_front designation_front final_front single_shift_front position_front column_front
 rest_front-nothing sets Nothing = refl
-rest_front-nothing sets Escape = refl
-rest_front-nothing sets (Control argument) = refl
-rest_front-nothing sets (Designation intermediate) = refl
-rest_front-nothing sets (SpacedDesignation intermediate) = refl
-rest_front-nothing sets SingleShift2 = refl
-rest_front-nothing sets SingleShift3 = refl
-rest_front-nothing sets Position = refl
-rest_front-nothing sets (PositionRow row) = refl
+rest_front-nothing sets _ = refl
 
 -- A half-read code is unfinished.
 pub half_unfinished : (sets : CodeSets) (half : Half) → IsHalf half → front sets (half_bytes half) ≡ unfinished
@@ -169,8 +95,7 @@ turn-Steps sets half byte turn is e =
 
 more_at : (half : Half) (byte : ℕ) (more : Half) (r : Front) → TurnsBy r half byte (turns.More more) → IsHalf more
 more_at half byte more unfinished e = let same : e.0 ≡ more = cc in subst IsHalf same e.3
-more_at half byte more (whole code n after) e = let bad : ⊥ = cc in absurd bad
-more_at half byte more (refused fault i) e = let bad : ⊥ = cc in absurd bad
+more_at half byte more _ e = cc
 
 -- What is half read after a byte is a half-read code.
 pub turn_more-IsHalf : (sets : CodeSets) (half : Half) (byte : ℕ) (more : Half) → TurnsTo sets half byte (turns.More more) → IsHalf more

@@ -9,6 +9,8 @@ use Rattle.nap_codes.specs.Lexer.{LexerState, StepsBy}
 use Rattle.nap_codes.specs.Lexed.{Lexed, lexed_by, lexed_within, lexed, StepsThrough, at_end, at_more, at_code, at_fault, StepsAreLexed}
 use Rattle.nap_codes.proofs.FrontLaws.{whole_stays, refused_stays, whole_length}
 
+-- The steps of a lexer give the codes of a list.
+
 -- a code in front of what is read later
 abbrev with_code : Code → Lexed → Lexed
 with_code code rest = record rest { codes = code ∷ rest.codes }
@@ -51,25 +53,22 @@ module _ (old new : LexerState) (byte : ℕ) where
   on_more : (r : Front) → StepsBy r old byte steps.More new →
       (r ≡ unfinished) × (new ≡ record { sets = old.sets; half = old.half ++ byte ∷ [] })
   on_more unfinished e = (refl, e.1)
-  on_more (whole code n after) e = let bad : ⊥ = cc in absurd bad
-  on_more (refused fault i) e = let bad : ⊥ = cc in absurd bad
+  on_more _ e = cc
 
   on_code : (r : Front) (code : Code) → StepsBy r old byte (steps.Code code) new →
       (r ≡ whole code (length (old.half ++ byte ∷ [])) new.sets) × (new.half ≡ [])
-  on_code unfinished code e = let bad : ⊥ = cc in absurd bad
   on_code (whole c n after) code e =
       let same : c ≡ code = cc in
       let sets : after ≡ new.sets = ap (λ s. s.sets) (sym e.2) in
       (rw (same, e.1, sets) refl, ap (λ s. s.half) e.2)
-  on_code (refused fault i) code e = let bad : ⊥ = cc in absurd bad
+  on_code _ code e = cc
 
   on_fault : (r : Front) (fault : CodeFault) → StepsBy r old byte (steps.Fault fault) new →
       (r ≡ refused fault (length old.half)) × (new ≡ old)
-  on_fault unfinished fault e = let bad : ⊥ = cc in absurd bad
-  on_fault (whole code n after) fault e = let bad : ⊥ = cc in absurd bad
   on_fault (refused f i) fault e =
       let same : f ≡ fault = cc in
       (rw (same, e.1) refl, e.2)
+  on_fault _ fault e = cc
 
 front-nothing : (sets : CodeSets) (bytes : List ℕ) → bytes ≡ [] → front sets bytes ≡ unfinished
 unfolding front

@@ -1,5 +1,6 @@
 pub mod RowLemmas
 pub mod TableLemmas
+pub mod ControlLemmas
 pub mod FrontLemmas
 pub mod FrontIsSteady
 pub mod FrontLaws
@@ -11,7 +12,6 @@ pub mod SpellingLaws
 pub mod CodeRanges
 pub mod CharacterLemmas
 pub mod OpcodeLemmas
-pub mod ControlLemmas
 mod LexedLemmas
 pub mod Rows
 pub mod PublicLaws

@@ -6,6 +6,8 @@ use Rattle.nap_codes.specs.Lexer.{LexerState, IsOpcode}
 use Rattle.nap_codes.proofs.FrontBegins.{pdi_begins}
 use Rattle.nap_codes.proofs.TableLemmas.{no_opcode, opcode_range}
 
+-- Which bytes are opcodes by themselves.
+
 -- a byte that is an opcode by itself stands at the front as that opcode
 pub opcode_alone : (lexer : LexerState) (byte : ℕ) (op : Opcode) → IsOpcode lexer byte op → front lexer.sets (byte ∷ []) ≡ whole (codes.Op op) 1 lexer.sets
 unfolding pdi_front opcode_front
@@ -19,4 +21,4 @@ pub none_below : (lexer : LexerState) (byte : ℕ) (op : Opcode) → byte < 0x20
 none_below lexer byte op less = (λ e. cc, λ k. let range = opcode_range byte op k.2 in absurd (omega (arith, range.0, less)))
 
 pub none_above : (lexer : LexerState) (byte : ℕ) (op : Opcode) → 0x40 ≤ byte → (None ≡ Some op) ↔ IsOpcode lexer byte op
-none_above lexer byte op more = (λ e. cc, λ k. let none = no_opcode byte (Some op) more k.2 in cc)
+none_above lexer byte op more = (λ e. cc, λ k. let none = no_opcode byte more in cc)

@@ -1,58 +1,50 @@
-use Rattle.std.proofs.Common.{ℕ, zero, suc, ◌+◌, ◌≡◌, ◌≢◌, ◌≤◌, List, [], ◌∷◌, Some, None, Bool, true, false, cond, eqb, ◌&&◌, is_some, refl, ap, sym, ◌∙◌, subst, arith}
+use Rattle.std.proofs.Common.{ℕ, zero, suc, ◌+◌, ◌≡◌, ◌≤◌, List, [], ◌∷◌, Some, None, Bool, true, false, cond, eqb, is_some, refl, sym, subst, arith}
 use Rattle.std.proofs.lemmas.Bool.{eqb-true, eqb-false}
 use Rattle.nap_codes.specs.Tables.{row_of}
 
--- whether a test passes at each row
-abbrev pub each_row : {Entry : Type 0} → (ℕ → Entry → Bool) → List (ℕ × Entry) → Bool
-each_row test [] = true
-each_row test (row ∷ rows) = test row.0 row.1 && each_row test rows
+-- What the rows of a table have in common, and which bytes have a row.
 
--- A test that passes at each row passes at the row that is found.
-pub row_found : {Entry : Type 0} (test : ℕ → Entry → Bool) (rows : List (ℕ × Entry)) (byte : ℕ) (found : Entry) →
-    each_row test rows ≡ true → row_of rows byte ≡ Some found → test byte found ≡ true
+-- what is true of each row
+abbrev pub EachRow : {Entry : Type 0} → (ℕ → Entry → Type 0) → List (ℕ × Entry) → Type 0
+EachRow P [] = Unit {0}
+EachRow P (row ∷ rows) = P row.0 row.1 × EachRow P rows
+
+-- It is true of the row that is found.
+pub row_found : {Entry : Type 0} (P : ℕ → Entry → Type 0) (rows : List (ℕ × Entry)) (byte : ℕ) (found : Entry) → EachRow P rows →
+    row_of rows byte ≡ Some found → P byte found
 unfolding row_of
-row_found test [] byte found each e = let bad : ⊥ = cc in absurd bad
-row_found {Entry} test (row ∷ rows) byte found each e =
-    at (eqb byte row.0) (test row.0 row.1) refl refl each e (row_found test rows byte found)
+row_found P [] byte found each e = let bad : ⊥ = cc in absurd bad
+row_found {Entry} P (row ∷ rows) byte found each e = at (eqb byte row.0) refl e (row_found P rows byte found each.1)
   where
-    at : (b t : Bool) → eqb byte row.0 ≡ b → test row.0 row.1 ≡ t → t && each_row test rows ≡ true →
-        cond b (Some row.1) (row_of rows byte) ≡ Some found →
-        (each_row test rows ≡ true → row_of rows byte ≡ Some found → test byte found ≡ true) → test byte found ≡ true
-    at b false is passes each e ih = let bad : ⊥ = cc in absurd bad
-    at true true is passes each e ih =
-        let key : byte ≡ row.0 = eqb-true byte row.0 is in
+    at : (b : Bool) → eqb byte row.0 ≡ b → cond b (Some row.1) (row_of rows byte) ≡ Some found → (row_of rows byte ≡ Some found → P byte found) →
+        P byte found
+    at true is e ih =
         let entry : row.1 ≡ found = cc in
-        cc
-    at false true is passes each e ih = ih each e
+        subst (λ k. P k found) (sym (eqb-true byte row.0 is)) (subst (P row.0) entry each.0)
+    at false is e ih = ih e
 
--- whether there is a row for each of so many bytes from one on
-abbrev pub covers : {Entry : Type 0} → List (ℕ × Entry) → ℕ → ℕ → Bool
-covers rows from zero = true
-covers rows from (suc n) = is_some (row_of rows (from + n)) && covers rows from n
+-- A byte of which something isn't true that is true of the byte of each row has no row.
+pub no_row : {Entry : Type 0} (P : ℕ → Type 0) (rows : List (ℕ × Entry)) (byte : ℕ) → EachRow (λ key _. P key) rows → (P byte → ⊥) →
+    row_of rows byte ≡ None
+unfolding row_of
+no_row P [] byte each none = refl
+no_row {Entry} P (row ∷ rows) byte each none = at (eqb byte row.0) refl (no_row P rows byte each.1 none)
+  where
+    at : (b : Bool) → eqb byte row.0 ≡ b → row_of rows byte ≡ None → cond b (Some row.1) (row_of rows byte) ≡ None
+    at true is ih = absurd (none (subst P (sym (eqb-true byte row.0 is)) each.0))
+    at false is ih = ih
+
+-- There is a row for each of so many bytes from one on.
+abbrev pub Covers : {Entry : Type 0} → List (ℕ × Entry) → ℕ → ℕ → Type 0
+Covers rows from zero = Unit {0}
+Covers rows from (suc n) = (is_some (row_of rows (from + n)) ≡ true) × Covers rows from n
 
 -- A byte with no row is none of those that the rows cover.
-pub row_missing : {Entry : Type 0} (rows : List (ℕ × Entry)) (from n byte : ℕ) → covers rows from n ≡ true →
-    row_of rows byte ≡ None → from ≤ byte → from + n ≤ byte
+pub row_missing : {Entry : Type 0} (rows : List (ℕ × Entry)) (from n byte : ℕ) → Covers rows from n → row_of rows byte ≡ None → from ≤ byte →
+    from + n ≤ byte
 row_missing rows from zero byte covered e least = omega arith
-row_missing rows from (suc n) byte covered e least =
-    at (eqb byte (from + n)) (is_some (row_of rows (from + n))) refl refl covered (λ c. row_missing rows from n byte c e least)
+row_missing rows from (suc n) byte covered e least = at (eqb byte (from + n)) refl (row_missing rows from n byte covered.1 e least)
   where
-    at : (b t : Bool) → eqb byte (from + n) ≡ b → is_some (row_of rows (from + n)) ≡ t → t && covers rows from n ≡ true →
-        (covers rows from n ≡ true → from + n ≤ byte) → from + suc n ≤ byte
-    at b false is some covered ih = let bad : ⊥ = cc in absurd bad
-    at true true is some covered ih =
-        let same : byte ≡ from + n = eqb-true byte (from + n) is in
-        let none : is_some (row_of rows (from + n)) ≡ false = ap is_some (subst (λ k. row_of rows k ≡ None) same e) in
-        let bad : ⊥ = cc in
-        absurd bad
-    at false true is some covered ih =
-        let more = ih covered in
-        let differs : byte ≢ from + n = eqb-false byte (from + n) is in
-        omega arith
-
--- the row at a byte that is known
-pub row_at : {Entry : Type 0} (rows : List (ℕ × Entry)) (byte known : ℕ) (found entry : Entry) → byte ≡ known →
-    row_of rows known ≡ Some entry → row_of rows byte ≡ Some found → found ≡ entry
-row_at rows byte known found entry is row row' =
-    let both : Some entry ≡ Some found = sym row ∙ ap (row_of rows) (sym is) ∙ row' in
-    cc
+    at : (b : Bool) → eqb byte (from + n) ≡ b → from + n ≤ byte → from + suc n ≤ byte
+    at true is more = let same : byte ≡ from + n = eqb-true byte (from + n) is in let bad : ⊥ = cc (covered.0) in absurd bad
+    at false is more = omega (arith, more, eqb-false byte (from + n) is)

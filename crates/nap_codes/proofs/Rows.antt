@@ -10,6 +10,8 @@ use Rattle.nap_codes.specs.Tables.{row_of, number_rows, set_rows, designation, c
 use Rattle.nap_codes.specs.Front.{unfinished, whole, refused, one_further, bad_byte, last_byte, plain_code, opcode_front, pdi_front, gl_front, shifted_front, single_shift_front, column_front, position_front, argument_front, designated_front, final_front, designation_front, sequence_front, control1_front, escape_front, more_front, control0_front, front}
 use Rattle.nap_codes.specs.Lexed.{lexed_within, lexed}
 
+-- Worked rows of the definitions.
+
 -- Worked rows: what stands at the front.
 fronts :
     (front start_sets [] ≡ unfinished)
