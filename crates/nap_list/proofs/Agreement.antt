@@ -32,11 +32,8 @@ pen_itself (pens.At p) = tt
 pen_itself pens.After = refl
 
 colour_itself : (colour : Colour) → ColourAgrees colour colour
-colour_itself (colours.Own origin) = tt
-colour_itself (colours.Direct grb) = tt
-colour_itself (colours.Front a) = tt
-colour_itself (colours.Pair a b) = tt
 colour_itself (colours.ByReset preset) = refl
+colour_itself _ = tt
 
 mask_itself : (word : ℕ) (mask : Option Displacement) → MaskFits (record { word = word; mask = mask }) mask
 mask_itself word None = refl
@@ -51,10 +48,8 @@ pen_fits (Some p) pen shown is h = subst (λ (x : Pen). PenFits shown (Some x)) 
 -- where the colour is this one
 colour_at : (d shown : Drawing) (colour : Colour) → BaseAgrees d.base shown.base → ColourAgrees colour shown.colour → InMode d.base colour → ColourFits shown (Some colour)
 colour_at d shown (colours.Own origin) base c mode = subst (λ (b : Base). BaseAgrees b shown.base) mode base
-colour_at d shown (colours.Direct grb) base c mode = tt
-colour_at d shown (colours.Front a) base c mode = tt
-colour_at d shown (colours.Pair a b) base c mode = tt
 colour_at d shown (colours.ByReset preset) base c mode = c
+colour_at d shown _ base c mode = tt
 
 colour_fits : (w : Option Colour) (d shown : Drawing) → IfSome w (λ c. c ≡ d.colour) → Agrees d shown → ColourFits shown w
 colour_fits None d shown is h = tt
@@ -86,20 +81,14 @@ colour_taken None colour shown h = h
 colour_taken (Some c) colour shown h = colour_itself c
 
 base_taken : (w : Option Colour) (base shown : Base) → BaseAgrees base shown → BaseAgrees (base_shown base w) (base_shown shown w)
-base_taken None base shown h = h
-base_taken (Some (colours.Own origin)) base shown h = h
 base_taken (Some (colours.Direct grb)) base shown h = tt
-base_taken (Some (colours.Front a)) base shown h = h
-base_taken (Some (colours.Pair a b)) base shown h = h
-base_taken (Some (colours.ByReset preset)) base shown h = h
+base_taken _ base shown h = h
 
 mode_taken : (w : Option Colour) (base : Base) (colour : Colour) → IfSome w (λ c. c ≡ colour) → InMode base colour → InMode (base_shown base w) (unwrap_or w colour)
 mode_taken None base colour is h = h
 mode_taken (Some (colours.Own origin)) base colour is h = subst (InMode base) (sym is) h
 mode_taken (Some (colours.Direct grb)) base colour is h = refl
-mode_taken (Some (colours.Front a)) base colour is h = tt
-mode_taken (Some (colours.Pair a b)) base colour is h = tt
-mode_taken (Some (colours.ByReset preset)) base colour is h = tt
+mode_taken _ base colour is h = tt
 
 taken_agree : (h : Held) (d shown : Drawing) → Holds h d → Agrees d shown → Agrees (taking d h) (taking shown h)
 taken_agree h d shown holds agrees = record {
@@ -154,9 +143,8 @@ reset_agree first second d shown h = record {
 
 saved_agree : (o p : Option Opened) (d shown : Drawing) → DefinitionsAgree o p → Agrees d shown → Agrees (saved_values o d) (saved_values p shown)
 saved_agree None None d shown defs h = h
-saved_agree None (Some b) d shown defs h = absurd defs
-saved_agree (Some a) None d shown defs h = absurd defs
 saved_agree (Some a) (Some b) d shown defs h = defs.1
+saved_agree _ _ d shown defs h = absurd defs
 
 drawn_agree : (o p : Option Opened) (d shown : Drawing) (e : Entry) → DefinitionsAgree o p → Agrees d shown → Agrees (drawn o d e) (drawn p shown e)
 drawn_agree o p d shown (entries.Point at pel colour) defs h = pen_set (pens.At at) d shown h
@@ -240,12 +228,8 @@ is_unwrapped None a is = refl
 is_unwrapped (Some b) a is = is
 
 base_stays : (w : Option Colour) (d : Drawing) → IfSome w (λ c. c ≡ d.colour) → InMode d.base d.colour → base_shown d.base w ≡ d.base
-base_stays None d is h = refl
-base_stays (Some (colours.Own origin)) d is h = refl
 base_stays (Some (colours.Direct grb)) d is h = sym (subst (InMode d.base) (sym is) h)
-base_stays (Some (colours.Front a)) d is h = refl
-base_stays (Some (colours.Pair a b)) d is h = refl
-base_stays (Some (colours.ByReset preset)) d is h = refl
+base_stays _ d is h = refl
 
 -- where all held values stand already, taking them changes nothing
 

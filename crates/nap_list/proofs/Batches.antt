@@ -28,11 +28,8 @@ use Rattle.nap_list.proofs.Agreement.{taking_stands}
 
 -- a direct colour that was held stands
 colour_stays : (base : Base) (colour : Colour) → base_shown (base_shown base (Some colour)) (Some colour) ≡ base_shown base (Some colour)
-colour_stays base (colours.Own origin) = refl
 colour_stays base (colours.Direct grb) = refl
-colour_stays base (colours.Front addr) = refl
-colour_stays base (colours.Pair front back) = refl
-colour_stays base (colours.ByReset preset) = refl
+colour_stays base _ = refl
 
 -- what an entry holds stands behind another
 abbrev Next : Entry → Entry → Type 0
