@@ -1,4 +1,4 @@
-use Rattle.std.proofs.Common.{ℕ, ◌≡◌, ◌⊎◌, ◌^◌, ◌≤◌, Bool, true, false, List, [], ◌++◌, length, Option, Some, Result, Ok, Err, refl, ap, sym, subst, ◌∙◌, inl, inr, length-append, arith}
+use Rattle.std.proofs.Common.{ℕ, ◌≡◌, ◌⊎◌, ◌^◌, ◌≤◌, Bool, false, List, [], ◌++◌, length, Option, Some, Result, Ok, Err, refl, ap, sym, subst, ◌∙◌, inl, inr, length-append, arith}
 use Rattle.std.specs.Prelude.{MatchResult}
 use Rattle.std.specs.Io.KnownBytes.{Appends}
 use Rattle.nap_list.specs.declared.count_sink.CountSink.{CountSink}
@@ -27,15 +27,14 @@ use Rattle.nap_command.specs.declared.failure.Failure.TheVariants as failure
 use Rattle.nap_command.specs.Collecting.{Collects, IsRead, LacksMemoryFor, RefusedBy}
 use Rattle.nap_command.specs.Commands.{Denies, Fails, Finds, IsRefusal, LacksToCount, PrintsBy, PrintsCount, canon_text, count_line, refusal_of_text}
 
-true_isnt : false ≡ true → ⊥
-true_isnt h = let bad : ⊥ = cc in bad
+-- What is read of a page makes the answer of a command.
 
 -- A page was counted.
 module _ (g : Ghosts CountSink) (s : CountSink) (none : s.count ≡ 0) (took_is : (t : CountSink) (d : List Entry) → g.took s d t → Counts s d t)
     (wants_is : (d : List Entry) → g.wants s d → Uncounted s d) (sound : (t : CountSink) → g.failed t ≡ false) (c : Command) (p : List ℕ) (check : c.action ≡ action.Check) where
   refused : (f : Fault) (place : ℕ) → RefusedBy g s c.budget p (record { fault = f; place = place }) (cause_of f) → IsRefusal c p (record { fault = f; place = place })
   refused fault.Memory place h = record { refused = λ no. absurd (no refl); memory = λ _. h.0 }
-  refused fault.Sink place (h, (t, failed)) = absurd (true_isnt (sym (sound t) ∙ failed))
+  refused fault.Sink place (h, (t, failed)) = cc (sound t)
   refused f place h = record { refused = λ _. h; memory = λ is. let bad : ⊥ = cc in absurd bad }
 
   uncounted : (place : ℕ) → LacksMemoryFor g s c.budget p place → LacksWithin c.budget p place ⊎ (2 ^ 64 ≤ length (means c.budget p).entries)
@@ -44,7 +43,7 @@ module _ (g : Ghosts CountSink) (s : CountSink) (none : s.count ≡ 0) (took_is 
 
   wanting : (f : Fault) (place : ℕ) → RefusedBy g s c.budget p (record { fault = f; place = place }) (cause_of f) → LacksToCount c p (record { fault = f; place = place })
   wanting fault.Memory place h = λ _. uncounted place h.1
-  wanting fault.Sink place (h, (t, failed)) = absurd (true_isnt (sym (sound t) ∙ failed))
+  wanting fault.Sink place (h, (t, failed)) = cc (sound t)
   wanting f place h = λ is. let bad : ⊥ = cc in absurd bad
 
   counted : (found : Result CountSink Refusal) (q : List ℕ) (v : Verdict) → Collects g s c.budget p found → PrintsCount found q v → PrintsBy action.Check c p q v
@@ -111,7 +110,4 @@ module _ {O : Type 0} (o : outlet.Ghosts O) (w : O) (s : Canonical O) (begins : 
       at (Ok a) k = (whole, (p, rw bytes refl, subst (λ (act : Action). PrintsBy act c p a.text.items a.verdict) (sym canon) k))
       at (Err failure.Memory) k = whole.none_failed
       at (Err (failure.Refused r)) k = (whole, (p, rw bytes refl, k))
-      at (Err failure.Excluded) k = absurd k
-      at (Err failure.Read) k = absurd k
-      at (Err failure.Hex) k = absurd k
-      at (Err (failure.Write n)) k = absurd k
+      at _ k = absurd k

@@ -21,6 +21,8 @@ use Rattle.nap_command.specs.declared.failure.Failure.{Failure}
 use Rattle.nap_command.specs.declared.failure.Failure.TheVariants as failure
 use Rattle.nap_command.specs.Collecting.{IsReadOut, LacksMemoryFor, RefusedBy}
 
+-- A page that was read from a device, or refused and read to its end.
+
 -- a stream that is refused so far is refused whatever comes
 still_refused : (budget : ℕ) (p more : List ℕ) (r : Refusal) → (begun budget p).refusal ≡ Some r → (means budget (p ++ more)).refusal ≡ Some r
 still_refused budget p more r is =
@@ -72,8 +74,7 @@ module _ {S : Type 0} {g : Ghosts S} (reader : Reader S g) (s : S) (budget : ℕ
 -- what is neither the stream's own fault nor want of memory is a failed device
 pub device_fault : (f : Fault) → cause_of f ≡ device → f ≡ fault.Sink
 device_fault fault.Sink is = refl
-device_fault fault.Memory is = let bad : ⊥ = cc in absurd bad
-device_fault _ is = let bad : ⊥ = cc in absurd bad
+device_fault _ is = cc
 
 -- A stream was refused, and the rest of the input read.
 module _ {I S : Type 0} (i : inlet.Ghosts I) {g : Ghosts S} (old new : Reader S g) (s : S) (p : List ℕ) (initial final : I) (r : Refusal)
@@ -118,8 +119,4 @@ module _ (first second whole : Reading) (p more : List ℕ) (few : first.reads �
       gave = omega (arith, few, gave, all, length-append p more);
     }),
   )
-  cut_off most all failure.Excluded h = absurd h
-  cut_off most all failure.Hex h = absurd h
-  cut_off most all (failure.Refused r) h = absurd h
-  cut_off most all (failure.Write n) h = absurd h
-  cut_off most all failure.Memory h = absurd h
+  cut_off most all _ h = absurd h

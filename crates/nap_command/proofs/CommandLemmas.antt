@@ -8,6 +8,8 @@ use Rattle.nap_list.specs.Reading.{Reading}
 use Rattle.nap_command.specs.Devices.{Takes}
 use Rattle.nap_command.specs.Commands.{EndsWhole, Fails, Finds, IsPartly}
 
+-- How a command ends whose output fails.
+
 front_length : (n : ℕ) (xs : List ℕ) → n ≤ length xs → length (take n xs) ≡ n
 front_length n xs h = omega (arith, length-take n xs, h)
 
@@ -30,18 +32,10 @@ pub ends_amid : (c : Command) (p : List ℕ) (a : Reading) (text : List ℕ) (v 
 ends_amid c p a text v old new b (failure.Write n) h k e =
     broken c p a text old new b n k e
     (inl (text, v, h, subst (λ (m : ℕ). take m text ≡ take n text) (sym (front_length n text k.0)) refl))
-ends_amid c p a text v old new b failure.Excluded h k e = absurd k
-ends_amid c p a text v old new b failure.Read h k e = absurd k
-ends_amid c p a text v old new b failure.Hex h k e = absurd k
-ends_amid c p a text v old new b (failure.Refused r) h k e = absurd k
-ends_amid c p a text v old new b failure.Memory h k e = absurd k
+ends_amid c p a text v old new b _ h k e = absurd k
 
 -- the output failed after the command had
 pub ends_after : (c : Command) (p : List ℕ) (a : Reading) (before : Failure) (old new : Option (List ℕ)) (b : Bool) (f : Failure)
     → Fails c p a before → Takes old new [] (Err f) → b ≡ true → (q : List ℕ) × Appends old new q × EndsWhole c p a q b (Err f)
 ends_after c p a before old new b (failure.Write n) h k e = broken c p a [] old new b n k e (inr (before, h, take_of_nothing n))
-ends_after c p a before old new b failure.Excluded h k e = absurd k
-ends_after c p a before old new b failure.Read h k e = absurd k
-ends_after c p a before old new b failure.Hex h k e = absurd k
-ends_after c p a before old new b (failure.Refused r) h k e = absurd k
-ends_after c p a before old new b failure.Memory h k e = absurd k
+ends_after c p a before old new b _ h k e = absurd k

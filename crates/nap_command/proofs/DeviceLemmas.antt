@@ -1,9 +1,10 @@
-use Rattle.std.proofs.Common.{◌≡◌, ◌∙◌, ◌||◌, Bool, true, false, ℕ, ◌+◌, ◌-◌, ◌^◌, min, List, Option, take, drop, take-add, length, length-drop, arith, refl, ap, subst, sym}
+use Rattle.std.proofs.Common.{◌≡◌, ◌∙◌, ◌||◌, Bool, true, false, ℕ, ◌+◌, ◌-◌, List, Option, take, drop, take-add, length, length-drop, arith, refl, subst, sym}
 use Rattle.std.proofs.lemmas.List.{take_all}
 use Rattle.std.specs.Io.KnownBytes.{Appends}
-use Rattle.std.proofs.Math.Bool.{or-false, or-true}
+use Rattle.std.proofs.Math.Bool.{or-false}
 use Rattle.std.proofs.KnownBytes.{Appends-trans}
-use Rattle.nap_list.specs.Flushing.{flushed}
+
+-- Reads and writes, one after another.
 
 -- what a write takes of the rest joins what was taken before it
 pub taken_more : (a b c : Option (List ℕ)) (i n : ℕ) (xs : List ℕ) → Appends a b (take i xs) → Appends b c (take n (drop i xs)) → Appends a c (take (i + n) xs)

@@ -1,4 +1,4 @@
-use Rattle.std.proofs.Common.{◌≡◌, ◌≤◌, ◌||◌, ℕ, List, Bool, true, false, Option, Result, Ok, Err, is_err, refl, sym, subst, take, length, length-take, arith}
+use Rattle.std.proofs.Common.{◌≡◌, ◌≤◌, ◌||◌, ℕ, List, Bool, Option, Result, Ok, Err, is_err, refl, sym, subst, take, length, length-take, arith}
 use Rattle.std.proofs.lemmas.List.{take_all}
 use Rattle.std.proofs.Math.Bool.{or-true}
 use Rattle.std.specs.Io.KnownBytes.{Appends}
@@ -14,9 +14,6 @@ front_of_front : (n : ℕ) (xs : List ℕ) → n ≤ length xs → take (length 
 front_of_front n xs h =
     let long : length (take n xs) ≡ n = omega (arith, length-take n xs, h) in
     subst (λ (m : ℕ). take m xs ≡ take n xs) (sym long) refl
-
-failed_is_false : (was now : Bool) → now ≡ (was || true) → now ≡ false → ⊥
-failed_is_false was now h k = let w : (was || true) ≡ true = or-true was in let bad : ⊥ = cc in bad
 
 pub tells_written : (old new : Option (List ℕ)) (r : Result (Unit {0}) Failure) (was now : Bool) (ended said : Failure) (status : ℕ)
     → Takes old new (told_text (Err said)) r → now ≡ (was || is_err r) → IsToldAs (Err ended) (Err said) → status ≡ status_of said
@@ -39,12 +36,8 @@ tells_written old new (Err (failure.Write n)) was now ended said status h flag s
     said = Err said;
     told_as = said_as;
     front = front_of_front n (told_text (Err said)) h.0;
-    all = λ f. absurd (failed_is_false was now flag f);
+    all = λ works. cc (or-true was);
     status_is = is;
   },
 )
-tells_written old new (Err failure.Excluded) was now ended said status h flag said_as is = absurd h
-tells_written old new (Err failure.Read) was now ended said status h flag said_as is = absurd h
-tells_written old new (Err failure.Hex) was now ended said status h flag said_as is = absurd h
-tells_written old new (Err (failure.Refused r)) was now ended said status h flag said_as is = absurd h
-tells_written old new (Err failure.Memory) was now ended said status h flag said_as is = absurd h
+tells_written old new _ was now ended said status h flag said_as is = absurd h
