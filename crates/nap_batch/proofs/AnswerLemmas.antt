@@ -1,4 +1,4 @@
-use Rattle.std.proofs.Common.{ℕ, ◌≡◌, ◌≢◌, ◌⊎◌, true, false, List, [], ◌++◌, Option, None, Some, Result, Ok, Err, length, refl, ap, sym, subst, ◌∙◌, inl, inr}
+use Rattle.std.proofs.Common.{ℕ, ◌≡◌, ◌≢◌, ◌⊎◌, false, List, [], ◌++◌, Option, None, Some, Result, Ok, Err, length, refl, ap, sym, subst, ◌∙◌, inl, inr}
 use Rattle.std.specs.Prelude.{IfSome, IsSome}
 use Rattle.std.specs.Io.KnownBytes.{Appends}
 use Rattle.nap_list.specs.declared.device.Outlet as outlet
@@ -13,16 +13,12 @@ use Rattle.nap_canon.specs.Sinking.{Begun, Canonical, Took}
 use Rattle.nap_canon.specs.Streams.{IsAccepted, list_of}
 use Rattle.nap_canon.specs.Text.{text}
 use Rattle.nap_canon.proofs.PublicLaws.{sink_writes_text}
-use Rattle.nap_command.specs.declared.answer.Verdict.{Verdict}
-use Rattle.nap_command.specs.declared.answer.Verdict.TheVariants as verdict
-use Rattle.nap_command.specs.declared.command.Action.TheVariants as action
-use Rattle.nap_command.specs.Commands.{PrintsBy, count_line, refusal_of_text}
+use Rattle.nap_command.specs.Commands.{count_line, refusal_of_text}
 use Rattle.nap_batch.specs.declared.request.Question.{Question}
 use Rattle.nap_batch.specs.declared.request.Question.TheVariants as question
-use Rattle.nap_batch.specs.Answers.{IsAnswer, IsCount, IsCounted, IsPlaced, body_of, ended_line, page_command, refused_body_of, refused_line}
+use Rattle.nap_batch.specs.Answers.{IsAnswer, IsCount, IsCounted, IsPlaced, body_of, ended_line, refused_body_of, refused_line}
 
-true_isnt : false ≡ true → ⊥
-true_isnt h = let bad : ⊥ = cc in bad
+-- What is read of a page makes the answer to its request.
 
 pub is_memory : (f : Fault) → (f ≡ fault.Memory) ⊎ (f ≢ fault.Memory)
 is_memory fault.Memory = inl refl
@@ -43,7 +39,7 @@ answers_placed budget p text (Err r) line h is =
 pub answers_accepted : (q : Question) (budget : ℕ) (p line body : List ℕ) (count : Option ℕ) → IsAccepted budget p → IsCount count (length (list_of budget p)) →
     IfSome count (λ n. line ≡ count_line n) × IsSome count → body ≡ body_of q budget p → IsAnswer q budget p line body
 answers_accepted q budget p line body (Some n) accepted is shows same = inl (record { accepted = accepted; line_is = shows.0 ∙ ap count_line is; body_is = same })
-answers_accepted q budget p line body None accepted is shows same = absurd (true_isnt shows.1)
+answers_accepted q budget p line body None accepted is shows same = cc
 
 -- A page is refused, to another question than `check`, and there is no body.
 module _ (q : Question) (apart : q ≢ question.Check) (budget : ℕ) (p : List ℕ) (none : refused_body_of q budget p ≡ []) where
@@ -58,7 +54,7 @@ module _ (q : Question) (apart : q ≢ question.Check) (budget : ℕ) (p : List 
   pub answers_refused : {S : Type 0} (g : Ghosts S) (s : S) (f : Fault) (place : ℕ) → IsCounted g s budget p (Err (record { fault = f; place = place })) →
       (sound : (t : S) → g.failed t ≡ false) (line body : List ℕ) → (line ≡ refused_line (record { fault = f; place = place })) × (body ≡ []) → IsAnswer q budget p line body
   answers_refused g s fault.Memory place h sound line body is = lacking line body place h.counts.0 is.0 is.1
-  answers_refused g s fault.Sink place h sound line body is = let (breaks, (t, failed)) = h.counts in absurd (true_isnt (sym (sound t) ∙ failed))
+  answers_refused g s fault.Sink place h sound line body is = let (breaks, (t, failed)) = h.counts in cc (sound t)
   answers_refused g s f place h sound line body is = refusing line body (record { fault = f; place = place }) (λ wants. let bad : ⊥ = cc in absurd bad) h.counts is.0 is.1
 
   -- its sink fails where memory is wanting

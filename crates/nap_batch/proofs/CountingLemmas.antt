@@ -14,6 +14,8 @@ use Rattle.nap_command.specs.Collecting.{Collects, RefusedBy}
 use Rattle.nap_batch.specs.Answers.{CountsAll, IsCount}
 use Rattle.nap_batch.specs.Counting.{Counting, GrowsBy, Took, counting}
 
+-- A sink that counts what another one takes.
+
 abbrev pub made : {S : Type 0} → S → Option ℕ → Counting S
 made sink count = record { sink = sink; count = count }
 

@@ -1,4 +1,4 @@
-use Rattle.std.proofs.Common.{ℕ, ◌+◌, ◌≡◌, true, false, List, [], ◌++◌, Result, Ok, Err, take, drop, refl, sym, subst, ◌∙◌, inr}
+use Rattle.std.proofs.Common.{ℕ, ◌+◌, ◌≡◌, List, [], ◌++◌, Result, Ok, Err, take, drop, refl, sym, subst, ◌∙◌, inr}
 use Rattle.std.specs.Io.KnownBytes.{Consumes}
 use Rattle.std.proofs.KnownBytes.{Appends-nil}
 use Rattle.std.proofs.lemmas.List.{take-append-drop}
@@ -14,8 +14,7 @@ use Rattle.nap_batch.specs.Waiting.{IsAsked, StopsBy}
 use Rattle.nap_batch.proofs.FrontLemmas.{page_is, whole_request}
 use Rattle.nap_batch.proofs.SessionLemmas.{stops_alike}
 
-apart : true ≡ false → ⊥
-apart h = let bad : ⊥ = cc in bad
+-- A request and its answer, or why there was none.
 
 -- A request was read, behind bytes that were held, and answered.
 module _ {I O : Type 0} (i : inlet.Ghosts I) (o : outlet.Ghosts O) (written : ℕ) (old new bytes : List ℕ) (input rest : I) (output done : O) where
@@ -46,22 +45,16 @@ module _ {I O : Type 0} (i : inlet.Ghosts I) (o : outlet.Ghosts O) (written : �
     read = read;
     sent = sent;
     stops = (x, new, is, parts, front, count, failed, works);
-    flushed = λ _ good. absurd (apart (sym failed ∙ good));
-    none_more = λ good. absurd (apart (sym failed ∙ good));
+    flushed = λ _ good. cc;
+    none_more = λ good. cc;
   }
-  answered read works x is parts (Err ended.Done) h = absurd h
-  answered read works x is parts (Err ended.Request) h = absurd h
-  answered read works x is parts (Err ended.Read) h = absurd h
-  answered read works x is parts (Err ended.Memory) h = absurd h
+  answered read works x is parts (Err _) h = absurd h
 
 -- no request was read
 pub stops_in : (written : ℕ) (rest : List ℕ) (before after : Pipes) (end : Ended) → StopsBy (reading_of before after) rest end → after.output_failed ≡ before.output_failed →
     StopsIn written rest [] before after end
-stops_in written rest _ _ ended.Done h works = (refl, h, works)
-stops_in written rest _ _ ended.Request h works = (refl, h, works)
-stops_in written rest _ _ ended.Read h works = (refl, h, works)
-stops_in written rest _ _ ended.Memory h works = (refl, h, works)
 stops_in written rest _ _ (ended.Write n) h works = absurd h
+stops_in written rest _ _ _ h works = (refl, h, works)
 
 -- None was read.
 module _ {I O : Type 0} (i : inlet.Ghosts I) (o : outlet.Ghosts O) (written : ℕ) (old new bytes : List ℕ) (input rest : I) (output : O) where

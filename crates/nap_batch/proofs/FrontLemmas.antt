@@ -1,61 +1,26 @@
 use Rattle.std.proofs.Common.{ℕ, zero, suc, ◌+◌, ◌-◌, ◌<◌, ◌≤◌, ◌≡◌, ◌≢◌, inl, inr, List, [], ◌∷◌, ◌++◌, length, take, drop, take-add, refl, ap, sym, subst, ◌∙◌, append_assoc, length-append, arith}
-use Rattle.std.specs.Prelude.{All, ◌==◌, if◌then◌else◌, codes}
-use Rattle.std.specs.Char.{digit_value}
-use Rattle.std.specs.Str.Parse.{AllDigits}
+use Rattle.std.specs.Prelude.{All, ◌==◌, if◌then◌else◌}
 use Rattle.std.proofs.lemmas.List.{drop_at, length-take-le, take_at}
-use Rattle.std.proofs.lemmas.List.Elements.{All-append, All-cons, All-head, All-nil, All-tail}
-use Rattle.std.proofs.lemmas.Str.Parse.{digit_from_value}
+use Rattle.std.proofs.lemmas.List.Elements.{All-append, All-cons, All-nil}
 use Rattle.nap_batch.specs.declared.request.Question.{Question}
 use Rattle.nap_batch.specs.declared.request.Question.TheVariants as question
 use Rattle.nap_batch.specs.declared.request.RequestLine.{RequestLine}
 use Rattle.nap_batch.specs.Laws.{BegunRequestsAreNone, RequestsAreCutOneWay}
 use Rattle.nap_batch.specs.Requests.{Cuts, IsBegun, IsLine, IsMore, IsOpen, IsRequest, IsShort, IsWhole, NeverStarts, StartsNone, line_for, name_of}
-use Rattle.nap_batch.proofs.RequestLemmas.{cut_once, first_cut, parts_of, second_cut}
-
-abbrev rest_of : List ℕ → List ℕ
-rest_of [] = []
-rest_of (x ∷ xs) = xs
-
-abbrev head_of : List ℕ → ℕ
-head_of [] = 0
-head_of (x ∷ xs) = x
+use Rattle.nap_batch.proofs.RequestLemmas.{apart, cut_once, digits_above, first_cut, name_above, no_cut, parts_of, second_cut}
 
 -- The end of a line stands in no line.
-
-other : (b x : ℕ) → b < x → x ≢ b
-other b x less is = let bad : ⊥ = omega (arith, less, is) in bad
-
-digit_ends : (d : ℕ) → digit_value d < 10 → 10 < d
-digit_ends d small = let range = digit_from_value d small in omega (arith, range.0)
-
-digits_end : (ds : List ℕ) → AllDigits 10 ds → All (λ x. x ≢ 10) ds
-digits_end [] all = All-nil (λ x. x ≢ 10)
-digits_end (d ∷ ds) all = All-cons (λ x. x ≢ 10) d ds (other 10 d (digit_ends d all.0)) (digits_end ds all.1)
-
-abbrev Above : List ℕ → Type 0
-Above [] = Unit {0}
-Above (x ∷ xs) = (10 < x) × Above xs
-
-above : (xs : List ℕ) → Above xs → All (λ x. x ≢ 10) xs
-above [] all = All-nil (λ x. x ≢ 10)
-above (x ∷ xs) all = All-cons (λ y. y ≢ 10) x xs (other 10 x all.0) (above xs all.1)
-
-name_end : (c : Question) → All (λ x. x ≢ 10) (name_of c)
-name_end question.Check = above (codes "check") (omega arith, (omega arith, (omega arith, (omega arith, (omega arith, tt)))))
-name_end question.List = above (codes "list") (omega arith, (omega arith, (omega arith, (omega arith, tt))))
-name_end question.Canon = above (codes "canon") (omega arith, (omega arith, (omega arith, (omega arith, (omega arith, tt)))))
-name_end question.Places = above (codes "places") (omega arith, (omega arith, (omega arith, (omega arith, (omega arith, (omega arith, tt))))))
 
 line_end : (line : List ℕ) (h : RequestLine) → IsLine line h → All (λ x. x ≢ 10) line
 line_end line h is =
     let P : ℕ → Type 0 = λ x. x ≢ 10 in
-    let space : 32 ≢ 10 = other 10 32 (omega arith) in
-    let Q : List ℕ → Type 0 = λ xs. All P xs in
-    subst Q (sym is.line_is)
-    (All-append P (name_of h.question) (32 ∷ (is.budget_digits ++ 32 ∷ is.size_digits)) (name_end h.question)
-    (All-cons P 32 (is.budget_digits ++ 32 ∷ is.size_digits) space
-    (All-append P is.budget_digits (32 ∷ is.size_digits) (digits_end is.budget_digits is.budget.numeral.1)
-    (All-cons P 32 is.size_digits space (digits_end is.size_digits is.size.numeral.1)))))
+    let size = apart 10 is.size_digits (omega arith) (digits_above is.size_digits is.size.numeral.1) in
+    let budget = apart 10 is.budget_digits (omega arith) (digits_above is.budget_digits is.budget.numeral.1) in
+    let name = apart 10 (name_of h.question) (omega arith) (name_above h.question) in
+    rw is.line_is
+    (All-append P (name_of h.question) (32 ∷ (is.budget_digits ++ 32 ∷ is.size_digits)) name
+    (All-cons P 32 (is.budget_digits ++ 32 ∷ is.size_digits) (λ e. omega arith)
+    (All-append P is.budget_digits (32 ∷ is.size_digits) budget (All-cons P 32 is.size_digits (λ e. omega arith) size))))
 
 -- A request is cut at the end of its line.
 module _ (asked behind : List ℕ) (c : Question) (budget : ℕ) (page : List ℕ) (is : IsRequest asked c budget page) where
@@ -76,8 +41,7 @@ cut_stays b xs front back more cut = record {
 pub wrong_line : (held line behind : List ℕ) → Cuts 10 held line behind → ((h : RequestLine) → IsLine line h → ⊥) → NeverStarts held
 wrong_line held line behind cut none more asked rest c budget page is same =
     let once = cut_once 10 (held ++ more) line (behind ++ more) is.line (page ++ rest) (cut_stays 10 held line behind more cut) (line_cut asked rest c budget page is (held ++ more) same) in
-    let P : List ℕ → Type 0 = λ xs. IsLine xs (line_for c budget page) in
-    none (line_for c budget page) (subst P (sym once.0) is.says)
+    none (line_for c budget page) (rw once.0 is.says)
 
 -- a line says one thing
 pub same_size : (line : List ℕ) (h k : RequestLine) → IsLine line h → IsLine line k → h.size ≡ k.size
@@ -89,10 +53,8 @@ same_size line h k one two =
 pub short_page : (held line behind : List ℕ) (h : RequestLine) → Cuts 10 held line behind → IsLine line h → length behind < h.size → StartsNone held
 short_page held line behind h cut says short asked rest c budget page is same =
     let once = cut_once 10 held line behind is.line (page ++ rest) cut (line_cut asked rest c budget page is held same) in
-    let P : List ℕ → Type 0 = λ xs. IsLine xs (line_for c budget page) in
-    let size = same_size line h (line_for c budget page) says (subst P (sym once.0) is.says) in
-    let bad : ⊥ = omega (arith, size, short, ap length once.1, length-append page rest) in
-    bad
+    let size = same_size line h (line_for c budget page) says (rw once.0 is.says) in
+    omega (arith, size, short, ap length once.1, length-append page rest)
 
 -- a request is in front, but for the end of its page: none yet
 pub short_front : (bytes : List ℕ) (n : ℕ) → IsShort bytes n → StartsNone bytes
@@ -173,23 +135,18 @@ uncut_open (x ∷ xs) none =
     All-cons P x xs first
     (uncut_open xs (λ front back cut. none (x ∷ front) back (record { joins = ap (λ (ys : List ℕ). x ∷ ys) cut.joins; first = All-cons P x front first cut.first })))
 
-end_stands : (front back : List ℕ) → All (λ b. b ≢ 10) (front ++ 10 ∷ back) → ⊥
-end_stands [] back endless = All-head (λ b. b ≢ 10) 10 back endless refl
-end_stands (x ∷ front) back endless = end_stands front back (All-tail (λ b. b ≢ 10) x (front ++ 10 ∷ back) endless)
-
 pub begun_requests_are_none : BegunRequestsAreNone
 begun_requests_are_none bytes (inl endless) asked behind c budget page is same =
-    let cut = line_cut asked behind c budget page is bytes same in
-    end_stands is.line (page ++ behind) (subst (λ (xs : List ℕ). All (λ b. b ≢ 10) xs) cut.joins endless)
+    no_cut 10 bytes is.line (page ++ behind) endless (line_cut asked behind c budget page is bytes same)
 begun_requests_are_none bytes (inr short) asked behind c budget page is same = short_front bytes short.0 short.1 asked behind c budget page is same
 
 -- and where they are more than a line has, none will stand there
 line_within : (held line more rest : List ℕ) → held ++ more ≡ line ++ 10 ∷ rest → length line < length held → (back : List ℕ) × (held ≡ line ++ 10 ∷ back)
-line_within [] line more rest same less = let bad : ⊥ = omega (arith, less) in absurd bad
-line_within (x ∷ held) [] more rest same less = (held, ap (λ (y : ℕ). y ∷ held) (ap head_of same))
+line_within [] line more rest same less = absurd (omega (arith, less))
+line_within (x ∷ held) [] more rest same less = (held, cc)
 line_within (x ∷ held) (y ∷ line) more rest same less =
-    let found = line_within held line more rest (ap rest_of same) (omega (arith, less)) in
-    (found.0, ap (λ (z : ℕ). z ∷ held) (ap head_of same) ∙ ap (λ (zs : List ℕ). y ∷ zs) found.1)
+    let found = line_within held line more rest (cc) (omega (arith, less)) in
+    (found.0, cc)
 
 name_short : (c : Question) → length (name_of c) ≤ 6
 name_short question.Check = omega arith
@@ -215,14 +172,12 @@ long_line held none long more asked rest c budget page is same =
 -- Requests are cut in one way.
 
 abbrev named : List ℕ → Question
-named [] = question.Check
-named (x ∷ xs) = if x == 108 then question.List else (if x == 112 then question.Places else (if head_of xs == 97 then question.Canon else question.Check))
+named (x ∷ y ∷ xs) = if y == 105 then question.List else (if y == 108 then question.Places else (if y == 97 then question.Canon else question.Check))
+named _ = question.Check
 
 named_is : (c : Question) → named (name_of c) ≡ c
 named_is question.Check = refl
-named_is question.List = refl
-named_is question.Canon = refl
-named_is question.Places = refl
+named_is _ = refl
 
 pub requests_are_cut_one_way : RequestsAreCutOneWay
 requests_are_cut_one_way asked other behind rest c d b e page paper one two same =
@@ -230,8 +185,7 @@ requests_are_cut_one_way asked other behind rest c d b e page paper one two same
     let once = cut_once 10 all one.line (page ++ behind) two.line (paper ++ rest) (line_cut asked behind c b page one all refl) (line_cut other rest d e paper two all same) in
     let h : RequestLine = line_for c b page in
     let k : RequestLine = line_for d e paper in
-    let P : List ℕ → Type 0 = λ xs. IsLine xs k in
-    let also = subst P (sym once.0) two.says in
+    let also : IsLine one.line k = rw once.0 two.says in
     let says = one.says in
     let parts = parts_of one.line (name_of c) (says.budget_digits ++ 32 ∷ says.size_digits) says.budget_digits says.size_digits k (first_cut one.line h says) (second_cut one.line h says) also in
     let size : length page ≡ length paper = sym says.size.value ∙ parts.size.value in

@@ -48,22 +48,16 @@ as_check budget p line body (inr (inr h)) = record {
   body_is = h.body_is;
 }
 
-list_apart : action.List ≢ action.Check
-list_apart h = let bad : ⊥ = cc in bad
-
-canon_apart : action.Canon ≢ action.Check
-canon_apart h = let bad : ⊥ = cc in bad
-
 as_list : (budget : ℕ) (p line body : List ℕ) → IsAnswer question.List budget p line body → AsCommand action.List budget p line body
 as_list budget p line body (inl h) = inl (record { line_is = (h.accepted, h.line_is); body_is = (h.accepted, h.body_is) })
-as_list budget p line body (inr (inl h)) = inr (as_refused question.List action.List budget p line body list_apart h h.body_is)
-as_list budget p line body (inr (inr h)) = inr (as_lacking question.List action.List budget p line body list_apart h)
+as_list budget p line body (inr (inl h)) = inr (as_refused question.List action.List budget p line body (λ is. cc) h h.body_is)
+as_list budget p line body (inr (inr h)) = inr (as_lacking question.List action.List budget p line body (λ is. cc) h)
 
 as_canon : (budget : ℕ) (p line body : List ℕ) → IsAnswer question.Canon budget p line body → AsCommand action.Canon budget p line body
 as_canon budget p line body (inl h) =
     inl (record { line_is = (h.accepted, h.line_is); body_is = (text (list_of budget p), record { accepted = h.accepted; text_is = refl }, h.body_is) })
-as_canon budget p line body (inr (inl h)) = inr (as_refused question.Canon action.Canon budget p line body canon_apart h h.body_is)
-as_canon budget p line body (inr (inr h)) = inr (as_lacking question.Canon action.Canon budget p line body canon_apart h)
+as_canon budget p line body (inr (inl h)) = inr (as_refused question.Canon action.Canon budget p line body (λ is. cc) h h.body_is)
+as_canon budget p line body (inr (inr h)) = inr (as_lacking question.Canon action.Canon budget p line body (λ is. cc) h)
 
 pub answers_are_those_of_commands : AnswersAreThoseOfCommands
 answers_are_those_of_commands action.Check = as_check
@@ -89,10 +83,9 @@ one_place n (e ∷ es) = ap (λ (bytes : List ℕ). line_at n e ++ bytes) (one_p
 placed_join : (ns ms : List ℕ) (es fs : List Entry) → length ns ≡ length es → lines_placed (ns ++ ms) (es ++ fs) ≡ lines_placed ns es ++ lines_placed ms fs
 unfolding lines_placed
 placed_join [] ms [] fs same = refl
-placed_join [] ms (e ∷ es) fs same = let bad : ⊥ = omega (arith, same) in absurd bad
-placed_join (n ∷ ns) ms [] fs same = let bad : ⊥ = omega (arith, same) in absurd bad
 placed_join (n ∷ ns) ms (e ∷ es) fs same =
     ap (λ (bytes : List ℕ). line_at n e ++ bytes) (placed_join ns ms es fs (omega (arith, same))) ∙ sym (append_assoc (line_at n e) (lines_placed ns es) (lines_placed ms fs))
+placed_join ns ms es fs same = absurd (omega (arith, same))
 
 -- places of so many entries
 record Placing (es : List Entry) (bytes : List ℕ) : Type 0 where

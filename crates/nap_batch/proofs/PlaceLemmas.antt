@@ -3,9 +3,7 @@ use Rattle.std.proofs.lemmas.List.{drop_all, get_or_append_left, take-append-dro
 use Rattle.nap_draw.specs.Draws.{stream}
 use Rattle.nap_list.specs.declared.entry.Entry.{Entry}
 use Rattle.nap_list.specs.declared.sink.Sink.{Ghosts}
-use Rattle.nap_list.specs.declared.state.State.{State}
-use Rattle.nap_list.specs.State.{after, start, walk}
-use Rattle.nap_list.proofs.PublicLaws.{walks_join}
+use Rattle.nap_list.specs.State.{start, walk}
 use Rattle.nap_reader.specs.declared.fault.Fault.{Fault}
 use Rattle.nap_reader.specs.declared.fault.Fault.TheVariants as fault
 use Rattle.nap_reader.specs.declared.fault.Refusal.{Refusal}
@@ -18,6 +16,8 @@ use Rattle.nap_reader.specs.Stream.{Outcome, begun, ended_by, means}
 use Rattle.nap_reader.proofs.PublicLaws.{begun_comes_first, fed_breaks_among, more_bytes_keep_entries, more_bytes_keep_refusal}
 use Rattle.nap_batch.specs.declared.places.Placed.{Placed}
 use Rattle.nap_batch.specs.Answers.{IsPlaced, added, came_with, lines_at, places, places_before}
+
+-- The lines of a page's entries, each behind its place, byte by byte.
 
 -- a stream that is refused so far is refused whatever comes
 pub still_refused : (budget : ℕ) (p more : List ℕ) (r : Refusal) → (begun budget p).refusal ≡ Some r → (means budget (p ++ more)).refusal ≡ Some r
@@ -78,18 +78,12 @@ module _ (budget : ℕ) (p : List ℕ) where
   pub written_more : (i known : ℕ) (old : List ℕ) (es : List Entry) → old ≡ places_before budget p i → known ≡ length (begun budget (take i p)).entries →
       es ≡ (begun budget (take (i + 1) p)).entries → old ++ lines_at i (drop known es) ≡ places_before budget p (i + 1)
   written_more i known old es before count all =
-      ap (λ (text : List ℕ). text ++ lines_at i (drop known es)) before
-      ∙ ap (λ (n : ℕ). places_before budget p i ++ lines_at i (drop n es)) count
-      ∙ ap (λ (list : List Entry). places_before budget p i ++ lines_at i (drop (length (begun budget (take i p)).entries) list)) all
-      ∙ sym (one_more i)
+      rw (before, count, all, one_more i) refl
 
   pub written_last : (i known : ℕ) (old : List ℕ) (es : List Entry) → i ≡ length p → old ≡ places_before budget p i → known ≡ length (begun budget p).entries →
       es ≡ (means budget p).entries → old ++ lines_at i (drop known es) ≡ places budget p
   written_last i known old es end before count all =
-      ap (λ (text : List ℕ). text ++ lines_at i (drop known es)) before
-      ∙ ap (λ (n : ℕ). places_before budget p i ++ lines_at i (drop n es)) count
-      ∙ ap (λ (list : List Entry). places_before budget p i ++ lines_at i (drop (length (begun budget p).entries) list)) all
-      ∙ ap (λ (k : ℕ). places_before budget p k ++ lines_at k (added (begun budget p).entries (means budget p).entries)) end
+      rw (before, count, all, end) refl
 
   pub stops_so : (found : Result Placed AllocError) (q : Refusal) (text : List ℕ) → IfOk found (λ r. r.ended ≡ Err q) →
       IfOk found (λ r. q.fault ≡ fault.Memory → r.text.items ≡ []) → IfOk found (λ r. q.fault ≢ fault.Memory → r.text.items ≡ text) →

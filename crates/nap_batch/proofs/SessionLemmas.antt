@@ -1,4 +1,4 @@
-use Rattle.std.proofs.Common.{ℕ, ◌+◌, ◌-◌, ◌^◌, ◌≡◌, ◌≢◌, List, [], ◌∷◌, ◌++◌, length, min, refl, ap, sym, ◌∙◌, inl, inr, append_assoc, length-append, arith}
+use Rattle.std.proofs.Common.{ℕ, ◌+◌, ◌-◌, ◌^◌, ◌≡◌, List, [], ◌∷◌, ◌++◌, length, min, refl, ap, sym, ◌∙◌, inl, inr, append_assoc, length-append, arith}
 use Rattle.std.specs.Prelude.{All, flat_map}
 use Rattle.std.specs.Io.KnownBytes.{IsAtEnd}
 use Rattle.std.proofs.lemmas.List.{flat_map_more}
@@ -9,6 +9,8 @@ use Rattle.nap_batch.specs.declared.service.Ended.TheVariants as ended
 use Rattle.nap_batch.specs.Requests.{IsBegun}
 use Rattle.nap_batch.specs.Sessions.{EndsBy, Exchange, IsExchange, Pipes, StopsIn, reading_of}
 use Rattle.nap_batch.specs.Waiting.{StopsBy, end_of}
+
+-- Requests and answers, one after another, and how they end.
 
 -- a reading that ends as another does, with the same bytes left
 pub stops_alike : (a b : Reading) (rest : List ℕ) (end : Ended) → b.left ≡ a.left → b.failed ≡ a.failed → b.failed_before ≡ a.failed_before → StopsBy a rest end → StopsBy b rest end
@@ -23,10 +25,7 @@ stops_alike a b rest (ended.Write n) left failed before h = absurd h
 -- the input ended in front of these bytes
 pub ends_there : (seen : Reading) (rest : List ℕ) → IsBegun rest → IsAtEnd seen.left → NoneFailed seen → StopsBy seen rest (end_of rest)
 ends_there seen [] none end works = (refl, end, works)
-ends_there seen (b ∷ rest) none end works = (inr (some b rest, none, end), works)
-  where
-    some : (b : ℕ) (rest : List ℕ) → b ∷ rest ≢ []
-    some b rest h = let bad : ⊥ = cc in bad
+ends_there seen (b ∷ rest) none end works = (inr (λ h. cc, none, end), works)
 
 -- one exchange more
 pub asked_more : (xs : List Exchange) (x : Exchange) (rest : List ℕ) → flat_map (λ y. y.asked) xs ++ (x.asked ++ rest) ≡ flat_map (λ y. y.asked) (xs ++ x ∷ []) ++ rest
@@ -61,9 +60,5 @@ ends_behind before mid after xs rest part written (ended.Write n) input output c
     (x, behind, is, parts, front, count_more (flat_map (λ x. x.answered) xs) part written n count number, failed, works ∙ input)
 ends_behind before mid after xs rest part written ended.Request input output count (none, stops, works) =
     (none, inl (stops_alike (reading_of mid after) (reading_of before after) rest ended.Request refl refl (sym input) stops), works ∙ output)
-ends_behind before mid after xs rest part written ended.Done input output count (none, stops, works) =
-    (none, stops_alike (reading_of mid after) (reading_of before after) rest ended.Done refl refl (sym input) stops, works ∙ output)
-ends_behind before mid after xs rest part written ended.Read input output count (none, stops, works) =
-    (none, stops_alike (reading_of mid after) (reading_of before after) rest ended.Read refl refl (sym input) stops, works ∙ output)
-ends_behind before mid after xs rest part written ended.Memory input output count (none, stops, works) =
-    (none, stops_alike (reading_of mid after) (reading_of before after) rest ended.Memory refl refl (sym input) stops, works ∙ output)
+ends_behind before mid after xs rest part written end input output count h =
+    (h.0, stops_alike (reading_of mid after) (reading_of before after) rest end refl refl (sym input) h.1, h.2 ∙ output)

@@ -11,6 +11,8 @@ use Rattle.nap_batch.specs.declared.service.Ended.{Ended}
 use Rattle.nap_batch.specs.declared.service.Ended.TheVariants as ended
 use Rattle.nap_batch.specs.Sessions.{Tells, ended_text}
 
+-- How an end is told on standard error.
+
 -- A failure stands for an end: its line is told, with the status 3.
 pub record StandsFor (end : Ended) (f : Failure) : Type 0 where
   pub apart : (end ≢ ended.Done) × (end ≢ ended.Request)
@@ -18,13 +20,13 @@ pub record StandsFor (end : Ended) (f : Failure) : Type 0 where
   pub status : exit_status (Err f) ≡ 3
 
 pub read_stands : StandsFor ended.Read failure.Read
-read_stands = record { apart = (λ h. let bad : ⊥ = cc in bad, λ h. let bad : ⊥ = cc in bad); text = refl; status = refl }
+read_stands = record { apart = (λ h. cc, λ h. cc); text = refl; status = refl }
 
 pub write_stands : (n : ℕ) → StandsFor (ended.Write n) (failure.Write n)
-write_stands n = record { apart = (λ h. let bad : ⊥ = cc in bad, λ h. let bad : ⊥ = cc in bad); text = refl; status = refl }
+write_stands n = record { apart = (λ h. cc, λ h. cc); text = refl; status = refl }
 
 pub memory_stands : StandsFor ended.Memory failure.Memory
-memory_stands = record { apart = (λ h. let bad : ⊥ = cc in bad, λ h. let bad : ⊥ = cc in bad); text = refl; status = refl }
+memory_stands = record { apart = (λ h. cc, λ h. cc); text = refl; status = refl }
 
 -- what was told of the failure was told of the end
 pub tells_of : (e : List ℕ) (failed : Bool) (end : Ended) (f : Failure) (status : ℕ) → StandsFor end f → commands.Tells e failed (Err f) status → Tells e failed end × (status ≡ 3)
@@ -60,7 +62,7 @@ front_of_front n xs h =
     subst (λ (m : ℕ). take m xs ≡ take n xs) (sym long) refl
 
 failed_is_false : (was now : Bool) → now ≡ (was || true) → now ≡ false → ⊥
-failed_is_false was now h k = let w : (was || true) ≡ true = or-true was in let bad : ⊥ = cc in bad
+failed_is_false was now h k = cc (or-true was)
 
 pub tells_line : (old new : Option (List ℕ)) (r : Result (Unit {0}) Failure) (was now : Bool) (end : Ended) → Takes old new (ended_text end) r → now ≡ (was || is_err r) →
     (e : List ℕ) × Appends old new e × Tells e now end
@@ -71,8 +73,4 @@ tells_line old new (Err (failure.Write n)) was now end h flag = (
   h.1,
   record { said = end; told_as = inl refl; front = front_of_front n (ended_text end) h.0; all = λ works. absurd (failed_is_false was now flag works) },
 )
-tells_line old new (Err failure.Excluded) was now end h flag = absurd h
-tells_line old new (Err failure.Read) was now end h flag = absurd h
-tells_line old new (Err failure.Hex) was now end h flag = absurd h
-tells_line old new (Err (failure.Refused r)) was now end h flag = absurd h
-tells_line old new (Err failure.Memory) was now end h flag = absurd h
+tells_line old new (Err _) was now end h flag = absurd h

@@ -15,6 +15,8 @@ use Rattle.nap_batch.specs.Waiting.{Finds, IsAsked, IsFound, IsLast, IsSkipped, 
 use Rattle.nap_batch.proofs.FrontLemmas.{made_whole, more_begun, some_front, still_short}
 use Rattle.nap_batch.proofs.SessionLemmas.{ends_there, stops_alike}
 
+-- The bytes of requests are read until one is whole, or none can be.
+
 pub keeps_all : (a b : Option (List ℕ)) → Keeps a b → Consumes a b []
 keeps_all None b h = tt
 keeps_all (Some xs) None h = h
@@ -22,7 +24,7 @@ keeps_all (Some xs) (Some ys) h = sym h
 
 empty : (xs : List ℕ) → length xs ≡ 0 → xs ≡ []
 empty [] h = refl
-empty (x ∷ xs) h = let bad : ⊥ = omega (arith, h) in absurd bad
+empty (x ∷ xs) h = absurd (omega (arith, h))
 
 -- a read gave no byte
 pub none_came : (seen : Reading) (old new piece : List ℕ) → IsBegun old → new ≡ old ++ piece → length piece ≡ 0 → IsAtEnd seen.left → NoneFailed seen →
@@ -46,19 +48,14 @@ stops_amid seen old bytes n most ended.Request short few (less, end, works) = (i
 stops_amid seen old bytes n most ended.Read short few (less, inl bad) = (inr (n - length bytes, still_short old bytes n short less), inl bad)
 stops_amid seen old bytes n most ended.Read short few (less, inr (often, works)) =
     (inr (n - length bytes, still_short old bytes n short less), inr (omega (arith, often, few, length-append old bytes), works))
-stops_amid seen old bytes n most ended.Done short few h = absurd h
-stops_amid seen old bytes n most ended.Memory short few h = absurd h
-stops_amid seen old bytes n most (ended.Write k) short few h = absurd h
+stops_amid seen old bytes n most _ short few h = absurd h
 
 -- what stands in front after the last read
 pub last_found : (seen : Reading) (all held : List ℕ) (r : Result Found Ended) → held ≡ all → reads_limit ≤ length all → NoneFailed seen → IsLast held r → Finds seen all held r
 last_found seen all held (Ok (found.Whole line start)) same many works h = (same, subst (λ (xs : List ℕ). IsWhole xs line start) same h, works)
-last_found seen all held (Ok found.Dropped) same many works h = absurd h
 last_found seen all held (Err ended.Request) same many works h = (inl (subst NeverStarts same h), works)
 last_found seen all held (Err ended.Read) same many works h = (subst IsBegun same h, inr (many, works))
-last_found seen all held (Err ended.Done) same many works h = absurd h
-last_found seen all held (Err ended.Memory) same many works h = absurd h
-last_found seen all held (Err (ended.Write n)) same many works h = absurd h
+last_found seen all held _ same many works h = absurd h
 
 -- One read, where so many bytes of a page are missing.
 module _ {I : Type 0} (i : inlet.Ghosts I) (old : List ℕ) (n : ℕ) (more : IsMore old n) (before : I) where

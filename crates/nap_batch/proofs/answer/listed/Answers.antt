@@ -1,13 +1,10 @@
-use Rattle.std.proofs.Common.{◌≢◌, ◌∙◌, ◌++◌, ap, refl}
+use Rattle.std.proofs.Common.{◌∙◌, ◌++◌, ap, refl}
 use Rattle.std.proofs.lemmas.Result.{IfOk-weaker}
 use Rattle.nap_lines.specs.Listing.{Listed, lines}
 use Rattle.nap_canon.specs.Streams.{list_of}
 use Rattle.nap_batch.specs.declared.request.Question.TheVariants as question
 use Rattle.nap_batch.proofs.AnswerLemmas.{answers_accepted, answers_refused}
 use Rattle.nap_batch.proofs.answer.listed.Goals as goal
-
-apart : question.List ≢ question.Check
-apart h = let bad : ⊥ = cc in bad
 
 pub returns-in-Ok : goal.returns-in-Ok
 returns-in-Ok c =
@@ -21,5 +18,5 @@ returns-in-Ok c =
 pub returns-in-Err : goal.returns-in-Err
 returns-in-Err c =
     let r = c.in-Err.refusal in
-    let answers = answers_refused question.List apart c.args.budget c.args.page.now refl _ c.new.result r.fault r.place c.in-Err.ensures (λ t. refl) in
+    let answers = answers_refused question.List (λ h. cc) c.args.budget c.args.page.now refl _ c.new.result r.fault r.place c.in-Err.ensures (λ t. refl) in
     IfOk-weaker c.refused.result _ _ (λ a h. answers a.line.items a.body.items h) c.refused.ensures

@@ -1,4 +1,4 @@
-use Rattle.std.proofs.Common.{◌≡◌, ◌≢◌, ◌∙◌, ap, refl, sym}
+use Rattle.std.proofs.Common.{◌≡◌, ◌∙◌, ap, refl, sym}
 use Rattle.std.proofs.lemmas.Result.{IfOk-weaker}
 use Rattle.nap_list.specs.Device.{Writing}
 use Rattle.nap_canon.specs.Streams.{list_of}
@@ -6,9 +6,6 @@ use Rattle.nap_batch.specs.declared.request.Question.TheVariants as question
 use Rattle.nap_batch.specs.Answers.{refused_line}
 use Rattle.nap_batch.proofs.AnswerLemmas.{answers_accepted, answers_unspelled, text_written}
 use Rattle.nap_batch.proofs.answer.spelled.Goals as goal
-
-apart : question.Canon ≢ question.Check
-apart h = let bad : ⊥ = cc in bad
 
 pub returns-in-Ok : goal.returns-in-Ok
 returns-in-Ok c =
@@ -26,5 +23,5 @@ returns-in-Ok c =
 pub returns-in-Err : goal.returns-in-Err
 returns-in-Err c =
     let r = c.in-Err.refusal in
-    let answers = answers_unspelled question.Canon apart c.args.budget c.args.page.now refl _ c.new-sink.result r.fault r.place c.in-Err.ensures in
+    let answers = answers_unspelled question.Canon (λ h. cc) c.args.budget c.args.page.now refl _ c.new-sink.result r.fault r.place c.in-Err.ensures in
     IfOk-weaker c.refused.result _ _ (λ a h. answers a.line.items a.body.items (h.0 ∙ ap refused_line c.refusal_of_text.ensures, h.1)) c.refused.ensures

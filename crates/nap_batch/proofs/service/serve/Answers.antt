@@ -13,25 +13,10 @@ loop-init g c =
 
 pub loop-preserved : goal.loop-preserved
 loop-preserved g c =
-    let I = g.I.Inlet in
-    let O = g.O.Outlet in
-    record {
-      room = c.exchange.ensures.room;
-      going =
-          goes_on (pipes I O c.args.input.now c.args.output.now) (pipes I O c.loop.input c.loop.output) (pipes I O c.exchange.new.input c.exchange.new.output) c.loop.held
-          c.exchange.new.held c.loop.written c.in-Ok-exchange.more c.loop.counter c.loop.invariant.going c.in-Ok-exchange.ensures.exchanged;
-    }
+    record { room = c.exchange.ensures.room; going = goes_on _ _ _ _ _ _ _ _ c.loop.invariant.going c.in-Ok-exchange.ensures.exchanged }
 
 pub returns-in-Err : goal.returns-in-Err
-returns-in-Err g c =
-    let I = g.I.Inlet in
-    let O = g.O.Outlet in
-    ends (pipes I O c.args.input.now c.args.output.now) (pipes I O c.loop.input c.loop.output) (pipes I O c.exchange.new.input c.exchange.new.output) c.loop.held c.loop.written
-    c.loop.counter c.in-Err.ended c.loop.invariant.going c.in-Err.ensures.exchanged
+returns-in-Err g c = ends _ _ _ _ _ _ _ c.loop.invariant.going c.in-Err.ensures.exchanged
 
 pub returns : goal.returns
-returns g c =
-    let I = g.I.Inlet in
-    let O = g.O.Outlet in
-    ends_full (pipes I O c.args.input.now c.args.output.now) (pipes I O c.loop.input c.loop.output) c.loop.held c.loop.written c.loop.counter
-    (omega (arith, c.loop-test.false)) c.loop.invariant.going
+returns g c = ends_full _ _ _ _ _ (omega (arith, c.loop-test.false)) c.loop.invariant.going
