@@ -1,5 +1,4 @@
-use Rattle.std.proofs.Common.{ℕ, suc, ◌≡◌, List, [], ◌∷◌, ◌++◌, Some, Ok, refl, sym, subst, append-nil}
-use Rattle.std.specs.Prelude.{◌≢◌}
+use Rattle.std.proofs.Common.{ℕ, suc, ◌≡◌, List, [], ◌∷◌, ◌++◌, Ok, refl, ap, sym, subst, ◌∙◌, append-nil}
 use Rattle.nap_codes.specs.declared.code.Code.{Code}
 use Rattle.nap_codes.specs.declared.code.Code.TheVariants as code
 use Rattle.nap_codes.specs.declared.code_set.CharSet.TheVariants as chars
@@ -7,12 +6,11 @@ use Rattle.nap_codes.specs.declared.code_set.CodeSet.TheVariants as code_sets
 use Rattle.nap_codes.specs.declared.code_set.CodeSets.{CodeSets}
 use Rattle.nap_codes.specs.declared.code_set.GSet.{GSet}
 use Rattle.nap_codes.specs.declared.code_set.GSet.TheVariants.{G0, G1, G2, G3}
-use Rattle.nap_codes.specs.declared.control.Row.TheVariants.{Whole}
 use Rattle.nap_codes.specs.CodeSets.{with_set}
 use Rattle.nap_codes.specs.Front.{plain_code}
 use Rattle.nap_codes.specs.Laws.{IsGraphic}
-use Rattle.nap_codes.specs.Spelling.{Spells, control0, control1, shift_in, designation, in_gl, single_shift3}
-use Rattle.nap_codes.specs.Tables.{row_of, control0_rows, control1_rows, number_rows, set_rows}
+use Rattle.nap_codes.specs.Spelling.{Spells, shift_in, designation, in_gl, single_shift3}
+use Rattle.nap_codes.specs.Tables.{row_of, number_rows, set_rows}
 use Rattle.nap_list.specs.declared.entry.Entry.{Entry}
 use Rattle.nap_list.specs.State.{walk}
 use Rattle.nap_draw.specs.declared.work.Work.{Work}
@@ -20,7 +18,7 @@ use Rattle.nap_draw.specs.Codes.{code_rule}
 use Rattle.nap_draw.specs.Rule.{Drawn, drawn}
 use Rattle.nap_reader.specs.Laws.{IsAlone}
 use Rattle.nap_reader.specs.Stream.{Placed, Machine, placed_from}
-use Rattle.nap_canon.specs.Spelling.{primary, control, escape, char_piece}
+use Rattle.nap_canon.specs.Spelling.{primary, control, char_piece}
 use Rattle.nap_canon.specs.declared.tail.Tail.TheVariants.{Apart}
 use Rattle.nap_canon.specs.Text.{piece_bytes, written, tail_after}
 use Rattle.nap_canon.proofs.CodeLemmas.{code_reads}
@@ -29,24 +27,20 @@ use Rattle.nap_canon.proofs.ReadLemmas.{Reads}
 
 -- What a reader does with the pieces of canonical text that are no opcodes.
 
+last_apart : (b : ℕ) (bs : List ℕ) → (before : List ℕ) × (last : ℕ) × (b ∷ bs ≡ before ++ last ∷ [])
+last_apart b [] = ([], b, refl)
+last_apart b (c ∷ bs) =
+    let (before, last, is) = last_apart c bs in
+    (b ∷ before, last, ap (λ (xs : List ℕ). b ∷ xs) is)
+
 -- a code that stays what it is whatever is in GL, and leaves that
-pub alone_acts : (budget : ℕ) (gl : GSet) (work : Work) (before : List ℕ) (last : ℕ) (c : Code) (d : Drawn) → IsAlone c →
-    Spells (sets_with gl) (before ++ last ∷ []) c (sets_with gl) → code_rule work c ≡ Ok d →
-    Acts budget gl work (control (before ++ last ∷ []) ∷ []) d.entries d.work
+pub alone_acts : (budget : ℕ) (gl : GSet) (work : Work) (byte : ℕ) (bytes : List ℕ) (c : Code) (d : Drawn) → IsAlone c → Spells (sets_with gl) (byte ∷ bytes) c (sets_with gl) →
+    code_rule work c ≡ Ok d → Acts budget gl work (control (byte ∷ bytes) ∷ []) d.entries d.work
 unfolding written tail_after
-alone_acts budget gl work before last c d alone spells by n xs more end anew behind =
-    subst (λ (bs : List ℕ). Reads (at budget gl work) (placed_from n bs ++ xs) (d.entries ++ more) end) (sym (append-nil (before ++ last ∷ [])))
-    (code_reads budget (sets_with gl) work n before last c (sets_with gl) d xs more end alone spells by behind)
-
--- a control of the C0 set, and one of the C1 set
-
-pub control0_acts : (budget : ℕ) (gl : GSet) (work : Work) (byte : ℕ) (c : Code) (d : Drawn) → IsAlone c → row_of control0_rows byte ≡ Some (Whole c) →
-    c ≢ code.Shifted → code_rule work c ≡ Ok d → Acts budget gl work (control (byte ∷ []) ∷ []) d.entries d.work
-control0_acts budget gl work byte c d alone row no_shift by = alone_acts budget gl work [] byte c d alone (control0 row no_shift) by
-
-pub escape_acts : (budget : ℕ) (gl : GSet) (work : Work) (byte : ℕ) (c : Code) (d : Drawn) → IsAlone c → row_of control1_rows byte ≡ Some (Whole c) →
-    code_rule work c ≡ Ok d → Acts budget gl work (escape byte ∷ []) d.entries d.work
-escape_acts budget gl work byte c d alone row by = alone_acts budget gl work (0x1B ∷ []) byte c d alone (control1 row) by
+alone_acts budget gl work byte bytes c d alone spells by n xs more end anew behind =
+    let (before, last, is) = last_apart byte bytes in
+    subst (λ (bs : List ℕ). Reads (at budget gl work) (placed_from n bs ++ xs) (d.entries ++ more) end) (sym is ∙ sym (append-nil (byte ∷ bytes)))
+    (code_reads budget (sets_with gl) work n before last c (sets_with gl) d xs more end alone (subst (λ (bs : List ℕ). Spells (sets_with gl) bs c (sets_with gl)) is spells) by behind)
 
 -- SI
 shifts_in : (budget : ℕ) (gl : GSet) (work : Work) (n : ℕ) (xs : List Placed) (es : List Entry) (end : Machine) →

@@ -27,7 +27,7 @@ use Rattle.nap_list.specs.Batches.{point_on}
 use Rattle.nap_draw.specs.Rule.{rule, drawn, line_on, rect_on, field_on, shape_from_point}
 use Rattle.nap_draw.proofs.PublicLaws.{whole_operand_first, no_operands}
 use Rattle.nap_canon.specs.Spelling.{word_byte, onward_bytes, shape_bytes}
-use Rattle.nap_canon.proofs.CommandRules.{work_at}
+use Rattle.nap_canon.proofs.CommandLemmas.{work_at}
 use Rattle.nap_canon.proofs.OperandLemmas.{word_of, no_moves, move_first, from_origin, point_first, point_alone, point_there, colour_alone, colour_there}
 
 -- What the rules of drawing do with the operands of an entry: they draw it, with the values that stand.
@@ -178,9 +178,3 @@ blink_end_rule saved s = rw (no_operands 7) refl
 pub wait_rule : (saved : OperandLengths) (s : State) (word : ℕ) →
     rule (work_at saved s) opcodes.Wait (words_of (word_byte word ∷ [])) ≡ Ok (drawn (work_at saved s) (entries.Wait word ∷ []))
 wait_rule saved s word = rw (word_of word) refl
-
--- RESET, and DOMAIN once more
-
-pub domain_rule : (work : Work) → rule work opcodes.Domain (words_of (0x5F ∷ [])) ≡ Ok (drawn (record work { domain = record { multi = 8; single = 4 } }) [])
-unfolding walk
-domain_rule work = rw no_moves refl

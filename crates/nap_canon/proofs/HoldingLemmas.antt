@@ -1,7 +1,6 @@
 use Rattle.std.proofs.Common.{ℕ, ◌≡◌, List, [], ◌∷◌, Option, Some, None, refl, ap, subst}
 use Rattle.std.specs.Prelude.{unwrap_or}
 use Rattle.nap_values.specs.Domains.{OperandLengths}
-use Rattle.nap_codes.specs.declared.code_set.GSet.{GSet}
 use Rattle.nap_list.specs.declared.attribute.Base.{Base}
 use Rattle.nap_list.specs.declared.attribute.Colour.{Colour}
 use Rattle.nap_list.specs.declared.attribute.Colour.TheVariants as colours
@@ -15,8 +14,9 @@ use Rattle.nap_draw.specs.declared.work.Work.{Work}
 use Rattle.nap_draw.specs.Rule as rule
 use Rattle.nap_draw.specs.Rule.{Drawn}
 use Rattle.nap_canon.specs.Spelling.{Piece}
-use Rattle.nap_canon.proofs.CommandRules.{work_at}
-use Rattle.nap_canon.proofs.PieceLemmas.{Acts}
+use Rattle.nap_canon.proofs.CommandLemmas.{work_at}
+use Rattle.nap_canon.proofs.ConveyLemmas.{Conveys, ConveyAll, nothing, next}
+use Rattle.nap_canon.proofs.SavedLemmas.{saved_after}
 
 -- The state in which the values that an entry holds stand, and how the entry is drawn in it.
 
@@ -60,11 +60,12 @@ held_work saved s e = work_at saved (holding s e)
 abbrev pub entry_drawn : OperandLengths → State → Entry → Drawn
 entry_drawn saved s e = rule.drawn (held_work saved s e) (e ∷ [])
 
--- a reader on these pieces draws the entry
-abbrev pub Draws : ℕ → GSet → OperandLengths → State → Entry → List Piece → Type 0
-Draws budget gl saved s e ps = Acts budget gl (held_work saved s e) ps (e ∷ []) (work_at saved (after s e))
+-- these pieces draw the entry
+abbrev pub Draws : OperandLengths → State → Entry → List Piece → Type 0
+Draws saved s e ps = ConveyAll (held_work saved s e) ps (e ∷ []) (work_at (saved_after saved e) (after s e))
 
-pub drawn_draws : (budget : ℕ) (gl : GSet) (saved : OperandLengths) (s : State) (e : Entry) (ps : List Piece) →
-    Acts budget gl (held_work saved s e) ps (e ∷ []) (entry_drawn saved s e).work → Draws budget gl saved s e ps
+-- an entry by one piece
+pub piece_draws : (saved : OperandLengths) (s : State) (e : Entry) (p : Piece) → Conveys (held_work saved s e) p (e ∷ []) (entry_drawn saved s e).work →
+    ConveyAll (held_work saved s e) (p ∷ []) (e ∷ []) (work_at saved (after s e))
 unfolding walk
-drawn_draws budget gl saved s e ps acts = subst (λ (t : State). Acts budget gl (held_work saved s e) ps (e ∷ []) (work_at saved t)) (after_holding s e) acts
+piece_draws saved s e p c = subst (λ (t : State). ConveyAll (held_work saved s e) (p ∷ []) (e ∷ []) (work_at saved t)) (after_holding s e) (next c nothing)

@@ -17,7 +17,7 @@ use Rattle.nap_list.specs.Known.{colour_code}
 use Rattle.nap_list.specs.State.{ColourFits, Fits, base_shown, taking, with_pen_at, saved_values, drawn, definition_after, after, start, walk, AllFit}
 use Rattle.nap_list.specs.Agreement.{InMode}
 use Rattle.nap_canon.specs.Laws.{BringLeads}
-use Rattle.nap_canon.proofs.BringLemmas.{held_leads}
+use Rattle.nap_canon.proofs.BringLemmas as brings
 
 -- A colour of mode 0 is the base, so it is of every walk of entries that fit.
 
@@ -85,4 +85,4 @@ pub start_in_mode : IsInMode start
 start_in_mode = record { drawing = refl; definition = tt }
 
 pub bring_leads : BringLeads
-bring_leads es e all fits = held_leads (walk start es).drawing (held e) (in_mode_along start es start_in_mode all).drawing fits.values
+bring_leads es e all fits = (brings.bring_leads (walk start es).drawing (held e) (in_mode_along start es start_in_mode all).drawing fits.values).there

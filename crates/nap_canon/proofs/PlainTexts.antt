@@ -1,22 +1,37 @@
-use Rattle.std.proofs.Common.{List, [], ◌∷◌, All, refl, ap, sym, subst, append-nil, arith}
+use Rattle.std.proofs.Common.{List, [], ◌∷◌, ◌++◌, map, All, inl, inr, refl, ap, sym, subst, append-nil, arith}
 use Rattle.std.proofs.lemmas.List.Elements.{All-cons}
+use Rattle.nap_values.specs.Domains.{OperandLengths}
 use Rattle.nap_codes.specs.declared.code.Code.{Code}
 use Rattle.nap_codes.specs.declared.code.Code.TheVariants as codes
 use Rattle.nap_codes.specs.declared.code_set.GSet.TheVariants.{G1}
-use Rattle.nap_canon.specs.declared.form.Form.{Form}
 use Rattle.nap_codes.specs.declared.opcode.Opcode.TheVariants as opcodes
 use Rattle.nap_codes.specs.CodeSets.{start_sets}
 use Rattle.nap_codes.specs.Lexed.{Lexed}
 use Rattle.nap_codes.specs.Spelling as spells
 use Rattle.nap_codes.specs.Tables.{row_of, opcode_rows, left_out_opcode}
 use Rattle.nap_list.specs.declared.entry.Entry.{Entry}
-use Rattle.nap_list.specs.State.{start}
+use Rattle.nap_list.specs.declared.state.State.{State}
+use Rattle.nap_list.specs.Entry.{held}
+use Rattle.nap_list.specs.State.{start, taking, after}
+use Rattle.nap_draw.specs.Rule.{start_domain}
+use Rattle.nap_canon.specs.declared.form.Form.{Form}
+use Rattle.nap_canon.specs.declared.tail.Tail.{Tail}
+use Rattle.nap_canon.specs.Bring.{bring}
 use Rattle.nap_canon.specs.Laws.{TextIsPlain}
 use Rattle.nap_canon.specs.Plain.{IsPlainCode, DomainFirst, AllComeBehind, ArePlain}
-use Rattle.nap_canon.specs.Text.{gl_of, begun_tail, written, tail_after, pieces, text_in}
+use Rattle.nap_canon.specs.Spelling.{Piece, group, command_piece, spelled}
+use Rattle.nap_canon.specs.Text.{gl_of, begun_tail, written, tail_after, entry_pieces, pieces, text_in}
+use Rattle.nap_canon.proofs.CommandLemmas.{work_at}
+use Rattle.nap_canon.proofs.ConveyLemmas.{convey_plain}
+use Rattle.nap_canon.proofs.EntryLemmas.{MayCome, next_may, first_kind, bring_behind, bring_conveys}
+use Rattle.nap_canon.proofs.HoldingLemmas.{held_work}
+use Rattle.nap_canon.proofs.KindLemmas.{Kind}
+use Rattle.nap_canon.proofs.ModeLemmas.{start_in_mode}
 use Rattle.nap_canon.proofs.PieceLemmas.{sets_with}
-use Rattle.nap_canon.proofs.PlainEntries.{list_plain}
+use Rattle.nap_canon.proofs.PlainPieces.{PlainlySpelled, operand_codes, nothing_plain, behind_plain, group_plain}
+use Rattle.nap_canon.proofs.SavedLemmas.{saved_after}
 use Rattle.nap_canon.proofs.SpellingLemmas.{AllSpelled, one_code, lexed_spelled}
+use Rattle.nap_canon.proofs.StrokeLemmas.{joining_comes}
 
 -- The text of a list is plain.
 
@@ -43,9 +58,27 @@ nothing_comes : AllComeBehind []
 unfolding AllComeBehind
 nothing_comes = tt
 
+entry_plain : (form : Form) (t : Tail) (saved : OperandLengths) (s : State) (e : Entry) (es : List Entry) (may : MayCome saved s (e ∷ es)) → Kind form saved s e → PlainlySpelled t (entry_pieces form s e)
+entry_plain form t saved s e es may (inr draws) =
+    let left = work_at (saved_after saved e) (after s e) in
+    convey_plain t (work_at saved s) (entry_pieces form s e) (e ∷ []) left (bring_behind saved s e es may (spelled form (taking s.drawing (held e)) e) (e ∷ []) left draws)
+entry_plain form t saved s e es may (inl by) =
+    let ps : List Piece = map command_piece (bring s.drawing (held e)) in
+    let k = by.strokes in
+    subst (λ (qs : List Piece). PlainlySpelled t (ps ++ qs)) (sym by.spelled_as)
+    (behind_plain t ps (group by.byte by.operands ∷ []) (convey_plain t (work_at saved s) ps [] (held_work saved s e) (bring_conveys saved s e es may))
+    (group_plain (tail_after t ps) by.byte k.op by.operands k.is k.are.carriers (λ rest. joining_comes k.op k.joins (operand_codes by.operands ++ rest))))
+
+list_plain : (form : Form) (t : Tail) (saved : OperandLengths) (s : State) (es : List Entry) → MayCome saved s es → PlainlySpelled t (pieces form s es)
+unfolding pieces
+list_plain form t saved s [] may = nothing_plain t
+list_plain form t saved s (e ∷ es) may =
+    behind_plain t (entry_pieces form s e) (pieces form (after s e) es) (entry_plain form t saved s e es may (first_kind saved s e es may form))
+    (list_plain form (tail_after t (entry_pieces form s e)) (saved_after saved e) (after s e) es (next_may saved s e es may))
+
 pub text_is_plain : (form : Form) → TextIsPlain form
 text_is_plain form es fits inside =
-    let spelled = list_plain form begun_tail start es inside fits in
+    let spelled = list_plain form begun_tail start_domain start es (record { inside = inside; fits = fits; mode = start_in_mode; saves = tt }) in
     let is = lexed_spelled start_sets (text_in form es) (behind_header spelled.list) (sets_with (gl_of (tail_after begun_tail (pieces form start es)))) (header_spelled form es spelled.list spelled.by) in
     let behind = subst AllComeBehind (append-nil spelled.list) (spelled.joins [] nothing_comes) in
     record {

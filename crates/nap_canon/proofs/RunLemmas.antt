@@ -20,7 +20,8 @@ use Rattle.nap_canon.specs.declared.tail.Tail.{Tail}
 use Rattle.nap_canon.specs.declared.tail.Tail.TheVariants.{Apart, InRun}
 use Rattle.nap_canon.specs.Spelling.{Piece, group}
 use Rattle.nap_canon.specs.Text.{gl_of, to_opcodes, is_joined, run_behind, written, tail_after}
-use Rattle.nap_canon.proofs.CommandRules.{work_at}
+use Rattle.nap_canon.proofs.CommandLemmas.{work_at}
+use Rattle.nap_canon.proofs.ConveyLemmas.{names}
 use Rattle.nap_canon.proofs.HoldingLemmas.{holding, held_work}
 use Rattle.nap_canon.proofs.PieceLemmas.{Acts, Names, gl_after, at, group_acts}
 use Rattle.nap_canon.proofs.ReadLemmas.{Reads}
@@ -104,7 +105,7 @@ opened saved s e byte operands k = record {
   entries = e ∷ [];
   op = k.op;
   joins = k.joins;
-  named = k.named;
+  named = names byte k.op k.is;
   carriers = k.are.carriers;
   few = omega (arith, k.are.size_is, k.few);
   lengths = refl;
@@ -121,7 +122,7 @@ module _ (saved : OperandLengths) (s : State) (e : Entry) (o : Open (work_at sav
       let second : Drawn = record { entries = e ∷ []; work = work_at (saved_after saved e) (after s e); clears = false } in
       let next : rule (work_at saved s) o.op (words_of more) ≡ Ok second =
       ap (λ (t : State). rule (work_at saved t) o.op (words_of more)) (sym stands)
-      ∙ ap (λ (op : Opcode). rule (held_work saved s e) op (words_of more)) (sym (named_once o.byte o.op k.op o.named k.named))
+      ∙ ap (λ (op : Opcode). rule (held_work saved s e) op (words_of more)) (sym (named_once o.byte o.op k.op o.named (names o.byte k.op k.is)))
       ∙ k.draws in
       ap (rule o.before o.op) (map-append (λ (b : ℕ). b - 64) o.operands more)
       ∙ runs_join o.before o.op (words_of o.operands) (words_of more) first second o.joins (is_whole o.before o.operands o.groups o.lengths o.whole) o.draws next
