@@ -25,7 +25,8 @@ use Rattle.nap_reader.proofs.PublicLaws.{front_after_front}
 use Rattle.nap_canon.specs.Acting.{Acting, acting_at, acting_in, acting_behind, acting_within, opcodes_of, ActsUnderEightAndFour}
 use Rattle.nap_canon.specs.Laws.{PlainOperandLengths}
 use Rattle.nap_canon.specs.Plain.{IsPlainCode, AllComeBehind}
-use Rattle.nap_canon.proofs.FrontCodes.{lexed_front, pdi_in_gl, operands_of, run_codes}
+use Rattle.nap_canon.proofs.FrontCodes.{no_front, lexed_front, pdi_in_gl, operands_of, run_codes}
+use Rattle.nap_canon.proofs.PlacedLemmas.{bytes_of-placed}
 use Rattle.nap_canon.proofs.StageLemmas.{Stage, before, lengths_stand, opcode_stage, IsQuiet, quiet_stage, IsActing, code_stage}
 
 -- The opcodes of a plain stream act under operands of eight words and of four.
@@ -77,10 +78,6 @@ next_plain work w c rest turn asks = record {
   each = All-tail IsPlainCode c rest asks.each;
   behind = asks.behind.1;
 }
-
-no_front : (sets : CodeSets) → codes.front sets [] ≡ codes.unfinished
-unfolding codes.front
-no_front sets = refl
 
 nothing_lexed : (sets : CodeSets) → (lexed sets []).codes ≡ []
 nothing_lexed sets = ap (λ (l : Lexed). l.codes) (lexed_front sets [] ∙ ap (lexed_by lexed sets []) (no_front sets))
@@ -284,11 +281,6 @@ goes (suc fuel) m xs few standing = step fuel m xs standing (λ w ys less. goes 
 not_refused : (n : ℕ) (o : Outcome) (r : Option Refusal) → o.refusal ≡ r → (ended_by o n r).refusal ≡ None → o.refusal ≡ None
 not_refused n o None e ended = e
 not_refused n o (Some r) e ended = ended
-
-bytes_of-placed : (n : ℕ) (bytes : List ℕ) → bytes_of (placed_from n bytes) ≡ bytes
-unfolding placed_from
-bytes_of-placed n [] = refl
-bytes_of-placed n (b ∷ bytes) = ap (λ (bs : List ℕ). b ∷ bs) (bytes_of-placed (suc n) bytes)
 
 pub plain_operand_lengths : PlainOperandLengths
 plain_operand_lengths budget p plain accepted =

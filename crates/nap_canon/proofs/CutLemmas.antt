@@ -1,7 +1,9 @@
-use Rattle.std.proofs.Common.{ℕ, ◌≡◌, ◌+◌, ◌<◌, Bool, true, false, ◌||◌, Option, Some, None, List, [], ◌∷◌, ◌++◌, length, take, drop, refl, ap, sym, subst, ◌∙◌, append-nil, arith}
+use Rattle.std.proofs.Common.{ℕ, ◌≡◌, ◌+◌, ◌<◌, Bool, true, ◌||◌, List, [], ◌∷◌, ◌++◌, length, take, drop, ap, sym, subst, ◌∙◌, arith}
 use Rattle.std.specs.Prelude.{slice_index}
-use Rattle.std.specs.Io.KnownBytes.{Appends, Keeps}
+use Rattle.std.specs.Io.KnownBytes.{Keeps}
+use Rattle.std.proofs.KnownBytes.{Appends-kept, Appends-nil}
 use Rattle.std.proofs.lemmas.List.{take_more, take-append-drop}
+use Rattle.std.proofs.Math.Bool.{or-true}
 use Rattle.nap_list.specs.declared.device.Outlet as outlet
 use Rattle.nap_canon.specs.Batches.{CutAfter}
 use Rattle.nap_canon.specs.Sinking.{Sending, sending, TakesPart, Sends}
@@ -12,16 +14,6 @@ use Rattle.nap_canon.specs.SinkLaws.{sends_more, sends_cut}
 in_parts : (bytes : List ℕ) (n : ℕ) → n < length bytes → (take n bytes ++ slice_index bytes n ∷ []) ++ drop (n + 1) bytes ≡ bytes
 in_parts bytes n less = ap (λ (front : List ℕ). front ++ drop (n + 1) bytes) (sym (take_more bytes n 0 less)) ∙ take-append-drop (n + 1) bytes
 
-or_true : (b : Bool) → (b || true) ≡ true
-or_true true = refl
-or_true false = refl
-
--- bytes that were kept have none behind them
-appends_none : (old new : Option (List ℕ)) → Keeps old new → Appends old new []
-appends_none None new kept = tt
-appends_none (Some xs) None kept = absurd kept
-appends_none (Some xs) (Some ys) kept = kept ∙ sym (append-nil xs)
-
 -- none of a byte was taken
 pub none_taken : {O : Type 0} (o : outlet.Ghosts O) (t u : O) (n : ℕ) (byte : ℕ) → Keeps (o.taken t) (o.taken u) → o.failed u ≡ (o.failed t || true) →
     o.write_failed u ≡ (o.write_failed t || true) → o.flushes u ≡ o.flushes t → TakesPart (sending o t n) (byte ∷ []) (sending o u n)
@@ -29,11 +21,11 @@ none_taken o t u n byte kept failed write_failed flushes = record {
   part = 0;
   less = omega arith;
   grows = record {
-    taken = appends_none (o.taken t) (o.taken u) kept;
+    taken = Appends-kept (o.taken t) (o.taken t) (o.taken u) [] (Appends-nil (o.taken t)) kept;
     count = omega arith;
     writes = record { fails = true; failed = failed; write_failed = write_failed; flushes = flushes };
   };
-  failed = failed ∙ or_true (o.failed t);
+  failed = failed ∙ or-true (o.failed t);
 }
 
 -- a failure behind so many bytes is one amid them all

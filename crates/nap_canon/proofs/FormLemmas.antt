@@ -64,7 +64,6 @@ same_bytes : (ps : List Piece) → NoGroup ps → (t u : Tail) → gl_of t ≡ g
 unfolding written tail_after
 same_bytes [] none t u same = (refl, same)
 same_bytes (opcode byte operands ∷ ps) none t u same =
-    let rest = same_bytes ps none (tail_behind t (opcode byte operands)) (tail_behind u (opcode byte operands)) refl in
     (ap (λ (gl : GSet). (to_opcodes gl ++ byte ∷ operands) ++ written (tail_behind t (opcode byte operands)) ps) same, refl)
 same_bytes (group byte operands ∷ ps) none t u same = absurd none
 same_bytes (primary code ∷ ps) none t u same = rw same (refl, refl)

@@ -20,8 +20,12 @@ use Rattle.nap_reader.specs.Stream.{Placed, bytes_of, words_of, is_operand, is_o
 
 -- The codes of a list, by what stands at its front.
 
+pub no_front : (sets : CodeSets) → front sets [] ≡ unfinished
+unfolding front
+no_front sets = refl
+
 -- a code in front of what is read later
-abbrev with_code : Code → Lexed → Lexed
+abbrev pub with_code : Code → Lexed → Lexed
 with_code code rest = record rest { codes = code ∷ rest.codes }
 
 -- More steps than there are bytes change nothing.

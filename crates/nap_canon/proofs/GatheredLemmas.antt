@@ -7,10 +7,6 @@ use Rattle.nap_canon.specs.Batches.{points_bytes}
 
 -- Operands of points, one behind another.
 
-pub no_items : {A : Type 0} (xs : List A) → length xs ≡ 0 → xs ≡ []
-no_items [] none = refl
-no_items (x ∷ xs) none = absurd (omega arith)
-
 pub point_size : (p : Coordinates) → length (point_bytes p) ≡ 8
 unfolding point_bytes words_of_pairs digits_of
 point_size p = refl

@@ -46,11 +46,11 @@ alone form s e is = ap (λ (commands : List Command). map command_piece commands
 
 -- the bytes of an entry that is one piece, and the tail behind it
 
-pub one_written : (form : Form) (tail : Tail) (s : State) (e : Entry) (piece : Piece) → entry_pieces form s e ≡ piece ∷ [] → written tail (entry_pieces form s e) ≡ piece_bytes tail piece
+one_written : (form : Form) (tail : Tail) (s : State) (e : Entry) (piece : Piece) → entry_pieces form s e ≡ piece ∷ [] → written tail (entry_pieces form s e) ≡ piece_bytes tail piece
 unfolding written
 one_written form tail s e piece is = ap (written tail) is ∙ append-nil (piece_bytes tail piece)
 
-pub one_behind : (form : Form) (tail : Tail) (s : State) (e : Entry) (piece : Piece) → entry_pieces form s e ≡ piece ∷ [] → tail_after tail (entry_pieces form s e) ≡ tail_behind tail piece
+one_behind : (form : Form) (tail : Tail) (s : State) (e : Entry) (piece : Piece) → entry_pieces form s e ≡ piece ∷ [] → tail_after tail (entry_pieces form s e) ≡ tail_behind tail piece
 unfolding tail_after
 one_behind form tail s e piece is = ap (tail_after tail) is
 
@@ -71,15 +71,20 @@ first_stand : (s : State) (list : List Entry) (e : Entry) (es : List Entry) → 
 unfolding EachStands
 first_stand s list e es stand is = (subst (EachStands s) is stand).0
 
+-- that is the spelling of the entry that is there
+next_entry : (form : Form) (s : State) (list : List Entry) (x : Entry) (xs : List Entry) → x ∷ xs ≡ list → EachStands s list → (e : Entry) (es : List Entry) → list ≡ e ∷ es →
+    entry_pieces form s e ≡ spelled form (taking s.drawing (held x)) x
+next_entry form s list x xs there stand e es is =
+    subst (λ (e : Entry). Stands (held e) s.drawing → entry_pieces form s e ≡ spelled form (taking s.drawing (held x)) x) (heads x e xs es (there ∙ is)) (alone form s x)
+    (first_stand s list e es stand is)
+
 pub next_point : (form : Form) (s : State) (batch : Batch) (points : _) (drawing : _) (index : ℕ) (p : Coordinates) (rest : List Coordinates) → batch ≡ batches.Points points drawing →
     drop index points.now ≡ p ∷ rest → EachStands s (drop index (listed batch)) → (e : Entry) (es : List Entry) → drop index (listed batch) ≡ e ∷ es →
     entry_pieces form s e ≡ stroke form 0x26 (point_bytes p) ∷ []
-next_point form s batch points drawing index p rest is at stand e es list =
+next_point form s batch points drawing index p rest is at =
     let d = drawing.now in
-    let same : point_on d p ≡ e = heads (point_on d p) e (map (point_on d) rest) es
-    (ap (map (point_on d)) (sym at) ∙ points_rest d points.now index ∙ ap (λ (b : Batch). drop index (listed b)) (sym is) ∙ list) in
-    subst (λ (e : Entry). Stands (held e) s.drawing → entry_pieces form s e ≡ stroke form 0x26 (point_bytes p) ∷ []) same (alone form s (point_on d p))
-    (first_stand s (drop index (listed batch)) e es stand list)
+    next_entry form s (drop index (listed batch)) (point_on d p) (map (point_on d) rest)
+    (ap (map (point_on d)) (sym at) ∙ points_rest d points.now index ∙ ap (λ (b : Batch). drop index (listed b)) (sym is))
 
 pub next_line : (form : Form) (s : State) (batch : Batch) (from start : Coordinates) (points : _) (drawing : _) (index : ℕ) (p : Coordinates) (rest : List Coordinates) →
     batch ≡ batches.Lines from points drawing → drop index points.now ≡ p ∷ rest → start ≡ last_of from (take index points.now) → EachStands s (drop index (listed batch)) →
@@ -88,10 +93,8 @@ unfolding lines_on
 next_line form s batch from start points drawing index p rest is at begins stand e es list =
     let d = drawing.now in
     let q = last_of from (take index points.now) in
-    let same : line_on d q p ≡ e = heads (line_on d q p) e (lines_on d p rest) es
-    (ap (lines_on d q) (sym at) ∙ lines_rest d from points.now index ∙ ap (λ (b : Batch). drop index (listed b)) (sym is) ∙ list) in
-    subst (λ (e : Entry). Stands (held e) s.drawing → entry_pieces form s e ≡ line_piece form s.drawing.pen q p ∷ []) same (alone form s (line_on d q p))
-    (first_stand s (drop index (listed batch)) e es stand list)
+    next_entry form s (drop index (listed batch)) (line_on d q p) (lines_on d p rest)
+    (ap (lines_on d q) (sym at) ∙ lines_rest d from points.now index ∙ ap (λ (b : Batch). drop index (listed b)) (sym is)) stand e es list
     ∙ ap (λ (start : Coordinates). line_piece form s.drawing.pen start p ∷ []) (sym begins)
 
 -- characters of a text from one on, in the hand that they have
@@ -105,13 +108,10 @@ pub next_character : (form : Form) (s : State) (batch : Batch) (set : CharSet) (
     batch ≡ batches.Text set codes pen drawing → drop index codes.now ≡ code ∷ rest → EachStands s (drop index (listed batch)) →
     (e : Entry) (es : List Entry) → drop index (listed batch) ≡ e ∷ es → entry_pieces form s e ≡ char_piece set code ∷ []
 unfolding text_in
-next_character form s batch set codes pen drawing index code rest is at stand e es list =
+next_character form s batch set codes pen drawing index code rest is at =
     let behind = text_behind set (record (hand_of drawing.now) { pen = pen }) codes.now index in
-    let x = entries.Char set code behind.0 in
-    let same : x ≡ e = heads x e (text_in set (record behind.0 { pen = After }) rest) es
-    (ap (text_in set behind.0) (sym at) ∙ sym behind.1 ∙ ap (λ (b : Batch). drop index (listed b)) (sym is) ∙ list) in
-    subst (λ (e : Entry). Stands (held e) s.drawing → entry_pieces form s e ≡ char_piece set code ∷ []) same (alone form s x)
-    (first_stand s (drop index (listed batch)) e es stand list)
+    next_entry form s (drop index (listed batch)) (entries.Char set code behind.0) (text_in set (record behind.0 { pen = After }) rest)
+    (ap (text_in set behind.0) (sym at) ∙ sym behind.1 ∙ ap (λ (b : Batch). drop index (listed b)) (sym is))
 
 -- what entries are written as that are one piece each
 
@@ -134,8 +134,8 @@ joined_more : (size : ℕ) (form : Form) (tail next : Tail) (s : State) (e : Ent
     Joined size form next (after s e) list rest end → Joined size form tail s (e ∷ list) (first ++ rest) end
 unfolding EachWrites pieces written tail_after
 joined_more size form tail next s e list piece first rest end is bytes count behind more =
-    let alone : written tail (entry_pieces form s e) ≡ first = ap (written tail) is ∙ append-nil (piece_bytes tail piece) ∙ bytes in
-    let moved : tail_after tail (entry_pieces form s e) ≡ next = ap (tail_after tail) is ∙ behind in
+    let alone : written tail (entry_pieces form s e) ≡ first = one_written form tail s e piece is ∙ bytes in
+    let moved : tail_after tail (entry_pieces form s e) ≡ next = one_behind form tail s e piece is ∙ behind in
     record {
       each = (ap length alone ∙ count, subst (λ (t : Tail). EachWrites size form t (after s e) list) (sym moved) more.each);
       writes =

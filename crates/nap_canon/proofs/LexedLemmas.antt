@@ -17,6 +17,7 @@ use Rattle.nap_codes.proofs.PublicLaws.{whole_stays, whole_length, whole_taken, 
 use Rattle.nap_canon.specs.declared.plain.Check.{Check}
 use Rattle.nap_canon.specs.Checking.{check_with, may_end}
 use Rattle.nap_canon.specs.Plain.{IsPlain, ArePlain}
+use Rattle.nap_canon.proofs.FrontCodes.{no_front}
 use Rattle.nap_canon.proofs.CheckLemmas.{Asks, Turns, check_turns, start_check, all_asked, nothing_asked}
 
 -- A stream that is lexed byte after byte, while its codes are checked.
@@ -24,10 +25,6 @@ use Rattle.nap_canon.proofs.CheckLemmas.{Asks, Turns, check_turns, start_check, 
 -- what is half read is unfinished
 abbrev pub IsHalf : LexerState → Type 0
 IsHalf state = front state.sets state.half ≡ codes.unfinished
-
-no_half : (sets : CodeSets) → front sets [] ≡ codes.unfinished
-unfolding codes.front
-no_half sets = refl
 
 -- bytes can always be lexed
 
@@ -37,50 +34,41 @@ record Run (state : LexerState) (bytes : List ℕ) : Type 0 where
   end : LexerState
   steps : StepsThrough state bytes codes fault end
 
--- a code that is at the front of fewer bytes is at the front of what is half read
-whole_is_later : (state : LexerState) (b : ℕ) (code : Code) (n : ℕ) (after : CodeSets) → IsHalf state →
-    front state.sets (state.half ++ b ∷ []) ≡ codes.whole code n after → n ≤ length state.half → ⊥
-whole_is_later state b code n after half is few =
-    let xs : List ℕ = state.half ++ b ∷ [] in
-    let taken : take n xs ≡ take n state.half = take-append-le n state.half (b ∷ []) few in
-    let early : front state.sets (take n state.half) ≡ codes.whole code n after = ap (front state.sets) (sym taken) ∙ whole_taken state.sets xs code n after is in
-    let there : front state.sets state.half ≡ codes.whole code n after =
-    ap (front state.sets) (sym (take-append-drop n state.half)) ∙ whole_stays state.sets (take n state.half) (drop n state.half) code n after early in
-    let bad : ◌≡◌ {A = Front} codes.unfinished (codes.whole code n after) = sym half ∙ there in
-    cc
+-- what the first n bytes decide was decided by what is half read, unless they are all
+all_decide : (state : LexerState) (b : ℕ) (f : Front) (n : ℕ) → IsHalf state → front state.sets (take n (state.half ++ b ∷ [])) ≡ f →
+    (front state.sets (take n state.half) ≡ f → front state.sets (take n state.half ++ drop n state.half) ≡ f) → (codes.unfinished ≡ f → ⊥) → n ≤ length (state.half ++ b ∷ []) →
+    n ≡ length (state.half ++ b ∷ [])
+all_decide state b f n half early stays decided few = at (nat_le n (length state.half)) refl
+  where
+    late : n ≤ length state.half → ⊥
+    late less =
+        let taken : take n (state.half ++ b ∷ []) ≡ take n state.half = take-append-le n state.half (b ∷ []) less in
+        let there : front state.sets state.half ≡ f =
+        ap (front state.sets) (sym (take-append-drop n state.half)) ∙ stays (ap (front state.sets) (sym taken) ∙ early) in
+        decided (sym half ∙ there)
 
-refused_is_later : (state : LexerState) (b : ℕ) (fault : CodeFault) (i : ℕ) → IsHalf state →
-    front state.sets (state.half ++ b ∷ []) ≡ codes.refused fault i → suc i ≤ length state.half → ⊥
-refused_is_later state b fault i half is few =
-    let xs : List ℕ = state.half ++ b ∷ [] in
-    let taken : take (suc i) xs ≡ take (suc i) state.half = take-append-le (suc i) state.half (b ∷ []) few in
-    let early : front state.sets (take (suc i) state.half) ≡ codes.refused fault i = ap (front state.sets) (sym taken) ∙ refused_taken state.sets xs fault i is in
-    let there : front state.sets state.half ≡ codes.refused fault i =
-    ap (front state.sets) (sym (take-append-drop (suc i) state.half)) ∙ refused_stays state.sets (take (suc i) state.half) (drop (suc i) state.half) fault i early in
-    let bad : ◌≡◌ {A = Front} codes.unfinished (codes.refused fault i) = sym half ∙ there in
-    cc
+    at : (less : Bool) → nat_le n (length state.half) ≡ less → n ≡ length (state.half ++ b ∷ [])
+    at true e = absurd (late (grind (arith, nat_tests)))
+    at false e =
+        let more : length state.half < n = grind (arith, nat_tests) in
+        omega (arith, more, few, length-append state.half (b ∷ []))
 
 -- the code has all the bytes
 whole_size : (state : LexerState) (b : ℕ) (code : Code) (n : ℕ) (after : CodeSets) → IsHalf state →
     front state.sets (state.half ++ b ∷ []) ≡ codes.whole code n after → n ≡ length (state.half ++ b ∷ [])
-whole_size state b code n after half is = at (nat_le n (length state.half)) refl
-  where
-    at : (early : Bool) → nat_le n (length state.half) ≡ early → n ≡ length (state.half ++ b ∷ [])
-    at true e = absurd (whole_is_later state b code n after half is (grind (arith, nat_tests)))
-    at false e =
-        let late : length state.half < n = grind (arith, nat_tests) in
-        omega (arith, late, (whole_length state.sets (state.half ++ b ∷ []) code n after is).1, length-append state.half (b ∷ []))
+whole_size state b code n after half is =
+    let xs : List ℕ = state.half ++ b ∷ [] in
+    all_decide state b (codes.whole code n after) n half (whole_taken state.sets xs code n after is)
+    (whole_stays state.sets (take n state.half) (drop n state.half) code n after) (λ bad. cc) (whole_length state.sets xs code n after is).1
 
 -- the last byte is the one refused
 refused_size : (state : LexerState) (b : ℕ) (fault : CodeFault) (i : ℕ) → IsHalf state →
     front state.sets (state.half ++ b ∷ []) ≡ codes.refused fault i → i ≡ length state.half
-refused_size state b fault i half is = at (nat_le (suc i) (length state.half)) refl
-  where
-    at : (early : Bool) → nat_le (suc i) (length state.half) ≡ early → i ≡ length state.half
-    at true e = absurd (refused_is_later state b fault i half is (grind (arith, nat_tests)))
-    at false e =
-        let late : length state.half < suc i = grind (arith, nat_tests) in
-        omega (arith, late, refused_index state.sets (state.half ++ b ∷ []) fault i is, length-append state.half (b ∷ []))
+refused_size state b fault i half is =
+    let xs : List ℕ = state.half ++ b ∷ [] in
+    let all : suc i ≡ length xs = all_decide state b (codes.refused fault i) (suc i) half (refused_taken state.sets xs fault i is)
+    (refused_stays state.sets (take (suc i) state.half) (drop (suc i) state.half) fault i) (λ bad. cc) (refused_index state.sets xs fault i is) in
+    omega (arith, all, length-append state.half (b ∷ []))
 
 run_by : (bytes : List ℕ) (b : ℕ) (state : LexerState) → IsHalf state → ((next : LexerState) → IsHalf next → Run next bytes) →
     (f : Front) → front state.sets (state.half ++ b ∷ []) ≡ f → Run state (b ∷ bytes)
@@ -95,7 +83,7 @@ run_by bytes b state half go codes.unfinished e =
     }
 run_by bytes b state half go (codes.whole code n after) e =
     let next : LexerState = record { sets = after; half = [] } in
-    let rest = go next (no_half after) in
+    let rest = go next (no_front after) in
     record {
       codes = code ∷ rest.codes;
       fault = rest.fault;
@@ -127,7 +115,7 @@ checked_start bytes = record {
   codes = [];
   goes = λ more fault end run. run;
   asks = all_asked;
-  half = no_half start_sets;
+  half = no_front start_sets;
 }
 
 next_byte : (bytes : List ℕ) (i : ℕ) → i < length bytes → drop i bytes ≡ get_or bytes i 0 ∷ drop (i + 1) bytes

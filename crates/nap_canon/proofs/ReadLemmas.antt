@@ -2,7 +2,6 @@ use Rattle.std.proofs.Common.{ℕ, ◌≡◌, List, [], ◌∷◌, ◌++◌, len
 use Rattle.std.specs.Prelude.{⊤}
 use Rattle.nap_codes.specs.declared.code_set.CodeSets.{CodeSets}
 use Rattle.nap_codes.specs.declared.opcode.Opcode.{Opcode}
-use Rattle.nap_codes.specs.Front as codes
 use Rattle.nap_list.specs.declared.entry.Entry.{Entry}
 use Rattle.nap_draw.specs.Rule.{Drawn, rule}
 use Rattle.nap_draw.specs.declared.fault.DrawFault.{DrawFault}
@@ -13,6 +12,7 @@ use Rattle.nap_reader.specs.Course.{prepend, paused, onward}
 use Rattle.nap_reader.specs.Laws.{IsRun}
 use Rattle.nap_reader.specs.Stream.{Placed, Machine, Outcome, Unfinished, nothing, open_run, words_of, is_operand, front, after_drawing, drawn_front, outcome_from, with_run, with_run_by, with_drawn, with_definition, with_end, placed_from, start_machine, means, ended, ended_by}
 use Rattle.nap_reader.proofs.PublicLaws.{front_after_front, run_acts, run_waits}
+use Rattle.nap_canon.proofs.FrontCodes.{no_front}
 
 -- The machine along canonical text.
 
@@ -54,15 +54,11 @@ with_run-prepend es o = with_run_by-prepend es o o.unfinished
 
 -- no bytes
 
-no_code : (sets : CodeSets) → codes.front sets [] ≡ codes.unfinished
-unfolding codes.front
-no_code sets = refl
-
 nothing_read : (budget : ℕ) (sets : CodeSets) (work : Work) → outcome_from (standing budget sets work) [] ≡ settled [] (standing budget sets work)
 unfolding front
 nothing_read budget sets work =
     let m : Machine = standing budget sets work in
-    let none : front m [] ≡ course.pause nothing = rw (no_code sets) refl in
+    let none : front m [] ≡ course.pause nothing = rw (no_front sets) refl in
     front_after_front m [] ∙ ap (onward outcome_from m []) none
 
 pub reads_nothing : (budget : ℕ) (sets : CodeSets) (work : Work) → Reads (standing budget sets work) [] [] (standing budget sets work)

@@ -1,11 +1,10 @@
 use Rattle.std.proofs.Common.{◌++◌, subst, ℕ, [], List, ◌≡◌, ◌∙◌, ap, sym, refl, false, append-nil, arith, rules}
 use Rattle.std.specs.Slice.Iter.{chunks_rest, chunks_size}
-use Rattle.std.proofs.lemmas.List.{take_all}
+use Rattle.std.proofs.lemmas.List.{nil_from_length, take_all}
 use Rattle.std.proofs.lemmas.Result.{err_from_is_err_and}
 use Rattle.nap_values.specs.Coordinates.{Coordinates}
 use Rattle.nap_list.specs.Batches.{last_of}
 use Rattle.nap_canon.specs.Spelling.{onward_bytes}
-use Rattle.nap_canon.proofs.GatheredLemmas.{no_items}
 use Rattle.nap_canon.proofs.WriterLemmas.{onward_part, sent_second}
 use Rattle.nap_canon.proofs.writer.Writer.onward.Goals as goal
 
@@ -61,7 +60,7 @@ pub returns-clause-sent : goal.returns-clause-sent
 unfolding onward_bytes
 returns-clause-sent g c =
     let so_far = c.loop-chunk.invariant.sent in
-    let none = no_items _ c.in-None.ensures.steps.1.0 in
+    let none = nil_from_length _ c.in-None.ensures.steps.1.0 in
     let all : so_far.0 ≡ onward_bytes c.args.first c.args.others.now =
     sym (append-nil so_far.0)
     ∙ ap (λ (qs : List Coordinates). so_far.0 ++ onward_bytes c.loop-chunk.from qs) (sym none)
