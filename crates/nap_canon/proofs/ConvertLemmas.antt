@@ -1,7 +1,7 @@
 use Rattle.std.proofs.Common.{ℕ, ◌≡◌, ◌≢◌, ◌⊎◌, ◌||◌, Bool, true, false, List, [], ◌∷◌, ◌++◌, Some, None, Result, Ok, Err, length, take, drop, refl, ap, sym, subst, ◌∙◌, inl, inr, append-nil, append_assoc, arith}
 use Rattle.std.proofs.lemmas.Bool.{false≢true}
 use Rattle.std.proofs.lemmas.List.{take-append-drop}
-use Rattle.std.specs.Io.KnownBytes.{Appends, Keeps}
+use Rattle.std.specs.Io.KnownBytes.{Appends, Consumes, Keeps}
 use Rattle.std.proofs.KnownBytes.{Appends-kept, Consumes-nil}
 use Rattle.nap_canon.specs.declared.tail.Tail.{Tail}
 use Rattle.nap_canon.specs.declared.form.Form.{Form}
@@ -228,6 +228,14 @@ module _ {O : Type 0} (o : outlet.Ghosts O) (law : (x : O) → o.write_failed x 
       ∙ ap (λ (b : Bool). flushed b (o.flushes t.outlet)) (failed ∙ sym (kept ∙ write_failed))
       ∙ ap (flushed (o.write_failed u)) wrote.flushes
 
+-- what a conversion ensures of what it read and wrote
+abbrev pub Converted : {I O : Type 0} → inlet.Ghosts I → outlet.Ghosts O → ℕ → I → I → O → O → Result ℕ ConvertFault → Type 0
+Converted i o budget initial final w u answer =
+    (p : List ℕ) × (q : List ℕ) × Consumes (i.left initial) (i.left final) p × Appends (o.taken w) (o.taken u) q
+    × Converts budget p (reading i initial final) q (o.failed u) answer
+    × StopsAtOnce i budget p initial final q
+    × FlushedOnce o w u
+
 -- What a reader shows.
 
 module _ {S : Type 0} {g : Ghosts S} (reader : Reader S g) (s : S) (p : List ℕ) (h : Stands reader s p) where
@@ -359,15 +367,17 @@ module _ {O : Type 0} (o : outlet.Ghosts O) (w : O) (s : Canonical O) (begins : 
           at device is = broken (λ own. let bad = sym is ∙ own in cc)
 
     -- the end of a conversion, with its last read
-    pub finished : (last : LastRead i (budget_of old) p initial final) (t : Canonical O) (fed : Result (Unit {0}) FeedFault) (u : O) (answer : Result ℕ ConvertFault) (budget : ℕ) →
-        budget_of old ≡ budget → Ends last t fed → Keeps (o.taken t.outlet) (o.taken u) → (o.failed t.outlet ≡ true → o.failed u ≡ true) → Concludes t.written fed (o.failed u) answer →
-        (q : List ℕ) × Appends (o.taken w) (o.taken u) q × Converts budget p (reading i initial final) q (o.failed u) answer × StopsAtOnce i budget p initial final q
-        × Writes (sending o w 0) (shown o t)
-    finished last t fed u answer budget is leaves keeps fails ends =
+    pub finished : (law : (x : O) → o.write_failed x ≡ true → o.failed x ≡ true) → o.failed w ≡ false → (last : LastRead i (budget_of old) p initial final) (t : Canonical O) (fed : Result (Unit {0}) FeedFault) (u : O)
+        (answer : Result ℕ ConvertFault) (budget : ℕ) → budget_of old ≡ budget → Consumes (i.left initial) (i.left final) p → Ends last t fed → Keeps (o.taken t.outlet) (o.taken u) →
+        (o.failed t.outlet ≡ true → o.failed u ≡ true) → Concludes t.written fed (o.failed u) answer → o.flushes u ≡ flushed (o.failed t.outlet) (o.flushes t.outlet) →
+        o.write_failed u ≡ o.write_failed t.outlet → Converted i o budget initial final w u answer
+    finished law unfailed last t fed u answer budget is read leaves keeps fails ends flushes kept =
         let k = concluded o w s begins works (budget_of old) p (reading i initial final) last.before (first_of last) t fed u answer leaves keeps fails ends in (
+          p,
           k.0,
+          read,
           k.1,
           subst (λ (b : ℕ). Converts b p (reading i initial final) k.0 (o.failed u) answer) is k.2,
           subst (λ (b : ℕ). StopsAtOnce i b p initial final k.0) is (record { last = last; written = λ _. k.3 }),
-          k.4,
+          flushed_once o law w unfailed t u k.4 flushes kept,
         )

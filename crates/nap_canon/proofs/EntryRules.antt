@@ -1,7 +1,7 @@
 use Rattle.std.proofs.Common.{ℕ, suc, ◌≡◌, ◌≤◌, List, [], ◌∷◌, ◌++◌, length, take, drop, All, true, false, Option, Some, None, Ok, refl, ap, sym, ◌∙◌, append-nil, arith}
 use Rattle.std.specs.Prelude.{nat_lt}
 use Rattle.std.proofs.lemmas.Bool.Decides.{nat_tests}
-use Rattle.std.proofs.lemmas.List.Elements.{All-head, All-tail}
+use Rattle.std.proofs.lemmas.List.Elements.{All-nil, All-cons, All-head, All-tail}
 use Rattle.nap_values.specs.Coordinates.{Coordinates, Displacement, IsInSquare, displacement_to}
 use Rattle.nap_values.specs.Colours.{Components, HasSixteenBitParts}
 use Rattle.nap_values.specs.Domains.{OperandLengths}
@@ -30,30 +30,13 @@ use Rattle.nap_canon.specs.Spelling.{word_byte, onward_bytes, shape_bytes}
 use Rattle.nap_canon.proofs.CommandLemmas.{work_at}
 use Rattle.nap_canon.proofs.OperandLemmas.{word_of, no_moves, move_first, from_origin, point_first, point_alone, point_there, colour_alone, colour_there}
 
--- What the rules of drawing do with the operands of an entry: they draw it, with the values that stand.
-
-pub point_rule : (saved : OperandLengths) (s : State) (p : Coordinates) → IsInSquare p →
-    rule (work_at saved s) opcodes.PointAbs (words_of (point_bytes p)) ≡ Ok (drawn (work_at saved s) (point_on s.drawing p ∷ []))
-unfolding points_at
-point_rule saved s p inside = rw (point_alone p inside, point_there p inside) refl
-
--- a line that goes on from the pen
-pub on_line_rule : (saved : OperandLengths) (s : State) (p q : Coordinates) → s.drawing.pen ≡ pens.At p → IsInSquare q →
-    rule (work_at saved s) opcodes.LineAbs (words_of (point_bytes q)) ≡ Ok (drawn (work_at saved s) (line_on s.drawing (record { from = p; to = q }) ∷ []))
-unfolding points_at joined
-on_line_rule saved s p q pen inside = rw (point_alone q inside, point_there q inside, pen) refl
+-- What the rules of drawing do with the operands of a shape, and of a blink.
 
 -- two points
 
-two_points : (p q : Coordinates) → IsInSquare p → IsInSquare q → moves 8 (words_of (point_bytes p ++ point_bytes q)) ≡ from_origin p ∷ from_origin q ∷ []
+pub two_points : (p q : Coordinates) → IsInSquare p → IsInSquare q → moves 8 (words_of (point_bytes p ++ point_bytes q)) ≡ from_origin p ∷ from_origin q ∷ []
 two_points p q first second =
     point_first p (point_bytes q) first ∙ ap (λ (ms : List Displacement). from_origin p ∷ ms) (point_alone q second)
-
-pub line_rule : (saved : OperandLengths) (s : State) (p q : Coordinates) → IsInSquare p → IsInSquare q →
-    rule (work_at saved s) opcodes.SetLineAbs (words_of (point_bytes p ++ point_bytes q))
-    ≡ Ok (drawn (work_at saved s) (line_on s.drawing (record { from = p; to = q }) ∷ []))
-unfolding between
-line_rule saved s p q first second = rw (two_points p q first second, point_there p first, point_there q second) refl
 
 -- a point, and the displacements to the others in turn
 
@@ -107,42 +90,10 @@ arc_leads p q r rs ms leads = rw leads refl
 pub poly_leads : (p : Coordinates) (qs : List Coordinates) (ms : List Displacement) → reached p ms ≡ Some qs → poly_points p ms ≡ Some (p ∷ qs)
 poly_leads p qs ms leads = rw leads refl
 
--- a rectangle
-pub rect_outlined_rule : (saved : OperandLengths) (s : State) (p q : Coordinates) → IsInSquare p → All IsInSquare (q ∷ []) →
-    rule (work_at saved s) opcodes.SetRectOutlined (words_of (shape_bytes (p ∷ q ∷ [])))
-    ≡ Ok (drawn (work_at saved s) (rect_on false s.drawing (record { from = p; to = q }) ∷ []))
-unfolding away steps_from
-rect_outlined_rule saved s p q inside all =
-    rw (shape_read p (q ∷ []) inside all, point_there p inside, (displacements_lead_there p q inside (All-head IsInSquare q [] all)).1) refl
-
-pub rect_filled_rule : (saved : OperandLengths) (s : State) (p q : Coordinates) → IsInSquare p → All IsInSquare (q ∷ []) →
-    rule (work_at saved s) opcodes.SetRectFilled (words_of (shape_bytes (p ∷ q ∷ [])))
-    ≡ Ok (drawn (work_at saved s) (rect_on true s.drawing (record { from = p; to = q }) ∷ []))
-unfolding away steps_from
-rect_filled_rule saved s p q inside all =
-    rw (shape_read p (q ∷ []) inside all, point_there p inside, (displacements_lead_there p q inside (All-head IsInSquare q [] all)).1) refl
-
--- a field
-
-pub whole_field_rule : (saved : OperandLengths) (s : State) →
-    rule (work_at saved s) opcodes.Field (words_of []) ≡ Ok (drawn (work_at saved s) (field_on s.drawing areas.Whole ∷ []))
-whole_field_rule saved s = rw no_moves refl
-
-pub part_field_rule : (saved : OperandLengths) (s : State) (p q : Coordinates) → IsInSquare p → All IsInSquare (q ∷ []) →
-    rule (work_at saved s) opcodes.Field (words_of (shape_bytes (p ∷ q ∷ []))) ≡ Ok (drawn (work_at saved s) (field_on s.drawing (areas.Part p q) ∷ []))
+-- two corners
+pub corners_read : (p q : Coordinates) → IsInSquare p → IsInSquare q → moves 8 (words_of (shape_bytes (p ∷ q ∷ []))) ≡ from_origin p ∷ displacement_to p q ∷ []
 unfolding steps_from
-part_field_rule saved s p q inside all =
-    rw (shape_read p (q ∷ []) inside all, point_there p inside, (displacements_lead_there p q inside (All-head IsInSquare q [] all)).1) refl
-
--- a colour of the map
-pub map_rule : (saved : OperandLengths) (s : State) (a : ℕ) (grb : Components) → HasSixteenBitParts grb → is_known a grb s.known ≡ false →
-    rule (work_at saved (record s { drawing = with_colour (colours.Front a) s.drawing })) opcodes.SetColor (words_of (grb_bytes grb))
-    ≡ Ok (record {
-      entries = entries.Map a grb ∷ [];
-      work = work_at saved (record s { drawing = with_colour (colours.Front a) s.drawing; last = None; known = setting a grb s.known });
-      clears = false;
-    })
-map_rule saved s a grb inside new = rw (colour_alone grb inside, colour_there grb inside, new) refl
+corners_read p q first second = shape_read p (q ∷ []) first (All-cons IsInSquare q [] second (All-nil IsInSquare))
 
 -- blinking
 
@@ -170,11 +121,3 @@ blink_rule saved s a on off delay inside =
     ∙ whole_operand_first 7 group [] (omega arith) (blink_size a on off delay)
     ∙ ap (λ (os : List (List ℕ)). group ∷ os) (no_operands 7) in
     rw (one, address_words a times, time_words a times, spelled.read_back, word_of on, word_of off, word_of delay) refl
-
-pub blink_end_rule : (saved : OperandLengths) (s : State) →
-    rule (work_at saved s) opcodes.Blink (words_of []) ≡ Ok (drawn (work_at saved s) (entries.BlinkEnd s.drawing.colour ∷ []))
-blink_end_rule saved s = rw (no_operands 7) refl
-
-pub wait_rule : (saved : OperandLengths) (s : State) (word : ℕ) →
-    rule (work_at saved s) opcodes.Wait (words_of (word_byte word ∷ [])) ≡ Ok (drawn (work_at saved s) (entries.Wait word ∷ []))
-wait_rule saved s word = rw (word_of word) refl

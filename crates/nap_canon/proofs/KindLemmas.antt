@@ -7,6 +7,7 @@ use Rattle.nap_values.specs.Coordinates.{Coordinates, Displacement, IsInSquare}
 use Rattle.nap_values.specs.Domains.{OperandLengths}
 use Rattle.nap_values.specs.Laws.{IsWord}
 use Rattle.nap_values.specs.Spellings.{words_of, point_bytes, addr_bytes, grb_bytes}
+use Rattle.nap_values.proofs.PublicLaws.{displacements_lead_there}
 use Rattle.nap_codes.specs.declared.code.Code.{Code}
 use Rattle.nap_codes.specs.declared.code.Code.TheVariants as code
 use Rattle.nap_codes.specs.declared.code_set.CharSet.{CharSet}
@@ -50,6 +51,7 @@ use Rattle.nap_draw.specs.Codes.{code_rule, ended_by, opened_by, with_last}
 use Rattle.nap_draw.specs.Geometry.{reached, arc_points, poly_points}
 use Rattle.nap_draw.specs.Limits.{run_limit}
 use Rattle.nap_draw.specs.Rule.{Drawn, drawn, rule, start_domain, arc_on, poly_on, shape_from_point}
+use Rattle.nap_draw.proofs.PublicLaws.{no_operands}
 use Rattle.nap_reader.specs.Laws.{IsAlone}
 use Rattle.nap_canon.specs.declared.command.Command.{Command}
 use Rattle.nap_canon.specs.declared.form.Form.{Form}
@@ -65,7 +67,7 @@ use Rattle.nap_canon.proofs.ConveyLemmas.{by_opcode, by_control, by_primary, by_
 use Rattle.nap_canon.proofs.EntryRules as rules
 use Rattle.nap_canon.proofs.EqualityLemmas.{pen_is}
 use Rattle.nap_canon.proofs.HoldingLemmas.{holding, after_holding, held_work, entry_drawn, Draws, piece_draws}
-use Rattle.nap_canon.proofs.OperandLemmas.{AreOperands, no_bytes, word_bytes, word_of, both_bytes, colour_operand, address_operand}
+use Rattle.nap_canon.proofs.OperandLemmas.{AreOperands, no_bytes, word_bytes, word_of, both_bytes, colour_operand, address_operand, no_moves, point_there, colour_alone, colour_there}
 use Rattle.nap_canon.proofs.PieceLemmas.{sets_with}
 use Rattle.nap_canon.proofs.PlainPieces.{IsOpcode, operand_codes}
 use Rattle.nap_canon.proofs.SavedLemmas.{SavesLengths}
@@ -171,7 +173,7 @@ map_draws saved s a grb address colour mode new =
     let d : Drawn = record { entries = e ∷ []; work = work_at saved (after s e); clears = false } in
     commands_behind saved s cs (opcode 0x3C (grb_bytes grb) ∷ []) (e ∷ []) (work_at saved (after s e)) (led.inside address) led.takes
     (subst (λ (d : Drawing). ConveyAll (work_at saved (record s { drawing = d })) (opcode 0x3C (grb_bytes grb) ∷ []) (e ∷ []) (work_at saved (after s e))) (sym led.there)
-    (next (by_opcode 0x3C opcodes.SetColor (grb_bytes grb) 8 d (refl, refl, tt, omega arith) (colour_operand grb colour) (omega arith) (λ rest. tt) (rules.map_rule saved s a grb colour new)) nothing))
+    (next (by_opcode 0x3C opcodes.SetColor (grb_bytes grb) 8 d (refl, refl, tt, omega arith) (colour_operand grb colour) (omega arith) (λ rest. tt) (rw (colour_alone grb colour, colour_there grb colour, new) refl)) nothing))
 
 -- RESET, with DOMAIN behind it where it puts the lengths of operands back
 
@@ -283,25 +285,25 @@ kind form saved s (entries.Blink a on off delay colour) inside fits mode saves =
     (λ rest. tt) (rules.blink_rule saved (holding s e) a on off delay inside.0))
 kind form saved s (entries.BlinkEnd colour) inside fits mode saves =
     let e : Entry = entries.BlinkEnd colour in
-    inr (opcode_draws saved s e 0x3F opcodes.Blink [] 0 (refl, refl, tt, omega arith) no_bytes (omega arith) (λ rest. tt) (rules.blink_end_rule saved (holding s e)))
+    inr (opcode_draws saved s e 0x3F opcodes.Blink [] 0 (refl, refl, tt, omega arith) no_bytes (omega arith) (λ rest. tt) (rw (no_operands 7) refl))
 kind form saved s (entries.BlinkMark on colour) inside fits mode saves =
     inr (control_draws saved s (entries.BlinkMark on colour) 0x1B ((if on then 0x4E else 0x5E) ∷ []) (code.BlinkMark on) (omega arith) tt tt (λ gl. spells.control1 (mark_row on)) refl)
 kind form saved s (entries.Wait word) inside fits mode saves =
     let e : Entry = entries.Wait word in
     inr (opcode_draws saved s e 0x3D opcodes.Wait (word_byte word ∷ []) 1 (refl, refl, tt, omega arith) (word_bytes word [] 0 inside no_bytes) (omega arith) (λ rest. tt)
-    (rules.wait_rule saved (holding s e) word))
+    (rw (word_of word) refl))
 kind form saved s entries.Bell inside fits mode saves = inr (control_draws saved s entries.Bell 0x07 [] code.Bell (omega arith) tt tt (λ gl. spells.control0 refl (λ is. cc)) refl)
 kind form saved s (entries.Cursor which) inside fits mode saves =
     inr (control_draws saved s (entries.Cursor which) 0x1B (cursor_byte which ∷ []) (code.Cursor which) (omega arith) tt tt (λ gl. spells.control1 (cursor_row which)) refl)
 kind form saved s (entries.Field areas.Whole pen) inside fits mode saves =
     let e : Entry = entries.Field areas.Whole pen in
-    inr (opcode_draws saved s e 0x38 opcodes.Field [] 0 (refl, refl, tt, omega arith) no_bytes (omega arith) (λ rest. tt) (rules.whole_field_rule saved (holding s e)))
+    inr (opcode_draws saved s e 0x38 opcodes.Field [] 0 (refl, refl, tt, omega arith) no_bytes (omega arith) (λ rest. tt) (rw no_moves refl))
 kind form saved s (entries.Field (areas.Part p q) pen) inside fits mode saves =
     let e : Entry = entries.Field (areas.Part p q) pen in
     let corner : IsInSquare p = inside.0.0 in
     let all : All IsInSquare (q ∷ []) = All-cons IsInSquare q [] inside.0.1 (All-nil IsInSquare) in
     inr (opcode_draws saved s e 0x38 opcodes.Field (shape_bytes (p ∷ q ∷ [])) 16 (refl, refl, tt, omega arith) (shape_operands p (q ∷ []) corner all) (omega arith) (λ rest. tt)
-    (rules.part_field_rule saved (holding s e) p q corner all))
+    (rw (rules.corners_read p q corner inside.0.1, point_there p corner, (displacements_lead_there p q corner inside.0.1).1) refl))
 kind form saved s (entries.Reset first second pen) inside fits mode saves = inr (reset_draws saved s first second pen inside.0 inside.1)
 kind form saved s (entries.Clear pen) inside fits mode saves =
     inr (control_draws saved s (entries.Clear pen) 0x0C [] code.Clear (omega arith) tt tt (λ gl. spells.control0 refl (λ is. cc)) refl)

@@ -4,6 +4,7 @@ use Rattle.std.proofs.lemmas.List.Elements.{All-nil, All-cons}
 use Rattle.nap_values.specs.Coordinates.{Coordinates, Displacement, IsInSquare}
 use Rattle.nap_values.specs.Domains.{OperandLengths}
 use Rattle.nap_values.specs.Spellings.{words_of, point_bytes}
+use Rattle.nap_values.proofs.PublicLaws.{displacements_lead_there}
 use Rattle.nap_codes.specs.declared.code.Code.{Code}
 use Rattle.nap_codes.specs.declared.code.Code.TheVariants as codes
 use Rattle.nap_codes.specs.declared.opcode.Opcode.{Opcode}
@@ -16,6 +17,7 @@ use Rattle.nap_list.specs.declared.entry.Entry.{Entry}
 use Rattle.nap_list.specs.declared.entry.Entry.TheVariants as entries
 use Rattle.nap_list.specs.declared.state.State.{State}
 use Rattle.nap_list.specs.State.{after, walk}
+use Rattle.nap_draw.specs.Geometry.{points_at, joined, between, away}
 use Rattle.nap_draw.specs.Joining.{CanJoin}
 use Rattle.nap_draw.specs.Rule.{Drawn, rule}
 use Rattle.nap_canon.specs.Plain.{ComesBehind}
@@ -24,7 +26,7 @@ use Rattle.nap_canon.proofs.CommandLemmas.{work_at}
 use Rattle.nap_canon.proofs.ConveyLemmas.{by_opcode, nothing, next}
 use Rattle.nap_canon.proofs.EntryRules as rules
 use Rattle.nap_canon.proofs.HoldingLemmas.{holding, after_holding, held_work, entry_drawn, Draws}
-use Rattle.nap_canon.proofs.OperandLemmas.{AreOperands, both_bytes, point_operand}
+use Rattle.nap_canon.proofs.OperandLemmas.{AreOperands, both_bytes, point_operand, point_alone, point_there}
 use Rattle.nap_canon.proofs.PlainPieces.{IsOpcode, operand_codes}
 use Rattle.nap_canon.proofs.SavedLemmas.{saved_after}
 use Rattle.nap_canon.proofs.ShapeLemmas.{shape_operands}
@@ -57,30 +59,30 @@ strokes saved s e byte operands op groups same joins is few are by =
 
 pub point_strokes : (saved : OperandLengths) (s : State) (at : Coordinates) (pel : Displacement) (colour : Colour) → IsInSquare at →
     Strokes saved s (entries.Point at pel colour) 0x26 (point_bytes at)
-unfolding row_of opcode_rows left_out_opcode
+unfolding points_at row_of opcode_rows left_out_opcode
 point_strokes saved s at pel colour inside =
     let e : Entry = entries.Point at pel colour in
-    strokes saved s e 0x26 (point_bytes at) opcodes.PointAbs 1 refl tt (refl, refl, tt, omega arith) (omega arith) (point_operand at inside) (rules.point_rule saved (holding s e) at inside)
+    strokes saved s e 0x26 (point_bytes at) opcodes.PointAbs 1 refl tt (refl, refl, tt, omega arith) (omega arith) (point_operand at inside) (rw (point_alone at inside, point_there at inside) refl)
 
 pub line_strokes : (saved : OperandLengths) (s : State) (from to : Coordinates) (ink : Ink) → IsInSquare from → IsInSquare to →
     Strokes saved s (entries.Line from to ink) 0x2A (point_bytes from ++ point_bytes to)
-unfolding row_of opcode_rows left_out_opcode
+unfolding between row_of opcode_rows left_out_opcode
 line_strokes saved s from to ink first second =
     let e : Entry = entries.Line from to ink in
     strokes saved s e 0x2A (point_bytes from ++ point_bytes to) opcodes.SetLineAbs 2 refl tt (refl, refl, tt, omega arith) (omega arith)
-    (both_bytes (point_bytes from) (point_bytes to) 8 8 (point_operand from first) (point_operand to second)) (rules.line_rule saved (holding s e) from to first second)
+    (both_bytes (point_bytes from) (point_bytes to) 8 8 (point_operand from first) (point_operand to second)) (rw (rules.two_points from to first second, point_there from first, point_there to second) refl)
 
 -- a line from the pen
 pub on_line_strokes : (saved : OperandLengths) (s : State) (from to : Coordinates) (ink : Ink) → s.drawing.pen ≡ pens.At from → IsInSquare to →
     Strokes saved s (entries.Line from to ink) 0x28 (point_bytes to)
-unfolding row_of opcode_rows left_out_opcode
+unfolding points_at joined row_of opcode_rows left_out_opcode
 on_line_strokes saved s from to ink pen second =
     let e : Entry = entries.Line from to ink in
-    strokes saved s e 0x28 (point_bytes to) opcodes.LineAbs 1 refl tt (refl, refl, tt, omega arith) (omega arith) (point_operand to second) (rules.on_line_rule saved (holding s e) from to pen second)
+    strokes saved s e 0x28 (point_bytes to) opcodes.LineAbs 1 refl tt (refl, refl, tt, omega arith) (omega arith) (point_operand to second) (rw (point_alone to second, point_there to second, pen) refl)
 
 pub rect_strokes : (saved : OperandLengths) (s : State) (filled : Bool) (from to : Coordinates) (ink : Ink) → IsInSquare from → IsInSquare to →
     Strokes saved s (entries.Rect filled from to ink) (if filled then 0x33 else 0x32) (shape_bytes (from ∷ to ∷ []))
-unfolding row_of opcode_rows left_out_opcode
+unfolding away row_of opcode_rows left_out_opcode
 rect_strokes saved s filled from to ink first second = by filled
   where
     all : All IsInSquare (to ∷ [])
@@ -90,11 +92,11 @@ rect_strokes saved s filled from to ink first second = by filled
     by false =
         let e : Entry = entries.Rect false from to ink in
         strokes saved s e 0x32 (shape_bytes (from ∷ to ∷ [])) opcodes.SetRectOutlined 2 refl tt (refl, refl, tt, omega arith) (omega arith)
-        (shape_operands from (to ∷ []) first all) (rules.rect_outlined_rule saved (holding s e) from to first all)
+        (shape_operands from (to ∷ []) first all) (rw (rules.corners_read from to first second, point_there from first, (displacements_lead_there from to first second).1) refl)
     by true =
         let e : Entry = entries.Rect true from to ink in
         strokes saved s e 0x33 (shape_bytes (from ∷ to ∷ [])) opcodes.SetRectFilled 2 refl tt (refl, refl, tt, omega arith) (omega arith)
-        (shape_operands from (to ∷ []) first all) (rules.rect_filled_rule saved (holding s e) from to first all)
+        (shape_operands from (to ∷ []) first all) (rw (rules.corners_read from to first second, point_there from first, (displacements_lead_there from to first second).1) refl)
 
 -- nothing has to come behind such an opcode
 pub joining_comes : (op : Opcode) → CanJoin op → (rest : List Code) → ComesBehind (codes.Op op) rest

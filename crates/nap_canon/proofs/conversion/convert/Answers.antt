@@ -54,9 +54,9 @@ returns-in-Ok-finish-clause-converts g c =
     let end = c.conclude-in-Ok-finish in
     let same = c.feed_from.ensures.budget in
     let leaves = whole_leaves O c.args.output s c.new.ensures _ (λ t d k. k) (λ t d e k. k) refl (λ d k. k) works I input rest old new p same h t (c.in-Ok-finish.ensures.ok s p h.stands) in
-    let k = finished O c.args.output s c.new.ensures _ (λ t d k. k) (λ t d e k. k) refl (λ d k. k) works I input rest old new p same h.last t (Ok tt) end.result.0 end.result.1 c.args.budget
-    c.new-reader.ensures.budget leaves end.ensures.taken end.ensures.failed end.ensures.answer in
-    (p, k.0, read, k.1, k.2, k.3, flushed_once O g.met.O.Outlet.fails_by_write c.args.output c.requires.works t end.result.0 k.4 end.ensures.flushes end.ensures.write_failed)
+    finished O c.args.output s c.new.ensures _ (λ t d k. k) (λ t d e k. k) refl (λ d k. k) works I input rest old new p same g.met.O.Outlet.fails_by_write c.requires.works h.last t (Ok tt) end.result.0 end.result.1 c.args.budget
+    c.new-reader.ensures.budget read leaves
+    end.ensures.taken end.ensures.failed end.ensures.answer end.ensures.flushes end.ensures.write_failed
 
 -- the stream is refused at its end
 pub returns-in-Err-finish-clause-converts : goal.returns-in-Err-finish-clause-converts
@@ -78,9 +78,9 @@ returns-in-Err-finish-clause-converts g c =
     let same = c.feed_from.ensures.budget in
     let leaves = end_leaves O c.args.output s c.new.ensures _ (λ t d k. k) (λ t d e k. k) refl (λ d k. k) works I input rest old new p same h stopped.sink stopped.refusal
     (λ own. c.in-Err-finish.ensures.err own s p h.stands) (λ other. c.in-Err-finish.ensures.breaks h.ends.1 other s p h.stands) in
-    let k = finished O c.args.output s c.new.ensures _ (λ t d k. k) (λ t d e k. k) refl (λ d k. k) works I input rest old new p same h.last stopped.sink fed end.result.0 end.result.1
-    c.args.budget c.new-reader.ensures.budget leaves end.ensures.taken end.ensures.failed end.ensures.answer in
-    (p, k.0, read, k.1, k.2, k.3, flushed_once O g.met.O.Outlet.fails_by_write c.args.output c.requires.works stopped.sink end.result.0 k.4 end.ensures.flushes end.ensures.write_failed)
+    finished O c.args.output s c.new.ensures _ (λ t d k. k) (λ t d e k. k) refl (λ d k. k) works I input rest old new p same g.met.O.Outlet.fails_by_write c.requires.works h.last stopped.sink fed end.result.0 end.result.1
+    c.args.budget c.new-reader.ensures.budget read leaves
+    end.ensures.taken end.ensures.failed end.ensures.answer end.ensures.flushes end.ensures.write_failed
 
 -- the stream is refused before its end, or the input failed
 pub returns-in-Err-clause-converts : goal.returns-in-Err-clause-converts
@@ -101,6 +101,6 @@ returns-in-Err-clause-converts g c =
     let same = c.feed_from.ensures.budget in
     let leaves = subst (λ (t : Canonical g.row.O.Denot). Ends O c.args.output s c.new.ensures _ (λ t d k. k) (λ t d e k. k) refl (λ d k. k) works I input rest old new p same h.last t fed)
     (sym c.into_sink-in-Err.ensures.now) (fed_leaves O c.args.output s c.new.ensures _ (λ t d k. k) (λ t d e k. k) refl (λ d k. k) works I input rest old new p same c.in-Err.fault h) in
-    let k = finished O c.args.output s c.new.ensures _ (λ t d k. k) (λ t d e k. k) refl (λ d k. k) works I input rest old new p same h.last c.into_sink-in-Err.result fed end.result.0
-    end.result.1 c.args.budget c.new-reader.ensures.budget leaves end.ensures.taken end.ensures.failed end.ensures.answer in
-    (p, k.0, read, k.1, k.2, k.3, flushed_once O g.met.O.Outlet.fails_by_write c.args.output c.requires.works c.into_sink-in-Err.result end.result.0 k.4 end.ensures.flushes end.ensures.write_failed)
+    finished O c.args.output s c.new.ensures _ (λ t d k. k) (λ t d e k. k) refl (λ d k. k) works I input rest old new p same g.met.O.Outlet.fails_by_write c.requires.works h.last c.into_sink-in-Err.result fed end.result.0
+    end.result.1 c.args.budget c.new-reader.ensures.budget read leaves
+    end.ensures.taken end.ensures.failed end.ensures.answer end.ensures.flushes end.ensures.write_failed
