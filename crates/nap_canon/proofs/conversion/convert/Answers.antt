@@ -6,7 +6,7 @@ use Rattle.nap_reader.specs.declared.feeding.FeedFault.TheVariants as feed_fault
 use Rattle.nap_canon.specs.Concluding.{Concludes}
 use Rattle.nap_canon.specs.Converting.{Converts, StopsAtOnce}
 use Rattle.nap_canon.specs.Sinking.{Canonical, Writes, sending, shown}
-use Rattle.nap_canon.proofs.ConvertLemmas.{Ends, end_leaves, fed_leaves, finished, flushed_once, header_fails, whole_leaves}
+use Rattle.nap_canon.proofs.conversions.ConvertLemmas.{Ends, end_leaves, fed_leaves, finished, flushed_once, header_fails, whole_leaves}
 use Rattle.nap_canon.proofs.conversion.convert.Goals as goal
 
 -- the header was not written

@@ -3,7 +3,7 @@ use Rattle.std.proofs.Math.ListN.{drop_of_length-le}
 use Rattle.nap_values.specs.Coordinates.{Coordinates, displacement_to}
 use Rattle.nap_values.specs.Spellings.{move_bytes}
 use Rattle.nap_canon.specs.Spelling.{onward_bytes}
-use Rattle.nap_canon.proofs.WriterLemmas.{move_size, onward_more}
+use Rattle.nap_canon.proofs.texts.WriterLemmas.{move_size, onward_more}
 use Rattle.nap_canon.proofs.gathered.displacements.Goals as goal
 
 pub loop-to-init : goal.loop-to-init

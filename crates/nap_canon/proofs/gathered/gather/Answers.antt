@@ -1,7 +1,7 @@
 use Rattle.std.proofs.Common.{◌≡◌, ◌++◌, ℕ, List, arith, ◌∙◌, ap, sym, take, length, length-append}
 use Rattle.nap_canon.specs.Batches.{points_bytes}
 use Rattle.nap_values.specs.Spellings.{point_bytes}
-use Rattle.nap_canon.proofs.GatheredLemmas.{point_size, points_more, points_all}
+use Rattle.nap_canon.proofs.texts.GatheredLemmas.{point_size, points_more, points_all}
 use Rattle.nap_canon.proofs.gathered.gather.Goals as goal
 
 pub loop-point-init : goal.loop-point-init

@@ -2,7 +2,7 @@ use Rattle.std.proofs.Common.{Err, ap, sym, subst, ◌∙◌}
 use Rattle.nap_list.specs.State.{Legal}
 use Rattle.nap_list.proofs.PublicLaws.{legal_never_breaks}
 use Rattle.nap_reader.proofs.PublicLaws.{accepted_is_legal}
-use Rattle.nap_canon.proofs.CanonicalLaws.{equal_texts, text_is_canonical}
+use Rattle.nap_canon.proofs.reading_back.CanonicalLaws.{equal_texts, text_is_canonical}
 use Rattle.nap_canon.proofs.stream.normalise.Goals as goal
 
 pub returns-in-Ok-clause-equal : goal.returns-in-Ok-clause-equal

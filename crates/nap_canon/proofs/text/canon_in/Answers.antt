@@ -3,9 +3,9 @@ use Rattle.std.proofs.lemmas.Result.{err_from_is_err_and}
 use Rattle.nap_canon.specs.declared.fault.CanonFault.TheVariants.{Memory}
 use Rattle.nap_canon.specs.Laws.{IsReadAs}
 use Rattle.nap_canon.specs.Plain.{IsPlain}
-use Rattle.nap_canon.proofs.CanonicalLaws.{text_is_read}
-use Rattle.nap_canon.proofs.PlainTexts.{text_is_plain}
-use Rattle.nap_canon.proofs.FaultLemmas.{illegal_there, illegal_nowhere, never_breaks}
+use Rattle.nap_canon.proofs.reading_back.CanonicalLaws.{text_is_read}
+use Rattle.nap_canon.proofs.plain_codes.PlainTexts.{text_is_plain}
+use Rattle.nap_canon.proofs.texts.FaultLemmas.{illegal_there, illegal_nowhere, never_breaks}
 use Rattle.nap_canon.proofs.text.canon_in.Goals as goal
 
 pub returns-in-Err-clause-illegal : goal.returns-in-Err-clause-illegal

@@ -10,8 +10,8 @@ use Rattle.nap_list.specs.State.{start, walk, Fits, after}
 use Rattle.nap_canon.specs.Sinking.{Canonical}
 use Rattle.nap_canon.specs.Spelling.{Piece}
 use Rattle.nap_canon.specs.Text.{written, tail_after, pieces, entry_pieces, header, text_in}
-use Rattle.nap_canon.proofs.SinkingLemmas.{header_sent}
-use Rattle.nap_canon.proofs.WalkLemmas.{text_more, tail_more, walk_more, fits_at}
+use Rattle.nap_canon.proofs.sinks.SinkingLemmas.{header_sent}
+use Rattle.nap_canon.proofs.texts.WalkLemmas.{text_more, tail_more, walk_more, fits_at}
 use Rattle.nap_canon.proofs.text.write.Goals as goal
 
 alone : (form : Form) (s : State) (e : Entry) → pieces form s (e ∷ []) ≡ entry_pieces form s e

@@ -3,7 +3,7 @@ use Rattle.nap_list.specs.Batches.{listed}
 use Rattle.nap_list.specs.PuttingLaws.{put_begins, put_ends}
 use Rattle.nap_canon.specs.Batches.{canon_shows}
 use Rattle.nap_canon.specs.SinkLaws.{took_none}
-use Rattle.nap_canon.proofs.PutLemmas.{each_stands, first_taken, rest_behind, stands_behind}
+use Rattle.nap_canon.proofs.sinks.PutLemmas.{each_stands, first_taken, rest_behind, stands_behind}
 use Rattle.nap_canon.proofs.canon_sink.CanonSink.put_all.Goals as goal
 
 pub put_standing-requires-clause-stand : goal.put_standing-requires-clause-stand

@@ -2,7 +2,7 @@ use Rattle.std.proofs.Common.{List, sym, subst}
 use Rattle.nap_list.specs.declared.entry.Entry.{Entry}
 use Rattle.nap_list.specs.State.{AllFit}
 use Rattle.nap_canon.specs.Batches.{PutsFirst}
-use Rattle.nap_canon.proofs.PutLemmas.{first_put}
+use Rattle.nap_canon.proofs.sinks.PutLemmas.{first_put}
 use Rattle.nap_canon.proofs.canon_sink.CanonSink.put_first.Goals as goal
 
 pub put_ref-requires : goal.put_ref-requires

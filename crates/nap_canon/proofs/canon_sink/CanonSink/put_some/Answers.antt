@@ -2,7 +2,7 @@ use Rattle.std.proofs.Common.{◌≡◌, ◌<◌, Result, false, length, drop, r
 use Rattle.nap_list.specs.Batches.{EachStands, listed}
 use Rattle.nap_canon.specs.Batches.{PutsFirst, PutsSome}
 use Rattle.nap_canon.specs.Sinking.{Canonical, sending}
-use Rattle.nap_canon.proofs.PutLemmas.{next_put, joined_took, joined_broke}
+use Rattle.nap_canon.proofs.sinks.PutLemmas.{next_put, joined_took, joined_broke}
 use Rattle.nap_canon.proofs.canon_sink.CanonSink.put_some.Goals as goal
 use Rattle.nap_canon.proofs.canon_sink.CanonSink.put_some.Goals.{in-Ok, in-Err, in-Ok-put_joined, in-Err-put_joined}
 

@@ -3,7 +3,7 @@ use Rattle.nap_list.specs.Batches.{listed}
 use Rattle.nap_list.specs.PuttingLaws.{put_begins}
 use Rattle.nap_canon.specs.Batches.{canon_shows, PutsSome}
 use Rattle.nap_canon.specs.SinkLaws.{took_none}
-use Rattle.nap_canon.proofs.PutLemmas.{behind_broke, halts_within, part_put, stands_on, works_behind}
+use Rattle.nap_canon.proofs.sinks.PutLemmas.{behind_broke, halts_within, part_put, stands_on, works_behind}
 use Rattle.nap_canon.proofs.canon_sink.CanonSink.put_standing.Goals as goal
 
 pub loop-taken-init : goal.loop-taken-init

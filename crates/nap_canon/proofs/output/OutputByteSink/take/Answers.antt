@@ -1,5 +1,5 @@
 use Rattle.nap_canon.specs.Sinking.{sending}
-use Rattle.nap_canon.proofs.CutLemmas.{cut_sends}
+use Rattle.nap_canon.proofs.sinks.CutLemmas.{cut_sends}
 use Rattle.nap_canon.proofs.output.OutputByteSink.take.Goals as goal
 
 pub returns-in-Err : goal.returns-in-Err

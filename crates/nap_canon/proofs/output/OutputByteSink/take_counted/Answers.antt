@@ -2,8 +2,8 @@ use Rattle.std.proofs.Common.{◌≤◌, ℕ, List, arith, subst, take, drop, le
 use Rattle.std.specs.Prelude.{slice_index}
 use Rattle.std.specs.Io.KnownBytes.{Appends}
 use Rattle.nap_canon.specs.Sinking.{sending}
-use Rattle.nap_canon.proofs.CutLemmas.{none_taken}
-use Rattle.nap_canon.proofs.SinkingLemmas.{takes_more, rest_of}
+use Rattle.nap_canon.proofs.sinks.CutLemmas.{none_taken}
+use Rattle.nap_canon.proofs.sinks.SinkingLemmas.{takes_more, rest_of}
 use Rattle.nap_canon.proofs.output.OutputByteSink.take_counted.Goals as goal
 
 pub loop-taken-preserved : goal.loop-taken-preserved

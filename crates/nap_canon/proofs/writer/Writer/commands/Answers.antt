@@ -3,7 +3,7 @@ use Rattle.std.proofs.lemmas.Result.{err_from_is_err_and}
 use Rattle.nap_canon.specs.declared.command.Command.{Command}
 use Rattle.nap_canon.specs.Spelling.{command_piece}
 use Rattle.nap_canon.specs.Text.{written, tail_after, piece_bytes}
-use Rattle.nap_canon.proofs.WriterLemmas.{bytes_more, tail_more, commands_left, sent_both, sent_second}
+use Rattle.nap_canon.proofs.texts.WriterLemmas.{bytes_more, tail_more, commands_left, sent_both, sent_second}
 use Rattle.nap_canon.proofs.writer.Writer.commands.Goals as goal
 
 pub loop-command-init : goal.loop-command-init

@@ -3,7 +3,7 @@ use Rattle.nap_list.specs.Entry.{held}
 use Rattle.nap_canon.specs.declared.command.Command.{Command}
 use Rattle.nap_canon.specs.Spelling.{command_piece}
 use Rattle.nap_canon.specs.Text.{written, tail_after}
-use Rattle.nap_canon.proofs.StandingLemmas.{nothing_to_bring}
+use Rattle.nap_canon.proofs.bring.StandingLemmas.{nothing_to_bring}
 use Rattle.nap_canon.proofs.writer.Writer.lead.Goals as goal
 
 pub returns-then-stands-clause-sent : goal.returns-then-stands-clause-sent

@@ -7,7 +7,7 @@ use Rattle.nap_canon.specs.declared.command.Command.{Command}
 use Rattle.nap_canon.specs.Spelling.{Piece, opcode, command_piece}
 use Rattle.nap_canon.specs.Text.{gl_of, to_opcodes, piece_bytes, written, tail_after}
 use Rattle.nap_canon.specs.TextParts.{tail_after-append}
-use Rattle.nap_canon.proofs.WriterLemmas.{on_ok_from, bytes_behind, sent_both, sent_first}
+use Rattle.nap_canon.proofs.texts.WriterLemmas.{on_ok_from, bytes_behind, sent_both, sent_first}
 use Rattle.nap_canon.proofs.writer.Writer.map.Goals as goal
 
 pub returns-in_err-commands-clause-sent : goal.returns-in_err-commands-clause-sent

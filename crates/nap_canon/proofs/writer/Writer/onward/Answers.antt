@@ -5,7 +5,7 @@ use Rattle.std.proofs.lemmas.Result.{err_from_is_err_and}
 use Rattle.nap_values.specs.Coordinates.{Coordinates}
 use Rattle.nap_list.specs.Batches.{last_of}
 use Rattle.nap_canon.specs.Spelling.{onward_bytes}
-use Rattle.nap_canon.proofs.WriterLemmas.{onward_part, sent_second}
+use Rattle.nap_canon.proofs.texts.WriterLemmas.{onward_part, sent_second}
 use Rattle.nap_canon.proofs.writer.Writer.onward.Goals as goal
 
 pub loop-chunk-init : goal.loop-chunk-init

@@ -1,4 +1,4 @@
-use Rattle.nap_canon.proofs.JoinLemmas.{whole_few}
+use Rattle.nap_canon.proofs.sinks.JoinLemmas.{whole_few}
 use Rattle.nap_canon.proofs.writer.Writer.put_joined.Goals as goal
 
 pub pass_on-requires-clause-few : goal.pass_on-requires-clause-few

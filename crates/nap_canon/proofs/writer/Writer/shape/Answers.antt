@@ -3,7 +3,7 @@ use Rattle.std.proofs.lemmas.Result.{err_from_is_err_and}
 use Rattle.nap_canon.specs.Spelling.{onward_bytes, shape}
 use Rattle.nap_codes.specs.declared.code_set.GSet.{GSet}
 use Rattle.nap_canon.specs.Text.{to_opcodes, piece_bytes}
-use Rattle.nap_canon.proofs.WriterLemmas.{shape_joined, sent_both, sent_first}
+use Rattle.nap_canon.proofs.texts.WriterLemmas.{shape_joined, sent_both, sent_first}
 use Rattle.nap_canon.proofs.writer.Writer.shape.Goals as goal
 
 pub returns-in_err-drawn-in-Some-clause-sent : goal.returns-in_err-drawn-in-Some-clause-sent

@@ -3,7 +3,7 @@ use Rattle.nap_values.specs.Spellings.{point_bytes}
 use Rattle.nap_list.specs.BatchLaws.{sized_lines, sized_text}
 use Rattle.nap_canon.specs.Spelling.{stroke, line_piece, char_piece}
 use Rattle.nap_canon.specs.Text.{piece_bytes, tail_behind}
-use Rattle.nap_canon.proofs.JoinLemmas.{writes_one, next_point, next_line, next_character}
+use Rattle.nap_canon.proofs.sinks.JoinLemmas.{writes_one, next_point, next_line, next_character}
 use Rattle.nap_canon.proofs.writer.Writer.write_next.Goals as goal
 
 pub start_at-requires : goal.start_at-requires

@@ -1,0 +1,32 @@
+-- What passes a test of equality is the same.
+
+use Rattle.std.proofs.Common.{◌≡◌, true, arith, Bool}
+use Rattle.std.proofs.lemmas.Bool.Decides.{nat_tests, Decides-int_eq}
+use Rattle.nap_values.specs.Coordinates.{Displacement}
+use Rattle.nap_list.specs.declared.attribute.Pen.{Pen}
+use Rattle.nap_list.specs.declared.attribute.Colour.{Colour}
+use Rattle.nap_list.specs.declared.attribute.Base.{Base}
+use Rattle.nap_list.specs.declared.attribute.CharSize.{CharSize}
+use Rattle.nap_list.specs.declared.attribute.Texture.{Texture}
+use Rattle.nap_canon.specs.Equality.{same_move, same_pen, same_colour, same_base, same_size, same_texture, same_flag}
+
+pub move_is : (a b : Displacement) → same_move a b ≡ true → a ≡ b
+move_is a b e = grind (arith, nat_tests, Decides-int_eq)
+
+pub pen_is : (a b : Pen) → same_pen a b ≡ true → a ≡ b
+pen_is a b e = grind (arith, nat_tests)
+
+pub colour_is : (a b : Colour) → same_colour a b ≡ true → a ≡ b
+colour_is a b e = grind (arith, nat_tests)
+
+pub base_is : (a b : Base) → same_base a b ≡ true → a ≡ b
+base_is a b e = grind (arith, nat_tests)
+
+pub size_is : (a b : CharSize) → same_size a b ≡ true → a ≡ b
+size_is a b e = grind (arith, nat_tests, Decides-int_eq)
+
+pub texture_is : (a b : Texture) → same_texture a b ≡ true → a ≡ b
+texture_is a b e = grind (arith, nat_tests, Decides-int_eq)
+
+pub flag_is : (a b : Bool) → same_flag a b ≡ true → a ≡ b
+flag_is a b e = grind arith

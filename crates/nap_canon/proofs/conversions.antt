@@ -1,0 +1,4 @@
+-- What a conversion has written when it ends.
+
+pub mod WentOutLemmas
+pub mod ConvertLemmas

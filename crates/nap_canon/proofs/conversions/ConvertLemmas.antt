@@ -1,0 +1,207 @@
+-- What a conversion answers, by what its reader shows.
+
+use Rattle.std.proofs.Common.{ℕ, ◌≡◌, ◌≢◌, ◌||◌, Bool, true, false, List, [], ◌++◌, Some, None, Result, Ok, Err, length, take, drop, refl, ap, sym, subst, ◌∙◌, inl, inr, append_assoc, arith}
+use Rattle.std.proofs.lemmas.Bool.{false≢true}
+use Rattle.std.proofs.lemmas.List.{take-append-drop}
+use Rattle.std.specs.Io.KnownBytes.{Appends, Consumes, Keeps}
+use Rattle.std.proofs.KnownBytes.{Appends-kept, Consumes-nil}
+use Rattle.nap_canon.specs.declared.form.Form.TheVariants.{Two}
+use Rattle.nap_draw.specs.Draws.{Cause, stream, memory, device}
+use Rattle.nap_list.specs.declared.device.Inlet as inlet
+use Rattle.nap_list.specs.declared.device.Outlet as outlet
+use Rattle.nap_list.specs.declared.entry.Entry.{Entry}
+use Rattle.nap_list.specs.declared.sink.Sink.{Ghosts}
+use Rattle.nap_list.specs.Flushing.{FlushedOnce, flushed}
+use Rattle.nap_list.specs.Reading.{reading}
+use Rattle.nap_list.specs.State.{start}
+use Rattle.nap_reader.specs.declared.fault.Refusal.{Refusal}
+use Rattle.nap_reader.specs.declared.feeding.FeedFault.{FeedFault}
+use Rattle.nap_reader.specs.declared.feeding.FeedFault.TheVariants as feed_fault
+use Rattle.nap_reader.specs.Breaking.{cause_of, BreaksInRun}
+use Rattle.nap_reader.specs.declared.reader.Reader.{Reader}
+use Rattle.nap_reader.specs.Feeding.{Feeds, LastRead}
+use Rattle.nap_reader.specs.Laws.{BreaksAmong}
+use Rattle.nap_reader.specs.Standing.{Answers, AnswersBy, IsKnown, IsTaken, Stands, budget_of, left_of, refusal_of, sink_of}
+use Rattle.nap_reader.specs.Stream.{Outcome, begun, means, ended_by}
+use Rattle.nap_reader.proofs.PublicLaws.{begun_comes_first, end_breaks_among, fed_breaks_among, more_bytes_keep_entries}
+use Rattle.nap_canon.specs.declared.conversion.ConvertFault.{ConvertFault}
+use Rattle.nap_canon.specs.declared.conversion.ConvertFault.TheVariants as fault
+use Rattle.nap_canon.specs.Concluding.{Concludes}
+use Rattle.nap_canon.specs.Converting.{StopsAtOnce, IsFrontOf, Converts}
+use Rattle.nap_canon.specs.Sinking.{Canonical, sending, shown, Sends, Writes, Begun, Took, Broke}
+use Rattle.nap_canon.specs.Streams.{list_of}
+use Rattle.nap_canon.specs.Text.{header, begun_tail, written, pieces, text}
+use Rattle.nap_canon.proofs.conversions.WentOutLemmas.{front_refl, Leaves, concluded, leaves_whole, leaves_refused, leaves_cut, leaves_broken}
+
+-- An output that was written to the end is flushed once, where no write failed.
+
+module _ {O : Type 0} (o : outlet.Ghosts O) (law : (x : O) → o.write_failed x ≡ true → o.failed x ≡ true) (w : O) (works : o.failed w ≡ false) where
+  unfailed : o.write_failed w ≡ false
+  unfailed = by_flag (o.write_failed w) refl
+    where
+      by_flag : (b : Bool) → o.write_failed w ≡ b → o.write_failed w ≡ false
+      by_flag true h = absurd (false≢true (sym works ∙ law w h))
+      by_flag false h = h
+
+  pub flushed_once : (t : Canonical O) (u : O) → Writes (sending o w 0) (shown o t) → o.flushes u ≡ flushed (o.failed t.outlet) (o.flushes t.outlet) →
+      o.write_failed u ≡ o.write_failed t.outlet → FlushedOnce o w u
+  flushed_once t u wrote flushes kept =
+      let failed : o.failed t.outlet ≡ wrote.fails = wrote.failed ∙ ap (λ (b : Bool). b || wrote.fails) works in
+      let write_failed : o.write_failed t.outlet ≡ wrote.fails = wrote.write_failed ∙ ap (λ (b : Bool). b || wrote.fails) unfailed in
+      flushes
+      ∙ ap (λ (b : Bool). flushed b (o.flushes t.outlet)) (failed ∙ sym (kept ∙ write_failed))
+      ∙ ap (flushed (o.write_failed u)) wrote.flushes
+
+-- what a conversion ensures of what it read and wrote
+abbrev pub Converted : {I O : Type 0} → inlet.Ghosts I → outlet.Ghosts O → ℕ → I → I → O → O → Result ℕ ConvertFault → Type 0
+Converted i o budget initial final w u answer =
+    (p : List ℕ) × (q : List ℕ) × Consumes (i.left initial) (i.left final) p × Appends (o.taken w) (o.taken u) q
+    × Converts budget p (reading i initial final) q (o.failed u) answer
+    × StopsAtOnce i budget p initial final q
+    × FlushedOnce o w u
+
+-- What a reader shows.
+
+module _ {S : Type 0} {g : Ghosts S} (reader : Reader S g) (s : S) (p : List ℕ) (h : Stands reader s p) where
+  unrefused : (budget : ℕ) → budget_of reader ≡ budget → refusal_of reader ≡ None → IsKnown g s (begun budget p) (sink_of reader) (left_of reader) None
+  unrefused budget same none =
+      subst (λ (b : ℕ). IsKnown g s (begun b p) (sink_of reader) (left_of reader) None) same
+      (subst (Answers g s (budget_of reader) p (sink_of reader) (left_of reader)) none h.answers)
+
+  refused_by : (budget : ℕ) (r : Refusal) → budget_of reader ≡ budget → refusal_of reader ≡ Some r →
+      AnswersBy g s budget p (sink_of reader) (left_of reader) r (cause_of r.fault)
+  refused_by budget r same some =
+      subst (λ (b : ℕ). AnswersBy g s b p (sink_of reader) (left_of reader) r (cause_of r.fault)) same
+      (subst (Answers g s (budget_of reader) p (sink_of reader) (left_of reader)) some h.answers)
+
+-- a stream that is refused so far is refused so as a whole
+means_refused : (budget : ℕ) (p : List ℕ) (r : Refusal) → (begun budget p).refusal ≡ Some r → means budget p ≡ begun budget p
+means_refused budget p r is = ap (ended_by (begun budget p) (length p)) is
+
+module _ {O : Type 0} (o : outlet.Ghosts O) (w : O) (s : Canonical O) (begins : Begun o w s) (g : Ghosts (Canonical O))
+    (took_is : (t : Canonical O) (d : List Entry) → g.took s d t → Took o s d t)
+    (broke_is : (t : Canonical O) (d : List Entry) (e : Entry) → g.broke s d e t → Broke o s d e t) (failed_is : g.failed s ≡ o.failed s.outlet)
+    (wants_none : (d : List Entry) → g.wants s d → ⊥) where
+  -- the header was not written
+  pub header_fails : {I : Type 0} (i : inlet.Ghosts I) (input : I) (reader : Reader (Canonical O) g) → Stands reader s [] → refusal_of reader ≡ None → o.failed s.outlet ≡ true →
+      (u : O) (answer : Result ℕ ConvertFault) → Keeps (o.taken s.outlet) (o.taken u) → o.failed u ≡ true → Concludes s.written (Ok tt) (o.failed u) answer →
+      (q : List ℕ) × Appends (o.taken w) (o.taken u) q × Converts (budget_of reader) [] (reading i input input) q (o.failed u) answer
+      × StopsAtOnce i (budget_of reader) [] input input q × Writes (sending o w 0) (shown o s)
+  header_fails i input reader h none fails u answer keeps failed ends =
+      let sent : Sends (sending o w 0) header true (shown o s) = subst (λ (broke : Bool). Sends (sending o w 0) header broke (shown o s)) fails begins.begins in
+      let q = take sent.part header in
+      let front : (d : List Entry) → IsFrontOf q (text d) = λ d. (
+        drop sent.part header ++ written begun_tail (pieces Two start d),
+        ap (λ (bytes : List ℕ). bytes ++ written begun_tail (pieces Two start d)) (sym (take-append-drop sent.part header)) ∙ append_assoc q (drop sent.part header) (written begun_tail (pieces Two start d)),
+      ) in
+      let is : answer ≡ Err (fault.Write s.written) = subst (λ (b : Bool). Concludes s.written (Ok tt) b answer) failed ends in (
+        q,
+        Appends-kept (o.taken w) (o.taken s.outlet) (o.taken u) q sent.grows.taken keeps,
+        rw (failed, is) (
+          omega (arith, sent.grows.count),
+          record {
+            front = front (list_of (budget_of reader) []);
+            left = inr (front (begun (budget_of reader) []).entries);
+          },
+        ),
+        record {
+          last = record {
+            mid = input;
+            before = [];
+            last = [];
+            parts = refl;
+            gave = Consumes-nil (i.left input);
+            gives = Consumes-nil (i.left input);
+            reads = omega arith;
+            once = omega arith;
+            unrefused = (unrefused reader s [] h (budget_of reader) refl none).refusal;
+          };
+          written = λ some. absurd (omega (arith, some));
+        },
+        sent.grows.writes,
+      )
+
+  module _ (works : o.failed s.outlet ≡ false) {I : Type 0} (i : inlet.Ghosts I) (initial final : I) (old new : Reader (Canonical O) g) (p : List ℕ) (same : budget_of new ≡ budget_of old) where
+    -- what was known before the last read comes first
+    pub first_of : (last : LastRead i (budget_of old) p initial final) → IsFrontOf (begun (budget_of old) last.before).entries (begun (budget_of old) p).entries
+    first_of last =
+        subst (λ (bytes : List ℕ). IsFrontOf (begun (budget_of old) last.before).entries (begun (budget_of old) bytes).entries) (sym last.parts)
+        (more_bytes_keep_entries (budget_of old) last.before last.last)
+
+    abbrev pub Ends : LastRead i (budget_of old) p initial final → Canonical O → Result (Unit {0}) FeedFault → Type 0
+    Ends last t fed = Leaves o w s begins works (budget_of old) p (reading i initial final) last.before (first_of last) t fed
+
+    -- the feeding stopped before the end
+    pub fed_leaves : (fault : FeedFault) (h : Feeds i old new s p initial final (Err fault)) → Ends h.last (sink_of new) (Err fault)
+    fed_leaves feed_fault.Read h =
+        let known = unrefused new s p h.stands (budget_of old) same h.ends.1 in
+        leaves_cut o w s begins works (budget_of old) p (reading i initial final) h.last.before (first_of h.last) (sink_of new) h.ends.0 known.refusal
+        (took_is (sink_of new) (begun (budget_of old) p).entries known.taken)
+    fed_leaves (feed_fault.Refused r) h = at (cause_of r.fault) refl (refused_by new s p h.stands (budget_of old) r same h.ends.1)
+      where
+        broken : cause_of r.fault ≢ stream → Ends h.last (sink_of new) (Err (feed_fault.Refused r))
+        broken broke =
+            let budget = budget_of old in
+            let (n, within, stops) = h.stops in
+            let among = fed_breaks_among g s budget h.last.before h.last.last n (sink_of new) (left_of new) r within broke stops in
+            let here = subst (λ (bytes : List ℕ). BreaksAmong g s budget bytes (begun budget h.last.before).entries (begun budget bytes) (sink_of new) r) (sym h.last.parts) among in
+            leaves_broken o w s begins works budget p (reading i initial final) h.last.before (first_of h.last) g took_is broke_is failed_is wants_none (sink_of new) r
+            (begun budget h.last.before).entries (begun budget p) here h.ends.0 (front_refl (begun budget h.last.before).entries) (begun_comes_first budget p)
+            (λ q front. inr front) broke
+
+        at : (cause : Cause) → cause_of r.fault ≡ cause → AnswersBy g s (budget_of old) p (sink_of new) (left_of new) r cause → Ends h.last (sink_of new) (Err (feed_fault.Refused r))
+        at stream own known =
+            let budget = budget_of old in
+            let whole = means_refused budget p r known.refusal in
+            let list = ap (λ (out : Outcome). out.entries) whole in
+            leaves_refused o w s begins works budget p (reading i initial final) h.last.before (first_of h.last) (sink_of new) r h.ends.0 (inr known.refusal)
+            (inr (subst (λ (d : List Entry). IsFrontOf (text (list_of budget p)) (text d)) list (front_refl (text (list_of budget p))))) own
+            (ap (λ (out : Outcome). out.refusal) whole ∙ known.refusal)
+            (subst (λ (d : List Entry). Took o s d (sink_of new)) (sym list) (took_is (sink_of new) (begun budget p).entries known.taken))
+        at memory is known = broken (λ own. let bad = sym is ∙ own in cc)
+        at device is known = broken (λ own. let bad = sym is ∙ own in cc)
+
+    -- the stream was read to its end
+    module _ (h : Feeds i old new s p initial final (Ok tt)) where
+      pub whole_leaves : (t : Canonical O) → (IsTaken g s (means (budget_of new) p) t None) → Ends h.last t (Ok tt)
+      whole_leaves t taken =
+          let here = subst (λ (budget : ℕ). IsTaken g s (means budget p) t None) same taken in
+          leaves_whole o w s begins works (budget_of old) p (reading i initial final) h.last.before (first_of h.last) t h.ends.0 here.0 (took_is t (list_of (budget_of old) p) here.1)
+
+      pub end_leaves : (t : Canonical O) (r : Refusal) → (cause_of r.fault ≡ stream → IsTaken g s (means (budget_of new) p) t (Some r)) →
+          (cause_of r.fault ≢ stream → BreaksInRun g s (budget_of new) p t r) → Ends h.last t (Err (feed_fault.Refused r))
+      end_leaves t r own broke = at (cause_of r.fault) refl
+        where
+          known : IsKnown g s (begun (budget_of old) p) (sink_of new) (left_of new) None
+          known = unrefused new s p h.stands (budget_of old) same h.ends.1
+
+          broken : cause_of r.fault ≢ stream → Ends h.last t (Err (feed_fault.Refused r))
+          broken other =
+              let budget = budget_of old in
+              let among = end_breaks_among g s budget p t r known.refusal (subst (λ (b : ℕ). BreaksInRun g s b p t r) same (broke other)) in
+              leaves_broken o w s begins works budget p (reading i initial final) h.last.before (first_of h.last) g took_is broke_is failed_is wants_none t r (begun budget p).entries
+              (means budget p) among h.ends.0.none_failed (first_of h.last) (front_refl (list_of budget p)) (λ q front. inl h.ends.0) other
+
+          at : (cause : Cause) → cause_of r.fault ≡ cause → Ends h.last t (Err (feed_fault.Refused r))
+          at stream is =
+              let here = subst (λ (budget : ℕ). IsTaken g s (means budget p) t (Some r)) same (own is) in
+              leaves_refused o w s begins works (budget_of old) p (reading i initial final) h.last.before (first_of h.last) t r h.ends.0.none_failed (inl h.ends.0)
+              (inl h.ends.0) is here.0 (took_is t (list_of (budget_of old) p) here.1)
+          at memory is = broken (λ own. let bad = sym is ∙ own in cc)
+          at device is = broken (λ own. let bad = sym is ∙ own in cc)
+
+    -- the end of a conversion, with its last read
+    pub finished : (law : (x : O) → o.write_failed x ≡ true → o.failed x ≡ true) → o.failed w ≡ false → (last : LastRead i (budget_of old) p initial final) (t : Canonical O) (fed : Result (Unit {0}) FeedFault) (u : O)
+        (answer : Result ℕ ConvertFault) (budget : ℕ) → budget_of old ≡ budget → Consumes (i.left initial) (i.left final) p → Ends last t fed → Keeps (o.taken t.outlet) (o.taken u) →
+        (o.failed t.outlet ≡ true → o.failed u ≡ true) → Concludes t.written fed (o.failed u) answer → o.flushes u ≡ flushed (o.failed t.outlet) (o.flushes t.outlet) →
+        o.write_failed u ≡ o.write_failed t.outlet → Converted i o budget initial final w u answer
+    finished law unfailed last t fed u answer budget is read leaves keeps fails ends flushes kept =
+        let k = concluded o w s begins works (budget_of old) p (reading i initial final) last.before (first_of last) t fed u answer leaves keeps fails ends in (
+          p,
+          k.0,
+          read,
+          k.1,
+          subst (λ (b : ℕ). Converts b p (reading i initial final) k.0 (o.failed u) answer) is k.2,
+          subst (λ (b : ℕ). StopsAtOnce i b p initial final k.0) is (record { last = last; written = λ _. k.3 }),
+          flushed_once o law w unfailed t u k.4 flushes kept,
+        )

@@ -1,0 +1,205 @@
+-- What went out of a conversion is a front of the text, whole where all was read.
+
+use Rattle.std.proofs.Common.{ℕ, ◌≡◌, ◌≢◌, ◌⊎◌, Bool, true, false, List, [], ◌∷◌, ◌++◌, Some, None, Result, Ok, Err, take, drop, refl, ap, sym, subst, ◌∙◌, inl, inr, append-nil, append_assoc, arith}
+use Rattle.std.proofs.lemmas.List.{take-append-drop}
+use Rattle.std.specs.Io.KnownBytes.{Appends, Keeps}
+use Rattle.std.proofs.KnownBytes.{Appends-kept}
+use Rattle.nap_canon.specs.declared.tail.Tail.{Tail}
+use Rattle.nap_canon.specs.declared.form.Form.{Form}
+use Rattle.nap_canon.specs.declared.form.Form.TheVariants.{Two}
+use Rattle.nap_draw.specs.Draws.{Cause, stream, memory, device}
+use Rattle.nap_list.specs.declared.device.Outlet as outlet
+use Rattle.nap_list.specs.declared.entry.Entry.{Entry}
+use Rattle.nap_list.specs.declared.state.State.{State}
+use Rattle.nap_list.specs.declared.sink.Sink.{Ghosts}
+use Rattle.nap_list.specs.Reading.{Reading, NoneFailed, IsCutOff, IsReadWhole}
+use Rattle.nap_list.specs.State.{start, walk, after}
+use Rattle.nap_reader.specs.declared.fault.Refusal.{Refusal}
+use Rattle.nap_reader.specs.declared.feeding.FeedFault.{FeedFault}
+use Rattle.nap_reader.specs.declared.feeding.FeedFault.TheVariants as feed_fault
+use Rattle.nap_reader.specs.Breaking.{cause_of, LacksWithin, TookFront}
+use Rattle.nap_reader.specs.Laws.{BreaksAmong, WantsSome}
+use Rattle.nap_reader.specs.Stream.{Outcome, begun, means}
+use Rattle.nap_reader.proofs.PublicLaws.{begun_comes_first}
+use Rattle.nap_canon.specs.declared.conversion.ConvertFault.{ConvertFault}
+use Rattle.nap_canon.specs.Concluding.{Concludes, answer_of}
+use Rattle.nap_canon.specs.Converting.{count_of, IsFrontOf, RefusesBy, Converts}
+use Rattle.nap_canon.specs.Sinking.{Canonical, sending, shown, bytes_of, bytes_behind, Writes, Grows, Begun, Took, Broke}
+use Rattle.nap_canon.specs.SinkLaws.{grows_more}
+use Rattle.nap_canon.specs.Streams.{list_of}
+use Rattle.nap_canon.specs.Text.{header, begun_tail, written, tail_after, pieces, entry_pieces, text}
+use Rattle.nap_canon.specs.TextParts.{written-append}
+use Rattle.nap_canon.proofs.sinks.SinkingLemmas.{first_of_text, header_sent, sink_writes_text}
+use Rattle.nap_canon.proofs.texts.TextLemmas.{text_of_entries}
+
+-- fronts
+
+pub front_refl : {A : Type 0} (xs : List A) → IsFrontOf xs xs
+front_refl xs = ([], sym (append-nil xs))
+
+front_trans : {A : Type 0} (xs ys zs : List A) → IsFrontOf xs ys → IsFrontOf ys zs → IsFrontOf xs zs
+front_trans {A} xs ys zs h k = (h.0 ++ k.0, k.1 ∙ ap (λ (front : List A). front ++ k.0) h.1 ∙ append_assoc xs h.0 k.0)
+
+-- the text of the first entries stands first in that of all
+text_front : (d e : List Entry) → IsFrontOf d e → IsFrontOf (text d) (text e)
+text_front d e h = (written (tail_after begun_tail (pieces Two start d)) (pieces Two (walk start d) h.0), ap text h.1 ∙ text_of_entries Two d h.0)
+
+module _ {O : Type 0} (o : outlet.Ghosts O) (w : O) (s : Canonical O) (begins : Begun o w s) (works : o.failed s.outlet ≡ false) where
+  -- the text of what a sink took went out
+  took_text : (t : Canonical O) (d : List Entry) → Took o s d t → Grows (sending o w 0) (text d) (shown o t)
+  took_text t d h = (sink_writes_text o w s t d begins works h).grows
+
+  -- What a sink wrote that failed amid an entry: the text of those before, and a part of its bytes.
+  abbrev broke_bytes : (t : Canonical O) (d : List Entry) (e : Entry) → Broke o s d e t → List ℕ
+  broke_bytes t d e h = text d ++ take h.part (bytes_behind s d e)
+
+  broke_text : (t : Canonical O) (d : List Entry) (e : Entry) (h : Broke o s d e t) → Grows (sending o w 0) (broke_bytes t d e h) (shown o t)
+  broke_text t d e h =
+      let none = header_sent Two o w s begins works in
+      let part = take h.part (bytes_behind s d e) in
+      let bytes = first_of_text Two o w s begins works d in
+      let all : header ++ (bytes_of s d ++ part) ≡ text d ++ part =
+      ap (λ (bs : List ℕ). header ++ (bs ++ part)) bytes ∙ sym (append_assoc header (written begun_tail (pieces Two start d)) part) in
+      subst (λ (bs : List ℕ). Grows (sending o w 0) bs (shown o t)) all
+      (grows_more (sending o w 0) (shown o s) (shown o t) header (bytes_of s d ++ part) none.grows h.grows)
+
+  -- that is a front of the text of any list that goes on so
+  broke_front : (t : Canonical O) (d : List Entry) (e : Entry) (rest : List Entry) (h : Broke o s d e t) → IsFrontOf (broke_bytes t d e h) (text (d ++ e ∷ rest))
+  unfolding pieces
+  broke_front t d e rest h =
+      let u = walk start d in
+      let tail = tail_after begun_tail (pieces Two start d) in
+      let one = entry_pieces Two u e in
+      let behind : bytes_behind s d e ≡ written tail one =
+      ap (λ (f : Form). written (tail_after s.tail (pieces f s.state d)) (entry_pieces f (walk s.state d) e)) begins.form_is
+      ∙ ap (λ (t : Tail). written (tail_after t (pieces Two s.state d)) (entry_pieces Two (walk s.state d) e)) begins.tail
+      ∙ ap (λ (v : State). written (tail_after begun_tail (pieces Two v d)) (entry_pieces Two (walk v d) e)) begins.state in
+      let later = written (tail_after tail one) (pieces Two (after u e) rest) in
+      let more : written tail (pieces Two u (e ∷ rest)) ≡ bytes_behind s d e ++ later =
+      written-append tail one (pieces Two (after u e) rest) ∙ ap (λ (bs : List ℕ). bs ++ later) (sym behind) in
+      let parts : bytes_behind s d e ≡ take h.part (bytes_behind s d e) ++ drop h.part (bytes_behind s d e) = sym (take-append-drop h.part (bytes_behind s d e)) in (
+        drop h.part (bytes_behind s d e) ++ later,
+        text_of_entries Two d (e ∷ rest)
+            ∙ ap (λ (bs : List ℕ). text d ++ bs) (more ∙ ap (λ (bs : List ℕ). bs ++ later) parts ∙ append_assoc (take h.part (bytes_behind s d e)) (drop h.part (bytes_behind s d e)) later)
+            ∙ sym (append_assoc (text d) (take h.part (bytes_behind s d e)) (drop h.part (bytes_behind s d e) ++ later)),
+      )
+
+  -- A conversion that read the bytes p so.
+  module _ (budget : ℕ) (p : List ℕ) (seen : Reading) (before : List ℕ) (known_first : IsFrontOf (begun budget before).entries (begun budget p).entries) where
+    -- What went out is a front of the text, behind that of what was known before the last read.
+    pub record WentOut (t : Canonical O) (q : List ℕ) : Type 0 where
+      pub grows : Grows (sending o w 0) q (shown o t)
+      pub front : IsFrontOf q (text (list_of budget p))
+      pub left : IsReadWhole seen p ⊎ IsFrontOf q (text (begun budget p).entries)
+      pub written : IsFrontOf (text (begun budget before).entries) q
+
+    -- how a conversion ends that left the sink so
+    abbrev pub Leaves : Canonical O → Result (Unit {0}) FeedFault → Type 0
+    Leaves t fed = (q : List ℕ) × WentOut t q × (o.failed t.outlet ≡ false → Converts budget p seen q false (answer_of t.written fed))
+
+    counts : (t : Canonical O) (q : List ℕ) → Grows (sending o w 0) q (shown o t) → t.written ≡ count_of q
+    counts t q h = omega (arith, h.count)
+
+    -- the output as it is given back
+    pub concluded : (t : Canonical O) (fed : Result (Unit {0}) FeedFault) (u : O) (answer : Result ℕ ConvertFault) → Leaves t fed → Keeps (o.taken t.outlet) (o.taken u) →
+        (o.failed t.outlet ≡ true → o.failed u ≡ true) → Concludes t.written fed (o.failed u) answer →
+        (q : List ℕ) × Appends (o.taken w) (o.taken u) q × Converts budget p seen q (o.failed u) answer × IsFrontOf (text (begun budget before).entries) q
+        × Writes (sending o w 0) (shown o t)
+    concluded t fed u answer (q, out, right) keeps fails ends = (q, Appends-kept _ _ _ q out.grows.taken keeps, at (o.failed u) refl ends, out.written, out.grows.writes)
+      where
+        works_on : (b : Bool) → o.failed t.outlet ≡ b → o.failed u ≡ false → b ≡ false
+        works_on false is whole = refl
+        works_on true is whole = let bad = sym (fails is) ∙ whole in cc
+
+        at : (failed : Bool) → o.failed u ≡ failed → Concludes t.written fed failed answer → Converts budget p seen q failed answer
+        at false is h = rw h (right (works_on (o.failed t.outlet) refl is))
+        at true is h = rw h (counts t q out.grows, record { front = out.front; left = out.left })
+
+    -- the sink took a list, which is all that was read
+    took_all : (t : Canonical O) (fed : Result (Unit {0}) FeedFault) (d : List Entry) → Took o s d t → IsFrontOf d (list_of budget p) →
+        IsReadWhole seen p ⊎ IsFrontOf (text d) (text (begun budget p).entries) → IsFrontOf (begun budget before).entries d →
+        (t.written ≡ count_of (text d) → Converts budget p seen (text d) false (answer_of t.written fed)) → Leaves t fed
+    took_all t fed d took all left known right =
+        let grows = took_text t d took in (
+          text d,
+          record { grows = grows; front = text_front d (list_of budget p) all; left = left; written = text_front (begun budget before).entries d known },
+          λ _. right (counts t (text d) grows),
+        )
+
+    known_in_whole : IsFrontOf (begun budget before).entries (list_of budget p)
+    known_in_whole = front_trans (begun budget before).entries (begun budget p).entries (list_of budget p) known_first (begun_comes_first budget p)
+
+    -- all was read and accepted
+    pub leaves_whole : (t : Canonical O) → IsReadWhole seen p → (means budget p).refusal ≡ None → Took o s (list_of budget p) t → Leaves t (Ok tt)
+    leaves_whole t whole accepted took =
+        took_all t (Ok tt) (list_of budget p) took (front_refl (list_of budget p)) (inl whole) known_in_whole
+        (λ count. (count, record { read = whole; canonical = record { accepted = accepted; text_is = refl } }))
+
+    -- the stream is refused
+    pub leaves_refused : (t : Canonical O) (r : Refusal) → NoneFailed seen → IsReadWhole seen p ⊎ ((begun budget p).refusal ≡ Some r) →
+        IsReadWhole seen p ⊎ IsFrontOf (text (list_of budget p)) (text (begun budget p).entries) → cause_of r.fault ≡ stream →
+        (means budget p).refusal ≡ Some r → Took o s (list_of budget p) t → Leaves t (Err (feed_fault.Refused r))
+    leaves_refused t r none_failed left out own refused took =
+        took_all t (Err (feed_fault.Refused r)) (list_of budget p) took (front_refl (list_of budget p)) out known_in_whole (λ count. (
+          count,
+          subst (RefusesBy budget p seen (text (list_of budget p)) r) (sym own)
+              (record { none_failed = none_failed; refused = refused; text = refl; left = left }),
+        ))
+
+    -- the input failed
+    pub leaves_cut : (t : Canonical O) → IsCutOff seen p → (begun budget p).refusal ≡ None → Took o s (begun budget p).entries t → Leaves t (Err feed_fault.Read)
+    leaves_cut t cut going took =
+        let d = (begun budget p).entries in
+        took_all t (Err feed_fault.Read) d took (begun_comes_first budget p) (inr (front_refl (text d))) known_first
+        (λ count. (count, record { cut_off = cut; going = going; text = refl }))
+
+    -- Reading broke: memory was wanting, or a write failed.
+    module _ (g : Ghosts (Canonical O)) (took_is : (t : Canonical O) (d : List Entry) → g.took s d t → Took o s d t)
+        (broke_is : (t : Canonical O) (d : List Entry) (e : Entry) → g.broke s d e t → Broke o s d e t) (failed_is : g.failed s ≡ o.failed s.outlet)
+        (wants_none : (d : List Entry) → g.wants s d → ⊥) (t : Canonical O) (r : Refusal) (known : List Entry) (end : Outcome) (among : BreaksAmong g s budget p known end t r) (none_failed : NoneFailed seen)
+        (first : IsFrontOf (begun budget before).entries known) (in_whole : IsFrontOf end.entries (list_of budget p))
+        (left : (q : List ℕ) → IsFrontOf q (text end.entries) → IsReadWhole seen p ⊎ IsFrontOf q (text (begun budget p).entries)) where
+      -- the sink wants no memory
+      own : LacksWithin budget p r.place ⊎ WantsSome g s end.entries → LacksWithin budget p r.place
+      own (inl reader) = reader
+      own (inr (some, rest, parts, wants)) = absurd (wants_none some wants)
+
+      lacks : cause_of r.fault ≡ memory → TookFront g s known among.from.more t memory → Leaves t (Err (feed_fault.Refused r))
+      lacks is (taken, rest, parts, took) =
+          let d = known ++ taken in
+          let d_first : IsFrontOf d end.entries = (rest, among.from.adds ∙ ap (λ (es : List Entry). known ++ es) parts ∙ sym (append_assoc known taken rest)) in
+          let d_whole = front_trans d end.entries (list_of budget p) d_first in_whole in
+          took_all t (Err (feed_fault.Refused r)) d (took_is t d took) d_whole (left (text d) (text_front d end.entries d_first))
+          (front_trans (begun budget before).entries known d first (taken, refl)) (λ count. (
+            count,
+            subst (RefusesBy budget p seen (text d) r) (sym is)
+                (record { none_failed = none_failed; place = own (among.wants is); taken = d; front = d_whole; text = refl }),
+          ))
+
+      breaks : TookFront g s known among.from.more t device → Leaves t (Err (feed_fault.Refused r))
+      breaks (inl (failed, part)) = let bad = sym works ∙ (sym failed_is ∙ failed) in cc
+      breaks (inr (taken, next, rest, parts, broke)) =
+          let d = known ++ taken in
+          let h = broke_is t d next broke in
+          let q = broke_bytes t d next h in
+          let all : end.entries ≡ d ++ next ∷ rest = among.from.adds ∙ ap (λ (es : List Entry). known ++ es) parts ∙ sym (append_assoc known taken (next ∷ rest)) in
+          let q_first : IsFrontOf q (text end.entries) = subst (λ (es : List Entry). IsFrontOf q (text es)) (sym all) (broke_front t d next rest h) in (
+            q,
+            record {
+              grows = broke_text t d next h;
+              front = front_trans q (text end.entries) (text (list_of budget p)) q_first (text_front end.entries (list_of budget p) in_whole);
+              left = left q q_first;
+              written = front_trans (text (begun budget before).entries) (text d) q
+                  (text_front (begun budget before).entries d (front_trans (begun budget before).entries known d first (taken, refl)))
+                  (take h.part (bytes_behind s d next), refl);
+            },
+            λ whole. let bad = sym h.failed ∙ whole in cc,
+          )
+
+      at : (cause : Cause) → cause_of r.fault ≡ cause → cause ≢ stream → TookFront g s known among.from.more t cause → Leaves t (Err (feed_fault.Refused r))
+      at stream is broke part = absurd part
+      at memory is broke part = lacks is part
+      at device is broke part = breaks part
+
+      pub leaves_broken : cause_of r.fault ≢ stream → Leaves t (Err (feed_fault.Refused r))
+      leaves_broken broke = at (cause_of r.fault) refl broke among.from.part

@@ -1,0 +1,159 @@
+-- The codes of a list, by what stands at its front.
+
+use Rattle.std.proofs.Common.{ℕ, zero, suc, ◌-◌, ◌≡◌, ◌<◌, ◌≤◌, List, [], ◌∷◌, ◌++◌, length, take, drop, map, Bool, true, false, cond, Option, Some, None, refl, ap, sym, ◌∙◌, subst, arith, length-drop}
+use Rattle.std.specs.Prelude.{◌==◌, ◌&&◌}
+use Rattle.std.proofs.lemmas.Bool.Decides.{nat_tests}
+use Rattle.nap_codes.specs.declared.code.Code.{Code}
+use Rattle.nap_codes.specs.declared.code.Code.TheVariants as codes
+use Rattle.nap_codes.specs.declared.code.CodeFault.TheVariants.{EighthBit}
+use Rattle.nap_codes.specs.declared.code_set.CodeSet.{CodeSet}
+use Rattle.nap_codes.specs.declared.code_set.CodeSet.TheVariants as code_sets
+use Rattle.nap_codes.specs.declared.code_set.CodeSets.{CodeSets}
+use Rattle.nap_codes.specs.declared.control.Row.{Row}
+use Rattle.nap_codes.specs.declared.control.Row.TheVariants as rows
+use Rattle.nap_codes.specs.declared.opcode.Opcode.{Opcode}
+use Rattle.nap_codes.specs.CodeSets.{set_at}
+use Rattle.nap_codes.specs.Front.{Front, unfinished, whole, refused, front, one_further, is_graphic, plain_code, gl_front, control0_front, more_front, escape_front, position_front, single_shift_front}
+use Rattle.nap_codes.specs.Lexed.{Lexed, lexed_by, lexed_within, lexed}
+use Rattle.nap_codes.specs.Spelling as spells
+use Rattle.nap_codes.specs.Tables.{row_of, control0_rows}
+use Rattle.nap_codes.proofs.PublicLaws.{whole_length, whole_is_spelled}
+use Rattle.nap_reader.specs.Stream.{Placed, bytes_of, words_of, is_operand, is_operand_byte, run_length}
+
+pub no_front : (sets : CodeSets) → front sets [] ≡ unfinished
+unfolding front
+no_front sets = refl
+
+-- a code in front of what is read later
+abbrev pub with_code : Code → Lexed → Lexed
+with_code code rest = record rest { codes = code ∷ rest.codes }
+
+-- More steps than there are bytes change nothing.
+lexed_within-spare : (f g : ℕ) (sets : CodeSets) (bytes : List ℕ) → length bytes < f → length bytes < g →
+    lexed_within f sets bytes ≡ lexed_within g sets bytes
+unfolding lexed_within
+lexed_within-spare zero g sets bytes hf hg = absurd (omega arith)
+lexed_within-spare (suc f) zero sets bytes hf hg = absurd (omega arith)
+lexed_within-spare (suc f) (suc g) sets bytes hf hg =
+    at (front sets bytes) refl (λ after rest h h'. lexed_within-spare f g after rest h h')
+  where
+    at : (r : Front) → front sets bytes ≡ r →
+        ((after : CodeSets) (rest : List ℕ) → length rest < f → length rest < g → lexed_within f after rest ≡ lexed_within g after rest) →
+        lexed_by (lexed_within f) sets bytes r ≡ lexed_by (lexed_within g) sets bytes r
+    at unfinished e ih = refl
+    at (refused fault i) e ih = refl
+    at (whole code n after) e ih =
+        let some = whole_length sets bytes code n after e in
+        let less : length (drop n bytes) < length bytes = simp length-drop (omega arith) in
+        ap (with_code code) (ih after (drop n bytes) (omega arith) (omega arith))
+
+pub lexed_front : (sets : CodeSets) (bytes : List ℕ) → lexed sets bytes ≡ lexed_by lexed sets bytes (front sets bytes)
+unfolding lexed lexed_within
+lexed_front sets bytes = at (front sets bytes) refl
+  where
+    at : (r : Front) → front sets bytes ≡ r → lexed_by (lexed_within (length bytes)) sets bytes r ≡ lexed_by lexed sets bytes r
+    at unfinished e = refl
+    at (refused fault i) e = refl
+    at (whole code n after) e =
+        let some = whole_length sets bytes code n after e in
+        let less : length (drop n bytes) < length bytes = simp length-drop (omega arith) in
+        ap (with_code code) (lexed_within-spare (length bytes) (suc (length (drop n bytes))) after (drop n bytes) less (omega arith))
+
+-- where an opcode is whole, the PDI set is in GL
+
+is_no_opcode : Row → Bool
+is_no_opcode (rows.Whole (codes.Op op)) = false
+is_no_opcode _ = true
+
+all_pass : (Row → Bool) → List (ℕ × Row) → Bool
+all_pass p [] = true
+all_pass p (r ∷ rs) = p r.1 && all_pass p rs
+
+row_passes : (p : Row → Bool) (rs : List (ℕ × Row)) (byte : ℕ) (row : Row) → all_pass p rs ≡ true → row_of rs byte ≡ Some row → p row ≡ true
+unfolding row_of all_pass
+row_passes p [] byte row all is = let bad : ⊥ = cc in absurd bad
+row_passes p (r ∷ rs) byte row all is = at (byte == r.0) is (p r.1) refl all (λ others there. row_passes p rs byte row others there)
+  where
+    at : (same : Bool) → cond same (Some r.1) (row_of rs byte) ≡ Some row → (here : Bool) → p r.1 ≡ here → (here && all_pass p rs) ≡ true →
+        (all_pass p rs ≡ true → row_of rs byte ≡ Some row → p row ≡ true) → p row ≡ true
+    at same is false e all later = let bad : ⊥ = cc in absurd bad
+    at true is true e all later = let same_row : r.1 ≡ row = cc in ap p (sym same_row) ∙ e
+    at false is true e all later = later all is
+
+no_row : (byte : ℕ) (op : Opcode) → row_of control0_rows byte ≡ Some (rows.Whole (codes.Op op)) → ⊥
+unfolding all_pass is_no_opcode control0_rows
+no_row byte op is =
+    let bad : ◌≡◌ {A = Bool} false true = row_passes is_no_opcode control0_rows byte (rows.Whole (codes.Op op)) refl is in
+    cc
+
+nothing_more : (sets : CodeSets) (byte : ℕ) → more_front sets byte [] ≡ unfinished
+unfolding more_front escape_front position_front single_shift_front
+nothing_more sets byte = at (byte == 0x1B) (byte == 0x1C) (byte == 0x19)
+  where
+    at : (a b c : Bool) → cond a (escape_front sets []) (cond b (position_front sets []) (cond c (single_shift_front sets sets.g2 []) (single_shift_front sets sets.g3 []))) ≡ unfinished
+    at true b c = refl
+    at false true c = refl
+    at false false true = refl
+    at false false false = refl
+
+module _ (sets : CodeSets) (byte : ℕ) (op : Opcode) where
+  by_set : (set : CodeSet) → gl_front sets byte (plain_code set byte) ≡ whole (codes.Op op) 1 sets → set ≡ code_sets.Pdi
+  unfolding gl_front plain_code
+  by_set code_sets.Pdi is = refl
+  by_set code_sets.Primary is = let bad : ⊥ = cc in absurd bad
+  by_set code_sets.Supplementary is = let bad : ⊥ = cc in absurd bad
+  by_set code_sets.Mosaic is = let bad : ⊥ = cc in absurd bad
+  by_set code_sets.Drcs is = let bad : ⊥ = cc in absurd bad
+  by_set code_sets.Macros is = let bad : ⊥ = cc in absurd bad
+
+  by_row : (row : Option Row) → row_of control0_rows byte ≡ row → control0_front sets byte [] row ≡ whole (codes.Op op) 1 sets → set_at sets sets.gl ≡ code_sets.Pdi
+  unfolding control0_front one_further
+  by_row (Some (rows.Whole c)) e is =
+      let same : c ≡ codes.Op op = cc in
+      absurd (no_row byte op (e ∙ ap (λ (x : Code). Some (rows.Whole x)) same))
+  by_row (Some (rows.Out name)) e is = let bad : ⊥ = cc in absurd bad
+  by_row (Some rows.More) e is =
+      let more : one_further (more_front sets byte []) ≡ unfinished = ap one_further (nothing_more sets byte) in
+      let bad : ◌≡◌ {A = Front} unfinished (whole (codes.Op op) 1 sets) = sym more ∙ is in
+      let no : ⊥ = cc in
+      absurd no
+  by_row None e is = at (is_graphic byte) is
+    where
+      at : (graphic : Bool) → cond graphic (gl_front sets byte (plain_code (set_at sets sets.gl) byte)) (refused EighthBit 0) ≡ whole (codes.Op op) 1 sets →
+          set_at sets sets.gl ≡ code_sets.Pdi
+      at true is = by_set (set_at sets sets.gl) is
+      at false is = let bad : ⊥ = cc in absurd bad
+
+  pub pdi_in_gl : front sets (byte ∷ []) ≡ whole (codes.Op op) 1 sets → set_at sets sets.gl ≡ code_sets.Pdi
+  unfolding front
+  pdi_in_gl is = by_row (row_of control0_rows byte) refl is
+
+-- a run of operand bytes where the PDI set is in GL
+
+operand_front : (sets : CodeSets) (b : ℕ) (bytes : List ℕ) → set_at sets sets.gl ≡ code_sets.Pdi → is_operand_byte b ≡ true →
+    front sets (b ∷ bytes) ≡ whole (codes.Operand (b - 64)) 1 sets
+operand_front sets b bytes pdi is =
+    let low : 64 ≤ b = grind (arith, nat_tests) in
+    let high : b < 128 = grind (arith, nat_tests) in
+    (whole_is_spelled sets (b ∷ bytes) (codes.Operand (b - 64)) 1 sets).1 (omega arith, spells.operand pdi low high)
+
+abbrev pub operands_of : List ℕ → List Code
+operands_of words = map codes.Operand words
+
+-- the first so many bytes are operands
+abbrev pub Cut : CodeSets → List Placed → ℕ → Type 0
+Cut sets xs n = (lexed sets (bytes_of xs)).codes ≡ operands_of (words_of (take n xs)) ++ (lexed sets (bytes_of (drop n xs))).codes
+
+pub run_codes : (sets : CodeSets) (xs : List Placed) → set_at sets sets.gl ≡ code_sets.Pdi → Cut sets xs (run_length xs)
+run_codes sets [] pdi = refl
+run_codes sets (x ∷ xs) pdi = at (is_operand x) refl (run_codes sets xs pdi)
+  where
+    at : (b : Bool) → is_operand x ≡ b → Cut sets xs (run_length xs) → Cut sets (x ∷ xs) (run_length (x ∷ xs))
+    at true e ih =
+        let there = lexed_front sets (bytes_of (x ∷ xs)) ∙ ap (lexed_by lexed sets (bytes_of (x ∷ xs))) (operand_front sets x.byte (bytes_of xs) pdi e) in
+        let here : Cut sets (x ∷ xs) (suc (run_length xs)) = ap (λ (l : Lexed). l.codes) there ∙ ap (λ (cs : List Code). codes.Operand (x.byte - 64) ∷ cs) ih in
+        let size : suc (run_length xs) ≡ run_length (x ∷ xs) = rw e (omega arith) in
+        subst (Cut sets (x ∷ xs)) size here
+    at false e ih =
+        let size : 0 ≡ run_length (x ∷ xs) = rw e refl in
+        subst (Cut sets (x ∷ xs)) size refl

@@ -1,0 +1,213 @@
+-- What opcodes, characters and controls leave as it was: the lengths of operands, those that are saved, and the
+-- definition that is open. DOMAIN and RESET, and the starts and the end of a definition, are none of them.
+
+use Rattle.std.proofs.Common.{ℕ, zero, suc, ◌≡◌, ◌≢◌, List, [], ◌∷◌, map, Bool, true, false, Option, Some, None, Result, Ok, Err, refl, ◌∙◌}
+use Rattle.std.specs.Prelude.{⊤}
+use Rattle.std.specs.Option.{option_map, option_and_then}
+use Rattle.nap_codes.specs.declared.code.Code.{Code}
+use Rattle.nap_codes.specs.declared.code.Code.TheVariants as codes
+use Rattle.nap_codes.specs.declared.opcode.Opcode.{Opcode}
+use Rattle.nap_codes.specs.declared.opcode.Opcode.TheVariants as opcodes
+use Rattle.nap_values.specs.Colours.{Components}
+use Rattle.nap_values.specs.Coordinates.{Coordinates, Displacement, point_at}
+use Rattle.nap_values.specs.Operands.{colour_of}
+use Rattle.nap_list.specs.declared.attribute.Colour.{Colour}
+use Rattle.nap_list.specs.declared.attribute.Colour.TheVariants as colours
+use Rattle.nap_list.specs.declared.entry.Entry.{Entry}
+use Rattle.nap_list.specs.declared.entry.Entry.TheVariants as entries
+use Rattle.nap_list.specs.declared.state.Drawing.{Drawing}
+use Rattle.nap_list.specs.declared.state.LastChar.{LastChar}
+use Rattle.nap_list.specs.declared.state.State.{State}
+use Rattle.nap_list.specs.Known.{is_known}
+use Rattle.nap_list.specs.State.{after, walk}
+use Rattle.nap_draw.specs.declared.fault.DrawFault.{DrawFault}
+use Rattle.nap_draw.specs.declared.work.Work.{Work}
+use Rattle.nap_draw.specs.Codes.{char_on, copies, puts, with_last, code_rule}
+use Rattle.nap_draw.specs.Geometry.{points_at, reached, joined, between, away, across, arc_points, poly_points}
+use Rattle.nap_draw.specs.Operands.{operands}
+use Rattle.nap_list.specs.Batches.{point_on}
+use Rattle.nap_draw.specs.Rule.{Drawn, and_then, drawn, with_drawing, moves_of, some_of, pairs_of, first_of, few_of, pen_point, draws, draws_one, goes, with_operands, from_pen, with_pairs, shape_from_pen, shape_from_point, line_on, rect_on, arc_on, poly_on, field_on, area_of, blinks, blink, maps, colours_as, set_color_rule, rule}
+
+pub record Keeps (work : Work) (d : Drawn) : Type 0 where
+  pub domain : d.work.domain ≡ work.domain
+  pub saved : d.work.saved ≡ work.saved
+  pub definition : d.work.state.definition ≡ work.state.definition
+
+abbrev pub KeepsBy : Work → Result Drawn DrawFault → Type 0
+KeepsBy work (Ok d) = Keeps work d
+KeepsBy work (Err fault) = ⊤
+
+-- entries that are no part of a definition
+
+abbrev IsInside : Entry → Type 0
+IsInside (entries.GlyphStart code) = ⊥
+IsInside (entries.MaskStart mask) = ⊥
+IsInside entries.DefEnd = ⊥
+IsInside _ = ⊤
+
+after_keeps : (s : State) (e : Entry) → IsInside e → (after s e).definition ≡ s.definition
+after_keeps s (entries.GlyphStart code) inside = absurd inside
+after_keeps s (entries.MaskStart mask) inside = absurd inside
+after_keeps s entries.DefEnd inside = absurd inside
+after_keeps s _ inside = refl
+
+walk_keeps : {A : Type 0} (entry : A → Entry) → ((x : A) → IsInside (entry x)) → (s : State) (xs : List A) →
+    (walk s (map entry xs)).definition ≡ s.definition
+unfolding walk
+walk_keeps entry inside s [] = refl
+walk_keeps entry inside s (x ∷ xs) = walk_keeps entry inside (after s (entry x)) xs ∙ after_keeps s (entry x) (inside x)
+
+copies_keep : (s : State) (last : LastChar) (n : ℕ) → (walk s (copies s last n)).definition ≡ s.definition
+unfolding walk copies
+copies_keep s last zero = refl
+copies_keep s last (suc n) = copies_keep (after s (char_on s.drawing last)) last n ∙ after_keeps s (char_on s.drawing last) tt
+
+-- what the parts of the rules give
+
+by_keeps : {A : Type 0} (work : Work) (r : Result A DrawFault) (next : A → Result Drawn DrawFault) → ((x : A) → KeepsBy work (next x)) →
+    KeepsBy work (and_then r next)
+by_keeps work (Ok x) next each = each x
+by_keeps work (Err fault) next each = tt
+
+draws_keep : {A : Type 0} (work : Work) (entry : Drawing → A → Entry) → ((x : A) → IsInside (entry work.state.drawing x)) → (shapes : Option (List A)) →
+    KeepsBy work (draws work entry shapes)
+draws_keep work entry inside None = tt
+draws_keep work entry inside (Some shapes) =
+    record { domain = refl; saved = refl; definition = walk_keeps (entry work.state.drawing) inside work.state shapes }
+
+draws_one_keeps : {A : Type 0} (work : Work) (entry : Drawing → A → Entry) → ((x : A) → IsInside (entry work.state.drawing x)) → (shape : Option A) →
+    KeepsBy work (draws_one work entry shape)
+unfolding walk
+draws_one_keeps work entry inside None = tt
+draws_one_keeps work entry inside (Some shape) =
+    record { domain = refl; saved = refl; definition = after_keeps work.state (entry work.state.drawing shape) (inside shape) }
+
+puts_keep : (work : Work) (e : Entry) → IsInside e → KeepsBy work (puts work e)
+unfolding walk
+puts_keep work e inside = record { domain = refl; saved = refl; definition = after_keeps work.state e inside }
+
+goes_keep : (work : Work) (points : Option (List Coordinates)) → KeepsBy work (goes work points)
+unfolding walk
+goes_keep work None = tt
+goes_keep work (Some points) = record { domain = refl; saved = refl; definition = refl }
+
+value_keeps : (work : Work) (d : Drawing) → Keeps work (drawn (with_drawing work d) [])
+unfolding walk
+value_keeps work d = record { domain = refl; saved = refl; definition = refl }
+
+operands_keep : (work : Work) (run : List ℕ) (f : List Displacement → Result Drawn DrawFault) → ((ms : List Displacement) → KeepsBy work (f ms)) →
+    KeepsBy work (with_operands work run f)
+operands_keep work run f each = by_keeps work (some_of (moves_of work run)) f each
+
+pairs_keep : (work : Work) (run : List ℕ) (f : List Displacement → Result Drawn DrawFault) → ((ms : List Displacement) → KeepsBy work (f ms)) →
+    KeepsBy work (with_pairs work run f)
+pairs_keep work run f each = by_keeps work (pairs_of (moves_of work run)) f each
+
+from_pen_keeps : (work : Work) (run : List ℕ) (f : Coordinates → List Displacement → Result Drawn DrawFault) →
+    ((p : Coordinates) (ms : List Displacement) → KeepsBy work (f p ms)) → KeepsBy work (from_pen work run f)
+from_pen_keeps work run f each =
+    operands_keep work run _ (λ ms. by_keeps work (pen_point work.state.drawing.pen) (λ p. f p ms) (λ p. each p ms))
+
+from_pen_shape : (work : Work) (run : List ℕ) (entry : Drawing → List Coordinates → Entry) (points : Coordinates → List Displacement → Option (List Coordinates)) →
+    ((ps : List Coordinates) → IsInside (entry work.state.drawing ps)) → KeepsBy work (shape_from_pen work run entry points)
+from_pen_shape work run entry points inside =
+    operands_keep work run _
+    (λ ms. by_keeps work (few_of ms) _ (λ ms. by_keeps work (pen_point work.state.drawing.pen) _ (λ p. draws_one_keeps work entry inside (points p ms))))
+
+from_point_shape : (work : Work) (run : List ℕ) (entry : Drawing → List Coordinates → Entry) (points : Coordinates → List Displacement → Option (List Coordinates)) →
+    ((ps : List Coordinates) → IsInside (entry work.state.drawing ps)) → KeepsBy work (shape_from_point work run entry points)
+from_point_shape work run entry points inside =
+    by_keeps work (first_of (moves_of work run)) _
+    (λ parts. by_keeps work (few_of parts.1) _ (λ ms. draws_one_keeps work entry inside (option_and_then (λ p. points p ms) (point_at parts.0))))
+
+blinks_keep : (work : Work) (k : ℕ) (colour : Colour) (groups : List (List ℕ)) → Keeps work (drawn work (blinks k colour groups))
+unfolding walk
+blinks_keep work k colour [] = record { domain = refl; saved = refl; definition = refl }
+blinks_keep work k colour (group ∷ groups) =
+    record { domain = refl; saved = refl; definition = walk_keeps (blink k colour) (λ g. tt) work.state (group ∷ groups) }
+
+maps_keep : (work : Work) (a : ℕ) (grb : Components) → KeepsBy work (maps work a grb)
+maps_keep work a grb = by (is_known a grb work.state.known) refl
+  where
+    by : (known : Bool) → is_known a grb work.state.known ≡ known → KeepsBy work (maps work a grb)
+    by true is = rw is (value_keeps work work.state.drawing)
+    by false is = rw is (record { domain = refl; saved = refl; definition = refl })
+
+colours_keep : (work : Work) (colour : Colour) (grb : Components) → KeepsBy work (colours_as work colour grb)
+unfolding walk
+colours_keep work (colours.Own origin) grb = record { domain = refl; saved = refl; definition = refl }
+colours_keep work (colours.Direct old) grb = record { domain = refl; saved = refl; definition = refl }
+colours_keep work (colours.Front a) grb = maps_keep work a grb
+colours_keep work (colours.Pair a b) grb = maps_keep work a grb
+colours_keep work (colours.ByReset preset) grb = tt
+
+set_color_keeps : (work : Work) (operands : List (List ℕ)) → KeepsBy work (set_color_rule work operands)
+set_color_keeps work [] = tt
+set_color_keeps work (operand ∷ []) = colours_keep work work.state.drawing.colour (colour_of operand)
+set_color_keeps work (operand ∷ other ∷ more) = tt
+
+pub rule_keeps : (work : Work) (op : Opcode) (run : List ℕ) → op ≢ opcodes.Domain → op ≢ opcodes.Reset → KeepsBy work (rule work op run)
+unfolding walk
+rule_keeps work opcodes.Domain run no_domain no_reset = absurd (no_domain refl)
+rule_keeps work opcodes.Reset run no_domain no_reset = absurd (no_reset refl)
+rule_keeps work opcodes.Text run no_domain no_reset = value_keeps work _
+rule_keeps work opcodes.Texture run no_domain no_reset = value_keeps work _
+rule_keeps work opcodes.PointSetAbs run no_domain no_reset = operands_keep work run _ (λ ms. goes_keep work (points_at ms))
+rule_keeps work opcodes.PointSetRel run no_domain no_reset = from_pen_keeps work run _ (λ p ms. goes_keep work (reached p ms))
+rule_keeps work opcodes.PointAbs run no_domain no_reset = operands_keep work run _ (λ ms. draws_keep work point_on (λ x. tt) (points_at ms))
+rule_keeps work opcodes.PointRel run no_domain no_reset = from_pen_keeps work run _ (λ p ms. draws_keep work point_on (λ x. tt) (reached p ms))
+rule_keeps work opcodes.LineAbs run no_domain no_reset = from_pen_keeps work run _ (λ p ms. draws_keep work line_on (λ x. tt) (option_map (joined p) (points_at ms)))
+rule_keeps work opcodes.LineRel run no_domain no_reset = from_pen_keeps work run _ (λ p ms. draws_keep work line_on (λ x. tt) (option_map (joined p) (reached p ms)))
+rule_keeps work opcodes.SetLineAbs run no_domain no_reset = pairs_keep work run _ (λ ms. draws_keep work line_on (λ x. tt) (between ms))
+rule_keeps work opcodes.SetLineRel run no_domain no_reset = pairs_keep work run _ (λ ms. draws_keep work line_on (λ x. tt) (away ms))
+rule_keeps work opcodes.ArcOutlined run no_domain no_reset = from_pen_shape work run (arc_on false) arc_points (λ x. tt)
+rule_keeps work opcodes.ArcFilled run no_domain no_reset = from_pen_shape work run (arc_on true) arc_points (λ x. tt)
+rule_keeps work opcodes.SetArcOutlined run no_domain no_reset = from_point_shape work run (arc_on false) arc_points (λ x. tt)
+rule_keeps work opcodes.SetArcFilled run no_domain no_reset = from_point_shape work run (arc_on true) arc_points (λ x. tt)
+rule_keeps work opcodes.RectOutlined run no_domain no_reset = from_pen_keeps work run _ (λ p ms. draws_keep work (rect_on false) (λ x. tt) (across p ms))
+rule_keeps work opcodes.RectFilled run no_domain no_reset = from_pen_keeps work run _ (λ p ms. draws_keep work (rect_on true) (λ x. tt) (across p ms))
+rule_keeps work opcodes.SetRectOutlined run no_domain no_reset = pairs_keep work run _ (λ ms. draws_keep work (rect_on false) (λ x. tt) (away ms))
+rule_keeps work opcodes.SetRectFilled run no_domain no_reset = pairs_keep work run _ (λ ms. draws_keep work (rect_on true) (λ x. tt) (away ms))
+rule_keeps work opcodes.PolyOutlined run no_domain no_reset = from_pen_shape work run (poly_on false) poly_points (λ x. tt)
+rule_keeps work opcodes.PolyFilled run no_domain no_reset = from_pen_shape work run (poly_on true) poly_points (λ x. tt)
+rule_keeps work opcodes.SetPolyOutlined run no_domain no_reset = from_point_shape work run (poly_on false) poly_points (λ x. tt)
+rule_keeps work opcodes.SetPolyFilled run no_domain no_reset = from_point_shape work run (poly_on true) poly_points (λ x. tt)
+rule_keeps work opcodes.Field run no_domain no_reset =
+    by_keeps work (area_of work (moves_of work run)) _ (λ area. draws_one_keeps work field_on (λ x. tt) (Some area))
+rule_keeps work opcodes.SetColor run no_domain no_reset = set_color_keeps work (operands work.domain.multi run)
+rule_keeps work opcodes.Wait run no_domain no_reset =
+    record { domain = refl; saved = refl; definition = walk_keeps entries.Wait (λ word. tt) work.state run }
+rule_keeps work opcodes.SelectColor run no_domain no_reset = value_keeps work _
+rule_keeps work opcodes.Blink run no_domain no_reset = blinks_keep work work.domain.single work.state.drawing.colour _
+rule_keeps work _ run no_domain no_reset = record { domain = refl; saved = refl; definition = refl }
+
+-- characters and controls
+
+last_keeps : (work : Work) (last : Option LastChar) (next : LastChar → Result Drawn DrawFault) → ((x : LastChar) → KeepsBy work (next x)) →
+    KeepsBy work (with_last last next)
+last_keeps work None next each = tt
+last_keeps work (Some last) next each = each last
+
+abbrev pub HasNoDefinition : Code → Type 0
+HasNoDefinition (codes.DefMacro name show) = ⊥
+HasNoDefinition (codes.DefGlyph byte) = ⊥
+HasNoDefinition (codes.DefMask mask) = ⊥
+HasNoDefinition codes.End = ⊥
+HasNoDefinition _ = ⊤
+
+pub code_keeps : (work : Work) (code : Code) → HasNoDefinition code → KeepsBy work (code_rule work code)
+unfolding walk
+code_keeps work (codes.DefMacro name show) none = absurd none
+code_keeps work (codes.DefGlyph byte) none = absurd none
+code_keeps work (codes.DefMask mask) none = absurd none
+code_keeps work codes.End none = absurd none
+code_keeps work (codes.Char set code) none = puts_keep work _ tt
+code_keeps work (codes.Step step) none = puts_keep work _ tt
+code_keeps work codes.Clear none = puts_keep work _ tt
+code_keeps work codes.Bell none = puts_keep work _ tt
+code_keeps work (codes.Repeat count) none =
+    last_keeps work work.state.last _ (λ last. record { domain = refl; saved = refl; definition = copies_keep work.state last count })
+code_keeps work codes.ToEol none = last_keeps work work.state.last _ (λ last. puts_keep work _ tt)
+code_keeps work (codes.BlinkMark on) none = puts_keep work _ tt
+code_keeps work (codes.Cursor kind) none = puts_keep work _ tt
+code_keeps work _ none = record { domain = refl; saved = refl; definition = refl }

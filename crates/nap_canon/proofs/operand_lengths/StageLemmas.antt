@@ -1,0 +1,245 @@
+-- How far a plain stream has come, and under which lengths of operands its opcodes act.
+
+use Rattle.std.proofs.Common.{ℕ, ◌≡◌, ◌≢◌, ◌⊎◌, inl, inr, ◌%◌, List, [], ◌∷◌, ◌++◌, All, Bool, true, false, cond, Option, Some, None, Result, Ok, Err, refl, sym, subst, ◌∙◌, arith}
+use Rattle.std.specs.Prelude.{⊤, ◌==◌}
+use Rattle.std.proofs.lemmas.Bool.Decides.{nat_tests}
+use Rattle.std.proofs.lemmas.List.Elements.{All-head, All-tail}
+use Rattle.nap_values.specs.Domains.{OperandLengths}
+use Rattle.nap_codes.specs.declared.code.Code.{Code}
+use Rattle.nap_codes.specs.declared.code.Code.TheVariants as codes
+use Rattle.nap_codes.specs.declared.opcode.Opcode.{Opcode}
+use Rattle.nap_codes.specs.declared.opcode.Opcode.TheVariants as opcodes
+use Rattle.nap_list.specs.declared.entry.Entry.{Entry}
+use Rattle.nap_list.specs.declared.entry.Entry.TheVariants as entries
+use Rattle.nap_list.specs.declared.state.Opened.{Opened}
+use Rattle.nap_list.specs.State.{walk}
+use Rattle.nap_draw.specs.declared.fault.DrawFault.{DrawFault}
+use Rattle.nap_draw.specs.declared.work.Work.{Work}
+use Rattle.nap_draw.specs.Codes.{ended_by, ended, opened_by, code_rule}
+use Rattle.nap_draw.specs.Rule.{Drawn, drawn, start_domain, with_domain, domain_rule, rule}
+use Rattle.nap_canon.specs.Plain.{IsNoOpcode, DomainFirst, LengthsNext, DomainNext, ResetNext, ComesBehind}
+use Rattle.nap_canon.proofs.operand_lengths.FrontCodes.{operands_of}
+use Rattle.nap_canon.proofs.operand_lengths.KeepingLemmas.{KeepsBy, rule_keeps, code_keeps}
+
+-- eight words and four
+abbrev pub eight_and_four : OperandLengths
+eight_and_four = record { multi = 8; single = 4 }
+
+-- the lengths stand, or DOMAIN comes next
+abbrev Stands : Work → List Code → Type 0
+Stands work list = (work.domain ≡ eight_and_four) ⊎ DomainNext list
+
+-- the end of a definition brings the lengths back, or none is open
+abbrev ComesBack : Work → Type 0
+ComesBack work = (work.saved ≡ eight_and_four) ⊎ (work.state.definition ≡ None)
+
+-- these codes are to come: before the first opcode, or where none comes any more, or behind the first DOMAIN
+pub data Stage (work : Work) (list : List Code) : Type 0 where
+  before : work.state.definition ≡ None → DomainFirst list → Stage work list
+  defining : All IsNoOpcode list → Stage work list
+  behind : Stands work list → ComesBack work → Stage work list
+
+-- an opcode that acts
+
+domain_alone : (op : Opcode) (list : List Code) → DomainNext (codes.Op op ∷ list) → op ≡ opcodes.Domain
+unfolding DomainNext
+domain_alone opcodes.Domain list next = refl
+domain_alone _ list next = absurd next
+
+pub lengths_stand : (work : Work) (op : Opcode) (list : List Code) → Stage work (codes.Op op ∷ list) → op ≢ opcodes.Domain → work.domain ≡ eight_and_four
+unfolding DomainFirst
+lengths_stand work op list (before closed first) no_domain = absurd (no_domain first)
+lengths_stand work op list (defining none) no_domain = absurd (All-head IsNoOpcode (codes.Op op) list none)
+lengths_stand work op list (behind (inl is) back) no_domain = is
+lengths_stand work op list (behind (inr next) back) no_domain = absurd (no_domain (domain_alone op list next))
+
+comes_back : (work w : Work) → w.saved ≡ work.saved → w.state.definition ≡ work.state.definition → ComesBack work → ComesBack w
+comes_back work w saved definition (inl is) = inl (saved ∙ is)
+comes_back work w saved definition (inr is) = inr (definition ∙ is)
+
+-- DOMAIN
+
+domain_drawn : (work : Work) (word : ℕ) (words : List ℕ) (d : Drawn) → word ≡ 31 → domain_rule work (word ∷ words) ≡ Ok d →
+    drawn (with_domain work eight_and_four words) [] ≡ d
+domain_drawn work word words d is by =
+    let there : ◌≡◌ {A = Result Drawn DrawFault} (Ok (drawn (with_domain work eight_and_four words) [])) (Ok d) = subst (λ (w : ℕ). domain_rule work (w ∷ words) ≡ Ok d) is by in
+    cc
+
+domain_stage : (work : Work) (run : List ℕ) (rest : List Code) (d : Drawn) → domain_rule work run ≡ Ok d → LengthsNext (operands_of run ++ rest) → ComesBack work →
+    Stage d.work rest
+unfolding walk
+domain_stage work [] rest d by next back = let bad : ⊥ = cc in absurd bad
+domain_stage work (word ∷ words) rest d by next back =
+    let is : drawn (with_domain work eight_and_four words) [] ≡ d = domain_drawn work word words d next by in
+    subst (λ (x : Drawn). Stage x.work rest) is (behind (inl refl) (comes_back work (drawn (with_domain work eight_and_four words) []).work refl refl back))
+
+before_domain : (work : Work) (op : Opcode) (list : List Code) → Stage work (codes.Op op ∷ list) → ComesBack work
+before_domain work op list (before closed first) = inr closed
+before_domain work op list (defining none) = absurd (All-head IsNoOpcode (codes.Op op) list none)
+before_domain work op list (behind stands back) = back
+
+-- RESET
+
+behind_operands : (run : List ℕ) (rest : List Code) → DomainNext (operands_of run ++ rest) → DomainNext rest
+unfolding DomainNext
+behind_operands [] rest next = next
+behind_operands (word ∷ words) rest next = behind_operands words rest next
+
+reset_lengths : (domain : OperandLengths) (word : ℕ) (words : List ℕ) (rest : List Code) → domain ≡ eight_and_four → ResetNext (operands_of (word ∷ words) ++ rest) →
+    (cond (word % 2 == 1) start_domain domain ≡ eight_and_four) ⊎ DomainNext rest
+reset_lengths domain word words rest stand next = at (word % 2 == 1) refl
+  where
+    at : (back : Bool) → (word % 2 == 1) ≡ back → (cond back start_domain domain ≡ eight_and_four) ⊎ DomainNext rest
+    at true e = let odd : word % 2 ≡ 1 = grind (arith, nat_tests) in inr (behind_operands words rest (next odd))
+    at false e = inl stand
+
+-- where the rule gives something, that is the stage behind it
+abbrev StageBy : Result Drawn DrawFault → List Code → Type 0
+StageBy (Ok d) rest = Stage d.work rest
+StageBy (Err fault) rest = ⊤
+
+reset_stage : (work : Work) (run : List ℕ) (rest : List Code) → work.domain ≡ eight_and_four → ResetNext (operands_of run ++ rest) → ComesBack work →
+    StageBy (rule work opcodes.Reset run) rest
+unfolding walk
+reset_stage work [] rest stand next back = behind (inl stand) back
+reset_stage work (word ∷ words) rest stand next back =
+    behind (reset_lengths work.domain word words rest stand next) back
+
+-- any opcode
+
+pub data OpcodeKind (op : Opcode) : Type 0 where
+  is_domain : op ≡ opcodes.Domain → OpcodeKind op
+  is_reset : op ≡ opcodes.Reset → OpcodeKind op
+  is_other : op ≢ opcodes.Domain → op ≢ opcodes.Reset → OpcodeKind op
+
+opcode_kind : (op : Opcode) → OpcodeKind op
+opcode_kind opcodes.Domain = is_domain refl
+opcode_kind opcodes.Reset = is_reset refl
+opcode_kind _ = is_other (λ e. let bad : ⊥ = cc in bad) (λ e. let bad : ⊥ = cc in bad)
+
+kept_stage : (work : Work) (by : Result Drawn DrawFault) (rest : List Code) → KeepsBy work by → work.domain ≡ eight_and_four → ComesBack work → StageBy by rest
+kept_stage work (Ok d) rest keeps stand back = behind (inl (keeps.domain ∙ stand)) (comes_back work d.work keeps.saved keeps.definition back)
+kept_stage work (Err fault) rest keeps stand back = tt
+
+domain_by : (work : Work) (run : List ℕ) (by : Result Drawn DrawFault) (rest : List Code) → domain_rule work run ≡ by → LengthsNext (operands_of run ++ rest) →
+    ComesBack work → StageBy by rest
+domain_by work run (Ok d) rest e next back = domain_stage work run rest d e next back
+domain_by work run (Err fault) rest e next back = tt
+
+opcode_by : (work : Work) (op : Opcode) (run : List ℕ) (rest : List Code) → Stage work (codes.Op op ∷ operands_of run ++ rest) →
+    ComesBehind (codes.Op op) (operands_of run ++ rest) → OpcodeKind op → StageBy (rule work op run) rest
+opcode_by work op run rest stage comes (is_domain is) =
+    let back = before_domain work op (operands_of run ++ rest) stage in
+    let next : LengthsNext (operands_of run ++ rest) = subst (λ (o : Opcode). ComesBehind (codes.Op o) (operands_of run ++ rest)) is comes in
+    subst (λ (o : Opcode). StageBy (rule work o run) rest) (sym is) (domain_by work run (domain_rule work run) rest refl next back)
+opcode_by work op run rest stage comes (is_reset is) =
+    let back = before_domain work op (operands_of run ++ rest) stage in
+    let stand = lengths_stand work op (operands_of run ++ rest) stage (λ e. let bad : ⊥ = cc in bad) in
+    let next : ResetNext (operands_of run ++ rest) = subst (λ (o : Opcode). ComesBehind (codes.Op o) (operands_of run ++ rest)) is comes in
+    subst (λ (o : Opcode). StageBy (rule work o run) rest) (sym is) (reset_stage work run rest stand next back)
+opcode_by work op run rest stage comes (is_other no_domain no_reset) =
+    kept_stage work (rule work op run) rest (rule_keeps work op run no_domain no_reset)
+    (lengths_stand work op (operands_of run ++ rest) stage no_domain) (before_domain work op (operands_of run ++ rest) stage)
+
+pub opcode_stage : (work : Work) (op : Opcode) (run : List ℕ) (rest : List Code) (d : Drawn) → rule work op run ≡ Ok d →
+    Stage work (codes.Op op ∷ operands_of run ++ rest) → ComesBehind (codes.Op op) (operands_of run ++ rest) → Stage d.work rest
+opcode_stage work op run rest d by stage comes =
+    subst (λ (r : Result Drawn DrawFault). StageBy r rest) by (opcode_by work op run rest stage comes (opcode_kind op))
+
+-- a code that is no opcode
+
+-- it opens and ends no definition, and is no operand
+abbrev pub IsQuiet : Code → Type 0
+IsQuiet (codes.Op op) = ⊥
+IsQuiet (codes.Operand word) = ⊥
+IsQuiet (codes.DefMacro name show) = ⊥
+IsQuiet (codes.DefGlyph byte) = ⊥
+IsQuiet (codes.DefMask mask) = ⊥
+IsQuiet codes.End = ⊥
+IsQuiet _ = ⊤
+
+first_behind : (c : Code) (rest : List Code) → IsQuiet c → DomainFirst (c ∷ rest) → DomainFirst rest
+unfolding DomainFirst
+first_behind (codes.Op op) rest quiet first = absurd quiet
+first_behind (codes.Operand word) rest quiet first = absurd quiet
+first_behind (codes.DefMacro name show) rest quiet first = absurd quiet
+first_behind (codes.DefGlyph byte) rest quiet first = absurd quiet
+first_behind (codes.DefMask mask) rest quiet first = absurd quiet
+first_behind codes.End rest quiet first = absurd quiet
+first_behind _ rest quiet first = first
+
+no_domain_next : (c : Code) (rest : List Code) → IsQuiet c → DomainNext (c ∷ rest) → ⊥
+unfolding DomainNext
+no_domain_next (codes.Op op) rest quiet next = quiet
+no_domain_next (codes.Operand word) rest quiet next = quiet
+no_domain_next _ rest quiet next = next
+
+pub quiet_stage : (work w : Work) (c : Code) (rest : List Code) → IsQuiet c → w.domain ≡ work.domain → w.saved ≡ work.saved →
+    w.state.definition ≡ work.state.definition → Stage work (c ∷ rest) → Stage w rest
+quiet_stage work w c rest quiet domain saved definition (before closed first) = before (definition ∙ closed) (first_behind c rest quiet first)
+quiet_stage work w c rest quiet domain saved definition (defining none) = defining (All-tail IsNoOpcode c rest none)
+quiet_stage work w c rest quiet domain saved definition (behind (inl is) back) = behind (inl (domain ∙ is)) (comes_back work w saved definition back)
+quiet_stage work w c rest quiet domain saved definition (behind (inr next) back) = absurd (no_domain_next c rest quiet next)
+
+-- the end of a definition, and the start of one
+
+ended_lengths : (work : Work) (opened : Option Opened) → work.state.definition ≡ opened → work.domain ≡ eight_and_four → ComesBack work →
+    (ended_by work opened).work.domain ≡ eight_and_four
+ended_lengths work None e stand back = stand
+ended_lengths work (Some opened) e stand (inl is) = is
+ended_lengths work (Some opened) e stand (inr closed) = let bad : ⊥ = cc in absurd bad
+
+ended_back : (work : Work) (opened : Option Opened) → work.state.definition ≡ opened → ComesBack work → ComesBack (ended_by work opened).work
+unfolding walk
+ended_back work None e back = back
+ended_back work (Some opened) e (inl is) = inl is
+ended_back work (Some opened) e (inr closed) = inr refl
+
+ended_closed : (work : Work) (opened : Option Opened) → work.state.definition ≡ opened → (ended_by work opened).work.state.definition ≡ None
+unfolding walk
+ended_closed work None e = e
+ended_closed work (Some opened) e = refl
+
+pub opens_stage : (work : Work) (c : Code) (rest : List Code) (e : Entry) → (DomainFirst (c ∷ rest) → All IsNoOpcode rest) → (DomainNext (c ∷ rest) → ⊥) →
+    Stage work (c ∷ rest) → Stage (opened_by (ended work) e).work rest
+opens_stage work c rest e first_none next_none (before closed first) = defining (first_none first)
+opens_stage work c rest e first_none next_none (defining none) = defining (All-tail IsNoOpcode c rest none)
+opens_stage work c rest e first_none next_none (behind (inl is) back) =
+    let stand = ended_lengths work work.state.definition refl is back in
+    behind (inl stand) (inl stand)
+opens_stage work c rest e first_none next_none (behind (inr next) back) = absurd (next_none next)
+
+pub end_stage : (work : Work) (rest : List Code) → Stage work (codes.End ∷ rest) → Stage (ended work).work rest
+unfolding DomainFirst DomainNext
+end_stage work rest (before closed first) = before (ended_closed work work.state.definition refl) first
+end_stage work rest (defining none) = defining (All-tail IsNoOpcode codes.End rest none)
+end_stage work rest (behind (inl is) back) =
+    behind (inl (ended_lengths work work.state.definition refl is back)) (ended_back work work.state.definition refl back)
+end_stage work rest (behind (inr next) back) = absurd next
+
+quiet_by : (work : Work) (c : Code) (rest : List Code) (by : Result Drawn DrawFault) → IsQuiet c → KeepsBy work by → Stage work (c ∷ rest) → StageBy by rest
+quiet_by work c rest (Ok d) quiet keeps stage = quiet_stage work d.work c rest quiet keeps.domain keeps.saved keeps.definition stage
+quiet_by work c rest (Err fault) quiet keeps stage = tt
+
+-- no opcode, no operand, and no start of a macro
+abbrev pub IsActing : Code → Type 0
+IsActing (codes.Op op) = ⊥
+IsActing (codes.Operand word) = ⊥
+IsActing (codes.DefMacro name show) = ⊥
+IsActing _ = ⊤
+
+-- a code that acts by its rule
+code_by : (work : Work) (c : Code) (rest : List Code) → IsActing c → Stage work (c ∷ rest) → StageBy (code_rule work c) rest
+unfolding DomainFirst DomainNext
+code_by work (codes.Op op) rest acting stage = absurd acting
+code_by work (codes.Operand word) rest acting stage = absurd acting
+code_by work (codes.DefMacro name show) rest acting stage = absurd acting
+code_by work (codes.DefGlyph byte) rest acting stage =
+    opens_stage work (codes.DefGlyph byte) rest (entries.GlyphStart byte) (λ first. first) (λ next. next) stage
+code_by work (codes.DefMask mask) rest acting stage =
+    opens_stage work (codes.DefMask mask) rest (entries.MaskStart mask) (λ first. first) (λ next. next) stage
+code_by work codes.End rest acting stage = end_stage work rest stage
+code_by work c rest acting stage = quiet_by work c rest (code_rule work c) tt (code_keeps work c tt) stage
+
+pub code_stage : (work : Work) (c : Code) (rest : List Code) (d : Drawn) → code_rule work c ≡ Ok d → IsActing c → Stage work (c ∷ rest) → Stage d.work rest
+code_stage work c rest d by acting stage = subst (λ (r : Result Drawn DrawFault). StageBy r rest) by (code_by work c rest acting stage)

@@ -1,0 +1,190 @@
+-- Pieces of canonical text spell plain codes.
+
+use Rattle.std.proofs.Common.{ℕ, ◌-◌, ◌≡◌, ◌<◌, List, [], ◌∷◌, ◌++◌, length, map, All, Bool, true, false, Some, None, refl, sym, subst, append_assoc, append-nil, arith}
+use Rattle.std.proofs.lemmas.List.Elements.{All-nil, All-cons, All-head, All-tail, All-append}
+use Rattle.nap_values.specs.Laws.{IsWord, IsOperandByte}
+use Rattle.nap_codes.specs.declared.code.Code.{Code}
+use Rattle.nap_codes.specs.declared.code.Code.TheVariants as codes
+use Rattle.nap_codes.specs.declared.code_set.CharSet.TheVariants as chars
+use Rattle.nap_codes.specs.declared.code_set.CodeSet.TheVariants as code_sets
+use Rattle.nap_codes.specs.declared.code_set.GSet.{GSet}
+use Rattle.nap_codes.specs.declared.code_set.GSet.TheVariants.{G0, G1, G2, G3}
+use Rattle.nap_codes.specs.declared.opcode.Opcode.{Opcode}
+use Rattle.nap_codes.specs.declared.opcode.Opcode.TheVariants as opcodes
+use Rattle.nap_codes.specs.CodeSets.{with_set}
+use Rattle.nap_codes.specs.Front.{plain_code}
+use Rattle.nap_codes.specs.Laws.{IsGraphic}
+use Rattle.nap_codes.specs.Spelling.{Spells}
+use Rattle.nap_codes.specs.Spelling as spells
+use Rattle.nap_codes.specs.Tables.{row_of, number_rows, opcode_rows, set_rows, left_out_opcode}
+use Rattle.nap_canon.specs.declared.tail.Tail.{Tail}
+use Rattle.nap_canon.specs.declared.tail.Tail.TheVariants.{Apart, InRun}
+use Rattle.nap_canon.specs.Plain.{IsPlainCode, IsAbsolute, DomainNext, ComesBehind, AllComeBehind}
+use Rattle.nap_canon.specs.Spelling.{Piece, opcode, group, primary, control, char_piece, domain, word_byte}
+use Rattle.nap_canon.specs.Text.{gl_of, is_joined, to_opcodes, to_primary, piece_bytes, written, tail_after}
+use Rattle.nap_canon.specs.TextParts.{written-append, tail_after-append}
+use Rattle.nap_canon.proofs.reading.PieceLemmas.{sets_with}
+use Rattle.nap_canon.proofs.plain_codes.SpellingLemmas.{AllSpelled, no_code, one_code, spelled_alone, spelled_behind}
+
+-- where the one set is in GL, these bytes spell plain codes, and leave the other set there
+pub record PlainBytes (gl : GSet) (bytes : List ℕ) (end : GSet) : Type 0 where
+  pub list : List Code
+  pub by : AllSpelled (sets_with gl) bytes list (sets_with end)
+  pub each : All IsPlainCode list
+  pub joins : (rest : List Code) → AllComeBehind rest → AllComeBehind (list ++ rest)
+
+abbrev pub PlainlySpelled : Tail → List Piece → Type 0
+PlainlySpelled t ps = PlainBytes (gl_of t) (written t ps) (gl_of (tail_after t ps))
+
+no_bytes : (gl : GSet) → PlainBytes gl [] gl
+no_bytes gl = record { list = []; by = no_code; each = All-nil IsPlainCode; joins = λ rest h. h }
+
+-- the bytes of one code
+code_bytes : (gl end : GSet) (bytes : List ℕ) (c : Code) → Spells (sets_with gl) bytes c (sets_with end) → IsPlainCode c → ((rest : List Code) → ComesBehind c rest) → PlainBytes gl bytes end
+unfolding AllComeBehind
+code_bytes gl end bytes c by plain comes = record {
+  list = c ∷ [];
+  by = spelled_alone by;
+  each = All-cons IsPlainCode c [] plain (All-nil IsPlainCode);
+  joins = λ rest h. (comes rest, h);
+}
+
+both_bytes : (gl mid end : GSet) (xs ys : List ℕ) → PlainBytes gl xs mid → PlainBytes mid ys end → PlainBytes gl (xs ++ ys) end
+both_bytes gl mid end xs ys first second = record {
+  list = first.list ++ second.list;
+  by = spelled_behind first.by second.by;
+  each = All-append IsPlainCode first.list second.list first.each second.each;
+  joins = λ rest h. subst AllComeBehind (sym (append_assoc first.list second.list rest)) (first.joins (second.list ++ rest) (second.joins rest h));
+}
+
+-- a piece alone
+piece_plain : (t : Tail) (p : Piece) → PlainBytes (gl_of t) (piece_bytes t p) (gl_of (tail_after t (p ∷ []))) → PlainlySpelled t (p ∷ [])
+unfolding written
+piece_plain t p plain = subst (λ (bs : List ℕ). PlainBytes (gl_of t) bs (gl_of (tail_after t (p ∷ [])))) (sym (append-nil (piece_bytes t p))) plain
+
+pub nothing_plain : (t : Tail) → PlainlySpelled t []
+unfolding written tail_after
+nothing_plain t = no_bytes (gl_of t)
+
+pub behind_plain : (t : Tail) (ps qs : List Piece) → PlainlySpelled t ps → PlainlySpelled (tail_after t ps) qs → PlainlySpelled t (ps ++ qs)
+behind_plain t ps qs first second =
+    let mid : Tail = tail_after t ps in
+    subst (λ (bs : List ℕ). PlainBytes (gl_of t) bs (gl_of (tail_after t (ps ++ qs)))) (sym (written-append t ps qs))
+    (subst (λ (u : Tail). PlainBytes (gl_of t) (written t ps ++ written mid qs) (gl_of u)) (sym (tail_after-append t ps qs))
+    (both_bytes (gl_of t) (gl_of mid) (gl_of (tail_after mid qs)) (written t ps) (written mid qs) first second))
+
+-- shifts
+
+shifts_out : (gl : GSet) → PlainBytes gl (to_opcodes gl) G1
+shifts_out G1 = no_bytes G1
+shifts_out G0 = code_bytes G0 G1 (0x0E ∷ []) codes.Shifted spells.shift_out tt (λ rest. tt)
+shifts_out G2 = code_bytes G2 G1 (0x0E ∷ []) codes.Shifted spells.shift_out tt (λ rest. tt)
+shifts_out G3 = code_bytes G3 G1 (0x0E ∷ []) codes.Shifted spells.shift_out tt (λ rest. tt)
+
+shifts_in : (gl : GSet) → PlainBytes gl (to_primary gl) G0
+shifts_in G0 = no_bytes G0
+shifts_in G1 = code_bytes G1 G0 (0x0F ∷ []) codes.Shifted spells.shift_in tt (λ rest. tt)
+shifts_in G2 = code_bytes G2 G0 (0x0F ∷ []) codes.Shifted spells.shift_in tt (λ rest. tt)
+shifts_in G3 = code_bytes G3 G0 (0x0F ∷ []) codes.Shifted spells.shift_in tt (λ rest. tt)
+
+-- an opcode with its operands
+
+abbrev pub operand_codes : List ℕ → List Code
+operand_codes bytes = map (λ b. codes.Operand (b - 64)) bytes
+
+operands_spelled : (bytes : List ℕ) → All IsOperandByte bytes → AllSpelled (sets_with G1) bytes (operand_codes bytes) (sets_with G1)
+operands_spelled [] all = no_code
+operands_spelled (b ∷ bytes) all =
+    let first = All-head IsOperandByte b bytes all in
+    one_code (spells.operand refl first.0 first.1) (operands_spelled bytes (All-tail IsOperandByte b bytes all))
+
+operands_each : (bytes : List ℕ) → All IsPlainCode (operand_codes bytes)
+operands_each [] = All-nil IsPlainCode
+operands_each (b ∷ bytes) = All-cons IsPlainCode (codes.Operand (b - 64)) (operand_codes bytes) tt (operands_each bytes)
+
+operands_join : (bytes : List ℕ) (rest : List Code) → AllComeBehind rest → AllComeBehind (operand_codes bytes ++ rest)
+unfolding AllComeBehind
+operands_join [] rest h = h
+operands_join (b ∷ bytes) rest h = (tt, operands_join bytes rest h)
+
+operands_plain : (bytes : List ℕ) → All IsOperandByte bytes → PlainBytes G1 bytes G1
+operands_plain bytes all = record { list = operand_codes bytes; by = operands_spelled bytes all; each = operands_each bytes; joins = operands_join bytes }
+
+-- the byte is that of an opcode that a plain stream may have
+abbrev pub IsOpcode : ℕ → Opcode → Type 0
+IsOpcode byte op = (row_of opcode_rows byte ≡ Some op) × (left_out_opcode op ≡ None) × IsAbsolute op × (byte < 64)
+
+run_plain : (byte : ℕ) (op : Opcode) (bytes : List ℕ) → IsOpcode byte op → All IsOperandByte bytes → ((rest : List Code) → ComesBehind (codes.Op op) (operand_codes bytes ++ rest)) →
+    PlainBytes G1 (byte ∷ bytes) G1
+unfolding AllComeBehind
+run_plain byte op bytes is all comes = record {
+  list = codes.Op op ∷ operand_codes bytes;
+  by = one_code (spells.opcode refl is.0 is.1) (operands_spelled bytes all);
+  each = All-cons IsPlainCode (codes.Op op) (operand_codes bytes) is.2 (operands_each bytes);
+  joins = λ rest h. (comes rest, operands_join bytes rest h);
+}
+
+pub opcode_plain : (t : Tail) (byte : ℕ) (op : Opcode) (bytes : List ℕ) → IsOpcode byte op → All IsOperandByte bytes →
+    ((rest : List Code) → ComesBehind (codes.Op op) (operand_codes bytes ++ rest)) → PlainlySpelled t (opcode byte bytes ∷ [])
+unfolding tail_after
+opcode_plain t byte op bytes is all comes =
+    piece_plain t (opcode byte bytes) (both_bytes (gl_of t) G1 G1 (to_opcodes (gl_of t)) (byte ∷ bytes) (shifts_out (gl_of t)) (run_plain byte op bytes is all comes))
+
+-- a group of operands: behind its opcode, or in a run
+pub group_plain : (t : Tail) (byte : ℕ) (op : Opcode) (bytes : List ℕ) → IsOpcode byte op → All IsOperandByte bytes →
+    ((rest : List Code) → ComesBehind (codes.Op op) (operand_codes bytes ++ rest)) → PlainlySpelled t (group byte bytes ∷ [])
+unfolding written tail_after
+group_plain (Apart gl) byte op bytes is all comes = opcode_plain (Apart gl) byte op bytes is all comes
+group_plain (InRun run) byte op bytes is all comes = at (is_joined (InRun run) byte (length bytes)) refl
+  where
+    at : (joined : Bool) → is_joined (InRun run) byte (length bytes) ≡ joined → PlainlySpelled (InRun run) (group byte bytes ∷ [])
+    at true e = piece_plain (InRun run) (group byte bytes) (rw e (operands_plain bytes all))
+    at false e = piece_plain (InRun run) (group byte bytes) (rw e (run_plain byte op bytes is all comes))
+
+-- RESET, with DOMAIN behind it
+pub reset_plain : (t : Tail) (first second : ℕ) → IsWord first → IsWord second → PlainlySpelled t (opcode 0x20 (word_byte first ∷ word_byte second ∷ []) ∷ domain [] ∷ [])
+unfolding written tail_after row_of opcode_rows left_out_opcode DomainNext AllComeBehind
+reset_plain t first second one two =
+    let bytes : List ℕ = 0x20 ∷ word_byte first ∷ word_byte second ∷ 0x21 ∷ 0x5F ∷ [] in
+    let words : List Code = codes.Operand (word_byte first - 64) ∷ codes.Operand (word_byte second - 64) ∷ [] in
+    let again : List Code = codes.Op opcodes.Domain ∷ codes.Operand 31 ∷ [] in
+    let all : PlainBytes G1 bytes G1 = record {
+      list = codes.Op opcodes.Reset ∷ words ++ again;
+      by = one_code (spells.opcode refl refl refl)
+          (one_code (spells.operand refl (omega arith) (omega (arith, one)))
+          (one_code (spells.operand refl (omega arith) (omega (arith, two)))
+          (one_code (spells.opcode refl refl refl) (one_code (spells.operand refl (omega arith) (omega arith)) no_code))));
+      each = All-cons IsPlainCode (codes.Op opcodes.Reset) (words ++ again) tt
+          (All-append IsPlainCode words again (operands_each (word_byte first ∷ word_byte second ∷ []))
+          (All-cons IsPlainCode (codes.Op opcodes.Domain) (codes.Operand 31 ∷ []) tt (operands_each (0x5F ∷ []))));
+      joins = λ rest h. (λ odd. tt, (tt, (tt, (refl, (tt, h)))));
+    } in
+    subst (λ (bs : List ℕ). PlainBytes (gl_of t) bs G1) (sym (append_assoc (to_opcodes (gl_of t)) (0x20 ∷ word_byte first ∷ word_byte second ∷ []) (0x21 ∷ 0x5F ∷ [])))
+    (both_bytes (gl_of t) G1 G1 (to_opcodes (gl_of t)) bytes (shifts_out (gl_of t)) all)
+
+-- controls, and characters
+
+pub control_plain : (t : Tail) (bytes : List ℕ) (c : Code) → Spells (sets_with (gl_of t)) bytes c (sets_with (gl_of t)) → IsPlainCode c → ((rest : List Code) → ComesBehind c rest) →
+    PlainlySpelled t (control bytes ∷ [])
+unfolding tail_after
+control_plain t bytes c by plain comes = piece_plain t (control bytes) (code_bytes (gl_of t) (gl_of t) bytes c by plain comes)
+
+pub primary_plain : (t : Tail) (code : ℕ) → IsGraphic code → PlainlySpelled t (primary code ∷ [])
+unfolding tail_after plain_code
+primary_plain t code graphic =
+    piece_plain t (primary code) (both_bytes (gl_of t) G0 G0 (to_primary (gl_of t)) (code ∷ []) (shifts_in (gl_of t))
+    (code_bytes G0 G0 (code ∷ []) (codes.Char chars.Primary code) (spells.in_gl graphic refl) tt (λ rest. tt)))
+
+-- a character of the DRCS, which is G3 for that time alone
+pub drcs_plain : (t : Tail) (code : ℕ) → IsGraphic code → PlainlySpelled t (char_piece chars.Drcs code ∷ [])
+unfolding tail_after AllComeBehind plain_code with_set row_of number_rows set_rows
+drcs_plain t code graphic =
+    let first : Code = codes.Designated 3 code_sets.Drcs in
+    let last : Code = codes.Designated 3 code_sets.Mosaic in
+    piece_plain t (char_piece chars.Drcs code) (record {
+      list = first ∷ codes.Char chars.Drcs code ∷ last ∷ [];
+      by = one_code (spells.designation refl refl) (one_code (spells.single_shift3 graphic refl) (one_code (spells.designation refl refl) no_code));
+      each = All-cons IsPlainCode first (codes.Char chars.Drcs code ∷ last ∷ []) tt
+          (All-cons IsPlainCode (codes.Char chars.Drcs code) (last ∷ []) tt (All-cons IsPlainCode last [] tt (All-nil IsPlainCode)));
+      joins = λ rest h. (tt, (tt, (tt, h)));
+    })

@@ -1,0 +1,45 @@
+-- The codes that the pieces of canonical text spell.
+
+use Rattle.std.proofs.Common.{ℕ, ◌≡◌, ◌≤◌, List, [], ◌∷◌, ◌++◌, length, None, ap, sym, subst, ◌∙◌, append_assoc, append-nil, arith, length-append}
+use Rattle.std.proofs.Math.Seq.{take-append_seam, drop-append_seam}
+use Rattle.nap_codes.specs.declared.code.Code.{Code}
+use Rattle.nap_codes.specs.declared.code_set.CodeSets.{CodeSets}
+use Rattle.nap_codes.specs.Front as fronts
+use Rattle.nap_codes.specs.Front.{front}
+use Rattle.nap_codes.specs.Lexed.{lexed, lexed_by}
+use Rattle.nap_codes.specs.Spelling.{Spells}
+use Rattle.nap_codes.proofs.PublicLaws.{whole_is_spelled}
+use Rattle.nap_canon.proofs.operand_lengths.FrontCodes.{no_front, with_code, lexed_front}
+
+-- under these code sets, these bytes spell these codes, one behind another
+pub data AllSpelled : CodeSets → List ℕ → List Code → CodeSets → Type 0 where
+  no_code : {sets : CodeSets} → AllSpelled sets [] [] sets
+  one_code : {sets after end : CodeSets} {bytes rest : List ℕ} {code : Code} {more : List Code} →
+      Spells sets bytes code after → AllSpelled after rest more end → AllSpelled sets (bytes ++ rest) (code ∷ more) end
+
+pub spelled_alone : {sets after : CodeSets} {bytes : List ℕ} {code : Code} → Spells sets bytes code after → AllSpelled sets bytes (code ∷ []) after
+spelled_alone {sets} {after} {bytes} {code} by =
+    subst (λ (bs : List ℕ). AllSpelled sets bs (code ∷ []) after) (append-nil bytes) (one_code by no_code)
+
+pub spelled_behind : {sets between end : CodeSets} {xs ys : List ℕ} {first second : List Code} →
+    AllSpelled sets xs first between → AllSpelled between ys second end → AllSpelled sets (xs ++ ys) (first ++ second) end
+spelled_behind no_code after = after
+spelled_behind {sets = sets} {end = end} {ys = ys} {second = second} (one_code {bytes = bytes} {rest = rest} {code = code} {more = more} by others) after =
+    subst (λ (bs : List ℕ). AllSpelled sets bs (code ∷ more ++ second) end) (sym (append_assoc bytes rest ys)) (one_code by (spelled_behind others after))
+
+-- lexing gives what is spelled
+
+whole_code : (sets : CodeSets) (bytes rest : List ℕ) (code : Code) (after : CodeSets) → Spells sets bytes code after →
+    front sets (bytes ++ rest) ≡ fronts.whole code (length bytes) after
+whole_code sets bytes rest code after by =
+    let few : length bytes ≤ length (bytes ++ rest) = omega (arith, length-append bytes rest) in
+    (whole_is_spelled sets (bytes ++ rest) code (length bytes) after).1 (few, subst (λ (bs : List ℕ). Spells sets bs code after) (sym (take-append_seam bytes rest)) by)
+
+pub lexed_spelled : (sets : CodeSets) (bytes : List ℕ) (list : List Code) (end : CodeSets) → AllSpelled sets bytes list end →
+    lexed sets bytes ≡ record { codes = list; fault = None; state = record { sets = end; half = [] } }
+lexed_spelled sets bytes list end no_code = lexed_front sets [] ∙ ap (lexed_by lexed sets []) (no_front sets)
+lexed_spelled sets bytes list end (one_code {after = after} {bytes = xs} {rest = rest} {code = code} {more = more} by others) =
+    lexed_front sets (xs ++ rest)
+    ∙ ap (lexed_by lexed sets (xs ++ rest)) (whole_code sets xs rest code after by)
+    ∙ ap (λ (bs : List ℕ). with_code code (lexed after bs)) (drop-append_seam xs rest)
+    ∙ ap (with_code code) (lexed_spelled after rest more end others)

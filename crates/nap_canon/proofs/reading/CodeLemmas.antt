@@ -1,0 +1,46 @@
+-- What a reader does with the bytes that spell a code which is no opcode.
+
+use Rattle.std.proofs.Common.{ℕ, ◌+◌, ◌≡◌, List, [], ◌∷◌, ◌++◌, length, take, Ok, refl, ap, sym, subst, ◌∙◌, append_assoc, arith, length-append}
+use Rattle.std.proofs.lemmas.List.{take_all}
+use Rattle.nap_codes.specs.declared.code.Code.{Code}
+use Rattle.nap_codes.specs.declared.code_set.CodeSets.{CodeSets}
+use Rattle.nap_codes.specs.Front as codes
+use Rattle.nap_codes.specs.Spelling.{Spells}
+use Rattle.nap_codes.proofs.PublicLaws.{whole_is_spelled}
+use Rattle.nap_list.specs.declared.entry.Entry.{Entry}
+use Rattle.nap_draw.specs.Codes.{code_rule}
+use Rattle.nap_draw.specs.Rule.{Drawn}
+use Rattle.nap_draw.specs.declared.work.Work.{Work}
+use Rattle.nap_reader.specs.Laws.{IsAlone}
+use Rattle.nap_reader.specs.Stream.{Placed, Machine, bytes_of, after_drawing, drawn_front, front, placed_from}
+use Rattle.nap_reader.proofs.PublicLaws.{code_acts}
+use Rattle.nap_canon.proofs.reading.PlacedLemmas.{bytes_of-placed, length-placed, placed_from-append}
+use Rattle.nap_canon.proofs.reading.ReadLemmas.{standing, stands_after, Reads, reads_act}
+
+spelled_front : (sets : CodeSets) (before : List ℕ) (last : ℕ) (c : Code) (after : CodeSets) → Spells sets (before ++ last ∷ []) c after →
+    codes.front sets (before ++ last ∷ []) ≡ codes.whole c (length before + 1) after
+spelled_front sets before last c after spells =
+    let bytes : List ℕ = before ++ last ∷ [] in
+    let size : length bytes ≡ length before + 1 = omega (arith, length-append before (last ∷ [])) in
+    let all : bytes ≡ take (length before + 1) bytes = sym (take_all (length before + 1) bytes (omega (arith, size))) in
+    (whole_is_spelled sets bytes c (length before + 1) after).1 (omega (arith, size), subst (λ (bs : List ℕ). Spells sets bs c after) all spells)
+
+-- a code, and what is behind it
+pub code_reads : (budget : ℕ) (sets : CodeSets) (work : Work) (n : ℕ) (before : List ℕ) (last : ℕ) (c : Code) (after : CodeSets) (d : Drawn) (xs : List Placed) (more : List Entry) (end : Machine) →
+    IsAlone c → Spells sets (before ++ last ∷ []) c after → code_rule work c ≡ Ok d →
+    Reads (standing budget after d.work) xs more end → Reads (standing budget sets work) (placed_from n (before ++ last ∷ []) ++ xs) (d.entries ++ more) end
+unfolding placed_from
+code_reads budget sets work n before last c after d xs more end alone spells by behind =
+    let m : Machine = standing budget sets work in
+    let next : Machine = standing budget after work in
+    let first : List Placed = placed_from n before in
+    let x : Placed = record { byte = last; place = n + length before } in
+    let parts : placed_from n (before ++ last ∷ []) ++ xs ≡ first ++ x ∷ xs =
+    ap (λ (ys : List Placed). ys ++ xs) (placed_from-append n before (last ∷ [])) ∙ append_assoc first (x ∷ []) xs in
+    let names : codes.front sets (bytes_of first ++ last ∷ []) ≡ codes.whole c (length first + 1) after =
+    rw (bytes_of-placed n before, length-placed n before) (spelled_front sets before last c after spells) in
+    reads_act m (placed_from n (before ++ last ∷ []) ++ xs) d.entries (after_drawing next d) xs more end
+    (ap (front m) parts
+    ∙ code_acts m c first x after xs (record { mode = refl; alone = alone; names = names })
+    ∙ ap (drawn_front next x.place xs) by)
+    (subst (λ (k : Machine). Reads k xs more end) (sym (stands_after budget after work d)) behind)

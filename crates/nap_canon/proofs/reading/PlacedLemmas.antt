@@ -1,0 +1,46 @@
+-- Bytes with their places.
+
+use Rattle.std.proofs.Common.{ℕ, suc, ◌+◌, ◌≡◌, ◌≤◌, List, [], ◌∷◌, ◌++◌, length, All, refl, ap, sym, subst, ◌∙◌, arith}
+use Rattle.nap_values.specs.Laws.{IsOperandByte}
+use Rattle.nap_values.specs.Spellings as spellings
+use Rattle.nap_codes.specs.declared.code.Code.TheVariants as code
+use Rattle.nap_codes.specs.declared.opcode.Opcode.{Opcode}
+use Rattle.nap_codes.specs.Front as codes
+use Rattle.nap_reader.specs.Bodies.{between}
+use Rattle.nap_reader.specs.Laws.{IsRun}
+use Rattle.nap_draw.specs.Limits.{run_limit}
+use Rattle.nap_reader.specs.Stream.{Placed, Machine, bytes_of, words_of, placed_from}
+
+pub words_of-placed : (n : ℕ) (bytes : List ℕ) → words_of (placed_from n bytes) ≡ spellings.words_of bytes
+unfolding placed_from
+words_of-placed n [] = refl
+words_of-placed n (b ∷ bytes) = rw (words_of-placed (suc n) bytes) refl
+
+pub bytes_of-placed : (n : ℕ) (bytes : List ℕ) → bytes_of (placed_from n bytes) ≡ bytes
+unfolding placed_from
+bytes_of-placed n [] = refl
+bytes_of-placed n (b ∷ bytes) = ap (λ (bs : List ℕ). b ∷ bs) (bytes_of-placed (suc n) bytes)
+
+pub length-placed : (n : ℕ) (bytes : List ℕ) → length (placed_from n bytes) ≡ length bytes
+unfolding placed_from
+length-placed n [] = refl
+length-placed n (b ∷ bytes) = ap suc (length-placed (suc n) bytes)
+
+pub placed_from-append : (n : ℕ) (xs ys : List ℕ) → placed_from n (xs ++ ys) ≡ placed_from n xs ++ placed_from (n + length xs) ys
+unfolding placed_from
+placed_from-append n [] ys = ap (λ (k : ℕ). placed_from k ys) (omega arith)
+placed_from-append n (x ∷ xs) ys =
+    let places : suc n + length xs ≡ n + suc (length xs) = omega arith in
+    ap (λ (zs : List Placed). record { byte = x; place = n } ∷ zs)
+    (placed_from-append (suc n) xs ys ∙ ap (λ (k : ℕ). placed_from (suc n) xs ++ placed_from k ys) places)
+
+-- an opcode and the bytes of its operands are a run
+pub spelled_run : (n : ℕ) (opcode : ℕ) (operands : List ℕ) (op : Opcode) (m : Machine) → m.mode ≡ between →
+    codes.front m.sets (opcode ∷ []) ≡ codes.whole (code.Op op) 1 m.sets → All IsOperandByte operands → length operands ≤ run_limit →
+    IsRun m op (record { byte = opcode; place = n }) (placed_from (suc n) operands)
+spelled_run n opcode operands op m mode names all few = record {
+  mode = mode;
+  names = names;
+  carriers = subst (All IsOperandByte) (sym (bytes_of-placed (suc n) operands)) all;
+  few = omega (arith, few, length-placed (suc n) operands);
+}

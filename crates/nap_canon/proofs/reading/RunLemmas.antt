@@ -1,0 +1,146 @@
+-- Groups of operands that join a run.
+
+use Rattle.std.proofs.Common.{ℕ, ◌≡◌, ◌≤◌, ◌+◌, ◌-◌, ◌*◌, List, [], ◌∷◌, ◌++◌, length, All, true, false, Ok, refl, ap, sym, subst, ◌∙◌, append_assoc, length-append, arith}
+use Rattle.std.proofs.lemmas.Bool.Decides.{nat_tests}
+use Rattle.std.proofs.lemmas.List.{length-map, map-append}
+use Rattle.std.proofs.lemmas.List.Elements.{All-append}
+use Rattle.nap_values.specs.Domains.{OperandLengths}
+use Rattle.nap_values.specs.Laws.{IsOperandByte}
+use Rattle.nap_values.specs.Spellings.{words_of}
+use Rattle.nap_codes.specs.declared.code_set.GSet.{GSet}
+use Rattle.nap_codes.specs.declared.opcode.Opcode.{Opcode}
+use Rattle.nap_list.specs.declared.entry.Entry.{Entry}
+use Rattle.nap_list.specs.declared.state.State.{State}
+use Rattle.nap_list.specs.State.{after}
+use Rattle.nap_draw.specs.declared.work.Work.{Work}
+use Rattle.nap_draw.specs.Joining.{CanJoin, IsWhole}
+use Rattle.nap_draw.specs.Rule.{Drawn, rule}
+use Rattle.nap_draw.proofs.PublicLaws.{runs_join}
+use Rattle.nap_draw.specs.Limits.{run_limit}
+use Rattle.nap_reader.specs.Stream.{placed_from}
+use Rattle.nap_canon.specs.declared.tail.Tail.{Tail}
+use Rattle.nap_canon.specs.declared.tail.Tail.TheVariants.{Apart, InRun}
+use Rattle.nap_canon.specs.Spelling.{Piece, group}
+use Rattle.nap_canon.specs.Text.{gl_of, to_opcodes, is_joined, run_behind, written, tail_after}
+use Rattle.nap_canon.proofs.spelling.CommandLemmas.{work_at}
+use Rattle.nap_canon.proofs.reading.ConveyLemmas.{names}
+use Rattle.nap_canon.proofs.spelling.HoldingLemmas.{holding, held_work}
+use Rattle.nap_canon.proofs.reading.PieceLemmas.{Acts, Names, gl_after, at, group_acts}
+use Rattle.nap_canon.proofs.reading.ReadLemmas.{Reads}
+use Rattle.nap_canon.proofs.spelling.SavedLemmas.{saved_after}
+use Rattle.nap_canon.proofs.spelling.StrokeLemmas.{Strokes}
+
+-- Two groups of which the second joins the first are written as one.
+
+module _ (gl : GSet) (byte : ℕ) (a b : List ℕ) (ps : List Piece) (joins : is_joined (InRun (run_behind (Apart gl) byte (length a))) byte (length b) ≡ true) where
+  tails_agree : InRun (run_behind (InRun (run_behind (Apart gl) byte (length a))) byte (length b)) ≡ InRun (run_behind (Apart gl) byte (length (a ++ b)))
+  tails_agree =
+      let to : ℕ → Tail = λ n. InRun (record { opcode = byte; length = n }) in
+      rw joins (ap to (sym (length-append a b)))
+
+  pub joined_bytes : written (Apart gl) (group byte a ∷ group byte b ∷ ps) ≡ written (Apart gl) (group byte (a ++ b) ∷ ps)
+  unfolding written
+  joined_bytes =
+      let first : List ℕ = to_opcodes gl ++ byte ∷ a in
+      let t : Tail = InRun (run_behind (InRun (run_behind (Apart gl) byte (length a))) byte (length b)) in
+      let second : written (InRun (run_behind (Apart gl) byte (length a))) (group byte b ∷ ps) ≡ b ++ written t ps = rw joins refl in
+      ap (λ (bs : List ℕ). first ++ bs) (second ∙ ap (λ (u : Tail). b ++ written u ps) tails_agree)
+      ∙ sym (append_assoc first b (written (InRun (run_behind (Apart gl) byte (length (a ++ b)))) ps))
+      ∙ ap (λ (bs : List ℕ). bs ++ written (InRun (run_behind (Apart gl) byte (length (a ++ b)))) ps) (append_assoc (to_opcodes gl) (byte ∷ a) b)
+
+  pub joined_gl : gl_after gl (group byte a ∷ group byte b ∷ ps) ≡ gl_after gl (group byte (a ++ b) ∷ ps)
+  unfolding tail_after
+  joined_gl = ap (λ (u : Tail). gl_of (tail_after u ps)) tails_agree
+
+  pub joined_acts : (budget : ℕ) (work left : Work) (es : List Entry) → Acts budget gl work (group byte (a ++ b) ∷ ps) es left →
+      Acts budget gl work (group byte a ∷ group byte b ∷ ps) es left
+  joined_acts budget work left es acts n xs more end anew behind =
+      subst (λ (bs : List ℕ). Reads (at budget gl work) (placed_from n bs ++ xs) (es ++ more) end) (sym joined_bytes)
+      (acts n xs more end (λ is. anew (joined_gl ∙ is)) (subst (λ (g : GSet). Reads (at budget g left) xs more end) joined_gl behind))
+
+-- what joins a run is of its opcode, and has room in it
+
+pub same_opcode : (byte other n m : ℕ) → is_joined (InRun (record { opcode = byte; length = n })) other m ≡ true → other ≡ byte
+same_opcode byte other n m joins = grind (arith, nat_tests)
+
+pub room_for : (byte n m : ℕ) → is_joined (InRun (record { opcode = byte; length = n })) byte m ≡ true → n + m ≤ run_limit
+room_for byte n m joins = grind (arith, nat_tests)
+
+-- A run stands open, whose opcode has drawn these entries and leaves this work.
+pub record Open (left : Work) : Type 0 where
+  pub before : Work
+  pub byte : ℕ
+  pub operands : List ℕ
+  pub entries : List Entry
+  pub op : Opcode
+  pub joins : CanJoin op
+  pub named : Names byte op
+  pub carriers : All IsOperandByte operands
+  pub few : length operands ≤ run_limit
+  pub lengths : before.domain.multi ≡ 8
+  pub groups : ℕ
+  pub whole : length operands ≡ groups * 8
+  pub draws : rule before op (words_of operands) ≡ Ok (record { entries = entries; work = left; clears = false })
+
+-- an opcode with its operands, behind which the run stands open
+pub open_acts : (budget : ℕ) (gl : GSet) (left : Work) (o : Open left) → Acts budget gl o.before (group o.byte o.operands ∷ []) o.entries left
+open_acts budget gl left o =
+    group_acts budget gl o.before o.byte o.operands o.op (record { entries = o.entries; work = left; clears = false }) o.named o.carriers o.few o.draws
+
+-- a byte names one opcode
+named_once : (byte : ℕ) (op other : Opcode) → Names byte op → Names byte other → other ≡ op
+named_once byte op other first second = let both = sym second ∙ first in cc
+
+is_whole : (work : Work) (operands : List ℕ) (groups : ℕ) → work.domain.multi ≡ 8 → length operands ≡ groups * 8 → IsWhole work.domain.multi (words_of operands)
+is_whole work operands groups lengths whole =
+    (groups, length-map operands (λ (b : ℕ). b - 64) ∙ whole ∙ ap (λ (k : ℕ). groups * k) (sym lengths))
+
+-- the run that an entry opens
+abbrev pub opened : (saved : OperandLengths) (s : State) (e : Entry) (byte : ℕ) (operands : List ℕ) → Strokes saved s e byte operands →
+    Open (work_at (saved_after saved e) (after s e))
+opened saved s e byte operands k = record {
+  before = held_work saved s e;
+  byte = byte;
+  operands = operands;
+  entries = e ∷ [];
+  op = k.op;
+  joins = k.joins;
+  named = names byte k.op k.is;
+  carriers = k.are.carriers;
+  few = omega (arith, k.are.size_is, k.few);
+  lengths = refl;
+  groups = k.groups;
+  whole = k.are.size_is;
+  draws = k.draws;
+}
+
+module _ (saved : OperandLengths) (s : State) (e : Entry) (o : Open (work_at saved s)) (more : List ℕ) (k : Strokes saved s e o.byte more) (stands : holding s e ≡ s) where
+  pub more_draws : rule o.before o.op (words_of (o.operands ++ more))
+      ≡ Ok (record { entries = o.entries ++ e ∷ []; work = work_at (saved_after saved e) (after s e); clears = false })
+  more_draws =
+      let first : Drawn = record { entries = o.entries; work = work_at saved s; clears = false } in
+      let second : Drawn = record { entries = e ∷ []; work = work_at (saved_after saved e) (after s e); clears = false } in
+      let next : rule (work_at saved s) o.op (words_of more) ≡ Ok second =
+      ap (λ (t : State). rule (work_at saved t) o.op (words_of more)) (sym stands)
+      ∙ ap (λ (op : Opcode). rule (held_work saved s e) op (words_of more)) (sym (named_once o.byte o.op k.op o.named (names o.byte k.op k.is)))
+      ∙ k.draws in
+      ap (rule o.before o.op) (map-append (λ (b : ℕ). b - 64) o.operands more)
+      ∙ runs_join o.before o.op (words_of o.operands) (words_of more) first second o.joins (is_whole o.before o.operands o.groups o.lengths o.whole) o.draws next
+
+  -- the run with one group more, which draws an entry that holds the standing values
+  abbrev pub opened_more : length o.operands + length more ≤ run_limit → Open (work_at (saved_after saved e) (after s e))
+  opened_more few = record {
+    before = o.before;
+    byte = o.byte;
+    operands = o.operands ++ more;
+    entries = o.entries ++ e ∷ [];
+    op = o.op;
+    joins = o.joins;
+    named = o.named;
+    carriers = All-append IsOperandByte o.operands more o.carriers k.are.carriers;
+    few = omega (arith, length-append o.operands more, few);
+    lengths = o.lengths;
+    groups = o.groups + k.groups;
+    whole = omega (arith, length-append o.operands more, o.whole, k.are.size_is);
+    draws = more_draws;
+  }

@@ -1,0 +1,87 @@
+-- The laws of canonical streams: their text is read as the list, so they are equal exactly where the lists are.
+
+use Rattle.std.proofs.Common.{ℕ, ◌≡◌, ◌↔◌, List, Option, Some, None, ap, sym, ◌∙◌, subst}
+use Rattle.std.specs.Prelude.{IsSome}
+use Rattle.nap_values.specs.Domains.{OperandLengths}
+use Rattle.nap_list.specs.declared.entry.Entry.{Entry}
+use Rattle.nap_list.specs.declared.state.Opened.{Opened}
+use Rattle.nap_list.specs.State.{start, walk}
+use Rattle.nap_draw.specs.Rule.{start_domain}
+use Rattle.nap_reader.specs.Stream.{Outcome}
+use Rattle.nap_reader.proofs.PublicLaws.{accepted_is_legal, read_values_are_in_range}
+use Rattle.nap_canon.specs.declared.form.Form.{Form}
+use Rattle.nap_canon.specs.declared.form.Form.TheVariants.{Two}
+use Rattle.nap_canon.specs.Laws.{IsReadAs, text_lengths, TextIsRead, TextLeads, CanonicalStreamsAgree}
+use Rattle.nap_canon.specs.Plain.{IsPlain}
+use Rattle.nap_canon.specs.Streams.{IsAccepted, list_of, IsCanonicalOf}
+use Rattle.nap_canon.specs.Text.{text}
+use Rattle.nap_canon.proofs.reading_back.ListLemmas.{text_reads, means_text}
+use Rattle.nap_canon.proofs.spelling.SavedLemmas.{SavesLengths, saved_along, saves_along}
+use Rattle.nap_canon.proofs.plain_codes.PlainTexts.{text_is_plain}
+
+pub text_is_read : (form : Form) → TextIsRead form
+text_is_read form budget es legal inside =
+    let is = means_text form budget es inside legal in
+    record {
+      accepted = ap (λ (o : Outcome). o.refusal) is;
+      list = ap (λ (o : Outcome). o.entries) is;
+      uncharged = ap (λ (o : Outcome). o.machine.left) is;
+    }
+
+saved_lengths : (saved : OperandLengths) (o : Option Opened) → SavesLengths saved o → IsSome o → saved ≡ text_lengths
+saved_lengths saved (Some opened) h some = h
+saved_lengths saved None h never = let bad : ⊥ = cc in absurd bad
+
+pub text_leads : (form : Form) → TextLeads form
+text_leads form budget es fits inside =
+    let reads = text_reads form budget es inside fits in
+    record {
+      going = reads.going;
+      unrefused = ap (λ (o : Outcome). o.refusal) reads.acts;
+      list = ap (λ (o : Outcome). o.entries) reads.acts;
+      state = ap (λ (o : Outcome). o.machine.work.state) reads.acts;
+      domain = ap (λ (o : Outcome). o.machine.work.domain) reads.acts;
+      saved = λ some. ap (λ (o : Outcome). o.machine.work.saved) reads.acts ∙ saved_lengths (saved_along start_domain es) (walk start es).definition (saves_along start_domain start es tt) some;
+      sets = ap (λ (o : Outcome). o.machine.sets) reads.acts;
+      uncharged = ap (λ (o : Outcome). o.machine.left) reads.acts;
+    }
+
+-- a canonical stream is read as the text that it is
+pub read_as : (budget other : ℕ) (c p : List ℕ) → IsCanonicalOf budget c p → IsReadAs other c (list_of budget p)
+read_as budget other c p canonical =
+    subst (λ (bytes : List ℕ). IsReadAs other bytes (list_of budget p)) (sym canonical.text_is)
+    (text_is_read Two other (list_of budget p) (accepted_is_legal budget p canonical.accepted) (read_values_are_in_range budget p).1)
+
+pub plain_text : (budget : ℕ) (c p : List ℕ) → IsCanonicalOf budget c p → IsPlain c
+plain_text budget c p canonical =
+    subst IsPlain (sym canonical.text_is)
+    (text_is_plain Two (list_of budget p) (accepted_is_legal budget p canonical.accepted).fit (read_values_are_in_range budget p).1)
+
+pub equal_texts : (budget other : ℕ) (c p d q : List ℕ) → IsCanonicalOf budget c p → IsCanonicalOf other d q →
+    (c ≡ d) ↔ (list_of budget p ≡ list_of other q)
+equal_texts budget other c p d q first second = (
+  λ same.
+      sym (read_as budget budget c p first).list
+      ∙ (ap (list_of budget) same
+      ∙ (read_as other budget d q second).list),
+  λ same. first.text_is ∙ (ap text same ∙ sym second.text_is),
+)
+
+pub own_text : (budget other : ℕ) (c p : List ℕ) → IsCanonicalOf budget c p → IsCanonicalOf other c c
+own_text budget other c p canonical =
+    let again = read_as budget other c p canonical in
+    record { accepted = again.accepted; text_is = canonical.text_is ∙ ap text (sym again.list) }
+
+pub canonical_streams_agree : CanonicalStreamsAgree
+canonical_streams_agree budget = record {
+  equal = equal_texts budget;
+  plain = plain_text budget;
+  accepted = λ other c p canonical. (read_as budget other c p canonical).accepted;
+  same_list = λ other c p canonical. (read_as budget other c p canonical).list;
+  own = own_text budget;
+}
+
+-- the text of the list that was read is the canonical stream
+pub text_is_canonical : (budget : ℕ) (c p : List ℕ) (es : List Entry) → IsAccepted budget p → es ≡ list_of budget p → c ≡ text es →
+    IsCanonicalOf budget c p
+text_is_canonical budget c p es accepted read is = record { accepted = accepted; text_is = is ∙ ap text read }

@@ -1,0 +1,159 @@
+-- The text of a list is no longer than its text in the first form.
+
+use Rattle.std.proofs.Common.{ℕ, ◌≡◌, ◌≤◌, ◌+◌, List, [], ◌∷◌, ◌++◌, length, map, Bool, true, false, Some, refl, ap, sym, ◌∙◌, append-nil, length-append, arith}
+use Rattle.std.specs.Prelude.{⊤, ◌%◌, ◌==◌, if◌then◌else◌}
+use Rattle.nap_values.specs.Coordinates.{Coordinates}
+use Rattle.nap_values.specs.Spellings.{point_bytes, grb_bytes}
+use Rattle.nap_codes.specs.declared.code_set.CharSet.{CharSet}
+use Rattle.nap_codes.specs.declared.code_set.CharSet.TheVariants as chars
+use Rattle.nap_codes.specs.declared.code_set.GSet.{GSet}
+use Rattle.nap_list.specs.declared.attribute.Colour.TheVariants as colours
+use Rattle.nap_list.specs.declared.attribute.Pen.{Pen}
+use Rattle.nap_list.specs.declared.attribute.Pen.TheVariants as pens
+use Rattle.nap_list.specs.declared.entry.Entry.{Entry}
+use Rattle.nap_list.specs.declared.entry.Entry.TheVariants as entries
+use Rattle.nap_list.specs.declared.state.Drawing.{Drawing}
+use Rattle.nap_list.specs.declared.state.State.{State}
+use Rattle.nap_list.specs.Entry.{held}
+use Rattle.nap_list.specs.State.{start, taking, after}
+use Rattle.nap_canon.specs.declared.command.Command.{Command}
+use Rattle.nap_canon.specs.declared.command.Command.TheVariants as commands
+use Rattle.nap_canon.specs.declared.form.Form.TheVariants.{One, Two}
+use Rattle.nap_canon.specs.declared.tail.Tail.{Tail}
+use Rattle.nap_canon.specs.Bring.{bring, bring_colour}
+use Rattle.nap_canon.specs.Equality.{same_pen}
+use Rattle.nap_canon.specs.Laws.{FormsAgree}
+use Rattle.nap_canon.specs.Spelling.{Piece, opcode, group, primary, control, domain, char_piece, command_piece, line_piece, spelled}
+use Rattle.nap_canon.specs.Text.{gl_of, to_opcodes, is_joined, begun_tail, written, tail_behind, tail_after, entry_pieces, pieces, text}
+use Rattle.nap_canon.specs.TextParts.{written-append, tail_after-append}
+use Rattle.nap_canon.proofs.reading_back.CanonicalLaws.{text_is_read}
+
+-- written where the same set is in GL, the first pieces have no more bytes than the others, and leave the same set
+abbrev NoLonger : List Piece → List Piece → Type 0
+NoLonger ps qs = (t u : Tail) → gl_of t ≡ gl_of u → (length (written t ps) ≤ length (written u qs)) × (gl_of (tail_after t ps) ≡ gl_of (tail_after u qs))
+
+nothing_no_longer : NoLonger [] []
+unfolding written tail_after
+nothing_no_longer t u same = (omega arith, same)
+
+behind_no_longer : (ps qs more others : List Piece) → NoLonger ps qs → NoLonger more others → NoLonger (ps ++ more) (qs ++ others)
+behind_no_longer ps qs more others first second t u same =
+    let one = first t u same in
+    let two = second (tail_after t ps) (tail_after u qs) one.1 in
+    let few : length (written t (ps ++ more)) ≡ length (written t ps) + length (written (tail_after t ps) more) =
+    ap length (written-append t ps more) ∙ length-append (written t ps) (written (tail_after t ps) more) in
+    let many : length (written u (qs ++ others)) ≡ length (written u qs) + length (written (tail_after u qs) others) =
+    ap length (written-append u qs others) ∙ length-append (written u qs) (written (tail_after u qs) others) in
+    (omega (arith, few, many, one.0, two.0), ap gl_of (tail_after-append t ps more) ∙ two.1 ∙ ap gl_of (sym (tail_after-append u qs others)))
+
+-- pieces of which none is a group
+abbrev NoGroup : List Piece → Type 0
+NoGroup [] = ⊤
+NoGroup (group byte operands ∷ ps) = ⊥
+NoGroup (p ∷ ps) = NoGroup ps
+
+no_group_behind : (ps qs : List Piece) → NoGroup ps → NoGroup qs → NoGroup (ps ++ qs)
+no_group_behind [] qs first second = second
+no_group_behind (opcode byte operands ∷ ps) qs first second = no_group_behind ps qs first second
+no_group_behind (group byte operands ∷ ps) qs first second = first
+no_group_behind (primary code ∷ ps) qs first second = no_group_behind ps qs first second
+no_group_behind (control bytes ∷ ps) qs first second = no_group_behind ps qs first second
+
+-- where the same set is in GL they are written alike
+same_bytes : (ps : List Piece) → NoGroup ps → (t u : Tail) → gl_of t ≡ gl_of u → (written t ps ≡ written u ps) × (gl_of (tail_after t ps) ≡ gl_of (tail_after u ps))
+unfolding written tail_after
+same_bytes [] none t u same = (refl, same)
+same_bytes (opcode byte operands ∷ ps) none t u same =
+    (ap (λ (gl : GSet). (to_opcodes gl ++ byte ∷ operands) ++ written (tail_behind t (opcode byte operands)) ps) same, refl)
+same_bytes (group byte operands ∷ ps) none t u same = absurd none
+same_bytes (primary code ∷ ps) none t u same = rw same (refl, refl)
+same_bytes (control bytes ∷ ps) none t u same = rw same (refl, refl)
+
+same_no_longer : (ps : List Piece) → NoGroup ps → NoLonger ps ps
+same_no_longer ps none t u same =
+    let both = same_bytes ps none t u same in
+    (omega (arith, ap length both.0), both.1)
+
+commands_no_group : (cs : List Command) → NoGroup (map command_piece cs)
+commands_no_group [] = tt
+commands_no_group (commands.Named size ∷ cs) = commands_no_group cs
+commands_no_group (commands.Flag flag on ∷ cs) = commands_no_group cs
+commands_no_group (commands.PointSet p ∷ cs) = commands_no_group cs
+commands_no_group (commands.Pel m ∷ cs) = commands_no_group cs
+commands_no_group (commands.SelectBase ∷ cs) = commands_no_group cs
+commands_no_group (commands.SelectFront a ∷ cs) = commands_no_group cs
+commands_no_group (commands.SelectPair a b ∷ cs) = commands_no_group cs
+commands_no_group (commands.SetColor grb ∷ cs) = commands_no_group cs
+commands_no_group (commands.Texture word ∷ cs) = commands_no_group cs
+commands_no_group (commands.TextureMask word m ∷ cs) = commands_no_group cs
+commands_no_group (commands.Text first second ∷ cs) = commands_no_group cs
+commands_no_group (commands.TextSize first second m ∷ cs) = commands_no_group cs
+
+char_no_group : (set : CharSet) (code : ℕ) → NoGroup (char_piece set code ∷ [])
+char_no_group chars.Primary code = tt
+char_no_group chars.Supplementary code = tt
+char_no_group chars.Mosaic code = tt
+char_no_group chars.Drcs code = tt
+
+again_no_group : (back : Bool) → NoGroup (if back then domain [] ∷ [] else [])
+again_no_group true = tt
+again_no_group false = tt
+
+-- the first form has no groups
+spelled_no_group : (d : Drawing) (e : Entry) → NoGroup (spelled One d e)
+spelled_no_group d (entries.Char set code hand) = char_no_group set code
+spelled_no_group d (entries.Map a grb) =
+    let cs : List Command = bring_colour d.base d.colour (Some (colours.Front a)) in
+    no_group_behind (map command_piece cs) (opcode 0x3C (grb_bytes grb) ∷ []) (commands_no_group cs) tt
+spelled_no_group d (entries.Reset first second pen) = again_no_group (first % 2 == 1)
+spelled_no_group d _ = tt
+
+-- a group has no more bytes than an opcode with as many operands or more
+group_no_longer : (byte other : ℕ) (operands more : List ℕ) → length operands ≤ length more → NoLonger (group byte operands ∷ []) (opcode other more ∷ [])
+unfolding written tail_after
+group_no_longer byte other operands more few t u same = (at (is_joined t byte (length operands)) refl, refl)
+  where
+    at : (joined : Bool) → is_joined t byte (length operands) ≡ joined → length (written t (group byte operands ∷ [])) ≤ length (written u (opcode other more ∷ []))
+    at true is =
+        let mine : written t (group byte operands ∷ []) ≡ operands = rw is (append-nil operands) in
+        let theirs : written u (opcode other more ∷ []) ≡ to_opcodes (gl_of u) ++ other ∷ more = append-nil (to_opcodes (gl_of u) ++ other ∷ more) in
+        omega (arith, ap length mine, ap length theirs, length-append (to_opcodes (gl_of u)) (other ∷ more), few)
+    at false is =
+        let mine : written t (group byte operands ∷ []) ≡ to_opcodes (gl_of u) ++ byte ∷ operands =
+        rw is (append-nil (to_opcodes (gl_of t) ++ byte ∷ operands) ∙ ap (λ (gl : GSet). to_opcodes gl ++ byte ∷ operands) same) in
+        let theirs : written u (opcode other more ∷ []) ≡ to_opcodes (gl_of u) ++ other ∷ more = append-nil (to_opcodes (gl_of u) ++ other ∷ more) in
+        omega (arith, ap length mine, ap length theirs, length-append (to_opcodes (gl_of u)) (other ∷ more), length-append (to_opcodes (gl_of u)) (byte ∷ operands), few)
+
+line_no_longer : (pen : Pen) (from to : Coordinates) → NoLonger (line_piece Two pen from to ∷ []) (line_piece One pen from to ∷ [])
+line_no_longer pen from to = at (same_pen pen (pens.At from)) refl
+  where
+    at : (same : Bool) → same_pen pen (pens.At from) ≡ same → NoLonger (line_piece Two pen from to ∷ []) (line_piece One pen from to ∷ [])
+    at true is = rw is (group_no_longer 0x28 0x2A (point_bytes to) (point_bytes from ++ point_bytes to) (omega (arith, length-append (point_bytes from) (point_bytes to))))
+    at false is = rw is (group_no_longer 0x2A 0x2A (point_bytes from ++ point_bytes to) (point_bytes from ++ point_bytes to) (omega arith))
+
+spelled_no_longer : (d : Drawing) (e : Entry) → NoLonger (spelled Two d e) (spelled One d e)
+spelled_no_longer d (entries.Point at pel colour) = group_no_longer 0x26 0x26 (point_bytes at) (point_bytes at) (omega arith)
+spelled_no_longer d (entries.Line from to ink) = line_no_longer d.pen from to
+spelled_no_longer d (entries.Rect filled from to ink) = group_no_longer _ _ _ _ (omega arith)
+spelled_no_longer d e = same_no_longer (spelled One d e) (spelled_no_group d e)
+
+entry_no_longer : (s : State) (e : Entry) → NoLonger (entry_pieces Two s e) (entry_pieces One s e)
+entry_no_longer s e =
+    let told : List Piece = map command_piece (bring s.drawing (held e)) in
+    let d : Drawing = taking s.drawing (held e) in
+    behind_no_longer told told (spelled Two d e) (spelled One d e) (same_no_longer told (commands_no_group (bring s.drawing (held e)))) (spelled_no_longer d e)
+
+list_no_longer : (s : State) (es : List Entry) → NoLonger (pieces Two s es) (pieces One s es)
+unfolding pieces
+list_no_longer s [] = nothing_no_longer
+list_no_longer s (e ∷ es) =
+    behind_no_longer (entry_pieces Two s e) (entry_pieces One s e) (pieces Two (after s e) es) (pieces One (after s e) es) (entry_no_longer s e) (list_no_longer (after s e) es)
+
+pub forms_agree : FormsAgree
+forms_agree budget es legal inside =
+    let read = text_is_read One budget es legal inside in
+    let few = (list_no_longer start es begun_tail begun_tail refl).0 in
+    record {
+      canonical = record { accepted = read.accepted; text_is = ap text (sym read.list) };
+      no_longer = omega (arith, few, length-append (0x0E ∷ 0x21 ∷ 0x5F ∷ []) (written begun_tail (pieces Two start es)), length-append (0x0E ∷ 0x21 ∷ 0x5F ∷ []) (written begun_tail (pieces One start es)));
+    }

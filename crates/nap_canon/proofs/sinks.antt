@@ -1,0 +1,6 @@
+-- What a sink of canonical text takes: entries and batches.
+
+pub mod SinkingLemmas
+pub mod CutLemmas
+pub mod JoinLemmas
+pub mod PutLemmas

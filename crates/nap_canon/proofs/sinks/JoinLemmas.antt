@@ -1,0 +1,363 @@
+-- Entries that join what stands last: each is written as so many bytes, one behind another.
+
+use Rattle.std.proofs.Common.{ℕ, zero, suc, ◌≡◌, ◌+◌, ◌*◌, ◌/◌, ◌%◌, ◌<◌, ◌≤◌, Bool, true, Result, Ok, Err, List, [], ◌∷◌, ◌++◌, length, map, take, drop, refl, ap, sym, subst, ◌∙◌, append-nil, append_assoc, length-drop, arith}
+use Rattle.std.specs.Prelude.{⊤}
+use Rattle.std.proofs.lemmas.Bool.{false≢true}
+use Rattle.std.proofs.lemmas.Bool.Decides.{nat_tests}
+use Rattle.std.proofs.lemmas.List.{take-append-le, length-take-le, length-map}
+use Rattle.std.proofs.Math.Seq.{take-append-add}
+use Rattle.nap_values.specs.Coordinates.{Coordinates}
+use Rattle.nap_values.specs.Spellings.{point_bytes}
+use Rattle.nap_codes.specs.declared.code_set.CharSet.{CharSet}
+use Rattle.nap_codes.specs.declared.code_set.CharSet.TheVariants.{Primary}
+use Rattle.nap_codes.specs.declared.code_set.GSet.TheVariants.{G0}
+use Rattle.nap_list.specs.declared.attribute.Hand.{Hand}
+use Rattle.nap_list.specs.declared.attribute.Pen.{Pen}
+use Rattle.nap_list.specs.declared.attribute.Pen.TheVariants.{At, After}
+use Rattle.nap_list.specs.declared.batch.Batch.{Batch}
+use Rattle.nap_list.specs.declared.batch.Batch.TheVariants as batches
+use Rattle.nap_list.specs.declared.entry.Entry.{Entry}
+use Rattle.nap_list.specs.declared.entry.Entry.TheVariants as entries
+use Rattle.nap_list.specs.declared.state.Drawing.{Drawing}
+use Rattle.nap_list.specs.declared.state.State.{State}
+use Rattle.nap_list.specs.Agreement.{Stands}
+use Rattle.nap_list.specs.Batches.{EachStands, listed, point_on, line_on, lines_on, text_in, last_of}
+use Rattle.nap_list.specs.BatchLaws.{points_front, lines_front, text_front, points_rest, lines_rest, lines_count, text_count}
+use Rattle.nap_list.specs.Entry.{held}
+use Rattle.nap_list.specs.State.{taking, after, walk, ink_of, hand_of}
+use Rattle.nap_draw.specs.Limits.{run_limit}
+use Rattle.nap_canon.specs.declared.command.Command.{Command}
+use Rattle.nap_canon.specs.declared.form.Form.{Form}
+use Rattle.nap_canon.specs.declared.form.Form.TheVariants.{Two}
+use Rattle.nap_canon.specs.declared.tail.Tail.{Tail}
+use Rattle.nap_canon.specs.declared.tail.Tail.TheVariants.{Apart, InRun}
+use Rattle.nap_canon.specs.Batches.{PointsJoin, Joins, SentUpTo, points_bytes, entry_size, joined_bytes, joined_tail, whole_entries}
+use Rattle.nap_canon.specs.Equality.{same_pen}
+use Rattle.nap_canon.specs.Spelling.{Piece, command_piece, group, stroke, primary, line_piece, char_piece, spelled}
+use Rattle.nap_canon.specs.Text.{is_joined, run_behind, piece_bytes, tail_behind, written, tail_after, entry_pieces, pieces}
+use Rattle.nap_canon.specs.TextParts.{written-append, tail_after-append}
+use Rattle.nap_canon.proofs.texts.GatheredLemmas.{point_size, points_size}
+use Rattle.nap_canon.proofs.reading.RunLemmas.{same_opcode, room_for}
+use Rattle.nap_canon.proofs.bring.StandingLemmas.{nothing_to_bring}
+
+-- an entry whose values stand is written by its spelling alone
+alone : (form : Form) (s : State) (e : Entry) → Stands (held e) s.drawing → entry_pieces form s e ≡ spelled form (taking s.drawing (held e)) e
+alone form s e is = ap (λ (commands : List Command). map command_piece commands ++ spelled form (taking s.drawing (held e)) e) (nothing_to_bring (held e) s.drawing is)
+
+-- the bytes of an entry that is one piece, and the tail behind it
+
+one_written : (form : Form) (tail : Tail) (s : State) (e : Entry) (piece : Piece) → entry_pieces form s e ≡ piece ∷ [] → written tail (entry_pieces form s e) ≡ piece_bytes tail piece
+unfolding written
+one_written form tail s e piece is = ap (written tail) is ∙ append-nil (piece_bytes tail piece)
+
+one_behind : (form : Form) (tail : Tail) (s : State) (e : Entry) (piece : Piece) → entry_pieces form s e ≡ piece ∷ [] → tail_after tail (entry_pieces form s e) ≡ tail_behind tail piece
+unfolding tail_after
+one_behind form tail s e piece is = ap (tail_after tail) is
+
+pub writes_one : {S : Type 0} (sent : S → List ℕ → Bool → S → Type 0) (form : Form) (tail : Tail) (s : State) (e : Entry) (piece : Piece) (to to' : S) (tail' : Tail) (broke : Bool) →
+    entry_pieces form s e ≡ piece ∷ [] → sent to (piece_bytes tail piece) broke to' → tail' ≡ tail_behind tail piece →
+    sent to (written tail (entry_pieces form s e)) broke to' × (tail' ≡ tail_after tail (entry_pieces form s e))
+writes_one sent form tail s e piece to to' tail' broke is bytes behind = (
+  subst (λ (bs : List ℕ). sent to bs broke to') (sym (one_written form tail s e piece is)) bytes,
+  behind ∙ sym (one_behind form tail s e piece is),
+)
+
+-- the piece of the entry at an index of a batch, whose values stand
+
+heads : (x y : Entry) (xs ys : List Entry) → x ∷ xs ≡ y ∷ ys → x ≡ y
+heads x y xs ys is = cc
+
+first_stand : (s : State) (list : List Entry) (e : Entry) (es : List Entry) → EachStands s list → list ≡ e ∷ es → Stands (held e) s.drawing
+unfolding EachStands
+first_stand s list e es stand is = (subst (EachStands s) is stand).0
+
+-- that is the spelling of the entry that is there
+next_entry : (form : Form) (s : State) (list : List Entry) (x : Entry) (xs : List Entry) → x ∷ xs ≡ list → EachStands s list → (e : Entry) (es : List Entry) → list ≡ e ∷ es →
+    entry_pieces form s e ≡ spelled form (taking s.drawing (held x)) x
+next_entry form s list x xs there stand e es is =
+    subst (λ (e : Entry). Stands (held e) s.drawing → entry_pieces form s e ≡ spelled form (taking s.drawing (held x)) x) (heads x e xs es (there ∙ is)) (alone form s x)
+    (first_stand s list e es stand is)
+
+pub next_point : (form : Form) (s : State) (batch : Batch) (points : _) (drawing : _) (index : ℕ) (p : Coordinates) (rest : List Coordinates) → batch ≡ batches.Points points drawing →
+    drop index points.now ≡ p ∷ rest → EachStands s (drop index (listed batch)) → (e : Entry) (es : List Entry) → drop index (listed batch) ≡ e ∷ es →
+    entry_pieces form s e ≡ stroke form 0x26 (point_bytes p) ∷ []
+next_point form s batch points drawing index p rest is at =
+    let d = drawing.now in
+    next_entry form s (drop index (listed batch)) (point_on d p) (map (point_on d) rest)
+    (ap (map (point_on d)) (sym at) ∙ points_rest d points.now index ∙ ap (λ (b : Batch). drop index (listed b)) (sym is))
+
+pub next_line : (form : Form) (s : State) (batch : Batch) (from start : Coordinates) (points : _) (drawing : _) (index : ℕ) (p : Coordinates) (rest : List Coordinates) →
+    batch ≡ batches.Lines from points drawing → drop index points.now ≡ p ∷ rest → start ≡ last_of from (take index points.now) → EachStands s (drop index (listed batch)) →
+    (e : Entry) (es : List Entry) → drop index (listed batch) ≡ e ∷ es → entry_pieces form s e ≡ line_piece form s.drawing.pen start p ∷ []
+unfolding lines_on
+next_line form s batch from start points drawing index p rest is at begins stand e es list =
+    let d = drawing.now in
+    let q = last_of from (take index points.now) in
+    next_entry form s (drop index (listed batch)) (line_on d q p) (lines_on d p rest)
+    (ap (lines_on d q) (sym at) ∙ lines_rest d from points.now index ∙ ap (λ (b : Batch). drop index (listed b)) (sym is)) stand e es list
+    ∙ ap (λ (start : Coordinates). line_piece form s.drawing.pen start p ∷ []) (sym begins)
+
+-- characters of a text from one on, in the hand that they have
+text_behind : (set : CharSet) (hand : Hand) (codes : List ℕ) (n : ℕ) → (h : Hand) × (drop n (text_in set hand codes) ≡ text_in set h (drop n codes))
+unfolding text_in
+text_behind set hand codes zero = (hand, refl)
+text_behind set hand [] (suc n) = (hand, refl)
+text_behind set hand (c ∷ cs) (suc n) = text_behind set (record hand { pen = After }) cs n
+
+pub next_character : (form : Form) (s : State) (batch : Batch) (set : CharSet) (codes : _) (pen : Pen) (drawing : _) (index code : ℕ) (rest : List ℕ) →
+    batch ≡ batches.Text set codes pen drawing → drop index codes.now ≡ code ∷ rest → EachStands s (drop index (listed batch)) →
+    (e : Entry) (es : List Entry) → drop index (listed batch) ≡ e ∷ es → entry_pieces form s e ≡ char_piece set code ∷ []
+unfolding text_in
+next_character form s batch set codes pen drawing index code rest is at =
+    let behind = text_behind set (record (hand_of drawing.now) { pen = pen }) codes.now index in
+    next_entry form s (drop index (listed batch)) (entries.Char set code behind.0) (text_in set (record behind.0 { pen = After }) rest)
+    (ap (text_in set behind.0) (sym at) ∙ sym behind.1 ∙ ap (λ (b : Batch). drop index (listed b)) (sym is))
+
+-- what entries are written as that are one piece each
+
+-- each entry is written as so many bytes
+unfoldable pub EachWrites : ℕ → Form → Tail → State → List Entry → Type 0
+EachWrites size form tail s [] = ⊤
+EachWrites size form tail s (e ∷ es) = (length (written tail (entry_pieces form s e)) ≡ size) × EachWrites size form (tail_after tail (entry_pieces form s e)) (after s e) es
+
+pub record Joined (size : ℕ) (form : Form) (tail : Tail) (s : State) (list : List Entry) (bytes : List ℕ) (end : Tail) : Type 0 where
+  pub each : EachWrites size form tail s list
+  pub writes : written tail (pieces form s list) ≡ bytes
+  pub ends : tail_after tail (pieces form s list) ≡ end
+
+joined_none : (size : ℕ) (form : Form) (tail : Tail) (s : State) → Joined size form tail s [] [] tail
+unfolding EachWrites pieces written tail_after
+joined_none size form tail s = record { each = tt; writes = refl; ends = refl }
+
+joined_more : (size : ℕ) (form : Form) (tail next : Tail) (s : State) (e : Entry) (list : List Entry) (piece : Piece) (first rest : List ℕ) (end : Tail) →
+    entry_pieces form s e ≡ piece ∷ [] → piece_bytes tail piece ≡ first → length first ≡ size → tail_behind tail piece ≡ next →
+    Joined size form next (after s e) list rest end → Joined size form tail s (e ∷ list) (first ++ rest) end
+unfolding EachWrites pieces written tail_after
+joined_more size form tail next s e list piece first rest end is bytes count behind more =
+    let alone : written tail (entry_pieces form s e) ≡ first = one_written form tail s e piece is ∙ bytes in
+    let moved : tail_after tail (entry_pieces form s e) ≡ next = one_behind form tail s e piece is ∙ behind in
+    record {
+      each = (ap length alone ∙ count, subst (λ (t : Tail). EachWrites size form t (after s e) list) (sym moved) more.each);
+      writes =
+          written-append tail (entry_pieces form s e) (pieces form (after s e) list)
+          ∙ ap (λ (bs : List ℕ). bs ++ written (tail_after tail (entry_pieces form s e)) (pieces form (after s e) list)) alone
+          ∙ ap (λ (t : Tail). first ++ written t (pieces form (after s e) list)) moved
+          ∙ ap (λ (bs : List ℕ). first ++ bs) more.writes;
+      ends =
+          tail_after-append tail (entry_pieces form s e) (pieces form (after s e) list)
+          ∙ ap (λ (t : Tail). tail_after t (pieces form (after s e) list)) moved
+          ∙ more.ends;
+    }
+
+-- points, behind their opcode
+
+-- a run of this opcode, of so many bytes
+abbrev run_of : ℕ → ℕ → Tail
+run_of byte n = InRun (record { opcode = byte; length = n })
+
+joins_run : (byte n m : ℕ) → n + m ≤ run_limit → is_joined (run_of byte n) byte m ≡ true
+joins_run byte n m room = grind (arith, nat_tests)
+
+module _ (byte n : ℕ) (p : Coordinates) (room : n + 8 ≤ run_limit) where
+  point_joins : is_joined (run_of byte n) byte (length (point_bytes p)) ≡ true
+  point_joins = joins_run byte n (length (point_bytes p)) (omega (arith, room, point_size p))
+
+  point_piece : piece_bytes (run_of byte n) (group byte (point_bytes p)) ≡ point_bytes p
+  point_piece = rw point_joins refl
+
+  point_behind : tail_behind (run_of byte n) (group byte (point_bytes p)) ≡ run_of byte (n + 8)
+  point_behind = rw point_joins (ap (λ (size : ℕ). run_of byte (n + size)) (point_size p))
+
+  -- an entry that is a point behind this opcode
+  point_more : (s : State) (e : Entry) (list : List Entry) (rest : List ℕ) (end : Tail) → entry_pieces Two s e ≡ group byte (point_bytes p) ∷ [] →
+      Joined 8 Two (run_of byte (n + 8)) (after s e) list rest end → Joined 8 Two (run_of byte n) s (e ∷ list) (point_bytes p ++ rest) end
+  point_more s e list rest end is = joined_more 8 Two (run_of byte n) (run_of byte (n + 8)) s e list (group byte (point_bytes p)) (point_bytes p) rest end is point_piece (point_size p) point_behind
+
+points_join : (n : ℕ) (s : State) (d : Drawing) (ps : List Coordinates) → EachStands s (map (point_on d) ps) → n + 8 * length ps ≤ run_limit →
+    Joined 8 Two (run_of 0x26 n) s (map (point_on d) ps) (points_bytes ps) (run_of 0x26 (n + 8 * length ps))
+unfolding points_bytes EachStands
+points_join n s d [] stand room = subst (λ (m : ℕ). Joined 8 Two (run_of 0x26 n) s [] [] (run_of 0x26 m)) (omega arith) (joined_none 8 Two (run_of 0x26 n) s)
+points_join n s d (p ∷ ps) stand room =
+    let e = point_on d p in
+    let rest = points_join (n + 8) (after s e) d ps stand.1 (omega (arith, room)) in
+    subst (λ (m : ℕ). Joined 8 Two (run_of 0x26 n) s (map (point_on d) (p ∷ ps)) (points_bytes (p ∷ ps)) (run_of 0x26 m)) (omega arith)
+    (point_more 0x26 n p (omega (arith, room)) s e (map (point_on d) ps) (points_bytes ps) _ (alone Two s e stand.0) rest)
+
+same_points : (p : Coordinates) → same_pen (At p) (At p) ≡ true
+same_points p = grind (arith, nat_tests)
+
+-- a line from the pen
+line_from_pen : (pen : Pen) (from to : Coordinates) → pen ≡ At from → line_piece Two pen from to ≡ group 0x28 (point_bytes to)
+line_from_pen pen from to is =
+    let same : same_pen pen (At from) ≡ true = ap (λ (pen : Pen). same_pen pen (At from)) is ∙ same_points from in
+    rw same refl
+
+lines_join : (n : ℕ) (s : State) (d : Drawing) (from : Coordinates) (ps : List Coordinates) → s.drawing.pen ≡ At from → EachStands s (lines_on d from ps) → n + 8 * length ps ≤ run_limit →
+    Joined 8 Two (run_of 0x28 n) s (lines_on d from ps) (points_bytes ps) (run_of 0x28 (n + 8 * length ps))
+unfolding points_bytes EachStands lines_on
+lines_join n s d from [] pen stand room = subst (λ (m : ℕ). Joined 8 Two (run_of 0x28 n) s [] [] (run_of 0x28 m)) (omega arith) (joined_none 8 Two (run_of 0x28 n) s)
+lines_join n s d from (p ∷ ps) pen stand room =
+    let e = entries.Line from p (ink_of d) in
+    let rest = lines_join (n + 8) (after s e) d p ps refl stand.1 (omega (arith, room)) in
+    let piece : entry_pieces Two s e ≡ group 0x28 (point_bytes p) ∷ [] = alone Two s e stand.0 ∙ ap (λ (piece : Piece). piece ∷ []) (line_from_pen s.drawing.pen from p pen) in
+    subst (λ (m : ℕ). Joined 8 Two (run_of 0x28 n) s (lines_on d from (p ∷ ps)) (points_bytes (p ∷ ps)) (run_of 0x28 m)) (omega arith)
+    (point_more 0x28 n p (omega (arith, room)) s e (lines_on d p ps) (points_bytes ps) _ piece rest)
+
+-- primary characters, where they are in GL
+
+text_joins : (form : Form) (s : State) (hand : Hand) (codes : List ℕ) → EachStands s (text_in Primary hand codes) → Joined 1 form (Apart G0) s (text_in Primary hand codes) codes (Apart G0)
+unfolding EachStands text_in
+text_joins form s hand [] stand = joined_none 1 form (Apart G0) s
+text_joins form s hand (c ∷ cs) stand =
+    let e = entries.Char Primary c hand in
+    joined_more 1 form (Apart G0) (Apart G0) s e (text_in Primary (record hand { pen = After }) cs) (primary c) (c ∷ []) cs (Apart G0) (alone form s e stand.0) refl refl refl
+    (text_joins form (after s e) (record hand { pen = After }) cs stand.1)
+
+-- the run that is joined
+
+record Run (tail : Tail) (byte m : ℕ) : Type 0 where
+  pub length : ℕ
+  pub is : tail ≡ run_of byte length
+  pub room : length + m ≤ run_limit
+
+run_joined : (tail : Tail) (byte m : ℕ) → is_joined tail byte m ≡ true → Run tail byte m
+run_joined (Apart gl) byte m joins = absurd (false≢true joins)
+run_joined (InRun run) byte m joins =
+    let same : byte ≡ run.opcode = same_opcode run.opcode byte run.length m joins in
+    record {
+      length = run.length;
+      is = ap (λ (opcode : ℕ). InRun (record { opcode = opcode; length = run.length })) (sym same);
+      room = room_for byte run.length m (subst (λ (opcode : ℕ). is_joined (run_of opcode run.length) byte m ≡ true) (sym same) joins);
+    }
+
+-- entries of a batch from one on
+
+stands_front : (s : State) (list : List Entry) (n : ℕ) → EachStands s list → EachStands s (take n list)
+unfolding EachStands
+stands_front s list zero stand = tt
+stands_front s [] (suc n) stand = tt
+stands_front s (e ∷ es) (suc n) stand = (stand.0, stands_front (after s e) es n stand.1)
+
+pub stands_rest : (s : State) (list : List Entry) (n : ℕ) → EachStands s list → EachStands (walk s (take n list)) (drop n list)
+unfolding EachStands walk
+stands_rest s list zero stand = stand
+stands_rest s [] (suc n) stand = tt
+stands_rest s (e ∷ es) (suc n) stand = stands_rest (after s e) es n stand.1
+
+-- points that join the run of this opcode
+behind_run : (form : Form) (tail : Tail) (s : State) (list : List Entry) (qs : List Coordinates) (byte count : ℕ) → PointsJoin form tail byte count → length qs ≡ count →
+    ((n : ℕ) → n + 8 * length qs ≤ run_limit → Joined 8 Two (run_of byte n) s list (points_bytes qs) (run_of byte (n + 8 * length qs))) →
+    Joined 8 form tail s list (points_bytes qs) (InRun (run_behind tail byte (8 * count)))
+behind_run form tail s list qs byte count joins size by =
+    let run = run_joined tail byte (8 * count) joins.2 in
+    let n = run.length in
+    let here = subst (λ (m : ℕ). Joined 8 Two (run_of byte n) s list (points_bytes qs) (run_of byte (n + 8 * m))) size (by n (omega (arith, run.room, size))) in
+    let there : Joined 8 Two (run_of byte n) s list (points_bytes qs) (InRun (run_behind (run_of byte n) byte (8 * count))) = rw (joins_run byte n (8 * count) run.room) here in
+    subst (λ (f : Form). Joined 8 f tail s list (points_bytes qs) (InRun (run_behind tail byte (8 * count)))) (sym joins.1)
+    (subst (λ (t : Tail). Joined 8 Two t s list (points_bytes qs) (InRun (run_behind t byte (8 * count)))) (sym run.is) there)
+
+-- so many entries of a batch, from this one on, that join what stands last
+pub batch_joins : (form : Form) (tail : Tail) (s : State) (batch : Batch) (first count : ℕ) → count + first ≤ length (listed batch) → EachStands s (drop first (listed batch)) →
+    Joins form tail s batch first count → Joined (entry_size batch) form tail s (take count (drop first (listed batch))) (joined_bytes batch first count) (joined_tail tail batch count)
+batch_joins form tail s (batches.Points points drawing) first count few stand joins =
+    let d = drawing.now in
+    let ps = points.now in
+    let qs = take count (drop first ps) in
+    let size : length qs ≡ count = length-take-le count (drop first ps) (omega (arith, few, length-map ps (point_on d), length-drop first ps)) in
+    let is : take count (drop first (map (point_on d) ps)) ≡ map (point_on d) qs = ap (take count) (sym (points_rest d ps first)) ∙ sym (points_front d (drop first ps) count) in
+    let list = take count (drop first (map (point_on d) ps)) in
+    let stands = subst (EachStands s) is (stands_front s (drop first (map (point_on d) ps)) count stand) in
+    behind_run form tail s list qs 0x26 count joins size
+    (λ n room. subst (λ (list : List Entry). Joined 8 Two (run_of 0x26 n) s list (points_bytes qs) (run_of 0x26 (n + 8 * length qs))) (sym is) (points_join n s d qs stands room))
+batch_joins form tail s (batches.Lines from points drawing) first count few stand joins =
+    let d = drawing.now in
+    let ps = points.now in
+    let p = last_of from (take first ps) in
+    let qs = take count (drop first ps) in
+    let size : length qs ≡ count = length-take-le count (drop first ps) (omega (arith, few, lines_count d from ps, length-drop first ps)) in
+    let is : take count (drop first (lines_on d from ps)) ≡ lines_on d p qs = ap (take count) (sym (lines_rest d from ps first)) ∙ sym (lines_front d p (drop first ps) count) in
+    let list = take count (drop first (lines_on d from ps)) in
+    let stands = subst (EachStands s) is (stands_front s (drop first (lines_on d from ps)) count stand) in
+    behind_run form tail s list qs 0x28 count joins.0 size
+    (λ n room. subst (λ (list : List Entry). Joined 8 Two (run_of 0x28 n) s list (points_bytes qs) (run_of 0x28 (n + 8 * length qs))) (sym is) (lines_join n s d p qs joins.1 stands room))
+batch_joins form tail s (batches.Text set codes pen drawing) first count few stand joins =
+    let hand = record (hand_of drawing.now) { pen = pen } in
+    let cs = take count (drop first codes.now) in
+    let behind = text_behind set hand codes.now first in
+    let h = behind.0 in
+    let list = take count (drop first (text_in set hand codes.now)) in
+    let is : list ≡ text_in set h cs = ap (take count) behind.1 ∙ sym (text_front set h (drop first codes.now) count) in
+    let all : list ≡ text_in Primary h cs = is ∙ ap (λ (set : CharSet). text_in set h cs) joins.0 in
+    let stands = subst (EachStands s) all (stands_front s (drop first (text_in set hand codes.now)) count stand) in
+    subst (λ (t : Tail). Joined 1 form t s list cs t) (sym joins.1)
+    (subst (λ (list : List Entry). Joined 1 form (Apart G0) s list cs (Apart G0)) (sym all) (text_joins form s h cs stands))
+
+-- where a written part of them ends
+
+-- so many entries in their parts
+pub each_front : (size : ℕ) (form : Form) (tail : Tail) (s : State) (list : List Entry) (k part : ℕ) → EachWrites size form tail s list → k < length list → part < size →
+    (x : Entry) × (rest : List Entry) × (list ≡ take k list ++ x ∷ rest) × (length (written (tail_after tail (pieces form s (take k list))) (entry_pieces form (walk s (take k list)) x)) ≡ size)
+    × (take (size * k + part) (written tail (pieces form s list))
+    ≡ written tail (pieces form s (take k list)) ++ take part (written (tail_after tail (pieces form s (take k list))) (entry_pieces form (walk s (take k list)) x)))
+unfolding EachWrites pieces written tail_after walk
+each_front size form tail s [] k part each less few = absurd (omega (arith, less))
+each_front size form tail s (e ∷ es) zero part each less few = (
+  e,
+  es,
+  refl,
+  each.0,
+  ap (λ (n : ℕ). take n (written tail (entry_pieces form s e ++ pieces form (after s e) es))) (omega arith)
+      ∙ ap (take part) (written-append tail (entry_pieces form s e) (pieces form (after s e) es))
+      ∙ take-append-le part (written tail (entry_pieces form s e)) _ (omega (arith, few, each.0)),
+)
+each_front size form tail s (e ∷ es) (suc k) part each less few =
+    let first = entry_pieces form s e in
+    let t = tail_after tail first in
+    let more = each_front size form t (after s e) es k part each.1 (omega (arith, less)) few in
+    let front = pieces form (after s e) (take k es) in
+    let next = entry_pieces form (walk (after s e) (take k es)) more.0 in
+    let behind : tail_after tail (first ++ front) ≡ tail_after t front = tail_after-append tail first front in (
+      more.0,
+      more.1,
+      ap (λ (list : List Entry). e ∷ list) more.2,
+      ap (λ (u : Tail). length (written u next)) behind ∙ more.3,
+      ap (λ (bs : List ℕ). take (size * suc k + part) bs) (written-append tail first (pieces form (after s e) es))
+          ∙ ap (λ (n : ℕ). take n (written tail first ++ written t (pieces form (after s e) es))) (omega (arith, each.0))
+          ∙ take-append-add (written tail first) (written t (pieces form (after s e) es)) (size * k + part)
+          ∙ ap (λ (bs : List ℕ). written tail first ++ bs) more.4
+          ∙ sym (append_assoc (written tail first) (written t front) (take part (written (tail_after t front) next)))
+          ∙ ap (λ (bs : List ℕ). bs ++ take part (written (tail_after t front) next)) (sym (written-append tail first front))
+          ∙ ap (λ (u : Tail). written tail (first ++ front) ++ take part (written u next)) (sym behind),
+    )
+
+-- the bytes of so many, and how many of them were written whole
+
+joined_length : (batch : Batch) (first count : ℕ) → count + first ≤ length (listed batch) → length (joined_bytes batch first count) ≡ entry_size batch * count
+joined_length (batches.Points points drawing) first count few =
+    points_size (take count (drop first points.now))
+    ∙ ap (λ (n : ℕ). 8 * n) (length-take-le count (drop first points.now) (omega (arith, few, length-map points.now (point_on drawing.now), length-drop first points.now)))
+joined_length (batches.Lines from points drawing) first count few =
+    points_size (take count (drop first points.now))
+    ∙ ap (λ (n : ℕ). 8 * n) (length-take-le count (drop first points.now) (omega (arith, few, lines_count drawing.now from points.now, length-drop first points.now)))
+joined_length (batches.Text set codes pen drawing) first count few =
+    let all = text_count set (record (hand_of drawing.now) { pen = pen }) codes.now in
+    omega (arith, length-take-le count (drop first codes.now) (omega (arith, few, all, length-drop first codes.now)))
+
+-- so many bytes are so many whole entries, and a part of the next one
+pub record Whole (size n count : ℕ) : Type 0 where
+  pub less : n / size < count
+  pub sum : n ≡ size * (n / size) + n % size
+  pub part : n % size < size
+
+pub whole_of : (batch : Batch) (first count n : ℕ) → count + first ≤ length (listed batch) → n < length (joined_bytes batch first count) → Whole (entry_size batch) n count
+whole_of batch first count n few less = by batch (subst (λ (m : ℕ). n < m) (joined_length batch first count few) less)
+  where
+    by : (batch : Batch) → n < entry_size batch * count → Whole (entry_size batch) n count
+    by (batches.Points points drawing) less = record { less = omega (arith, less); sum = omega arith; part = omega arith }
+    by (batches.Lines from points drawing) less = record { less = omega (arith, less); sum = omega arith; part = omega arith }
+    by (batches.Text set codes pen drawing) less = record { less = omega (arith, less); sum = omega arith; part = omega arith }
+
+pub whole_few : {S : Type 0} (sent : S → List ℕ → Bool → S → Type 0) (a b : S) (batch : Batch) (first count : ℕ) (r : Result (Unit {0}) ℕ) → count + first ≤ length (listed batch) →
+    SentUpTo sent a (joined_bytes batch first count) b r → whole_entries batch count r + first ≤ length (listed batch)
+whole_few sent a b batch first count (Ok x) few put = few
+whole_few sent a b batch first count (Err n) few put = omega (arith, few, (whole_of batch first count n few put.less).less)

@@ -1,0 +1,268 @@
+-- What a canonical sink that works takes of a batch.
+
+use Rattle.std.proofs.Common.{ℕ, zero, suc, ◌≡◌, ◌+◌, ◌*◌, ◌/◌, ◌%◌, ◌<◌, ◌≤◌, inl, inr, Bool, true, false, List, [], ◌∷◌, ◌++◌, Result, Ok, Err, OnOk, OnErr, IsErrOf, is_err, length, map, take, drop, refl, ap, sym, subst, ◌∙◌, append-nil, append_assoc, length-append, length-drop, arith}
+use Rattle.std.specs.Prelude.{slice_index}
+use Rattle.std.proofs.lemmas.Bool.{true≢false, false≢true}
+use Rattle.std.proofs.lemmas.List.{take-append-drop, take-take, length-take-le, drop-drop}
+use Rattle.nap_values.specs.Coordinates.{Coordinates}
+use Rattle.nap_list.specs.declared.batch.Batch.{Batch}
+use Rattle.nap_list.specs.declared.batch.Batch.TheVariants as batches
+use Rattle.nap_list.specs.declared.device.Outlet as outlet
+use Rattle.nap_list.specs.declared.entry.Entry.{Entry}
+use Rattle.nap_list.specs.declared.sink.SinkFault.{SinkFault}
+use Rattle.nap_list.specs.declared.sink.SinkFault.TheVariants.{Write}
+use Rattle.nap_list.specs.declared.sink.SinkFault.TheVariants as faults
+use Rattle.nap_list.specs.declared.state.Drawing.{Drawing}
+use Rattle.nap_list.specs.declared.state.State.{State}
+use Rattle.nap_list.specs.Agreement.{Stands}
+use Rattle.nap_list.specs.Batches.{EachStands, FirstStands, listed, point_on, line_on, char_on, lines_on, text_in, text_on}
+use Rattle.nap_list.specs.Entry.{held}
+use Rattle.nap_list.specs.Putting.{HaltsAfter, NotTaken, Put, Putting, TakesAll, WantsMore}
+use Rattle.nap_list.specs.PuttingLaws.{put_begins, put_goes, put_halts, put_ends, stops_at_first, takes_one}
+use Rattle.nap_list.specs.State.{after, walk}
+use Rattle.nap_list.proofs.PublicLaws.{batch_stands}
+use Rattle.nap_canon.specs.Batches.{canon_shows, CutAfter, SentUpTo, Joins, WritesNext, PutsFirst, PutsSome, PutsBehind, entry_size, joined_bytes, joined_tail, whole_entries}
+use Rattle.nap_canon.specs.Sinking.{Sending, Sends, Grows, Canonical, shown, bytes_of, bytes_behind, Took, Broke}
+use Rattle.nap_canon.specs.Sinking as sinking
+use Rattle.nap_canon.specs.SinkLaws.{grows_more, took_none, took_more, took_broke}
+use Rattle.nap_canon.proofs.sinks.JoinLemmas.{Joined, batch_joins, stands_rest, each_front, whole_of}
+use Rattle.nap_canon.proofs.sinks.SinkingLemmas.{took_answered, broke_answered}
+
+module _ {O : Type 0} (o : outlet.Ghosts O) (s t : Canonical O) (works : o.failed s.outlet ≡ false) where
+  -- all of a list
+  pub takes_all : (list : List Entry) → Took o s list t → TakesAll (canon_shows o) list s t
+  takes_all list took = record {
+    took = took;
+    state = took.state;
+    works = λ _. took.bytes.failed ∙ works;
+    none = λ failed. absurd (false≢true (sym works ∙ failed));
+  }
+
+  -- a list up to an entry that broke
+  pub breaks_at : (list front rest : List Entry) (next : Entry) (n : ℕ) → list ≡ front ++ next ∷ rest → length front ≡ n → Broke o s front next t →
+      Put (canon_shows o) list s t (Err (record { taken = n; fault = Write }))
+  breaks_at list front rest next n parts count broke = (
+    inr (record { front = front; next = next; rest = rest; parts = parts; count = count; broken = broke }),
+    record {
+      write = λ _. broke.failed;
+      memory = λ e. (let bad : ⊥ = cc in absurd bad);
+      none = λ failed. absurd (false≢true (sym works ∙ failed));
+    },
+  )
+
+  -- the first entry of a list was written, whose values stand
+  pub next_put : {E : Type 0} (list : List Entry) (r : Result (Unit {0}) E) → 0 < length list → WritesNext Sends s.form s.tail s.state list (shown o s) t.tail (shown o t) (is_err r) →
+      t.form ≡ s.form → OnOk r (t.state ≡ walk s.state (take 1 list)) → OnErr r (t.state ≡ s.state) → PutsFirst o list s t r
+  unfolding walk
+  next_put [] r some wrote form state still = absurd (omega (arith, some))
+  next_put {E = E} (e ∷ es) (Ok x) some wrote form state still = (omega arith, omega arith, takes_all (e ∷ []) (took_answered {E = E} o s t e (Ok x) refl (wrote e es refl).0 form (wrote e es refl).1 state))
+  next_put {E = E} (e ∷ es) (Err x) some wrote form state still = breaks_at (e ∷ es) [] es e 0 refl refl (broke_answered {T = Unit {0}} o s t e (Err x) refl (wrote e es refl).0 still)
+
+-- the first entry of a list was put
+
+module _ {O : Type 0} (o : outlet.Ghosts O) (s t : Canonical O) (e : Entry) (es : List Entry) where
+  pub first_put : (r : Result (Unit {0}) SinkFault) → OnOk r (Took o s (e ∷ []) t) → OnOk r (t.state ≡ after s.state e) → (IsErrOf r faults.Memory → ⊥) →
+      (o.failed s.outlet ≡ true → IsErrOf r Write) → (IsErrOf r Write → o.failed t.outlet ≡ true) → (o.failed t.outlet ≡ true → IsErrOf r Write) →
+      (IsErrOf r Write → o.failed s.outlet ≡ false → Broke o s [] e t) → (IsErrOf r Write → o.failed s.outlet ≡ true → t ≡ s) → PutsFirst o (e ∷ es) s t r
+  first_put (Ok x) took after memory refuses write only broke still = (omega arith, omega arith, takes_one (canon_shows o) s t e took after only refuses)
+  first_put (Err faults.Memory) took after memory refuses write only broke still = absurd (memory refl)
+  first_put (Err Write) took after memory refuses write only broke still =
+      let put : NotTaken (canon_shows o) s t e Write = record {
+        memory = λ is. absurd (memory is);
+        wants = λ is. memory is;
+        refuses = refuses;
+        write = write;
+        only_write = only;
+        broke = broke;
+        still = still;
+      } in
+      stops_at_first (canon_shows o) s t e es Write (took_none o s) put
+
+pub first_taken : {O E : Type 0} (o : outlet.Ghosts O) (s t : Canonical O) (list : List Entry) (r : Result (Unit {0}) E) → is_err r ≡ false → PutsFirst o list s t r → PutsSome o list s t (Ok 1)
+first_taken o s t list (Ok x) none put = put
+first_taken o s t list (Err x) none put = absurd (true≢false none)
+
+-- entries that join what stands last
+
+module _ {O S : Type 0} (o : outlet.Ghosts O) (view : S → Sending) (a b : S) (s t : Canonical O) (batch : Batch) (first count : ℕ)
+    (from : view a ≡ shown o s) (to : view b ≡ shown o t) (works : o.failed s.outlet ≡ false) (form : t.form ≡ s.form)
+    (few : count + first ≤ length (listed batch)) (stand : EachStands s.state (drop first (listed batch))) (joins : Joins s.form s.tail s.state batch first count) where
+  abbrev list : List Entry
+  list = drop first (listed batch)
+
+  abbrev bytes : List ℕ
+  bytes = joined_bytes batch first count
+
+  abbrev Sent : S → List ℕ → Bool → S → Type 0
+  Sent x bytes broke y = Sends (view x) bytes broke (view y)
+
+  joined : Joined (entry_size batch) s.form s.tail s.state (take count list) bytes (joined_tail s.tail batch count)
+  joined = batch_joins s.form s.tail s.state batch first count few stand joins
+
+  size : length (take count list) ≡ count
+  size = length-take-le count list (omega (arith, few, length-drop first (listed batch)))
+
+  pub joined_took : (r : Result (Unit {0}) ℕ) → r ≡ Ok tt → SentUpTo Sent a bytes b r → OnOk r (t.tail ≡ joined_tail s.tail batch count) →
+      t.state ≡ walk s.state (take (whole_entries batch count r) list) → 0 < count → PutsSome o list s t (Ok count)
+  joined_took (Err n) is sent tail state some = let bad : ⊥ = cc in absurd bad
+  joined_took (Ok x) is sent tail state some =
+      let all : sinking.TakesAll (shown o s) bytes (shown o t) =
+      subst (λ (x : Sending). sinking.TakesAll (shown o s) bytes x) to (subst (λ (x : Sending). sinking.TakesAll x bytes (view b)) from sent) in
+      let took : Took o s (take count list) t = record {
+        bytes = subst (λ (bs : List ℕ). sinking.TakesAll (shown o s) bs (shown o t)) (sym joined.writes) all;
+        form = form;
+        tail = tail ∙ sym joined.ends;
+        state = state;
+      } in
+      (some, omega (arith, few, length-drop first (listed batch)), takes_all o s t works (take count list) took)
+
+  -- what was taken up to the cut
+  cut_grows : (n : ℕ) → CutAfter Sent a bytes n b → Grows (shown o s) (take n bytes) (shown o t)
+  cut_grows n cut =
+      let front : List ℕ = take n bytes in
+      let byte : List ℕ = slice_index bytes n ∷ [] in
+      let none : cut.next.part ≡ 0 = omega (arith, cut.next.less) in
+      let grows : Grows (view a) (front ++ take cut.next.part byte) (view b) = grows_more (view a) (view cut.mid) (view b) front (take cut.next.part byte) cut.front.grows cut.next.grows in
+      let less : Grows (view a) front (view b) =
+      subst (λ (bs : List ℕ). Grows (view a) bs (view b)) (ap (λ (n : ℕ). front ++ take n byte) none ∙ append-nil front) grows in
+      subst (λ (x : Sending). Grows (shown o s) front x) to (subst (λ (x : Sending). Grows x front (view b)) from less)
+
+  joined_cut : (n : ℕ) → CutAfter Sent a bytes n b → t.state ≡ walk s.state (take (n / entry_size batch) list) →
+      Put (canon_shows o) list s t (Err (record { taken = n / entry_size batch; fault = Write }))
+  joined_cut n cut state =
+      let k : ℕ = n / entry_size batch in
+      let part : ℕ = n % entry_size batch in
+      let whole = whole_of batch first count n few cut.less in
+      let some = take count list in
+      let parted = each_front (entry_size batch) s.form s.tail s.state some k part joined.each (omega (arith, whole.less, size)) whole.part in
+      let front = take k some in
+      let same : front ≡ take k list = take-take k count list (omega (arith, whole.less)) in
+      let next = parted.0 in
+      let is : list ≡ front ++ next ∷ (parted.1 ++ drop count list) =
+      sym (take-append-drop count list)
+      ∙ ap (λ (list' : List Entry). list' ++ drop count list) parted.2
+      ∙ append_assoc front (next ∷ parted.1) (drop count list) in
+      let cut_is : take n bytes ≡ bytes_of s front ++ take part (bytes_behind s front next) =
+      ap (λ (m : ℕ). take m bytes) whole.sum
+      ∙ ap (take (entry_size batch * k + part)) (sym joined.writes)
+      ∙ parted.4 in
+      let broke : Broke o s front next t = record {
+        part = part;
+        less = omega (arith, whole.part, parted.3);
+        grows = subst (λ (bs : List ℕ). Grows (shown o s) bs (shown o t)) cut_is (cut_grows n cut);
+        failed = ap (λ (x : Sending). x.failed) (sym to) ∙ cut.next.failed;
+        state = state ∙ ap (walk s.state) (sym same);
+      } in
+      breaks_at o s t works list front (parted.1 ++ drop count list) next k is (length-take-le k some (omega (arith, whole.less, size))) broke
+
+  pub joined_broke : (r : Result (Unit {0}) ℕ) (taken : ℕ) → r ≡ Err taken → SentUpTo Sent a bytes b r →
+      t.state ≡ walk s.state (take (whole_entries batch count r) list) → PutsSome o list s t (Err (taken / entry_size batch))
+  joined_broke (Ok x) taken is sent state = let bad : ⊥ = cc in absurd bad
+  joined_broke (Err n) taken is sent state =
+      let same : n ≡ taken = cc in
+      subst (λ (n : ℕ). Put (canon_shows o) list s t (Err (record { taken = n / entry_size batch; fault = Write }))) same (joined_cut n sent state)
+
+-- a list that is put part by part
+
+-- the values of the first entry stand
+first_stands : (batch : Batch) (d : Drawing) (e : Entry) (es : List Entry) → listed batch ≡ e ∷ es → FirstStands batch d → Stands (held e) d
+unfolding lines_on text_in
+first_stands (batches.Points points drawing) d e es all stands = by points.now all
+  where
+    by : (ps : List Coordinates) → map (point_on drawing.now) ps ≡ e ∷ es → Stands (held e) d
+    by [] all = let bad : ⊥ = cc in absurd bad
+    by (p ∷ ps) all = let same : point_on drawing.now p ≡ e = cc in subst (λ (e : Entry). Stands (held e) d) same stands
+first_stands (batches.Lines from points drawing) d e es all stands = by points.now all
+  where
+    by : (ps : List Coordinates) → lines_on drawing.now from ps ≡ e ∷ es → Stands (held e) d
+    by [] all = let bad : ⊥ = cc in absurd bad
+    by (p ∷ ps) all = let same : line_on drawing.now from p ≡ e = cc in subst (λ (e : Entry). Stands (held e) d) same stands
+first_stands (batches.Text set codes pen drawing) d e es all stands = by codes.now all
+  where
+    by : (cs : List ℕ) → text_on drawing.now pen set cs ≡ e ∷ es → Stands (held e) d
+    by [] all = let bad : ⊥ = cc in absurd bad
+    by (c ∷ cs) all = let same : char_on drawing.now pen set c ≡ e = cc in subst (λ (e : Entry). Stands (held e) d) same stands
+
+-- then those of each entry do when it comes
+pub each_stands : (batch : Batch) (s : State) → FirstStands batch s.drawing → EachStands s (listed batch)
+unfolding EachStands
+each_stands batch s stands = by (listed batch) refl
+  where
+    by : (list : List Entry) → listed batch ≡ list → EachStands s list
+    by [] all = tt
+    by (e ∷ es) all = (first_stands batch s.drawing e es all stands, batch_stands batch s e es all)
+
+-- and of those behind the first
+pub stands_behind : (batch : Batch) (s t : State) (n : ℕ) → 0 < n → t ≡ walk s (take n (listed batch)) → EachStands t (drop n (listed batch))
+unfolding walk EachStands
+stands_behind batch s t zero some is = absurd (omega (arith, some))
+stands_behind batch s t (suc n) some is = subst (λ (t : State). EachStands t (drop (suc n) (listed batch))) (sym is) (by (listed batch) refl)
+  where
+    by : (list : List Entry) → listed batch ≡ list → EachStands (walk s (take (suc n) list)) (drop (suc n) list)
+    by [] all = tt
+    by (e ∷ es) all = stands_rest (after s e) es n (batch_stands batch s e es all)
+
+wants_none : {O : Type 0} (o : outlet.Ghosts O) → WantsMore (canon_shows o)
+wants_none o s t d e f took wants = absurd wants
+
+-- a sink works that took an entry
+pub works_behind : {O : Type 0} (o : outlet.Ghosts O) (s t : Canonical O) (list : List Entry) (n : ℕ) → PutsSome o list s t (Ok n) → o.failed t.outlet ≡ false
+works_behind o s t list n some = by (o.failed s.outlet) refl
+  where
+    by : (b : Bool) → o.failed s.outlet ≡ b → o.failed t.outlet ≡ false
+    by true h = absurd (omega (arith, some.0, some.1, length-take-le n list some.1, ap length (some.2.none h).0))
+    by false h = some.2.works h
+
+-- how many of a list were taken that halted
+pub halts_within : {O : Type 0} (o : outlet.Ghosts O) (s t : Canonical O) (list : List Entry) (n : ℕ) → PutsSome o list s t (Err n) → n ≤ length list
+halts_within o s t list n put = by put.0
+  where
+    by : HaltsAfter (canon_shows o) list s t n Write → n ≤ length list
+    by (inl still) = omega (arith, still.2)
+    by (inr breaks) = omega (arith, breaks.count, ap length breaks.parts, length-append breaks.front (breaks.next ∷ breaks.rest))
+
+module _ {O : Type 0} (o : outlet.Ghosts O) (s t u : Canonical O) (whole list : List Entry) (taken : ℕ) (putting : Putting (canon_shows o) s t whole (drop taken list)) where
+  -- a part more
+  pub part_put : (more next : ℕ) → next ≡ taken + more → TakesAll (canon_shows o) (take more (drop taken list)) t u → Putting (canon_shows o) s u whole (drop next list)
+  part_put more next is takes =
+      put_goes (canon_shows o) s t whole (drop taken list) putting (took_more o) u (take more (drop taken list)) (drop next list)
+      (sym (take-append-drop more (drop taken list))
+      ∙ ap (λ (rest : List Entry). take more (drop taken list) ++ rest) (drop-drop more taken list ∙ ap (λ (n : ℕ). drop n list) (sym is))) takes
+
+  -- an entry of the next part broke
+  pub part_broke : (n : ℕ) → Put (canon_shows o) (drop taken list) t u (Err (record { taken = n; fault = Write })) →
+      Put (canon_shows o) whole s u (Err (record { taken = length putting.done + n; fault = Write }))
+  part_broke n put = put_halts (canon_shows o) s t whole (drop taken list) putting (took_more o) (took_broke o) (wants_none o) u n Write put
+
+-- a list was put from one of its entries on, and then up to one that broke
+pub behind_broke : {O : Type 0} (o : outlet.Ghosts O) (s t u : Canonical O) (list : List Entry) (first taken more : ℕ) → first ≤ taken → taken ≤ length list →
+    Putting (canon_shows o) s t (drop first list) (drop taken list) → PutsSome o (drop taken list) t u (Err more) → PutsBehind o first list s u (Err (taken + more))
+behind_broke o s t u list first taken more from few putting put = (
+  length putting.done + more,
+  omega (arith, from, few, ap length putting.parts, length-append putting.done (drop taken list), length-drop first list, length-drop taken list),
+  part_broke o s t u (drop first list) list taken putting more put,
+)
+
+-- the values stand of the entries behind a part
+pub stands_on : {O : Type 0} (o : outlet.Ghosts O) (t u : Canonical O) (list : List Entry) (taken more next : ℕ) → next ≡ taken + more → EachStands t.state (drop taken list) →
+    PutsSome o (drop taken list) t u (Ok more) → EachStands u.state (drop next list)
+stands_on o t u list taken more next is stand some =
+    subst (λ (rest : List Entry). EachStands u.state rest) (drop-drop more taken list ∙ ap (λ (n : ℕ). drop n list) (sym is))
+    (subst (λ (s : State). EachStands s (drop more (drop taken list))) (sym some.2.state) (stands_rest t.state (drop taken list) more stand))
+
+-- the rest of a list behind its first entries
+pub rest_behind : {O : Type 0} (o : outlet.Ghosts O) (s t u : Canonical O) (list : List Entry) (first : ℕ) → PutsSome o list s t (Ok first) →
+    (r : Result (Unit {0}) ℕ) → PutsBehind o first list t u r → PutsBehind o 0 list s u r
+rest_behind o s t u list first some r put = by r put
+  where
+    -- what is put of it behind them
+    putting : Putting (canon_shows o) s t list (drop first list)
+    putting = part_put o s s t list list 0 (put_begins (canon_shows o) s list (took_none o s)) first first (omega arith) some.2
+
+    by : (r : Result (Unit {0}) ℕ) → PutsBehind o first list t u r → PutsBehind o 0 list s u r
+    by (Ok x) takes = put_ends (canon_shows o) s u list [] (put_goes (canon_shows o) s t list (drop first list) putting (took_more o) u (drop first list) [] (sym (append-nil (drop first list))) takes) refl
+    by (Err taken) put = (
+      length putting.done + put.0,
+      omega (arith, put.1, some.1, ap length putting.parts, length-append putting.done (drop first list), length-drop first list),
+      part_broke o s t u list list first putting put.0 put.2,
+    )

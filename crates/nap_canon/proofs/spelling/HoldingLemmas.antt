@@ -1,0 +1,71 @@
+-- The state in which the values that an entry holds stand, and how the entry is drawn in it.
+
+use Rattle.std.proofs.Common.{◌≡◌, List, [], ◌∷◌, Option, Some, None, refl, ap, subst}
+use Rattle.std.specs.Prelude.{unwrap_or}
+use Rattle.nap_values.specs.Domains.{OperandLengths}
+use Rattle.nap_list.specs.declared.attribute.Base.{Base}
+use Rattle.nap_list.specs.declared.attribute.Colour.{Colour}
+use Rattle.nap_list.specs.declared.attribute.Colour.TheVariants as colours
+use Rattle.nap_list.specs.declared.attribute.Held.{Held}
+use Rattle.nap_list.specs.declared.entry.Entry.{Entry}
+use Rattle.nap_list.specs.declared.state.Drawing.{Drawing}
+use Rattle.nap_list.specs.declared.state.State.{State}
+use Rattle.nap_list.specs.Entry.{held}
+use Rattle.nap_list.specs.State.{base_shown, taking, drawn, definition_after, last_after, known_after, after, walk}
+use Rattle.nap_draw.specs.declared.work.Work.{Work}
+use Rattle.nap_draw.specs.Rule as rule
+use Rattle.nap_draw.specs.Rule.{Drawn}
+use Rattle.nap_canon.specs.Spelling.{Piece}
+use Rattle.nap_canon.proofs.spelling.CommandLemmas.{work_at}
+use Rattle.nap_canon.proofs.reading.ConveyLemmas.{Conveys, ConveyAll, nothing, next}
+use Rattle.nap_canon.proofs.spelling.SavedLemmas.{saved_after}
+
+-- taking held values twice is taking them once
+
+unwrap_twice : {A : Type 0} (w : Option A) (a : A) → unwrap_or w (unwrap_or w a) ≡ unwrap_or w a
+unwrap_twice None a = refl
+unwrap_twice (Some b) a = refl
+
+base_twice : (base : Base) (w : Option Colour) → base_shown (base_shown base w) w ≡ base_shown base w
+base_twice base None = refl
+base_twice base (Some (colours.Own origin)) = refl
+base_twice base (Some (colours.Direct grb)) = refl
+base_twice base (Some (colours.Front a)) = refl
+base_twice base (Some (colours.Pair a b)) = refl
+base_twice base (Some (colours.ByReset preset)) = refl
+
+taking_twice : (d : Drawing) (h : Held) → taking (taking d h) h ≡ taking d h
+taking_twice d h =
+    rw (unwrap_twice h.pen d.pen, unwrap_twice h.pel d.pel, base_twice d.base h.colour, unwrap_twice h.colour d.colour, unwrap_twice h.texture d.texture, unwrap_twice h.text d.text) refl
+
+-- the state in which the values that an entry holds stand
+abbrev pub holding : State → Entry → State
+holding s e = record s { drawing = taking s.drawing (held e) }
+
+pub after_holding : (s : State) (e : Entry) → after (holding s e) e ≡ after s e
+after_holding s e =
+    ap (λ (d : Drawing). record {
+      drawing = drawn s.definition d e;
+      definition = definition_after s.definition d e;
+      last = last_after e;
+      known = known_after s.known e;
+    })
+    (taking_twice s.drawing (held e))
+
+-- the work where the values that an entry holds stand
+abbrev pub held_work : OperandLengths → State → Entry → Work
+held_work saved s e = work_at saved (holding s e)
+
+-- the entry is drawn, with the values that stand
+abbrev pub entry_drawn : OperandLengths → State → Entry → Drawn
+entry_drawn saved s e = rule.drawn (held_work saved s e) (e ∷ [])
+
+-- these pieces draw the entry
+abbrev pub Draws : OperandLengths → State → Entry → List Piece → Type 0
+Draws saved s e ps = ConveyAll (held_work saved s e) ps (e ∷ []) (work_at (saved_after saved e) (after s e))
+
+-- an entry by one piece
+pub piece_draws : (saved : OperandLengths) (s : State) (e : Entry) (p : Piece) → Conveys (held_work saved s e) p (e ∷ []) (entry_drawn saved s e).work →
+    ConveyAll (held_work saved s e) (p ∷ []) (e ∷ []) (work_at saved (after s e))
+unfolding walk
+piece_draws saved s e p c = subst (λ (t : State). ConveyAll (held_work saved s e) (p ∷ []) (e ∷ []) (work_at saved t)) (after_holding s e) (next c nothing)

@@ -1,0 +1,115 @@
+-- What operands spelled one behind another are read as.
+
+use Rattle.std.proofs.Common.{ℕ, suc, ◌≡◌, ◌<◌, ◌≤◌, ◌+◌, ◌-◌, List, [], ◌∷◌, ◌++◌, length, map, All, Some, refl, ap, sym, ◌∙◌, append-nil, arith, length-append}
+use Rattle.std.proofs.lemmas.List.{length-map, map-append}
+use Rattle.std.proofs.lemmas.List.Elements.{All-nil, All-cons, All-append}
+use Rattle.nap_values.specs.Coordinates.{Coordinates, Displacement, IsInSquare, IsInRange, point_at}
+use Rattle.nap_values.specs.Colours.{Components, HasSixteenBitParts}
+use Rattle.nap_values.specs.Laws.{IsWord, IsOperandByte}
+use Rattle.nap_values.specs.Operands.{multi_of, single_of, colour_of}
+use Rattle.nap_values.specs.Spellings.{words_of, move_bytes, point_bytes, addr_bytes, grb_bytes}
+use Rattle.nap_values.proofs.PublicLaws.{moves_spell_once, points_spell_once, addresses_spell_once, colours_spell_once}
+use Rattle.nap_draw.specs.Operands.{operands, moves, addresses}
+use Rattle.nap_draw.proofs.PublicLaws.{whole_operand_first, no_operands}
+use Rattle.nap_canon.specs.Spelling.{word_byte}
+
+pub word_of : (word : ℕ) → word_byte word - 64 ≡ word
+word_of word = omega arith
+
+first_operand : (k : ℕ) (bytes rest : List ℕ) → 1 ≤ k → length bytes ≡ k → operands k (words_of (bytes ++ rest)) ≡ words_of bytes ∷ operands k (words_of rest)
+first_operand k bytes rest some size =
+    ap (operands k) (map-append (λ (b : ℕ). b - 64) bytes rest)
+    ∙ whole_operand_first k (words_of bytes) (words_of rest) some (length-map bytes (λ (b : ℕ). b - 64) ∙ size)
+
+-- multi-value operands
+
+pub move_first : (m : Displacement) (rest : List ℕ) → IsInRange m → moves 8 (words_of (move_bytes m ++ rest)) ≡ m ∷ moves 8 (words_of rest)
+move_first m rest inside =
+    let spelled = moves_spell_once m inside in
+    ap (map multi_of) (first_operand 8 (move_bytes m) rest (omega arith) spelled.size_is)
+    ∙ ap (λ (x : Displacement). x ∷ moves 8 (words_of rest)) spelled.read_back
+
+-- a point is read as its displacement from the origin
+abbrev pub from_origin : Coordinates → Displacement
+from_origin p = multi_of (words_of (point_bytes p))
+
+pub point_first : (p : Coordinates) (rest : List ℕ) → IsInSquare p → moves 8 (words_of (point_bytes p ++ rest)) ≡ from_origin p ∷ moves 8 (words_of rest)
+point_first p rest inside =
+    let spelled = points_spell_once p inside in
+    ap (map multi_of) (first_operand 8 (point_bytes p) rest (omega arith) spelled.size_is)
+
+pub point_there : (p : Coordinates) → IsInSquare p → point_at (from_origin p) ≡ Some p
+point_there p inside = let spelled = points_spell_once p inside in spelled.read_back
+
+pub no_moves : moves 8 (words_of []) ≡ []
+no_moves = ap (map multi_of) (no_operands 8)
+
+pub move_alone : (m : Displacement) → IsInRange m → moves 8 (words_of (move_bytes m)) ≡ m ∷ []
+move_alone m inside =
+    ap (λ (bs : List ℕ). moves 8 (words_of bs)) (sym (append-nil (move_bytes m)))
+    ∙ (move_first m [] inside ∙ ap (λ (ms : List Displacement). m ∷ ms) no_moves)
+
+pub point_alone : (p : Coordinates) → IsInSquare p → moves 8 (words_of (point_bytes p)) ≡ from_origin p ∷ []
+point_alone p inside =
+    ap (λ (bs : List ℕ). moves 8 (words_of bs)) (sym (append-nil (point_bytes p)))
+    ∙ (point_first p [] inside ∙ ap (λ (ms : List Displacement). from_origin p ∷ ms) no_moves)
+
+pub colour_alone : (grb : Components) → HasSixteenBitParts grb → operands 8 (words_of (grb_bytes grb)) ≡ words_of (grb_bytes grb) ∷ []
+colour_alone grb inside =
+    let spelled = colours_spell_once grb inside in
+    ap (λ (bs : List ℕ). operands 8 (words_of bs)) (sym (append-nil (grb_bytes grb)))
+    ∙ (first_operand 8 (grb_bytes grb) [] (omega arith) spelled.size_is ∙ ap (λ (os : List (List ℕ)). words_of (grb_bytes grb) ∷ os) (no_operands 8))
+
+pub colour_there : (grb : Components) → HasSixteenBitParts grb → colour_of (words_of (grb_bytes grb)) ≡ grb
+colour_there grb inside = let spelled = colours_spell_once grb inside in spelled.read_back
+
+-- single-value operands
+
+pub address_first : (a : ℕ) (rest : List ℕ) → a < 16777216 → addresses 4 (words_of (addr_bytes a ++ rest)) ≡ a ∷ addresses 4 (words_of rest)
+address_first a rest inside =
+    let spelled = addresses_spell_once a inside in
+    ap (map single_of) (first_operand 4 (addr_bytes a) rest (omega arith) spelled.size_is)
+    ∙ ap (λ (x : ℕ). x ∷ addresses 4 (words_of rest)) spelled.read_back
+
+pub no_addresses : addresses 4 (words_of []) ≡ []
+no_addresses = ap (map single_of) (no_operands 4)
+
+pub address_alone : (a : ℕ) → a < 16777216 → addresses 4 (words_of (addr_bytes a)) ≡ a ∷ []
+address_alone a inside =
+    ap (λ (bs : List ℕ). addresses 4 (words_of bs)) (sym (append-nil (addr_bytes a)))
+    ∙ (address_first a [] inside ∙ ap (λ (os : List ℕ). a ∷ os) no_addresses)
+
+pub address_pair : (a b : ℕ) → a < 16777216 → b < 16777216 → addresses 4 (words_of (addr_bytes a ++ addr_bytes b)) ≡ a ∷ b ∷ []
+address_pair a b first second =
+    address_first a (addr_bytes b) first ∙ ap (λ (os : List ℕ). a ∷ os) (address_alone b second)
+
+-- These are so many operand bytes.
+pub record AreOperands (bytes : List ℕ) (size : ℕ) : Type 0 where
+  pub size_is : length bytes ≡ size
+  pub carriers : All IsOperandByte bytes
+
+pub no_bytes : AreOperands [] 0
+no_bytes = record { size_is = refl; carriers = All-nil IsOperandByte }
+
+pub word_bytes : (word : ℕ) (bytes : List ℕ) (size : ℕ) → IsWord word → AreOperands bytes size → AreOperands (word_byte word ∷ bytes) (suc size)
+word_bytes word bytes size inside others =
+    let carrier : IsOperandByte (word_byte word) = (omega arith, omega (arith, inside)) in
+    record { size_is = ap suc others.size_is; carriers = All-cons IsOperandByte (word_byte word) bytes carrier others.carriers }
+
+pub both_bytes : (xs ys : List ℕ) (m n : ℕ) → AreOperands xs m → AreOperands ys n → AreOperands (xs ++ ys) (m + n)
+both_bytes xs ys m n first second = record {
+  size_is = omega (arith, length-append xs ys, first.size_is, second.size_is);
+  carriers = All-append IsOperandByte xs ys first.carriers second.carriers;
+}
+
+pub move_operand : (m : Displacement) → IsInRange m → AreOperands (move_bytes m) 8
+move_operand m inside = let spelled = moves_spell_once m inside in record { size_is = spelled.size_is; carriers = spelled.carriers }
+
+pub point_operand : (p : Coordinates) → IsInSquare p → AreOperands (point_bytes p) 8
+point_operand p inside = let spelled = points_spell_once p inside in record { size_is = spelled.size_is; carriers = spelled.carriers }
+
+pub colour_operand : (grb : Components) → HasSixteenBitParts grb → AreOperands (grb_bytes grb) 8
+colour_operand grb inside = let spelled = colours_spell_once grb inside in record { size_is = spelled.size_is; carriers = spelled.carriers }
+
+pub address_operand : (a : ℕ) → a < 16777216 → AreOperands (addr_bytes a) 4
+address_operand a inside = let spelled = addresses_spell_once a inside in record { size_is = spelled.size_is; carriers = spelled.carriers }

@@ -1,0 +1,39 @@
+-- The lengths of operands that a definition saved along canonical text.
+
+use Rattle.std.proofs.Common.{◌≡◌, List, [], ◌∷◌, Option, Some, None, refl}
+use Rattle.std.specs.Prelude.{⊤}
+use Rattle.nap_values.specs.Domains.{OperandLengths}
+use Rattle.nap_list.specs.declared.entry.Entry.{Entry}
+use Rattle.nap_list.specs.declared.entry.Entry.TheVariants as entries
+use Rattle.nap_list.specs.declared.state.Opened.{Opened}
+use Rattle.nap_list.specs.declared.state.State.{State}
+use Rattle.nap_list.specs.State.{after, walk}
+use Rattle.nap_canon.specs.Laws.{text_lengths}
+
+-- those saved behind an entry
+abbrev pub saved_after : OperandLengths → Entry → OperandLengths
+saved_after saved (entries.GlyphStart code) = text_lengths
+saved_after saved (entries.MaskStart mask) = text_lengths
+saved_after saved _ = saved
+
+-- those saved behind entries, one after another
+unfoldable pub saved_along : OperandLengths → List Entry → OperandLengths
+saved_along saved [] = saved
+saved_along saved (e ∷ es) = saved_along (saved_after saved e) es
+
+-- a definition that is open saved eight words and four
+abbrev pub SavesLengths : OperandLengths → Option Opened → Type 0
+SavesLengths saved None = ⊤
+SavesLengths saved (Some opened) = saved ≡ text_lengths
+
+pub saves_after : (saved : OperandLengths) (s : State) (e : Entry) → SavesLengths saved s.definition → SavesLengths (saved_after saved e) (after s e).definition
+saves_after saved s (entries.GlyphStart code) h = refl
+saves_after saved s (entries.MaskStart mask) h = refl
+saves_after saved s entries.DefEnd h = tt
+saves_after saved s _ h = h
+
+pub saves_along : (saved : OperandLengths) (s : State) (es : List Entry) → SavesLengths saved s.definition →
+    SavesLengths (saved_along saved es) (walk s es).definition
+unfolding saved_along walk
+saves_along saved s [] h = h
+saves_along saved s (e ∷ es) h = saves_along (saved_after saved e) (after s e) es (saves_after saved s e h)

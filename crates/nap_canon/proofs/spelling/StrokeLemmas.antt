@@ -1,0 +1,113 @@
+-- Opcodes whose runs can be joined: they draw points, lines and rectangles.
+
+use Rattle.std.proofs.Common.{ℕ, ◌≡◌, ◌≤◌, ◌*◌, List, [], ◌∷◌, ◌++◌, All, Bool, true, false, Ok, refl, ap, sym, ◌∙◌, arith}
+use Rattle.std.specs.Prelude.{if◌then◌else◌}
+use Rattle.std.proofs.lemmas.List.Elements.{All-nil, All-cons}
+use Rattle.nap_values.specs.Coordinates.{Coordinates, Displacement, IsInSquare}
+use Rattle.nap_values.specs.Domains.{OperandLengths}
+use Rattle.nap_values.specs.Spellings.{words_of, point_bytes}
+use Rattle.nap_values.proofs.PublicLaws.{displacements_lead_there}
+use Rattle.nap_codes.specs.declared.code.Code.{Code}
+use Rattle.nap_codes.specs.declared.code.Code.TheVariants as codes
+use Rattle.nap_codes.specs.declared.opcode.Opcode.{Opcode}
+use Rattle.nap_codes.specs.declared.opcode.Opcode.TheVariants as opcodes
+use Rattle.nap_codes.specs.Tables.{row_of, opcode_rows, left_out_opcode}
+use Rattle.nap_list.specs.declared.attribute.Colour.{Colour}
+use Rattle.nap_list.specs.declared.attribute.Ink.{Ink}
+use Rattle.nap_list.specs.declared.attribute.Pen.TheVariants as pens
+use Rattle.nap_list.specs.declared.entry.Entry.{Entry}
+use Rattle.nap_list.specs.declared.entry.Entry.TheVariants as entries
+use Rattle.nap_list.specs.declared.state.State.{State}
+use Rattle.nap_list.specs.State.{after, walk}
+use Rattle.nap_draw.specs.Geometry.{points_at, joined, between, away}
+use Rattle.nap_draw.specs.Joining.{CanJoin}
+use Rattle.nap_draw.specs.Rule.{Drawn, rule}
+use Rattle.nap_canon.specs.Plain.{ComesBehind}
+use Rattle.nap_canon.specs.Spelling.{opcode, shape_bytes}
+use Rattle.nap_canon.proofs.spelling.CommandLemmas.{work_at}
+use Rattle.nap_canon.proofs.reading.ConveyLemmas.{by_opcode, nothing, next}
+use Rattle.nap_canon.proofs.spelling.EntryRules as rules
+use Rattle.nap_canon.proofs.spelling.HoldingLemmas.{after_holding, held_work, entry_drawn, Draws}
+use Rattle.nap_canon.proofs.spelling.OperandLemmas.{AreOperands, both_bytes, point_operand, point_alone, point_there}
+use Rattle.nap_canon.proofs.plain_codes.PlainPieces.{IsOpcode, operand_codes}
+use Rattle.nap_canon.proofs.spelling.SavedLemmas.{saved_after}
+use Rattle.nap_canon.proofs.spelling.ShapeLemmas.{shape_operands}
+
+-- An opcode whose runs can be joined draws an entry with this group of operands, where the values that it holds stand.
+pub record Strokes (saved : OperandLengths) (s : State) (e : Entry) (byte : ℕ) (operands : List ℕ) : Type 0 where
+  pub op : Opcode
+  pub joins : CanJoin op
+  pub is : IsOpcode byte op
+  pub groups : ℕ
+  pub few : groups ≤ 2
+  pub are : AreOperands operands (groups * 8)
+  pub draws : rule (held_work saved s e) op (words_of operands) ≡ Ok (record { entries = e ∷ []; work = work_at (saved_after saved e) (after s e); clears = false })
+
+-- by the rule
+strokes : (saved : OperandLengths) (s : State) (e : Entry) (byte : ℕ) (operands : List ℕ) (op : Opcode) (groups : ℕ) → saved_after saved e ≡ saved → CanJoin op → IsOpcode byte op →
+    groups ≤ 2 → AreOperands operands (groups * 8) → rule (held_work saved s e) op (words_of operands) ≡ Ok (entry_drawn saved s e) → Strokes saved s e byte operands
+unfolding walk
+strokes saved s e byte operands op groups same joins is few are by =
+    let to : OperandLengths → State → Drawn = λ kept t. record { entries = e ∷ []; work = work_at kept t; clears = false } in
+    record {
+      op = op;
+      joins = joins;
+      is = is;
+      groups = groups;
+      few = few;
+      are = are;
+      draws = by ∙ ap (λ (t : State). Ok (to saved t)) (after_holding s e) ∙ ap (λ (kept : OperandLengths). Ok (to kept (after s e))) (sym same);
+    }
+
+pub point_strokes : (saved : OperandLengths) (s : State) (at : Coordinates) (pel : Displacement) (colour : Colour) → IsInSquare at →
+    Strokes saved s (entries.Point at pel colour) 0x26 (point_bytes at)
+unfolding points_at row_of opcode_rows left_out_opcode
+point_strokes saved s at pel colour inside =
+    let e : Entry = entries.Point at pel colour in
+    strokes saved s e 0x26 (point_bytes at) opcodes.PointAbs 1 refl tt (refl, refl, tt, omega arith) (omega arith) (point_operand at inside) (rw (point_alone at inside, point_there at inside) refl)
+
+pub line_strokes : (saved : OperandLengths) (s : State) (from to : Coordinates) (ink : Ink) → IsInSquare from → IsInSquare to →
+    Strokes saved s (entries.Line from to ink) 0x2A (point_bytes from ++ point_bytes to)
+unfolding between row_of opcode_rows left_out_opcode
+line_strokes saved s from to ink first second =
+    let e : Entry = entries.Line from to ink in
+    strokes saved s e 0x2A (point_bytes from ++ point_bytes to) opcodes.SetLineAbs 2 refl tt (refl, refl, tt, omega arith) (omega arith)
+    (both_bytes (point_bytes from) (point_bytes to) 8 8 (point_operand from first) (point_operand to second)) (rw (rules.two_points from to first second, point_there from first, point_there to second) refl)
+
+-- a line from the pen
+pub on_line_strokes : (saved : OperandLengths) (s : State) (from to : Coordinates) (ink : Ink) → s.drawing.pen ≡ pens.At from → IsInSquare to →
+    Strokes saved s (entries.Line from to ink) 0x28 (point_bytes to)
+unfolding points_at joined row_of opcode_rows left_out_opcode
+on_line_strokes saved s from to ink pen second =
+    let e : Entry = entries.Line from to ink in
+    strokes saved s e 0x28 (point_bytes to) opcodes.LineAbs 1 refl tt (refl, refl, tt, omega arith) (omega arith) (point_operand to second) (rw (point_alone to second, point_there to second, pen) refl)
+
+pub rect_strokes : (saved : OperandLengths) (s : State) (filled : Bool) (from to : Coordinates) (ink : Ink) → IsInSquare from → IsInSquare to →
+    Strokes saved s (entries.Rect filled from to ink) (if filled then 0x33 else 0x32) (shape_bytes (from ∷ to ∷ []))
+unfolding away row_of opcode_rows left_out_opcode
+rect_strokes saved s filled from to ink first second = by filled
+  where
+    all : All IsInSquare (to ∷ [])
+    all = All-cons IsInSquare to [] second (All-nil IsInSquare)
+
+    by : (filled : Bool) → Strokes saved s (entries.Rect filled from to ink) (if filled then 0x33 else 0x32) (shape_bytes (from ∷ to ∷ []))
+    by false =
+        let e : Entry = entries.Rect false from to ink in
+        strokes saved s e 0x32 (shape_bytes (from ∷ to ∷ [])) opcodes.SetRectOutlined 2 refl tt (refl, refl, tt, omega arith) (omega arith)
+        (shape_operands from (to ∷ []) first all) (rw (rules.corners_read from to first second, point_there from first, (displacements_lead_there from to first second).1) refl)
+    by true =
+        let e : Entry = entries.Rect true from to ink in
+        strokes saved s e 0x33 (shape_bytes (from ∷ to ∷ [])) opcodes.SetRectFilled 2 refl tt (refl, refl, tt, omega arith) (omega arith)
+        (shape_operands from (to ∷ []) first all) (rw (rules.corners_read from to first second, point_there from first, (displacements_lead_there from to first second).1) refl)
+
+-- nothing has to come behind such an opcode
+pub joining_comes : (op : Opcode) → CanJoin op → (rest : List Code) → ComesBehind (codes.Op op) rest
+joining_comes opcodes.Domain joins rest = absurd joins
+joining_comes opcodes.Reset joins rest = absurd joins
+joining_comes _ joins rest = tt
+
+-- alone, as in the first form, it draws the entry
+pub stroke_draws : (saved : OperandLengths) (s : State) (e : Entry) (byte : ℕ) (operands : List ℕ) → Strokes saved s e byte operands → Draws saved s e (opcode byte operands ∷ [])
+stroke_draws saved s e byte operands k =
+    let d : Drawn = record { entries = e ∷ []; work = work_at (saved_after saved e) (after s e); clears = false } in
+    next (by_opcode byte k.op operands (k.groups * 8) d k.is k.are (omega (arith, k.few)) (λ rest. joining_comes k.op k.joins (operand_codes operands ++ rest)) k.draws) nothing

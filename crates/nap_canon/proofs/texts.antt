@@ -1,0 +1,8 @@
+-- The bytes of a text, as a writer makes them.
+
+pub mod TextLemmas
+pub mod WalkLemmas
+pub mod WriterLemmas
+pub mod GatheredLemmas
+pub mod FaultLemmas
+pub mod Rows

@@ -1,0 +1,52 @@
+-- The text along a list, one entry more.
+
+use Rattle.std.proofs.Common.{ℕ, suc, ◌+◌, ◌≡◌, ◌<◌, List, [], ◌∷◌, ◌++◌, length, take, drop, get_or, ap, sym, subst, ◌∙◌, append-nil}
+use Rattle.std.proofs.lemmas.List.{take_more, take-append-drop}
+use Rattle.std.proofs.Math.Seq.{drop-cons}
+use Rattle.nap_canon.specs.declared.form.Form.{Form}
+use Rattle.nap_list.specs.declared.entry.Entry.{Entry}
+use Rattle.nap_list.specs.State.{start, after, walk, Fits, AllFit}
+use Rattle.nap_list.proofs.PublicLaws.{walks_join, fits_join}
+use Rattle.nap_canon.specs.Spelling.{Piece}
+use Rattle.nap_canon.specs.Text.{begun_tail, written, tail_after, entry_pieces, pieces, text_in}
+use Rattle.nap_canon.specs.TextParts.{pieces-append, tail_after-append}
+use Rattle.nap_canon.proofs.texts.TextLemmas.{text_of_entries}
+
+one_more : (es : List Entry) (i : ℕ) (e : Entry) → i < length es → e ≡ get_or es i e → take (i + 1) es ≡ take i es ++ e ∷ []
+one_more es i e within is = take_more es i e within ∙ ap (λ (x : Entry). take i es ++ x ∷ []) (sym is)
+
+one_entry : (form : Form) (es : List Entry) (e : Entry) → pieces form (walk start es) (e ∷ []) ≡ entry_pieces form (walk start es) e
+unfolding pieces
+one_entry form es e = append-nil (entry_pieces form (walk start es) e)
+
+pub text_more : (form : Form) (es : List Entry) (i : ℕ) (e : Entry) → i < length es → e ≡ get_or es i e →
+    text_in form (take i es) ++ written (tail_after begun_tail (pieces form start (take i es))) (entry_pieces form (walk start (take i es)) e) ≡ text_in form (take (i + 1) es)
+text_more form es i e within is =
+    let so_far : List Entry = take i es in
+    ap (λ (ps : List Piece). text_in form so_far ++ written (tail_after begun_tail (pieces form start so_far)) ps) (sym (one_entry form so_far e))
+    ∙ sym (text_of_entries form so_far (e ∷ []))
+    ∙ ap (text_in form) (sym (one_more es i e within is))
+
+pub tail_more : (form : Form) (es : List Entry) (i : ℕ) (e : Entry) → i < length es → e ≡ get_or es i e →
+    tail_after (tail_after begun_tail (pieces form start (take i es))) (entry_pieces form (walk start (take i es)) e) ≡ tail_after begun_tail (pieces form start (take (i + 1) es))
+tail_more form es i e within is =
+    let so_far : List Entry = take i es in
+    sym (tail_after-append begun_tail (pieces form start so_far) (entry_pieces form (walk start so_far) e))
+    ∙ ap (λ (ps : List Piece). tail_after begun_tail (pieces form start so_far ++ ps)) (sym (one_entry form so_far e))
+    ∙ ap (tail_after begun_tail) (sym (pieces-append form start so_far (e ∷ [])))
+    ∙ ap (λ (xs : List Entry). tail_after begun_tail (pieces form start xs)) (sym (one_more es i e within is))
+
+pub walk_more : (es : List Entry) (i : ℕ) (e : Entry) → i < length es → e ≡ get_or es i e →
+    after (walk start (take i es)) e ≡ walk start (take (i + 1) es)
+unfolding walk
+walk_more es i e within is =
+    sym (walks_join start (take i es) (e ∷ [])) ∙ ap (walk start) (sym (one_more es i e within is))
+
+-- each entry fits the walk of those before it
+pub fits_at : (es : List Entry) (i : ℕ) (e : Entry) → i < length es → e ≡ get_or es i e → AllFit start es → Fits (walk start (take i es)) e
+unfolding AllFit
+fits_at es i e within is all =
+    let rest : List Entry = drop (suc i) es in
+    let next : drop i es ≡ e ∷ rest = drop-cons es i e within ∙ ap (λ (x : Entry). x ∷ rest) (sym is) in
+    let parts : es ≡ take i es ++ e ∷ rest = sym (take-append-drop i es) ∙ ap (λ (xs : List Entry). take i es ++ xs) next in
+    ((fits_join start (take i es) (e ∷ rest)).0 (subst (AllFit start) parts all)).1.0
