@@ -190,18 +190,48 @@ module _ {O : Type 0} (o : outlet.Ghosts O) (w : O) (s : Canonical O) (begins : 
           at memory is = broken (λ own. let bad = sym is ∙ own in cc)
           at device is = broken (λ own. let bad = sym is ∙ own in cc)
 
-    -- the end of a conversion, with its last read
-    pub finished : (law : (x : O) → o.write_failed x ≡ true → o.failed x ≡ true) → o.failed w ≡ false → (last : LastRead i (budget_of old) p initial final) (t : Canonical O) (fed : Result (Unit {0}) FeedFault) (u : O)
-        (answer : Result ℕ ConvertFault) (budget : ℕ) → budget_of old ≡ budget → Consumes (i.left initial) (i.left final) p → Ends last t fed → Keeps (o.taken t.outlet) (o.taken u) →
-        (o.failed t.outlet ≡ true → o.failed u ≡ true) → Concludes t.written fed (o.failed u) answer → o.flushes u ≡ flushed (o.failed t.outlet) (o.flushes t.outlet) →
-        o.write_failed u ≡ o.write_failed t.outlet → Converted i o budget initial final w u answer
-    finished law unfailed last t fed u answer budget is read leaves keeps fails ends flushes kept =
-        let k = concluded o w s begins works (budget_of old) p (reading i initial final) last.before (first_of last) t fed u answer leaves keeps fails ends in (
+  -- a conversion that was fed something, and the output as it is given back
+  module _ (works : o.failed s.outlet ≡ false) {I : Type 0} (i : inlet.Ghosts I) (initial final : I) (old new : Reader (Canonical O) g) (stands : Stands old s []) (same : budget_of new ≡ budget_of old) (budget : ℕ)
+      (is : budget_of old ≡ budget) (law : (x : O) → o.write_failed x ≡ true → o.failed x ≡ true) (unfailed : o.failed w ≡ false) (u : O) (answer : Result ℕ ConvertFault) where
+    abbrev Fed : Result (Unit {0}) FeedFault → Type 0
+    Fed r = (p : List ℕ) × Consumes (i.left initial) (i.left final) p × ((s : Canonical O) → Stands old s [] → Feeds i old new s p initial final r)
+
+    -- what is known of it, where it is of the sink as it was left
+    abbrev Closes : Canonical O → Result (Unit {0}) FeedFault → Type 0
+    Closes t fed =
+        Keeps (o.taken t.outlet) (o.taken u) × (o.failed t.outlet ≡ true → o.failed u ≡ true) × Concludes t.written fed (o.failed u) answer
+        × (o.flushes u ≡ flushed (o.failed t.outlet) (o.flushes t.outlet)) × (o.write_failed u ≡ o.write_failed t.outlet)
+
+    -- with its last read
+    closes : (p : List ℕ) → Consumes (i.left initial) (i.left final) p → (last : LastRead i (budget_of old) p initial final) (t : Canonical O) (fed : Result (Unit {0}) FeedFault) →
+        Ends works i initial final old new p same last t fed → Closes t fed → Converted i o budget initial final w u answer
+    closes p read last t fed leaves (keeps, fails, ends, flushes, kept) =
+        let first = first_of works i initial final old new p same last in
+        let (q, appends, converts, known, wrote) = concluded o w s begins works (budget_of old) p (reading i initial final) last.before first t fed u answer leaves keeps fails ends in (
           p,
-          k.0,
+          q,
           read,
-          k.1,
-          subst (λ (b : ℕ). Converts b p (reading i initial final) k.0 (o.failed u) answer) is k.2,
-          subst (λ (b : ℕ). StopsAtOnce i b p initial final k.0) is (record { last = last; written = λ _. k.3 }),
-          flushed_once o law w unfailed t u k.4 flushes kept,
+          appends,
+          subst (λ (b : ℕ). Converts b p (reading i initial final) q (o.failed u) answer) is converts,
+          subst (λ (b : ℕ). StopsAtOnce i b p initial final q) is (record { last = last; written = λ _. known }),
+          flushed_once o law w unfailed t u wrote flushes kept,
         )
+
+    pub whole_converts : Fed (Ok tt) → (t : Canonical O) → ((p : List ℕ) → Stands new s p → IsTaken g s (means (budget_of new) p) t None) → Closes t (Ok tt) →
+        Converted i o budget initial final w u answer
+    whole_converts (p, read, feeds) t taken =
+        let h = feeds s stands in
+        closes p read h.last t (Ok tt) (whole_leaves works i initial final old new p same h t (taken p h.stands))
+
+    pub end_converts : Fed (Ok tt) → (t : Canonical O) (r : Refusal) → (cause_of r.fault ≡ stream → (p : List ℕ) → Stands new s p → IsTaken g s (means (budget_of new) p) t (Some r)) →
+        (refusal_of new ≡ None → cause_of r.fault ≢ stream → (p : List ℕ) → Stands new s p → BreaksInRun g s (budget_of new) p t r) → Closes t (Err (feed_fault.Refused r)) →
+        Converted i o budget initial final w u answer
+    end_converts (p, read, feeds) t r own broke =
+        let h = feeds s stands in
+        closes p read h.last t (Err (feed_fault.Refused r)) (end_leaves works i initial final old new p same h t r (λ is. own is p h.stands) (λ other. broke h.ends.1 other p h.stands))
+
+    pub fed_converts : (fault : FeedFault) → Fed (Err fault) → (t : Canonical O) → t ≡ sink_of new → Closes t (Err fault) → Converted i o budget initial final w u answer
+    fed_converts fault (p, read, feeds) t left =
+        let h = feeds s stands in
+        closes p read h.last t (Err fault)
+        (subst (λ (t : Canonical O). Ends works i initial final old new p same h.last t (Err fault)) (sym left) (fed_leaves works i initial final old new p same fault h))

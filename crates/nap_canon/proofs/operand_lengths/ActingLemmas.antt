@@ -108,12 +108,15 @@ known_opcode work op words rest acts stage known = record {
       (λ no_domain no_reset. lengths_stand work op (operands_of words ++ rest) stage no_domain) known.each;
 }
 
+-- what is to be shown of an opcode with these words behind it, and of its front
+abbrev OpcodeGoes : ℕ → Machine → Opcode → List Placed → List ℕ → List Placed → Front → Type 0
+OpcodeGoes fuel m op xs words rest f =
+    let list : List Code = code.Op op ∷ operands_of words ++ (lexed m.sets (bytes_of rest)).codes in
+    Going m xs f → Asks m.work list → Known (record { op = op; lengths = m.work.domain } ∷ acting_behind (acting_within fuel) f) list
+
 module _ (fuel : ℕ) (m : Machine) (op : Opcode) (place : ℕ) (xs : List Placed) (standing : IsStanding m) where
-  drawn_goes : (words : List ℕ) (rest : List Placed) (by : Result Drawn DrawFault) → rule m.work op words ≡ by →
-      ((w : Machine) → Goes fuel w rest) →
-      Going m xs (drawn_front m place rest by) → Asks m.work (code.Op op ∷ operands_of words ++ (lexed m.sets (bytes_of rest)).codes) →
-      Known (record { op = op; lengths = m.work.domain } ∷ acting_behind (acting_within fuel) (drawn_front m place rest by))
-      (code.Op op ∷ operands_of words ++ (lexed m.sets (bytes_of rest)).codes)
+  drawn_goes : (words : List ℕ) (rest : List Placed) (by : Result Drawn DrawFault) → rule m.work op words ≡ by → ((w : Machine) → Goes fuel w rest) →
+      OpcodeGoes fuel m op xs words rest (drawn_front m place rest by)
   unfolding AllComeBehind
   drawn_goes words rest (Err fault) e ih going asks = let bad : ⊥ = cc in absurd bad
   drawn_goes words rest (Ok d) e ih going asks =
@@ -125,10 +128,7 @@ module _ (fuel : ℕ) (m : Machine) (op : Opcode) (place : ℕ) (xs : List Place
       } in
       known_opcode m.work op words list (acting_within fuel (after_drawing m d) rest) asks.stage (ih (after_drawing m d) (drawing_stands m d standing) going asked)
 
-  closed_goes : (run rest : List Placed) → ((w : Machine) → Goes fuel w rest) → Going m xs (closed_front m op place run rest) →
-      Asks m.work (code.Op op ∷ operands_of (words_of run) ++ (lexed m.sets (bytes_of rest)).codes) →
-      Known (record { op = op; lengths = m.work.domain } ∷ acting_behind (acting_within fuel) (closed_front m op place run rest))
-      (code.Op op ∷ operands_of (words_of run) ++ (lexed m.sets (bytes_of rest)).codes)
+  closed_goes : (run rest : List Placed) → ((w : Machine) → Goes fuel w rest) → OpcodeGoes fuel m op xs (words_of run) rest (closed_front m op place run rest)
   closed_goes run [] ih going asks =
       let none : (lexed m.sets []).codes ≡ [] = nothing_lexed m.sets in
       subst (λ (list : List Code). Known (record { op = op; lengths = m.work.domain } ∷ []) (code.Op op ∷ operands_of (words_of run) ++ list)) (sym none)
@@ -136,17 +136,12 @@ module _ (fuel : ℕ) (m : Machine) (op : Opcode) (place : ℕ) (xs : List Place
       (subst (λ (list : List Code). Stage m.work (code.Op op ∷ operands_of (words_of run) ++ list)) none asks.stage) known_nothing)
   closed_goes run (y ∷ ys) ih going asks = drawn_goes (words_of run) (y ∷ ys) (rule m.work op (words_of run)) refl ih going asks
 
-  run_goes : (run rest : List Placed) → ((w : Machine) → Goes fuel w rest) → Going m xs (run_front m op place run rest) →
-      Asks m.work (code.Op op ∷ operands_of (words_of run) ++ (lexed m.sets (bytes_of rest)).codes) →
-      Known (record { op = op; lengths = m.work.domain } ∷ acting_behind (acting_within fuel) (run_front m op place run rest))
-      (code.Op op ∷ operands_of (words_of run) ++ (lexed m.sets (bytes_of rest)).codes)
-  run_goes run rest ih going asks = at (nat_lt run_limit (length run)) going
+  run_goes : (run rest : List Placed) → ((w : Machine) → Goes fuel w rest) → OpcodeGoes fuel m op xs (words_of run) rest (run_front m op place run rest)
+  run_goes run rest ih = at (nat_lt run_limit (length run))
     where
-      at : (long : Bool) → Going m xs (cond long (course.refuse (refusal faults.LongRun place)) (closed_front m op place run rest)) →
-          Known (record { op = op; lengths = m.work.domain } ∷ acting_behind (acting_within fuel) (cond long (course.refuse (refusal faults.LongRun place)) (closed_front m op place run rest)))
-          (code.Op op ∷ operands_of (words_of run) ++ (lexed m.sets (bytes_of rest)).codes)
-      at true going = let bad : ⊥ = cc in absurd bad
-      at false going = closed_goes run rest ih going asks
+      at : (long : Bool) → OpcodeGoes fuel m op xs (words_of run) rest (cond long (course.refuse (refusal faults.LongRun place)) (closed_front m op place run rest))
+      at true going asks = let bad : ⊥ = cc in absurd bad
+      at false going asks = closed_goes run rest ih going asks
 
 opcode_goes : (fuel : ℕ) (m : Machine) (op : Opcode) (xs : List Placed) → IsStanding m → ((w : Machine) (ys : List Placed) → length ys < length xs → Goes fuel w ys) →
     codes.front m.sets (bytes_of xs) ≡ codes.whole (code.Op op) 1 m.sets →
@@ -166,43 +161,42 @@ opcode_goes fuel m op (x ∷ ys) standing ih e going asks =
 -- a code that is no opcode
 
 module _ (fuel : ℕ) (m : Machine) (xs : List Placed) (after : CodeSets) (ys : List Placed) (standing : IsStanding m) (ih : (w : Machine) → Goes fuel w ys) where
-  idle_goes : (c : Code) → IsQuiet c → opcodes_of (c ∷ (lexed after (bytes_of ys)).codes) ≡ opcodes_of (lexed after (bytes_of ys)).codes →
-      Going m xs (course.act [] (record m { sets = after }) ys) → Asks m.work (c ∷ (lexed after (bytes_of ys)).codes) →
-      Known (acting_within fuel (record m { sets = after }) ys) (c ∷ (lexed after (bytes_of ys)).codes)
+  -- the codes behind it
+  abbrev later : List Code
+  later = (lexed after (bytes_of ys)).codes
+
+  abbrev shifted : Machine
+  shifted = record m { sets = after }
+
+  abbrev CodeGoes : Code → Front → Type 0
+  CodeGoes c f = Going m xs f → Asks m.work (c ∷ later) → Known (acting_behind (acting_within fuel) f) (c ∷ later)
+
+  idle_goes : (c : Code) → IsQuiet c → opcodes_of (c ∷ later) ≡ opcodes_of later → CodeGoes c (course.act [] shifted ys)
   idle_goes c quiet same going asks =
-      let list : List Code = (lexed after (bytes_of ys)).codes in
-      let known = ih (record m { sets = after }) (sets_stand m after standing) going (next_plain m.work m.work c list (quiet_stage m.work m.work c list quiet refl refl refl) asks) in
+      let known = ih shifted (sets_stand m after standing) going (next_plain m.work m.work c later (quiet_stage m.work m.work c later quiet refl refl refl) asks) in
       record { all = known.all ∙ sym same; each = known.each }
 
-  acting_goes : (c : Code) (place : ℕ) (by : Result Drawn DrawFault) → code_rule m.work c ≡ by → IsActing c →
-      opcodes_of (c ∷ (lexed after (bytes_of ys)).codes) ≡ opcodes_of (lexed after (bytes_of ys)).codes →
-      Going m xs (drawn_front (record m { sets = after }) place ys by) → Asks m.work (c ∷ (lexed after (bytes_of ys)).codes) →
-      Known (acting_behind (acting_within fuel) (drawn_front (record m { sets = after }) place ys by)) (c ∷ (lexed after (bytes_of ys)).codes)
+  acting_goes : (c : Code) (place : ℕ) (by : Result Drawn DrawFault) → code_rule m.work c ≡ by → IsActing c → opcodes_of (c ∷ later) ≡ opcodes_of later →
+      CodeGoes c (drawn_front shifted place ys by)
   acting_goes c place (Err fault) e acting same going asks = let bad : ⊥ = cc in absurd bad
   acting_goes c place (Ok d) e acting same going asks =
-      let list : List Code = (lexed after (bytes_of ys)).codes in
-      let next : Machine = after_drawing (record m { sets = after }) d in
-      let known = ih next (drawing_stands (record m { sets = after }) d (sets_stand m after standing)) going (next_plain m.work d.work c list (code_stage m.work c list d e acting) asks) in
+      let known = ih (after_drawing shifted d) (drawing_stands shifted d (sets_stand m after standing)) going (next_plain m.work d.work c later (code_stage m.work c later d e acting) asks) in
       record { all = known.all ∙ sym same; each = known.each }
 
   -- the call of a macro that isn't bound
-  call_goes : (name place : ℕ) (body : List ℕ) → body ≡ [] → Going m xs (shown_front (record m { sets = after }) place body ys) →
-      Asks m.work (code.Call name ∷ (lexed after (bytes_of ys)).codes) →
-      Known (acting_behind (acting_within fuel) (shown_front (record m { sets = after }) place body ys)) (code.Call name ∷ (lexed after (bytes_of ys)).codes)
+  call_goes : (name place : ℕ) (body : List ℕ) → body ≡ [] → CodeGoes (code.Call name) (shown_front shifted place body ys)
   call_goes name place (b ∷ bs) is going asks = let bad : ⊥ = cc in absurd bad
   call_goes name place [] is going asks = at (nat_lt m.left 0) going
     where
       next : Machine
-      next = charged (record m { sets = after }) 0
+      next = charged shifted 0
 
       at : (less : Bool) → Going m xs (cond less (course.refuse (refusal faults.Budget place)) (course.act [] next ys)) →
-          Known (acting_behind (acting_within fuel) (cond less (course.refuse (refusal faults.Budget place)) (course.act [] next ys)))
-          (code.Call name ∷ (lexed after (bytes_of ys)).codes)
+          Known (acting_behind (acting_within fuel) (cond less (course.refuse (refusal faults.Budget place)) (course.act [] next ys))) (code.Call name ∷ later)
       at true going = let bad : ⊥ = cc in absurd bad
       at false going =
-          let list : List Code = (lexed after (bytes_of ys)).codes in
           let known = ih next (record { mode = standing.mode; names = standing.names }) going
-          (next_plain m.work m.work (code.Call name) list (quiet_stage m.work m.work (code.Call name) list tt refl refl refl) asks) in
+          (next_plain m.work m.work (code.Call name) later (quiet_stage m.work m.work (code.Call name) later tt refl refl refl) asks) in
           record { all = known.all; each = known.each }
 
 -- any code

@@ -1,12 +1,11 @@
-use Rattle.std.proofs.Common.{◌≡◌, ◌∙◌, ℕ, [], true, false, Ok, Err, refl, sym, ap, subst}
+use Rattle.std.proofs.Common.{◌≡◌, ◌∙◌, ℕ, [], true, false, Ok, refl, sym, ap, subst}
 use Rattle.std.specs.Io.KnownBytes.{Keeps}
 use Rattle.std.proofs.KnownBytes.{Consumes-nil}
 use Rattle.nap_list.specs.Reading.{reading}
-use Rattle.nap_reader.specs.declared.feeding.FeedFault.TheVariants as feed_fault
 use Rattle.nap_canon.specs.Concluding.{Concludes}
 use Rattle.nap_canon.specs.Converting.{Converts, StopsAtOnce}
 use Rattle.nap_canon.specs.Sinking.{Canonical, Writes, sending, shown}
-use Rattle.nap_canon.proofs.conversions.ConvertLemmas.{Ends, end_leaves, fed_leaves, finished, flushed_once, header_fails, whole_leaves}
+use Rattle.nap_canon.proofs.conversions.ConvertLemmas.{end_converts, fed_converts, flushed_once, header_fails, whole_converts}
 use Rattle.nap_canon.proofs.conversion.convert.Goals as goal
 
 -- the header was not written
@@ -39,68 +38,34 @@ returns-then-failed-clause-converts g c =
 -- all was read, and nothing refused
 pub returns-in-Ok-finish-clause-converts : goal.returns-in-Ok-finish-clause-converts
 returns-in-Ok-finish-clause-converts g c =
-    let I = g.I.Inlet in
     let O = g.O.Outlet in
     let s = c.new.result in
-    let old = c.new-reader.result in
-    let new = c.feed_from.new.reader in
-    let input = c.args.input.now in
-    let rest = c.feed_from.new.input in
-    let works : O.failed s.outlet ≡ false =
-    subst (λ (t : Canonical _). O.failed t.outlet ≡ false) (c.sink.ensures.now ∙ c.new-reader.ensures.sink) (sym c.failed.ensures ∙ c.if-failed.false) in
-    let (p, read, feeds) = c.in-Ok.ensures.feeds in
-    let h = feeds s c.new-reader.ensures.stands in
-    let t = c.in-Ok-finish.sink in
     let end = c.conclude-in-Ok-finish in
-    let same = c.feed_from.ensures.budget in
-    let leaves = whole_leaves O c.args.output s c.new.ensures _ (λ t d k. k) (λ t d e k. k) refl (λ d k. k) works I input rest old new p same h t (c.in-Ok-finish.ensures.ok s p h.stands) in
-    finished O c.args.output s c.new.ensures _ (λ t d k. k) (λ t d e k. k) refl (λ d k. k) works I input rest old new p same g.met.O.Outlet.fails_by_write c.requires.works h.last t (Ok tt) end.result.0 end.result.1 c.args.budget
-    c.new-reader.ensures.budget read leaves
-    end.ensures.taken end.ensures.failed end.ensures.answer end.ensures.flushes end.ensures.write_failed
+    let works = subst (λ (t : Canonical _). O.failed t.outlet ≡ false) (c.sink.ensures.now ∙ c.new-reader.ensures.sink) (sym c.failed.ensures ∙ c.if-failed.false) in
+    whole_converts O c.args.output s c.new.ensures _ (λ t d k. k) (λ t d e k. k) refl (λ d k. k) works g.I.Inlet c.args.input.now c.feed_from.new.input c.new-reader.result c.feed_from.new.reader
+    c.new-reader.ensures.stands c.feed_from.ensures.budget c.args.budget c.new-reader.ensures.budget g.met.O.Outlet.fails_by_write c.requires.works end.result.0 end.result.1
+    c.in-Ok.ensures.feeds c.in-Ok-finish.sink (c.in-Ok-finish.ensures.ok s) (end.ensures.taken, end.ensures.failed, end.ensures.answer, end.ensures.flushes, end.ensures.write_failed)
 
 -- the stream is refused at its end
 pub returns-in-Err-finish-clause-converts : goal.returns-in-Err-finish-clause-converts
 returns-in-Err-finish-clause-converts g c =
-    let I = g.I.Inlet in
     let O = g.O.Outlet in
     let s = c.new.result in
-    let old = c.new-reader.result in
-    let new = c.feed_from.new.reader in
-    let input = c.args.input.now in
-    let rest = c.feed_from.new.input in
-    let works : O.failed s.outlet ≡ false =
-    subst (λ (t : Canonical _). O.failed t.outlet ≡ false) (c.sink.ensures.now ∙ c.new-reader.ensures.sink) (sym c.failed.ensures ∙ c.if-failed.false) in
-    let (p, read, feeds) = c.in-Ok.ensures.feeds in
-    let h = feeds s c.new-reader.ensures.stands in
     let stopped = c.in-Err-finish.stopped in
-    let fed = Err (feed_fault.Refused stopped.refusal) in
     let end = c.conclude-in-Err-finish in
-    let same = c.feed_from.ensures.budget in
-    let leaves = end_leaves O c.args.output s c.new.ensures _ (λ t d k. k) (λ t d e k. k) refl (λ d k. k) works I input rest old new p same h stopped.sink stopped.refusal
-    (λ own. c.in-Err-finish.ensures.err own s p h.stands) (λ other. c.in-Err-finish.ensures.breaks h.ends.1 other s p h.stands) in
-    finished O c.args.output s c.new.ensures _ (λ t d k. k) (λ t d e k. k) refl (λ d k. k) works I input rest old new p same g.met.O.Outlet.fails_by_write c.requires.works h.last stopped.sink fed end.result.0 end.result.1
-    c.args.budget c.new-reader.ensures.budget read leaves
-    end.ensures.taken end.ensures.failed end.ensures.answer end.ensures.flushes end.ensures.write_failed
+    let works = subst (λ (t : Canonical _). O.failed t.outlet ≡ false) (c.sink.ensures.now ∙ c.new-reader.ensures.sink) (sym c.failed.ensures ∙ c.if-failed.false) in
+    end_converts O c.args.output s c.new.ensures _ (λ t d k. k) (λ t d e k. k) refl (λ d k. k) works g.I.Inlet c.args.input.now c.feed_from.new.input c.new-reader.result c.feed_from.new.reader
+    c.new-reader.ensures.stands c.feed_from.ensures.budget c.args.budget c.new-reader.ensures.budget g.met.O.Outlet.fails_by_write c.requires.works end.result.0 end.result.1
+    c.in-Ok.ensures.feeds stopped.sink stopped.refusal (λ own. c.in-Err-finish.ensures.err own s) (λ unrefused other. c.in-Err-finish.ensures.breaks unrefused other s)
+    (end.ensures.taken, end.ensures.failed, end.ensures.answer, end.ensures.flushes, end.ensures.write_failed)
 
 -- the stream is refused before its end, or the input failed
 pub returns-in-Err-clause-converts : goal.returns-in-Err-clause-converts
 returns-in-Err-clause-converts g c =
-    let I = g.I.Inlet in
     let O = g.O.Outlet in
     let s = c.new.result in
-    let old = c.new-reader.result in
-    let new = c.feed_from.new.reader in
-    let input = c.args.input.now in
-    let rest = c.feed_from.new.input in
-    let works : O.failed s.outlet ≡ false =
-    subst (λ (t : Canonical _). O.failed t.outlet ≡ false) (c.sink.ensures.now ∙ c.new-reader.ensures.sink) (sym c.failed.ensures ∙ c.if-failed.false) in
-    let (p, read, feeds) = c.in-Err.ensures.feeds in
-    let h = feeds s c.new-reader.ensures.stands in
-    let fed = Err c.in-Err.fault in
     let end = c.conclude-in-Err in
-    let same = c.feed_from.ensures.budget in
-    let leaves = subst (λ (t : Canonical g.row.O.Denot). Ends O c.args.output s c.new.ensures _ (λ t d k. k) (λ t d e k. k) refl (λ d k. k) works I input rest old new p same h.last t fed)
-    (sym c.into_sink-in-Err.ensures.now) (fed_leaves O c.args.output s c.new.ensures _ (λ t d k. k) (λ t d e k. k) refl (λ d k. k) works I input rest old new p same c.in-Err.fault h) in
-    finished O c.args.output s c.new.ensures _ (λ t d k. k) (λ t d e k. k) refl (λ d k. k) works I input rest old new p same g.met.O.Outlet.fails_by_write c.requires.works h.last c.into_sink-in-Err.result fed end.result.0
-    end.result.1 c.args.budget c.new-reader.ensures.budget read leaves
-    end.ensures.taken end.ensures.failed end.ensures.answer end.ensures.flushes end.ensures.write_failed
+    let works = subst (λ (t : Canonical _). O.failed t.outlet ≡ false) (c.sink.ensures.now ∙ c.new-reader.ensures.sink) (sym c.failed.ensures ∙ c.if-failed.false) in
+    fed_converts O c.args.output s c.new.ensures _ (λ t d k. k) (λ t d e k. k) refl (λ d k. k) works g.I.Inlet c.args.input.now c.feed_from.new.input c.new-reader.result c.feed_from.new.reader
+    c.new-reader.ensures.stands c.feed_from.ensures.budget c.args.budget c.new-reader.ensures.budget g.met.O.Outlet.fails_by_write c.requires.works end.result.0 end.result.1
+    c.in-Err.fault c.in-Err.ensures.feeds c.into_sink-in-Err.result c.into_sink-in-Err.ensures.now (end.ensures.taken, end.ensures.failed, end.ensures.answer, end.ensures.flushes, end.ensures.write_failed)
