@@ -1,0 +1,90 @@
+//! NAPLPS pages: what a page draws, or why it is refused; and each page in one canonical spelling.
+//!
+//! Begin with `read_all`. It gives the display list of a page, or its refusal, with a name and the place of a byte:
+//!
+//!     let list = read_all(alloc, Budget::usual(), page)?;
+//!
+//! A list is a `Vec<Entry>`. An entry is one act of drawing, with all that it depends on, and `line_of` gives its line.
+//! `normalise` gives the canonical stream of a page, and `convert` writes it while the page is read. A `Reader` takes a
+//! page in pieces, and puts its entries into a `Sink`: one of those in `sink`, or your own. docs/LIBRARY.md teaches it by
+//! examples, and `specs` has the definitions that the contracts are written in.
+#![tactic(auto)]
+
+/// Read a page: whole, or in pieces into a sink.
+pub use nap_reader::{Reader, Stopped, read_all};
+
+/// How many bytes of macros a page may call.
+pub use nap_reader::Budget;
+
+/// Why and where a page is refused, and which code is left out.
+pub use nap_codes::Left;
+pub use nap_reader::{Fault, Refusal};
+
+/// What a page draws, entry by entry; the line of an entry; and whether a list of entries is legal.
+pub use nap_lines::{append_line, line_of};
+pub use nap_list::{Entry, legal};
+
+/// The canonical stream of a page, also while it is read; the text of a list in both forms; and why there is none.
+pub use nap_canon::{CanonFault, ConvertFault, canon, canon_form1, convert, normalise};
+
+/// Whether a stream is plain.
+pub use nap_canon::is_plain;
+
+/// What an entry holds.
+pub mod entry {
+    /// What it is drawn with.
+    pub use nap_list::{CharSize, Colour, Hand, Held, Ink, Origin, Pen, Preset, TextLook, Texture};
+
+    /// Where it is, and which of its kind it is.
+    pub use nap_codes::{CharSet, CursorKind, Mask, Size, TextStep};
+    pub use nap_list::{Area, Points};
+
+    /// The numbers in it.
+    pub use nap_values::{Addr, Grb, Move, Point, Word};
+}
+
+/// What takes the entries of a page.
+pub mod sink {
+    /// What a sink does, and why it may not.
+    pub use nap_list::{Sink, SinkFault};
+
+    /// Entries that a sink takes together.
+    pub use nap_list::{Batch, BatchFault};
+
+    /// Sinks that keep the entries, count them, make their lines, or write their canonical text.
+    pub use nap_canon::CanonSink;
+    pub use nap_lines::LineSink;
+    pub use nap_list::{CountSink, ListSink};
+
+    /// The state that the entries so far leave, and its parts.
+    pub use nap_list::{Base, Definition, Drawing, Known, LastChar, MapColour, Opened, State};
+}
+
+/// Where the bytes of a page come from, and where they go.
+pub mod device {
+    /// What a device does, and its fault.
+    pub use nap_list::{DeviceFault, Inlet, Outlet};
+
+    /// Devices over a reader and a writer of std.
+    pub use nap_list::{Source, Target};
+
+    /// Feeds a `Reader` what an inlet gives.
+    pub use nap_reader::{FeedFault, feed_from};
+}
+
+/// The limits of the profile.
+pub mod limits {
+    /// The most known colours, reads, points of a shape, operand bytes of an opcode, and bytes of macros.
+    pub use nap_list::{KNOWN, READS, SHAPE_POINTS};
+    pub use nap_reader::{RUN_LIMIT, STORE_LIMIT};
+}
+
+/// The laws: functions without effect, whose contracts say what holds of all lists and pages.
+pub mod laws {
+    /// Of canonical text.
+    pub use nap_canon::laws as canonical;
+    /// Of lists, states and batches.
+    pub use nap_list::laws as list;
+    /// Of what a page means.
+    pub use nap_reader::laws as reading;
+}
