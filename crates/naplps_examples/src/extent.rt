@@ -1,5 +1,5 @@
 //! A sink of one's own: how far the shapes of a page reach.
-ghost use Rattle.std.specs.Prelude.{◌≡◌, ◌≢◌, ◌<◌, ◌^◌, Some, false, length, IfOk, IfErr};
+ghost use Rattle.std.specs.Prelude.{◌≡◌, ◌≢◌, Some, false, IfOk, IfErr};
 ghost use Rattle.naplps.specs.Budgets.{usual_budget};
 ghost use Rattle.naplps.specs.State.{start};
 ghost use Rattle.naplps.specs.Stream.{means};
@@ -116,7 +116,6 @@ impl Sink for ExtentSink {
 
 /// How far the shapes of a page reach, or why it is refused.
 pub fn extent_of(alloc: Global, page: &[u8]) -> Result<Extent, Refusal>
-    requires { length page.now < 2 ^ 63 }
     ensures accepted { IfOk result (λ extent. IsAccepted usual_budget page.now) }
     ensures extent { IfOk result (λ extent. extent ≡ with_entries nowhere (list_of usual_budget page.now)) }
     ensures refused { IfErr result (λ r. r.fault ≢ Fault.Memory → (means usual_budget page.now).refusal ≡ Some r) }

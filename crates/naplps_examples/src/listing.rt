@@ -1,5 +1,5 @@
 //! Lists a page.
-ghost use Rattle.std.specs.Prelude.{◌≡◌, ◌<◌, ◌^◌, IfOk, length, string_bytes};
+ghost use Rattle.std.specs.Prelude.{◌≡◌, IfOk, string_bytes};
 ghost use Rattle.naplps.specs.Budgets.{usual_budget};
 ghost use Rattle.naplps.specs.Stream.{means};
 ghost use Rattle.naplps_examples.specs.Listing.{listing};
@@ -9,7 +9,6 @@ use std::alloc::{AllocError, Global};
 
 /// What a page draws, a line for each entry; or the name of its refusal, and the place of a byte.
 pub fn list(alloc: Global, page: &[u8]) -> Result<String, AllocError>
-    requires { length page.now < 2 ^ 63 }
     ensures { IfOk result (λ text. string_bytes text ≡ listing (means usual_budget page.now)) }
 {
     match read_all(alloc, Budget::usual(), page) {
