@@ -13,7 +13,8 @@ pub fn convert_all<R: Read + Drop, W: Write + Drop>(
     reader: R,
     writer: W,
 ) -> (W, Result<u64, ConvertFault>)
-    ensures { (page : List ℕ) → R.remaining reader ≡ Some page → Converted page (W.contents writer) (W.contents result.0) result.1 }
+    ensures { (page : List ℕ) → R.remaining reader ≡ Some page →
+        Converted page (W.contents writer) (W.contents result.0) result.1 }
 {
     let mut input = Source::new(reader);
     let (output, answer) = convert(alloc, &mut input, Target::new(writer), Budget::usual());
