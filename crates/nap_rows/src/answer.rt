@@ -1,10 +1,10 @@
 //! What the libraries say of a stream.
 use crate::notation::MOST;
 use crate::trouble::{Trouble, tell};
-use nap_codes::Left;
+use nap_command::Failure;
 use nap_lines::line_of;
 use nap_list::{CountSink, Entry, ListSink, Sink};
-use nap_reader::{Budget, Fault, Reader, Refusal};
+use nap_reader::{Budget, Reader, Refusal};
 use std::alloc::{AllocError, Global};
 
 /// All that a reader says of a stream.
@@ -139,29 +139,9 @@ pub fn ended(alloc: Global, refusal: Option<Refusal>) -> Result<String, AllocErr
     }
 }
 
-/// Why a stream is refused, as a row has it.
+/// Why a stream is refused, as a row has it: what the program says of it, without its first word.
 fn reason(alloc: Global, refusal: Refusal) -> Result<String, AllocError> {
-    let place = refusal.place;
-    match refusal.fault {
-        Fault::LeftOut(left) => format!(in alloc; "6 LeftOut {} at {place}", name_of(left)),
-        fault => format!(in alloc; "{} {} at {place}", fault.number(), fault.name()),
-    }
-}
-
-/// The name of a code that is left out.
-fn name_of(left: Left) -> &'static str {
-    match left {
-        Left::Can => "CAN",
-        Left::Sdc => "SDC",
-        Left::Nsr => "NSR",
-        Left::Deft => "DEFT",
-        Left::Unprotect => "UNPROTECT",
-        Left::Edc1 => "EDC1",
-        Left::Edc2 => "EDC2",
-        Left::Edc3 => "EDC3",
-        Left::Edc4 => "EDC4",
-        Left::IncrementalPoint => "INCREMENTAL-POINT",
-        Left::IncrementalLine => "INCREMENTAL-LINE",
-        Left::IncrementalPoly => "INCREMENTAL-POLY",
-    }
+    let line = Failure::from(refusal).line(alloc)?;
+    let told = line.strip_prefix("refused ").unwrap_or(&line);
+    String::from_str(alloc, told.trim_end())
 }
