@@ -18,10 +18,10 @@
    since the text is made in memory first; a text of 0 bytes fits any room. So it is faster to begin with a room that is
    mostly large enough, and to call again where it wasn't.
 
-   A call keeps nothing once it returns. The library has no state, opens no file and prints nothing. So threads may call
-   at the same time, with rooms of their own, also on one page. Memory comes from malloc and realloc, and is given back
-   by free before the call returns; where there is none, the answer is the refusal NAPLPS_MEMORY. Don't call from a
-   signal handler. */
+   A call keeps nothing once it returns, but what struct naplps_checking has of a page that comes in pieces. The library
+   has no state, opens no file and prints nothing. So threads may call at the same time, with rooms of their own, also
+   on one page. Memory comes from malloc and realloc, and but for those pages is given back by free before the call
+   returns; where there is none, the answer is the refusal NAPLPS_MEMORY. Don't call from a signal handler. */
 #ifndef NAPLPS_H
 #define NAPLPS_H
 
@@ -42,7 +42,8 @@ enum naplps_status {
     NAPLPS_ACCEPTED = 0,
     NAPLPS_REFUSED = 1,
     NAPLPS_SMALL_ROOM = 2, /* the room is too small for the text, and nothing was written */
-    NAPLPS_NO_BUDGET = 3   /* the budget is greater than NAPLPS_BUDGET_MOST, and the page wasn't read */
+    NAPLPS_NO_BUDGET = 3,  /* the budget is greater than NAPLPS_BUDGET_MOST, and the page wasn't read */
+    NAPLPS_NOT_BEGUN = 4   /* no page is begun that comes in pieces, and nothing was read */
 };
 
 /* Why a page is refused. PROFILE.md, among the documents of naplps, says when each is answered, and at which byte. */
@@ -81,9 +82,9 @@ struct naplps_answer {
     uint32_t number; /* one of enum naplps_refusal, or 0 */
     uint64_t place;  /* the offset of the byte that is refused; the length of the page for what is found at its end;
                         with NAPLPS_MEMORY it says nothing of the page */
-    uint64_t length; /* how many bytes the text has, whatever the room; of naplps_check, how many entries there are;
-                        0 where there is no text or count, so with NAPLPS_NO_BUDGET, and with NAPLPS_REFUSED but of
-                        naplps_places */
+    uint64_t length; /* how many bytes the text has, whatever the room; of naplps_check and naplps_check_finish, how
+                        many entries there are; 0 where there is no text or count, so with NAPLPS_NO_BUDGET and
+                        NAPLPS_NOT_BEGUN, and with NAPLPS_REFUSED but of naplps_places */
     char name[32];   /* the name of the refusal, in ASCII, the rest NUL, as in the program's line
                         "refused 10 Outside at 3" */
 };
@@ -118,6 +119,42 @@ struct naplps_answer naplps_places(uint32_t budget, const uint8_t *page, size_t 
    reads its operands under the lengths eight and four, which it sets first. That says nothing of whether the page is
    accepted: a refused page may be plain. It takes no memory, and can't fail. */
 bool naplps_is_plain(const uint8_t *page, size_t length);
+
+/* What is kept of a page that comes in pieces. The struct is the caller's: all zeros where no page is begun, as it has
+   to be before the first call. What is in it isn't for the caller to read or to change. It may be moved while a page is
+   begun; of two copies only one may be used. */
+struct naplps_checking {
+    void *at;
+};
+
+/* The next four do what naplps_check does, to a page that comes in pieces, of which they keep no byte:
+
+       struct naplps_checking page = {0};
+       struct naplps_answer answer = naplps_check_begin(&page, NAPLPS_BUDGET_USUAL);
+       while (answer.status == NAPLPS_ACCEPTED && (length = next(piece)) > 0)
+           answer = naplps_check_feed(&page, piece, length);
+       if (answer.status == NAPLPS_ACCEPTED) answer = naplps_check_finish(&page);
+       naplps_check_drop(&page);
+
+   A page is for one thread, that which began it. Threads may use pages of their own at the same time. */
+
+/* Begins a page, of which nothing has come. One that was begun in the struct is given up first. No page is begun with
+   NAPLPS_NO_BUDGET, nor with NAPLPS_REFUSED, which is for want of memory. */
+struct naplps_answer naplps_check_begin(struct naplps_checking *page, uint32_t budget);
+
+/* Takes the next piece, of any length; it may be empty, and isn't used once the call returns. All pieces of a page have
+   fewer than 2^63 bytes. Where no page is begun, the status is NAPLPS_NOT_BEGUN. It is NAPLPS_ACCEPTED, with the length
+   0, while nothing is refused. A refusal is that of the whole page, whatever comes, and its place counts from the first
+   byte of the first piece; each further call answers it again. */
+struct naplps_answer naplps_check_feed(struct naplps_checking *page, const uint8_t *piece, size_t length);
+
+/* Ends a page, and answers what naplps_check answers to all pieces, one behind another, wherever they were cut; though
+   memory may be wanting to the one and not to the other. Then no page is begun, and nothing of it is kept. Where none
+   was begun, the status is NAPLPS_NOT_BEGUN. */
+struct naplps_answer naplps_check_finish(struct naplps_checking *page);
+
+/* Gives up a page, if one is begun, and gives its memory back. Then no page is begun. */
+void naplps_check_drop(struct naplps_checking *page);
 
 #ifdef __cplusplus
 }

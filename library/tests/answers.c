@@ -7,6 +7,7 @@ _Static_assert(sizeof(struct naplps_answer) == 56, "the size of an answer");
 _Static_assert(offsetof(struct naplps_answer, place) == 8, "where the place is");
 _Static_assert(offsetof(struct naplps_answer, length) == 16, "where the length is");
 _Static_assert(offsetof(struct naplps_answer, name) == 24, "where the name is");
+_Static_assert(sizeof(struct naplps_checking) == sizeof(void *), "the size of a page that is begun");
 
 #define BYTES(text) (const uint8_t *)(text), sizeof(text) - 1
 #define POINT "\x0E\x26\x52\x40\x40"
@@ -95,11 +96,57 @@ static void try_budgets(void) {
     }
 }
 
+// A page in two pieces has the answer of the whole at every cut.
+static void try_cuts(const uint8_t *page, size_t length) {
+    struct naplps_answer whole = naplps_check(4, page, length);
+    for (size_t cut = 0; cut <= length; cut++) {
+        struct naplps_checking checking = {0};
+        check(says(naplps_check_begin(&checking, 4), NAPLPS_ACCEPTED, 0, 0, "", 0), "begin");
+        naplps_check_feed(&checking, cut == 0 ? NULL : page, cut);
+        struct naplps_answer so_far = naplps_check_feed(&checking, page + cut, length - cut);
+        check(so_far.length == 0 && (so_far.status == NAPLPS_ACCEPTED || are_equal(so_far, whole)), "both pieces");
+        check(are_equal(naplps_check_finish(&checking), whole), "a cut");
+    }
+}
+
+static void try_begun(void) {
+    struct naplps_checking checking = {0};
+    naplps_check_drop(&checking);
+    check(says(naplps_check_feed(&checking, BYTES(POINT)), NAPLPS_NOT_BEGUN, 0, 0, "", 0), "a piece of no page");
+    check(says(naplps_check_finish(&checking), NAPLPS_NOT_BEGUN, 0, 0, "", 0), "the end of no page");
+    naplps_check_begin(&checking, 0);
+    check(says(naplps_check_finish(&checking), NAPLPS_ACCEPTED, 0, 0, "", 0), "no piece");
+    check(says(naplps_check_finish(&checking), NAPLPS_NOT_BEGUN, 0, 0, "", 0), "a page that has ended");
+    naplps_check_begin(&checking, 0);
+    check(says(naplps_check_feed(&checking, BYTES(OUTSIDE)), NAPLPS_ACCEPTED, 0, 0, "", 0), "a run that is still open");
+    for (int i = 0; i < 2; i++) {
+        check(says(naplps_check_feed(&checking, BYTES(POINT)), NAPLPS_REFUSED, NAPLPS_OUTSIDE, 3, "Outside", 0),
+              "a piece that ends the run, and one behind the refusal");
+    }
+    check(says(naplps_check_feed(&checking, NULL, 0), NAPLPS_REFUSED, NAPLPS_OUTSIDE, 3, "Outside", 0), "no byte more");
+    check(says(naplps_check_begin(&checking, 0), NAPLPS_ACCEPTED, 0, 0, "", 0), "a page in place of another");
+    naplps_check_feed(&checking, BYTES(POINT));
+    check(says(naplps_check_finish(&checking), NAPLPS_ACCEPTED, 0, 0, "", 1), "the other page");
+    naplps_check_begin(&checking, 0);
+    naplps_check_feed(&checking, BYTES(MACRO));
+    check(says(naplps_check_begin(&checking, NAPLPS_BUDGET_MOST + 1), NAPLPS_NO_BUDGET, 0, 0, "", 0), "no such budget");
+    check(checking.at == NULL, "a page was begun under no budget");
+    naplps_check_begin(&checking, 0);
+    naplps_check_feed(&checking, BYTES(MACRO));
+    naplps_check_drop(&checking);
+    check(says(naplps_check_finish(&checking), NAPLPS_NOT_BEGUN, 0, 0, "", 0), "a page that was given up");
+}
+
 int main(void) {
     try_accepted();
     try_empty();
     try_refused();
     try_budgets();
+    try_begun();
+    try_cuts(BYTES(POINT));
+    try_cuts(BYTES(OUTSIDE));
+    try_cuts(BYTES(MACRO));
+    try_cuts(BYTES("\x0E\x26\x52\x40\x40\x1B"));
     printf("%d answers\n", passed);
     return 0;
 }

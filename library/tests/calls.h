@@ -58,4 +58,20 @@ static inline int tell_the_same(struct naplps_answer a, struct naplps_answer b) 
 static inline int are_equal(struct naplps_answer a, struct naplps_answer b) {
     return a.status == b.status && tell_the_same(a, b);
 }
+
+// A page by pieces of this size, and the rest; a refusal has to stay. Where it can't be begun, why.
+static inline struct naplps_answer check_pieces(uint32_t budget, const uint8_t *page, size_t length, size_t size) {
+    struct naplps_checking checking = {0};
+    struct naplps_answer answer = naplps_check_begin(&checking, budget);
+    if (answer.status != NAPLPS_ACCEPTED) return answer;
+    for (size_t at = 0; at < length; at += size) {
+        struct naplps_answer now = naplps_check_feed(&checking, page + at, size < length - at ? size : length - at);
+        must(answer.status == NAPLPS_ACCEPTED || are_equal(answer, now), "a refusal has changed");
+        answer = now;
+    }
+    struct naplps_answer whole = naplps_check_finish(&checking);
+    must(answer.status == NAPLPS_ACCEPTED || are_equal(answer, whole), "the refusal of a piece isn't that of the page");
+    must(checking.at == NULL, "a page was left");
+    return whole;
+}
 #endif

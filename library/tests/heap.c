@@ -43,10 +43,14 @@ static size_t read_page(const char *name) {
     return length;
 }
 
+// The calls that give a text, naplps_check, and naplps_check_begin and the others by pieces of 7 bytes.
+enum { CHECK = TEXT_CALLS, PIECES, CALLS };
+
 static struct naplps_answer call(int number, size_t length) {
     calls = 0;
-    return number < TEXT_CALLS ? text_calls[number].call(1000, page, length, room, sizeof room)
-                               : naplps_check(1000, page, length);
+    if (number == CHECK) return naplps_check(1000, page, length);
+    if (number == PIECES) return check_pieces(1000, page, length, 7);
+    return text_calls[number].call(1000, page, length, room, sizeof room);
 }
 
 // One call of the library, with these calls of the allocator refused.
@@ -58,7 +62,7 @@ static void try_refusing(int number, size_t length, struct naplps_answer whole, 
     runs++;
     must(live == 0, "a block was left");
     if (are_equal(answer, whole)) {
-        must(number == TEXT_CALLS || memcmp(room, kept, whole.length) == 0, "another text");
+        must(number >= TEXT_CALLS || memcmp(room, kept, whole.length) == 0, "another text");
         return;
     }
     wanting++;
@@ -69,7 +73,7 @@ static void try_refusing(int number, size_t length, struct naplps_answer whole, 
 
 // All calls of the library on a page.
 static void try_page(size_t length) {
-    for (int number = 0; number <= TEXT_CALLS; number++) {
+    for (int number = 0; number < CALLS; number++) {
         struct naplps_answer whole = call(number, length);
         long all = calls;
         must(live == 0 && whole.status <= NAPLPS_REFUSED, "the page itself");

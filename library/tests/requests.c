@@ -86,6 +86,16 @@ static void answer_text(text_call *call, uint32_t budget, const uint8_t *page, s
     free(text.bytes);
 }
 
+// A page in pieces has the answer of the whole, wherever it is cut: in two, or all along.
+static void try_pieces(uint32_t budget, const uint8_t *page, size_t length, struct naplps_answer whole) {
+    for (size_t size = 1; size <= 3; size++) {
+        must(are_equal(check_pieces(budget, page, length, size), whole), "small pieces have another answer");
+    }
+    for (size_t cut = length / 2; cut < length; cut += 1 + length / 64) {
+        must(are_equal(check_pieces(budget, page, length, cut + 1), whole), "two pieces have another answer");
+    }
+}
+
 static void answer_request(const char *command, uint32_t budget, const uint8_t *page, size_t length) {
     for (int i = 0; i < TEXT_CALLS; i++) {
         if (strcmp(command, text_calls[i].name) == 0) {
@@ -95,6 +105,7 @@ static void answer_request(const char *command, uint32_t budget, const uint8_t *
     }
     if (strcmp(command, "check") == 0) {
         struct naplps_answer answer = naplps_check(budget, page, length);
+        try_pieces(budget, page, length, answer);
         print_line(answer, answer.length);
     } else if (strcmp(command, "plain") == 0) {
         puts(naplps_is_plain(page, length) ? "plain" : "not plain");

@@ -22,6 +22,7 @@ from naplps_pages.listing import placed
 from naplps_pages.program import MOST_BUDGET, USUAL_BUDGET
 
 from .backends import found
+from .checker import Checker
 from .faults import Error, NeedsLibrary, NoAnswer, NoMemory, Refused, Unavailable, WrongLibrary
 from .kinds import (
     ONE, Arc, Bell, Blink, BlinkEnd, BlinkMark, Char, Clear, Cursor, DefEnd, Entry, Field, GlyphStart, Line, Map,
@@ -30,11 +31,11 @@ from .kinds import (
 from .pages import Backend, Data, Told, budget_of, taken
 
 __all__ = [
-    "MOST_BUDGET", "ONE", "USUAL_BUDGET", "Arc", "Backend", "Bell", "Blink", "BlinkEnd", "BlinkMark", "Char", "Clear",
-    "Colour", "Cursor", "Data", "DefEnd", "Entry", "Error", "Field", "GlyphStart", "Line", "Look", "Map", "MaskStart",
-    "NeedsLibrary", "NoAnswer", "NoMemory", "Pen", "Places", "Point", "Poly", "Position", "Rect", "Refused", "Reset",
-    "TextMove", "Texture", "ToEol", "Unavailable", "Wait", "WrongLibrary", "backend", "canon", "canon_form1", "check",
-    "entries", "is_plain", "lines", "places",
+    "MOST_BUDGET", "ONE", "USUAL_BUDGET", "Arc", "Backend", "Bell", "Blink", "BlinkEnd", "BlinkMark", "Char",
+    "Checker", "Clear", "Colour", "Cursor", "Data", "DefEnd", "Entry", "Error", "Field", "GlyphStart", "Line",
+    "Look", "Map", "MaskStart", "NeedsLibrary", "NoAnswer", "NoMemory", "Pen", "Places", "Point", "Poly",
+    "Position", "Rect", "Refused", "Reset", "TextMove", "Texture", "ToEol", "Unavailable", "Wait", "WrongLibrary",
+    "backend", "canon", "canon_form1", "check", "entries", "is_plain", "lines", "places",
 ]
 
 

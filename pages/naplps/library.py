@@ -1,6 +1,7 @@
 """Asks the library libnaplps.so.0 by ctypes. A call releases the interpreter's lock, and has a room of its own."""
 import ctypes
-from typing import Any, Callable, Tuple
+import weakref
+from typing import Any, Callable, Optional, Tuple
 
 from naplps_pages.answers import MEMORY
 
@@ -22,7 +23,14 @@ class Answer(ctypes.Structure):
                 ("length", ctypes.c_uint64), ("name", ctypes.c_char * 32)]
 
 
+class Checking(ctypes.Structure):
+    """struct naplps_checking of naplps.h."""
+
+    _fields_ = [("at", ctypes.c_void_p)]
+
+
 PAGE = ROOM = (ctypes.c_void_p, ctypes.c_size_t)
+BEGUN = ctypes.POINTER(Checking)
 
 
 def _lent(page: Data) -> Tuple[object, int]:
@@ -44,8 +52,12 @@ class Library:
         self._is_plain = self._function("is_plain", ctypes.c_bool, *PAGE)
         self._check = self._function("check", Answer, ctypes.c_uint32, *PAGE)
         self._texts = {name: self._function(name, Answer, ctypes.c_uint32, *PAGE, *ROOM) for name in TEXTS}
+        self._begin = self._function("check_begin", Answer, BEGUN, ctypes.c_uint32)
+        self._feed = self._function("check_feed", Answer, BEGUN, *PAGE)
+        self._finish = self._function("check_finish", Answer, BEGUN)
+        self._drop = self._function("check_drop", None, BEGUN)
 
-    def _function(self, name: str, answer: type, *arguments: type) -> Callable[..., Any]:
+    def _function(self, name: str, answer: Optional[type], *arguments: type) -> Callable[..., Any]:
         """A function of the library. Raises WrongLibrary where it isn't there."""
         try:
             function = getattr(self._library, "naplps_" + name)
@@ -76,6 +88,10 @@ class Library:
         lent, length = _lent(page)
         return bool(self._is_plain(lent, length))
 
+    def begin(self, budget: int) -> "LibraryPieces":
+        """A page that comes in pieces. Raises NoMemory."""
+        return LibraryPieces(self, budget)
+
     def _told(self, answer: Answer, entries: int, text: bytes) -> Told:
         if answer.status == ACCEPTED:
             return Told(entries, text)
@@ -95,3 +111,21 @@ class Library:
 
     def _wrong(self, reason: str) -> WrongLibrary:
         return WrongLibrary("%s isn't the library of this version: %s" % (self.backend.path, reason))
+
+
+class LibraryPieces:
+    """A page that comes in pieces, of which the library keeps what it needs. It is given up where nothing names it."""
+
+    def __init__(self, library: Library, budget: int) -> None:
+        self._library, self._checking = library, Checking()
+        library._told(library._begin(self._checking, budget), 0, b"")
+        weakref.finalize(self, library._drop, self._checking)
+
+    def feed(self, piece: Data) -> Told:
+        """Takes the next piece, and tells whether the page is refused so far. Raises NoMemory."""
+        return self._library._told(self._library._feed(self._checking, *_lent(piece)), 0, b"")
+
+    def finish(self) -> Told:
+        """What comes of all pieces. Raises NoMemory."""
+        answer: Answer = self._library._finish(self._checking)
+        return self._library._told(answer, answer.length, b"")

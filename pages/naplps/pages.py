@@ -24,6 +24,18 @@ class Told(NamedTuple):
     refused: Optional[Refused] = None
 
 
+class Pieces(Protocol):
+    """A page that comes in pieces."""
+
+    def feed(self, piece: Data) -> Told:
+        """Takes the next piece; a refusal that is told is that of the whole page. Raises NoMemory."""
+        ...
+
+    def finish(self) -> Told:
+        """What comes of all pieces. Raises NoMemory, NoAnswer."""
+        ...
+
+
 class Teller(Protocol):
     """What is asked. Its calls are check, list, canon, canon_form1 and places. It may be asked by several threads."""
 
@@ -35,6 +47,10 @@ class Teller(Protocol):
 
     def is_plain(self, page: Data) -> bool:
         """Whether a page is plain. Raises NeedsLibrary."""
+        ...
+
+    def begin(self, budget: int) -> Pieces:
+        """A page that comes in pieces, and is checked. Raises NoMemory."""
         ...
 
 

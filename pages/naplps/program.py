@@ -45,6 +45,10 @@ class Program:
         """Raises NeedsLibrary."""
         raise self._needs_library("is_plain")
 
+    def begin(self, budget: int) -> "ProgramPieces":
+        """A page that comes in pieces."""
+        return ProgramPieces(self, budget)
+
     def _needs_library(self, call: str) -> faults.NeedsLibrary:
         reason = "%s is no request of %s: it takes the library %s"
         return faults.NeedsLibrary(reason % (call, self.backend.path, SONAME))
@@ -82,3 +86,22 @@ def _told(answer: answers.Answer) -> Told:
         name = answer.fault if answer.code is None else "%s %s" % (answer.fault, answer.code)
         return Told(0, answer.body, faults.Refused(answer.number, name, answer.place))
     raise faults.NoMemory(answer.reason) if answer.too_much else faults.NoAnswer(answer.reason)
+
+
+class ProgramPieces:
+    """A page that comes in pieces, which are kept until its end, since `batch` takes it whole."""
+
+    def __init__(self, program: Program, budget: int) -> None:
+        self._program, self._budget, self._bytes = program, budget, bytearray()
+
+    def feed(self, piece: Data) -> Told:
+        """Takes the next piece, and tells nothing of it. Raises NoMemory."""
+        try:
+            self._bytes += bytes(piece)
+        except MemoryError:
+            raise faults.NoMemory("there is no memory for a piece of a page") from None
+        return Told(0, b"")
+
+    def finish(self) -> Told:
+        """What comes of all pieces. Raises NoMemory and NoAnswer."""
+        return self._program.tell("check", self._bytes, self._budget)

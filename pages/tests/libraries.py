@@ -15,6 +15,10 @@ HEAD = """#include <stdint.h>
 #include <stdlib.h>
 struct answer { uint32_t status, number; uint64_t place, length; char name[32]; };
 _Bool naplps_is_plain(const uint8_t *page, size_t length) { return 1; }
+struct answer naplps_check_begin(void **page, uint32_t budget) { return (struct answer){0}; }
+struct answer naplps_check_feed(void **page, const uint8_t *piece, size_t length) { return (struct answer){4}; }
+struct answer naplps_check_finish(void **page) { return (struct answer){4}; }
+void naplps_check_drop(void **page) {}
 """
 CALL = "struct answer naplps_%s(uint32_t budget, uint8_t *page, size_t length%s) { return (struct answer){%s}; }\n"
 

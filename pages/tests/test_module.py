@@ -181,6 +181,46 @@ def test_other_buffers(kind):
     assert nap.check(held) == 3
 
 
+def counted(pieces, budget=nap.USUAL_BUDGET):
+    """How many entries a page has that comes in these pieces."""
+    checker = nap.Checker(budget)
+    for piece in pieces:
+        checker.feed(piece)
+    return checker.finish()
+
+
+def test_a_page_in_pieces(kind):
+    for page in (b"", POINT_AND_BELL, MACRO, OUTSIDE, POINT + b"\x1b", bytearray(LONG), memoryview(LONG_REFUSED)):
+        whole = refusal(nap.check, page)
+        cuts = range(0, len(page) + 1, 1 + len(page) // 40)
+        for pieces in [[page[:cut], page[cut:]] for cut in cuts] + [[page[at:at + 7] for at in range(0, len(page), 7)]]:
+            assert refusal(counted, pieces) == whole
+            assert whole is not None or counted(pieces) == nap.check(page)
+    assert refusal(counted, [MACRO[:5], MACRO[5:]], 3) == "refused 17 Budget at 13" and counted([MACRO], 4) == 1
+
+
+def test_a_refusal_of_a_piece_stays(kind):
+    checker, other = nap.Checker(), nap.Checker()
+    other.feed(POINT)
+    assert refusal(checker.feed, OUTSIDE) is None  # whose run is still open
+    told = [refusal(checker.feed, piece) for piece in (b"\x07", b"", POINT)]
+    assert told == ["refused 10 Outside at 3" if kind == "library" else None] * 3
+    assert refusal(checker.finish) == "refused 10 Outside at 3" and other.finish() == 1
+    for call, words in ((checker.feed, (POINT,)), (checker.finish, ()), (other.finish, ())):
+        with pytest.raises(ValueError, match="^the page has ended$"):
+            call(*words)
+    for wrong in ("0e26", None):
+        with pytest.raises(TypeError, match="^a page is bytes"):
+            nap.Checker().feed(wrong)
+    with pytest.raises(ValueError, match="^a budget is from 0"):
+        nap.Checker(budget=-1)
+
+
+def test_checkers_that_are_dropped(kind):
+    for _ in range(2000):
+        nap.Checker().feed(MACRO)
+
+
 def test_vectors(kind):
     tried = 0
     for vector in (vector for file in files() for vector in vectors_of(file)):

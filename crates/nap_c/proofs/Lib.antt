@@ -1,2 +1,5 @@
 mod AnswerLemmas
+mod CheckLemmas
+mod KeptLemmas
+mod LooseLemmas
 mod TextLemmas

@@ -11,7 +11,7 @@ use Rattle.nap_command.specs.Collecting.{IsRead, LacksMemoryFor}
 use Rattle.nap_command.specs.Commands.{refusal_of_text}
 use Rattle.nap_c.specs.Texts.{IsRefusal, LacksForText, LacksToCount}
 
-true_isnt : false ≡ true → ⊥
+pub true_isnt : false ≡ true → ⊥
 true_isnt h = let bad : ⊥ = cc in bad
 
 -- A page was refused whose entries went into a sink that fails where memory is wanting.

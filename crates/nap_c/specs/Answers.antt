@@ -37,6 +37,10 @@ wanting_room a = record a { status = 2 }
 abbrev pub denying : Answer
 denying = record { status = 3; number = 0; place = 0; length = 0; name = padded [] }
 
+-- no page is begun
+abbrev pub missing : Answer
+missing = record { status = 4; number = 0; place = 0; length = 0; name = padded [] }
+
 -- a page ended so, with a text of this length
 abbrev pub ending : Result ℕ Refusal → ℕ → Answer
 ending (Ok n) size = accepting size

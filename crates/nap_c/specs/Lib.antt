@@ -1,2 +1,5 @@
 pub mod Answers
+pub mod Checks
+pub mod Kept
+pub mod Pieces
 pub mod Texts

@@ -1,6 +1,6 @@
 //! What comes of a page, as it is answered to C.
 ghost use Rattle.std.specs.Prelude.{◌≡◌, length, MatchResult};
-ghost use Rattle.nap_c.specs.Answers.{Offers, accepting, denying, ending, refusing};
+ghost use Rattle.nap_c.specs.Answers.{Offers, accepting, denying, ending, missing, refusing};
 
 use crate::name::{NAME, padded_name};
 use nap_batch::Placed;
@@ -18,11 +18,14 @@ const SMALL: u32 = 2;
 /// There is no such budget.
 const NO_BUDGET: u32 = 3;
 
+/// No page is begun.
+const NOT_BEGUN: u32 = 4;
+
 /// What comes of a page.
 #[repr(C)]
 #[derive(Clone, Copy, Drop)]
 pub struct Answer {
-    /// 0 accepted, 1 refused, 2 the room is too small for the text, 3 no such budget.
+    /// 0 accepted, 1 refused, 2 the room is too small for the text, 3 no such budget, 4 no page is begun.
     pub status: u32,
     /// The number of the refusal, or 0.
     pub number: u32,
@@ -77,10 +80,17 @@ impl Answer {
     {
         Answer {
             status: NO_BUDGET,
-            number: 0,
-            place: 0,
-            length: 0,
-            name: [0; NAME],
+            ..Answer::accepting(0)
+        }
+    }
+
+    /// No page is begun.
+    pub(crate) fn missing() -> Answer
+        ensures { result ≡ missing }
+    {
+        Answer {
+            status: NOT_BEGUN,
+            ..Answer::accepting(0)
         }
     }
 }

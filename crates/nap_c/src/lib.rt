@@ -3,10 +3,16 @@
 
 mod answer;
 mod call;
+mod check;
+mod checking;
+mod loose;
 mod name;
+mod pieces;
 mod text;
 
 pub use answer::Answer;
 pub use call::{
     naplps_canon, naplps_canon_form1, naplps_check, naplps_is_plain, naplps_list, naplps_places,
 };
+pub use checking::Checking;
+pub use pieces::{naplps_check_begin, naplps_check_drop, naplps_check_feed, naplps_check_finish};

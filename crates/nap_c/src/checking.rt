@@ -1,0 +1,77 @@
+//! A page that is checked in pieces, as C keeps it.
+ghost use Rattle.std.specs.Prelude.{◌≡◌, None, Some};
+ghost use Rattle.std.specs.Option.{MatchOption};
+ghost use Rattle.std.specs.declared.option.Option.{Option};
+ghost use Rattle.nap_c.specs.declared.check.Check.{Check};
+ghost use Rattle.nap_c.specs.Kept.{check_coded, kept};
+
+use crate::check::Check;
+use crate::loose::Loose;
+use std::alloc::Global;
+use std::marker::Model;
+use std::mem::replace;
+use std::ptr::null_mut;
+
+/// A page that is checked in pieces, if one is begun.
+#[repr(C)]
+pub struct Checking {
+    at: *mut u8,
+    pub ghost check: { Option Check } by { check_coded },
+}
+
+impl Model for Checking {
+    ghost also_owns = { λ c. kept c.at c.check };
+}
+
+impl Checking {
+    /// No page is begun.
+    fn none() -> Checking
+        ensures { result.check ≡ None }
+    {
+        Checking { at: null_mut() }
+    }
+
+    /// The page that is known so far.
+    fn some(check: Loose<Check, Global>) -> Checking
+        ensures { result.check ≡ Some check.value }
+    {
+        let Loose { at, alloc: _ } = check;
+        Checking { at: at as *mut u8 }
+    }
+
+    /// What is known of the page, if one is begun.
+    fn into_loose(self, alloc: Global) -> Option<Loose<Check, Global>>
+        ensures { MatchOption result (self.check ≡ None) (λ l. self.check ≡ Some l.value) }
+    {
+        let Checking { at } = self;
+        if at.is_null() {
+            None
+        } else {
+            Some(Loose {
+                at: at as *mut Check,
+                alloc,
+            })
+        }
+    }
+
+    /// Takes out what is known of the page, which is begun no longer.
+    pub(crate) fn take(&mut self, alloc: Global) -> Option<Box<Check>>
+        ensures none { self.new.check ≡ None }
+        ensures known { MatchOption result (self.old.check ≡ None) (λ b. self.old.check ≡ Some b.value) }
+    {
+        match replace(self, Checking::none()).into_loose(alloc) {
+            Some(check) => Some(check.into_box()),
+            None => None,
+        }
+    }
+
+    /// Puts in what is known of a page, and gives up the one that was begun.
+    pub(crate) fn put(&mut self, alloc: Global, check: Box<Check>)
+        ensures { self.new.check ≡ Some check.value }
+    {
+        let old = replace(self, Checking::some(Loose::of(check)));
+        if let Some(check) = old.into_loose(alloc) {
+            drop(check.into_box());
+        }
+    }
+}

@@ -1,0 +1,68 @@
+//! The calls of the library on a page that comes in pieces.
+ghost use Rattle.std.specs.Prelude.{◌≡◌, ◌+◌, ◌<◌, ◌^◌, None, IfSome, length};
+ghost use Rattle.nap_c.specs.Checks.{fed};
+ghost use Rattle.nap_c.specs.Pieces.{Begins, Feeds, Finishes};
+
+use crate::answer::Answer;
+use crate::check::Check;
+use crate::checking::Checking;
+use nap_reader::{Budget, Fault, Refusal};
+use std::alloc::Global;
+
+/// Begins a page that comes in pieces. One that was begun there is given up.
+#[unsafe(no_mangle)]
+pub extern "C" fn naplps_check_begin(page: &mut Checking, alloc: Global, budget: u32) -> Answer
+    ensures { Begins budget page.new.check result }
+{
+    drop(page.take(alloc));
+    let Some(budget) = Budget::new(budget) else {
+        return Answer::denying();
+    };
+    match Box::new(alloc, Check::new(alloc, budget)) {
+        Ok(check) => {
+            page.put(alloc, check);
+            Answer::accepting(0)
+        }
+        Err(_) => Answer::refusing(
+            Refusal {
+                fault: Fault::Memory,
+                place: 0,
+            },
+            0,
+        ),
+    }
+}
+
+/// Takes the next piece of a page.
+#[unsafe(no_mangle)]
+pub extern "C" fn naplps_check_feed(page: &mut Checking, alloc: Global, piece: &[u8]) -> Answer
+    requires { IfSome page.old.check (λ check. fed check + length piece.now < 2 ^ 63) }
+    ensures { Feeds page.old.check page.new.check piece.now result }
+{
+    let Some(mut check) = page.take(alloc) else {
+        return Answer::missing();
+    };
+    let answer = check.feed(piece);
+    page.put(alloc, check);
+    answer
+}
+
+/// How many entries a page has that came in pieces. It is begun no longer.
+#[unsafe(no_mangle)]
+pub extern "C" fn naplps_check_finish(page: &mut Checking, alloc: Global) -> Answer
+    ensures none { page.new.check ≡ None }
+    ensures answer { Finishes page.old.check result }
+{
+    match page.take(alloc) {
+        Some(check) => Box::into_inner(check).finish(),
+        None => Answer::missing(),
+    }
+}
+
+/// Gives up a page that came in pieces, if one is begun.
+#[unsafe(no_mangle)]
+pub extern "C" fn naplps_check_drop(page: &mut Checking, alloc: Global)
+    ensures { page.new.check ≡ None }
+{
+    drop(page.take(alloc));
+}

@@ -1,0 +1,50 @@
+"""Checks a page that comes in pieces."""
+from typing import Optional
+
+from naplps_pages.program import USUAL_BUDGET
+
+from .backends import found
+from .faults import Refused
+from .pages import Data, Pieces, Told, budget_of, taken
+
+
+class Checker:
+    """Counts the entries of a page that comes in pieces, which may be of any lengths. It is for one thread.
+
+        checker = naplps.Checker()
+        for piece in pieces:
+            checker.feed(piece)
+        print(checker.finish())
+
+    Over the library none of the bytes is kept; over the program all are, until `finish`.
+    """
+
+    def __init__(self, budget: int = USUAL_BUDGET) -> None:
+        self._pieces: Optional[Pieces] = found().begin(budget_of(budget))
+
+    def feed(self, data: Data) -> None:
+        """Takes the next piece. Raises Refused as soon as the page is refused; over the program, only `finish` does.
+
+        Behind a refusal it raises it again. Raises ValueError behind the end.
+        """
+        _accepted(self._begun().feed(taken(data)))
+
+    def finish(self) -> int:
+        """How many entries the page has: what `check` answers to all pieces joined. Raises Refused.
+
+        Raises ValueError behind the end.
+        """
+        pieces, self._pieces = self._begun(), None
+        return _accepted(pieces.finish())
+
+    def _begun(self) -> Pieces:
+        if self._pieces is None:
+            raise ValueError("the page has ended")
+        return self._pieces
+
+
+def _accepted(told: Told) -> int:
+    refused: Optional[Refused] = told.refused
+    if refused is not None:
+        raise refused
+    return told.entries
