@@ -18,10 +18,12 @@
    since the text is made in memory first; a text of 0 bytes fits any room. So it is faster to begin with a room that is
    mostly large enough, and to call again where it wasn't.
 
-   A call keeps nothing once it returns, but what struct naplps_checking has of a page that comes in pieces. The library
-   has no state, opens no file and prints nothing. So threads may call at the same time, with rooms of their own, also
-   on one page. Memory comes from malloc and realloc, and but for those pages is given back by free before the call
-   returns; where there is none, the answer is the refusal NAPLPS_MEMORY. Don't call from a signal handler. */
+   The library has no state, opens no file and prints nothing. So threads may call at the same time, with rooms of their
+   own, also on one page. Don't call from a signal handler.
+
+   A call takes its memory from malloc and realloc, and gives it back with free before it returns. Only a page that comes
+   in pieces keeps some between two calls, in struct naplps_checking. Where there is no memory, the answer is the
+   refusal NAPLPS_MEMORY. */
 #ifndef NAPLPS_H
 #define NAPLPS_H
 

@@ -1,5 +1,4 @@
-use Rattle.std.proofs.Common.{ℕ, ◌≡◌, ◌≢◌, ◌<◌, ◌≤◌, List, [], ◌∷◌, ◌++◌, length, Bool, false, Option, Some, None, Result, Ok, Err, OnOk, IfOk, IfErr, refl, ap, sym, ◌∙◌, subst, inl, inr, ltb, arith, append-nil}
-use Rattle.std.specs.Prelude.{IfSome, IsErr, IsOk, IsErrOf}
+use Rattle.std.proofs.Common.{ℕ, ◌≡◌, ◌≢◌, ◌<◌, ◌≤◌, List, [], ◌∷◌, ◌++◌, length, Some, None, Result, Ok, refl, ap, sym, ◌∙◌, subst, inl, inr, ltb, arith, append-nil}
 use Rattle.std.proofs.lemmas.Bool.{cond-false, le-ltb}
 use Rattle.nap_codes.specs.declared.code.Code.{Code}
 use Rattle.nap_codes.specs.declared.code.Code.TheVariants as code
@@ -10,22 +9,20 @@ use Rattle.nap_list.specs.declared.entry.Entry.{Entry}
 use Rattle.nap_list.specs.declared.sink.Sink.{Ghosts}
 use Rattle.nap_draw.specs.declared.fault.DrawFault.{DrawFault}
 use Rattle.nap_draw.specs.declared.fault.DrawFault.TheVariants as draw_faults
-use Rattle.nap_draw.specs.declared.work.Work.{Work}
-use Rattle.nap_draw.specs.Acts.{Acts, WantsBy, GivesSome}
+use Rattle.nap_draw.specs.Acts.{WantsBy, GivesSome}
 use Rattle.nap_draw.specs.Draws.{Cause, stream, memory, device}
 use Rattle.nap_draw.specs.Draws as draws
 use Rattle.nap_draw.specs.Rule.{Drawn}
-use Rattle.nap_reader.specs.declared.fault.Refusal.{Refusal}
 use Rattle.nap_reader.specs.Faults.{draw_fault}
 use Rattle.nap_reader.specs.Bodies.{Mode, between, in_body, body_front}
 use Rattle.nap_reader.specs.Course as course
 use Rattle.nap_reader.specs.Course.{prepend, paused, onward}
-use Rattle.nap_reader.specs.Stream.{Placed, Machine, Outcome, Unfinished, nothing, open_body, refusal, all_at, charged, after_drawing, drawn_front, shown_front, front_in, front, outcome_from}
+use Rattle.nap_reader.specs.Stream.{Placed, Machine, Outcome, Unfinished, nothing, open_body, all_at, charged, after_drawing, drawn_front, shown_front, front_in, front, outcome_from}
 use Rattle.nap_reader.specs.Breaking.{cause_of, BreaksFrom, TakesPart, TookFront, TookPart}
-use Rattle.nap_reader.specs.Holding.{Holding, IsHeld, Continues, ContinuesPast, BreaksPast, BreaksNext, BreaksInBody, BreaksSome, ReachesBy}
+use Rattle.nap_reader.specs.Holding.{Holding, ContinuesPast, BreaksPast, BreaksNext, BreaksInBody, BreaksSome}
 use Rattle.nap_reader.proofs.HeldLemmas.{half_read_pauses}
-use Rattle.nap_reader.proofs.LeadsLemmas.{TookMore, TookBroke, WantsMore, by_front, leads_on, leads_to_fault, wants_part, fails_part}
-use Rattle.nap_reader.proofs.ReadingLemmas.{if_err_by, nothing_yet, reaches, reaches_refusal}
+use Rattle.nap_reader.proofs.LeadsLemmas.{TookMore, TookBroke, WantsMore, by_front, wants_part, fails_part}
+use Rattle.nap_reader.proofs.ReadingLemmas.{nothing_yet}
 use Rattle.nap_reader.proofs.StreamLemmas.{outcome_from-front, outcome_from-left}
 
 -- A character or a control acts.
@@ -101,54 +98,6 @@ module _ {S : Type 0} (g : Ghosts S) (s : S) (known : List Entry) (o : Outcome) 
     part = fails_part g s t u known drawn.entries known_taken broken k.continues.clear part;
   }
   code_breaks u more broken law _ drew wants gives broke = absurd (broke refl)
-
--- the answer of a code that acts by a rule, and what is latched by it
-module _ {S A B E : Type 0} (g : Ghosts S) (clears : A → Bool) (t u : S) (h : Holding) (x : Placed) (m : Machine) (by : Result Drawn DrawFault)
-    (v : Work) (answer : Result A DrawFault) (result : Result B E) (latch old : Option Refusal)
-    (did : Acts g clears by h.machine.work v t u answer)
-    (ok : IfOk answer (λ _. IsOk result × (latch ≡ old)))
-    (err : IfErr answer (λ fault. (latch ≡ Some (refusal (draw_fault fault) x.place)) × (IsErr result))) where
-  pub acted_reaches : TookMore g → old ≡ None → OnOk answer (g.failed t ≡ false → g.failed u ≡ false) → (s : S) (o : Outcome) (pending : List Placed) (h' : Holding) →
-      (k : Continues g s o t h (x ∷ pending)) → front h.machine (k.rest ++ x ∷ pending) ≡ drawn_front m x.place pending by →
-      ((a : A) → h'.machine ≡ after_drawing m (record { entries = []; work = v; clears = clears a })) → h'.machine.left ≡ h.machine.left → IsHeld [] h' →
-      ReachesBy g s o u h' pending latch
-  acted_reaches law live clear s o pending h' k acting same left held = at answer did ok err clear
-    where
-      at : (a : Result A DrawFault) → Acts g clears by h.machine.work v t u a → IfOk a (λ _. IsOk result × (latch ≡ old)) →
-          IfErr a (λ fault. (latch ≡ Some (refusal (draw_fault fault) x.place)) × (IsErr result)) →
-          OnOk a (g.failed t ≡ false → g.failed u ≡ false) → ReachesBy g s o u h' pending latch
-      at (Ok a) did ok err clear =
-          reaches g s o u h' pending latch (ok.1 ∙ live)
-          (leads_on g s o t h (x ∷ pending) k u did.0 h' pending law held
-          (acting ∙ ap (drawn_front m x.place pending) did.1 ∙ ap (λ (m : Machine). course.act did.0 m pending) (sym (same a))) did.2 clear)
-      at (Err fault) did ok err clear =
-          reaches_refusal g s o u h' pending latch _ err.0 (λ own.
-          let r = leads_to_fault g s o t h (x ∷ pending) k u m x.place pending by acting fault did.1 own in (r.0, r.1, r.2 ∙ sym left))
-
-  pub acted_breaks : TookMore g → TookBroke g → WantsMore g → (IsErrOf answer draw_faults.Memory → WantsBy g by t u) →
-      (IsErrOf answer draw_faults.Sink → GivesSome by) →
-      ((s : S) (o : Outcome) → (k : Continues g s o t h (x ∷ [])) → front h.machine (k.rest ++ x ∷ []) ≡ drawn_front m x.place [] by) →
-      IfErr result (λ _. IfSome latch (λ r. cause_of r.fault ≢ stream → (s : S) (known : List Entry) (o : Outcome) → ContinuesPast g s known o t h (x ∷ []) →
-      (r.place ≡ x.place) × BreaksSome g s known o u h (cause_of r.fault)))
-  acted_breaks more broken law wants gives acting = at answer refl did ok err
-    where
-      unrefused : (P : E → Type 0) (r : Result B E) → IsOk r → IfErr r P
-      unrefused P (Ok b) done = tt
-      unrefused P (Err r) done = let bad : ⊥ = cc in absurd bad
-
-      at : (a : Result A DrawFault) → answer ≡ a → Acts g clears by h.machine.work v t u a → IfOk a (λ _. IsOk result × (latch ≡ old)) →
-          IfErr a (λ fault. (latch ≡ Some (refusal (draw_fault fault) x.place)) × (IsErr result)) →
-          IfErr result (λ _. IfSome latch (λ r. cause_of r.fault ≢ stream → (s : S) (known : List Entry) (o : Outcome) → ContinuesPast g s known o t h (x ∷ []) →
-          (r.place ≡ x.place) × BreaksSome g s known o u h (cause_of r.fault)))
-      at (Ok a) same did ok err = unrefused _ result ok.0
-      at (Err fault) same did ok err =
-          if_err_by result (λ e is.
-          rw err.0
-          (λ broke s known o k. (
-            refl,
-            inl (code_breaks g s known o t h x k m by (acting s o k.continues) u more broken law fault did.1
-                (λ memory. wants (same ∙ ap Err memory)) (λ device. gives (same ∙ ap Err device)) broke),
-          )))
 
 -- A body could be charged, and couldn't be read for want of memory.
 pub call_breaks : {S : Type 0} (g : Ghosts S) (s : S) (known : List Entry) (o : Outcome) (t : S) (h : Holding) (x : Placed) (k : ContinuesPast g s known o t h (x ∷ []))

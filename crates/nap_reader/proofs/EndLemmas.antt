@@ -9,13 +9,15 @@ use Rattle.nap_reader.specs.declared.fault.Fault.TheVariants as faults
 use Rattle.nap_reader.specs.declared.fault.Refusal.{Refusal}
 use Rattle.nap_reader.specs.declared.body.OpenBody.{OpenBody}
 use Rattle.nap_reader.specs.declared.reader.OpenRun.{OpenRun}
+use Rattle.nap_reader.specs.declared.reader.Reader.{Reader}
 use Rattle.nap_reader.specs.Faults.{draw_fault}
 use Rattle.nap_reader.specs.Stream as model
 use Rattle.nap_reader.specs.Course as course
 use Rattle.nap_reader.specs.Stream.{Placed, Machine, Outcome, is_operand, is_operand_byte, half_read, refusal, after_drawing, drawn_front, front, outcome_from, placed_from, begun, with_drawn, with_run, with_code, ended_by, means}
 use Rattle.nap_reader.specs.Breaking.{cause_of, open_place, run_place, BreaksBetween}
 use Rattle.nap_reader.specs.Standing.{IsTaken}
-use Rattle.nap_reader.specs.Holding.{Holding, IsHeld, IsHeldIn, IsOpenBody, unfinished_by, Continues, ContinuesPast, Ends, BeginsAll, ClosesInto}
+use Rattle.nap_reader.specs.Holding.{Holding, IsHeld, IsHeldIn, IsOpenBody, holding_of, unfinished_by, Continues, ContinuesPast, Ends, BeginsAll, ClosesInto}
+use Rattle.nap_reader.specs.Steps.{ActsRun, RefusesRun, StopsRun}
 use Rattle.nap_reader.proofs.HeldLemmas.{front_run}
 use Rattle.nap_reader.proofs.LeadsLemmas.{TookMore, is_between, TookBroke, Stopped, same_cause, fault_answer, is_open_run, by_front, leads_on, leads_more, leads_entries, leads_unrefused, leads_taken, leads_machine, leads_unfinished}
 
@@ -112,7 +114,7 @@ module _ {S : Type 0} (g : Ghosts S) (s : S) (budget : ℕ) (p : List ℕ) (t : 
         done = sym (run_entries drawn by);
       }
 
-  pub ends_acting : (u : S) (drawn : Drawn) (h' : Holding) → TookMore g →
+  ends_acting : (u : S) (drawn : Drawn) (h' : Holding) → TookMore g →
       rule h.machine.work open_run.op h.run ≡ Ok drawn → g.took t drawn.entries u → h'.machine.work ≡ drawn.work → h'.half ≡ [] →
       Ends g s (with_run o) u h'
   ends_acting u drawn h' law by took work none =
@@ -124,7 +126,7 @@ module _ {S : Type 0} (g : Ghosts S) (s : S) (budget : ℕ) (p : List ℕ) (t : 
         half = ap (λ (x : Outcome). x.unfinished) at ∙ ap (λ (half : List ℕ). Some (half_read half)) (sym none);
       }
 
-  pub ends_refused : (u : S) → TookMore g → TookBroke g → (fault : DrawFault) →
+  ends_refused : (u : S) → TookMore g → TookBroke g → (fault : DrawFault) →
       draws.DrawsBy g.took g.broke g.failed (rule h.machine.work open_run.op h.run) t u fault (draws.cause_of fault) →
       ClosesInto g s budget p u (refusal (draw_fault fault) open_run.place) (cause_of (draw_fault fault))
   ends_refused u more broken fault drew = by_cause (cause_of (draw_fault fault)) refl stopped
@@ -154,6 +156,25 @@ module _ {S : Type 0} (g : Ghosts S) (s : S) (budget : ℕ) (p : List ℕ) (t : 
       by_cause stream e d = d
       by_cause memory e d = (memory_acts (drew_by memory e), record { place = open_place_is g s o t h k open_run no_body is; part = subst (BreaksBetween g s o (with_run o) u) (sym e) d })
       by_cause device e d = (device_acts (drew_by device e), record { place = open_place_is g s o t h k open_run no_body is; part = subst (BreaksBetween g s o (with_run o) u) (sym e) d })
+
+-- the opcode of an open run acts at the end, or doesn't
+module _ {S : Type 0} (g : Ghosts S) (s : S) (budget : ℕ) (p : List ℕ) (t : S) (h : Holding) (k : Continues g s (begun budget p) t h []) (more : TookMore g) where
+  pub acts_at_end : (u : S) (h' : Holding) → ActsRun g t h u h' → Ends g s (with_run (begun budget p)) u h'
+  acts_at_end u h' acts =
+      ends_acting g s budget p t h acts.open_run acts.between acts.is k u acts.drawn h' more acts.by acts.took (ap (λ (h : Holding). h.machine.work) acts.holds)
+      (ap (λ (h : Holding). h.half) acts.holds ∙ (is_open_run h k.rest acts.open_run acts.between acts.is k.held).1)
+
+  pub stops_at_end : TookBroke g → (u : S) (r : Refusal) → StopsRun g t h u r → ClosesInto g s budget p u r (cause_of r.fault)
+  stops_at_end broken u r stops =
+      subst (λ (r : Refusal). ClosesInto g s budget p u r (cause_of r.fault)) (sym stops.why)
+      (ends_refused g s budget p t h stops.open_run stops.between stops.is k u more broken stops.fault stops.drew)
+
+-- the same of a reader, by the refusal that it keeps
+pub refuses_at_end : {S : Type 0} {g : Ghosts S} (old new : Reader S g) (s : S) (p : List ℕ) (r : Refusal) → TookMore g → TookBroke g → RefusesRun old new → new.refusal ≡ Some r →
+    Continues g s (begun old.budget p) old.sink (holding_of old) [] → ClosesInto g s old.budget p new.sink r (cause_of r.fault)
+refuses_at_end {S} {g} old new s p r more broken refuses is k =
+    let same : refuses.why ≡ r = let both = sym refuses.latches.is ∙ is in cc in
+    stops_at_end g s old.budget p old.sink (holding_of old) k more broken new.sink r (subst (StopsRun g old.sink (holding_of old) new.sink) same refuses.stops)
 
 -- a stream that is refused only at its end, if at all
 module _ (budget : ℕ) (p : List ℕ) (live : (begun budget p).refusal ≡ None) where

@@ -1,6 +1,6 @@
-use Rattle.std.proofs.Common.{ℕ, suc, ◌+◌, ◌-◌, ◌≡◌, ◌<◌, ◌≤◌, List, [], ◌∷◌, ◌++◌, length, take, drop, get_or, Some, refl, sym, ◌∙◌, ap, ap₂, subst, arith, append_assoc, append-nil, length-append, length-take, length-drop}
+use Rattle.std.proofs.Common.{ℕ, ◌+◌, ◌-◌, ◌≡◌, ◌≤◌, List, [], ◌∷◌, ◌++◌, length, take, drop, get_or, Some, refl, sym, ◌∙◌, ap, ap₂, subst, arith, append_assoc, append-nil, length-append, length-take, length-drop}
 use Rattle.std.proofs.Math.Seq.{get_or-append_seam, take-add}
-use Rattle.std.proofs.lemmas.List.{drop-drop, drop_more, map-append, length-take-le, take-append-drop, take-take, take_all}
+use Rattle.std.proofs.lemmas.List.{drop-drop, map-append, length-take-le, take-append-drop, take-take, take_all}
 use Rattle.std.proofs.lemmas.List.Elements.{All-head, All-tail, All-pop}
 use Rattle.nap_reader.specs.declared.frames.Frame.{Frame}
 use Rattle.nap_reader.specs.Stored.{part, StoreState}
@@ -16,33 +16,6 @@ unread-push bytes [] frame = sym (append-nil (frame_bytes bytes frame))
 unread-push bytes (first ∷ frames) frame =
     ap (λ (xs : List Placed). xs ++ frame_bytes bytes first) (unread-push bytes frames frame)
     ∙ append_assoc (frame_bytes bytes frame) (unread bytes frames) (frame_bytes bytes first)
-
--- the next byte of a part
-part-next : (bytes : List ℕ) (next end : ℕ) → next < end → end ≤ length bytes → part bytes next end ≡ get_or bytes next 0 ∷ part bytes (next + 1) end
-part-next bytes next end h within =
-    let e : end - next ≡ suc (end - (next + 1)) = omega arith in
-    let less : next < length bytes = omega arith in
-    ap (λ (n : ℕ). take n (drop next bytes)) e ∙ ap (take (suc (end - (next + 1)))) (drop_more bytes next 0 less)
-
-part-empty : (bytes : List ℕ) (next end : ℕ) → end ≤ next → part bytes next end ≡ []
-part-empty bytes next end h = ap (λ (n : ℕ). take n (drop next bytes)) (let e : end - next ≡ 0 = omega arith in e)
-
--- the innermost body gives its next byte, and more
-pub gives-more : (bytes : List ℕ) (frames : List Frame) (next end place : ℕ) → next < end → end ≤ length bytes →
-    unread bytes (frames ++ record { next = next; end = end; place = place } ∷ [])
-    ≡ placed_at (get_or bytes next 0) place ∷ unread bytes (frames ++ record { next = next + 1; end = end; place = place } ∷ [])
-gives-more bytes frames next end place h within =
-    unread-push bytes frames (record { next = next; end = end; place = place })
-    ∙ ap (λ (xs : List ℕ). all_at place xs ++ unread bytes frames) (part-next bytes next end h within)
-    ∙ ap (λ (xs : List Placed). placed_at (get_or bytes next 0) place ∷ xs) (sym (unread-push bytes frames (record { next = next + 1; end = end; place = place })))
-
--- its last one
-pub gives-last : (bytes : List ℕ) (frames : List Frame) (next end place : ℕ) → next < end → end ≤ length bytes → end ≤ next + 1 →
-    unread bytes (frames ++ record { next = next; end = end; place = place } ∷ []) ≡ placed_at (get_or bytes next 0) place ∷ unread bytes frames
-gives-last bytes frames next end place h within last =
-    unread-push bytes frames (record { next = next; end = end; place = place })
-    ∙ ap (λ (xs : List ℕ). all_at place xs ++ unread bytes frames)
-    (part-next bytes next end h within ∙ ap (λ (xs : List ℕ). get_or bytes next 0 ∷ xs) (part-empty bytes (next + 1) end last))
 
 -- the first bytes of a part, and the others
 part-split : (bytes : List ℕ) (next end count : ℕ) → count ≤ end - next → part bytes next end ≡ take count (part bytes next end) ++ part bytes (next + count) end

@@ -1,7 +1,6 @@
 pub mod CourseLemmas
 pub mod KindLemmas
 pub mod BodyLemmas
-mod BodyStretchLemmas
 pub mod PrefixLemmas
 pub mod OperandLemmas
 pub mod StretchLemmas
@@ -18,10 +17,17 @@ pub mod EndLemmas
 pub mod LawLemmas
 pub mod PartLemmas
 pub mod BreakingLemmas
-pub mod PlaceLemmas
 pub mod StandingLemmas
 pub mod BrokenLemmas
 pub mod FeedLemmas
 pub mod LegalLemmas
 pub mod RangeLemmas
 pub mod PublicLaws
+pub mod BreakLemmas
+pub mod ComingLemmas
+pub mod PieceLemmas
+pub mod StepLemmas
+pub mod StopLemmas
+pub mod CodesLemmas
+pub mod CodesComeLemmas
+pub mod CallLemmas

@@ -7,8 +7,8 @@ use Rattle.std.proofs.lemmas.Bool.{leb-true, ltb-true, and_parts}
 use Rattle.std.specs.List.{prefix_len}
 use Rattle.nap_reader.specs.Stream.{is_operand_byte}
 
-taken_operands : (bytes : List ℕ) (n : ℕ) → n ≤ prefix_len is_operand_byte bytes → All (λ b. is_operand_byte b ≡ true) (take n bytes)
-taken_operands bytes n few = λ k d within.
+pub operands_in_front : (bytes : List ℕ) (n : ℕ) → n ≤ prefix_len is_operand_byte bytes → All (λ b. is_operand_byte b ≡ true) (take n bytes)
+operands_in_front bytes n few = λ k d within.
     let k_few : k < n = omega (arith, within, length-take-le n bytes (omega (arith, few, prefix_len-le-length is_operand_byte bytes))) in
     ap is_operand_byte (get_or-take n bytes k d k_few) ∙ prefix_len_passes is_operand_byte bytes k d (omega (arith, k_few, few))
 
@@ -20,7 +20,7 @@ taken_of_part piece most n taken within counted few =
     let n_within : n ≤ length front = omega (arith, counted, prefix_len-le-length is_operand_byte front) in
     let least : taken ≤ most = omega (arith, few, n_within, length-take-le most piece within) in
     let same : take taken front ≡ take taken piece = take-take taken most piece least in
-    (least, same, subst (All (λ b. is_operand_byte b ≡ true)) same (taken_operands front taken (omega (arith, few, counted))))
+    (least, same, subst (All (λ b. is_operand_byte b ≡ true)) same (operands_in_front front taken (omega (arith, few, counted))))
 
 same_word : (b : ℕ) → is_operand_byte b ≡ true → b % 64 ≡ b - 64
 same_word b is =

@@ -1,6 +1,4 @@
-use Rattle.std.proofs.Common.{ℕ, ◌-◌, ◌≡◌, ◌<◌, ◌≤◌, List, [], ◌∷◌, ◌++◌, length, Bool, true, false, Option, Some, None, Result, Ok, Err, OnOk, IfErr, MatchResult, refl, ap, sym, ◌∙◌, subst, arith, append_assoc, length-append}
-use Rattle.std.specs.Prelude.{IfSome, IsSome}
-use Rattle.std.proofs.lemmas.Option.{IfSome_then}
+use Rattle.std.proofs.Common.{ℕ, ◌-◌, ◌≡◌, ◌<◌, ◌≤◌, List, [], ◌∷◌, ◌++◌, length, Bool, true, false, Some, None, Result, Ok, Err, OnOk, IfErr, MatchResult, refl, ap, sym, ◌∙◌, subst, arith, length-append}
 use Rattle.nap_codes.specs.declared.code.Code.{Code}
 use Rattle.nap_codes.specs.declared.code.Code.TheVariants as code
 use Rattle.nap_codes.specs.declared.code.CodeFault.{CodeFault}
@@ -21,18 +19,16 @@ use Rattle.nap_draw.specs.Rule.{Drawn, IsDrawn, rule}
 use Rattle.nap_draw.specs.Draws.{stream}
 use Rattle.nap_draw.specs.Draws as draws
 use Rattle.nap_reader.specs.declared.fault.Fault.TheVariants as faults
-use Rattle.nap_reader.specs.declared.fault.Refusal.{Refusal}
 use Rattle.nap_reader.specs.declared.reader.OpenRun.{OpenRun}
-use Rattle.nap_reader.specs.declared.reader.Reader.{Reader}
 use Rattle.nap_reader.specs.declared.kind.Kind.{Kind}
 use Rattle.nap_reader.specs.declared.kind.Kind.TheVariants as kinds
 use Rattle.nap_reader.specs.Bodies.{between, in_body, body_of}
 use Rattle.nap_reader.specs.Kinds.{kind_of}
 use Rattle.nap_reader.specs.Faults.{code_fault, draw_fault}
 use Rattle.nap_draw.specs.Limits.{run_limit}
-use Rattle.nap_reader.specs.Stream.{Placed, Outcome, bytes_of, is_operand, refusal, all_at, charged, after_drawing, drawn_front, shown_front, code_front, front, start_machine, outcome_from, placed_from, begun}
+use Rattle.nap_reader.specs.Stream.{Placed, Outcome, bytes_of, is_operand, refusal, after_drawing, drawn_front, shown_front, code_front, front, start_machine, outcome_from, placed_from, begun}
 use Rattle.nap_reader.specs.Breaking.{cause_of}
-use Rattle.nap_reader.specs.Holding.{Holding, IsHeld, IsHalf, IsHeldBy, IsOpenRun, IsOwn, IsRefused, Continues, ReachesBy, ReachesWith, Shows, ShowsBy, frames_left, holding_of, machine_of}
+use Rattle.nap_reader.specs.Holding.{Holding, IsHeld, IsHalf, IsHeldBy, IsOpenRun, IsRefused, Continues}
 use Rattle.nap_reader.proofs.StreamLemmas.{bytes_of-append}
 use Rattle.nap_reader.proofs.HeldLemmas.{front_code, front_fault, front_run, front_long, opens_run, joins_run}
 use Rattle.nap_reader.proofs.LeadsLemmas.{TookMore, is_between, holds_between, is_open_run, holds_open_run, leads_on, leads_past, leads_to_refusal, leads_to_fault, leads_shift}
@@ -67,29 +63,6 @@ pub opens_drawn : (sets : CodeSets) (xs : List ℕ) (c : Code) (n : ℕ) (after 
 opens_drawn sets xs c n after op e kind =
     drawn_of op (subst IsInRange (opcode_of_kind c op kind) (code_ranges sets xs c n after e))
 
-pub if_err_map : {A E : Type 0} {P Q : E → Type 0} (r : Result A E) → ((e : E) → P e → Q e) → IfErr r P → IfErr r Q
-if_err_map (Ok x) f h = tt
-if_err_map (Err e) f h = f e h
-
--- what is said of the refusal that is latched, where the answer says that there is one
-pub latched_map : {A E F : Type 0} {P Q : F → Type 0} (r : Result A E) (latch : Option F) → ((f : F) → P f → Q f) → IfErr r (λ _. IfSome latch P) →
-    IfErr r (λ _. IfSome latch Q)
-latched_map r latch f h = if_err_map r (λ e h. IfSome_then latch h f) h
-
-pub if_some_by : {A : Type 0} {P : A → Type 0} (o : Option A) → ((a : A) → o ≡ Some a → P a) → IfSome o P
-if_some_by None f = tt
-if_some_by (Some a) f = f a refl
-
-pub if_some_at : {A : Type 0} (P : A → Type 0) (o : Option A) (a : A) → o ≡ Some a → IfSome o P → P a
-if_some_at {A} P o a is h = subst (λ (o : Option A). IfSome o P) is h
-
-pub if_some_is : {A : Type 0} (P : A → Type 0) (o : Option A) (a : A) → o ≡ Some a → P a → IfSome o P
-if_some_is {A} P o a is h = subst (λ (o : Option A). IfSome o P) (sym is) h
-
-pub some_of : {A : Type 0} (o : Option A) → IsSome o → (a : A) × (o ≡ Some a)
-some_of None is = let bad : ⊥ = cc in absurd bad
-some_of (Some a) is = (a, refl)
-
 pub on_ok_by : {A E P : Type 0} (r : Result A E) → ((a : A) → r ≡ Ok a → P) → OnOk r P
 on_ok_by (Ok a) f = f a refl
 on_ok_by (Err e) f = tt
@@ -103,16 +76,6 @@ matched_ok {A} {E} F G r a is h = subst (λ (x : Result A E). MatchResult x F G)
 
 pub matched_err : {A E : Type 0} (F : A → Type 0) (G : E → Type 0) (r : Result A E) (e : E) → r ≡ Err e → MatchResult r F G → G e
 matched_err {A} {E} F G r e is h = subst (λ (x : Result A E). MatchResult x F G) is h
-
--- a reader without a refusal reaches what it continues to
-pub reaches : {S : Type 0} (g : Ghosts S) (s : S) (o : Outcome) (t : S) (h : Holding) (pending : List Placed) (r : Option Refusal) → r ≡ None →
-    Continues g s o t h pending → ReachesBy g s o t h pending r
-reaches g s o t h pending r e k = subst (ReachesBy g s o t h pending) (sym e) k
-
--- one with a refusal reaches it
-pub reaches_refusal : {S : Type 0} (g : Ghosts S) (s : S) (o : Outcome) (t : S) (h : Holding) (pending : List Placed) (r : Option Refusal) (x : Refusal) → r ≡ Some x →
-    (IsOwn x → IsRefused g s o t h x) → ReachesBy g s o t h pending r
-reaches_refusal g s o t h pending r x e k = subst (ReachesBy g s o t h pending) (sym e) k
 
 -- a word joins the open run
 module _ {S : Type 0} (g : Ghosts S) (s : S) (o : Outcome) (t : S) (h : Holding) (open_run : OpenRun) (no_body : h.open_body ≡ None) (is : h.open_run ≡ Some open_run) (x : Placed) (pending : List Placed)
@@ -156,43 +119,6 @@ module _ {S : Type 0} (g : Ghosts S) (s : S) (o : Outcome) (t : S) (h : Holding)
       IsRefused g s o u h (refusal (draw_fault fault) open_run.place)
   run_refused u other fault drew own =
       leads_to_fault g s o t h (x ∷ pending) k u h.machine open_run.place (x ∷ pending) _ (over other _ refl) fault drew own
-
--- what is shown comes next, or there was no memory for it
-pub presented : {A E S : Type 0} (g : Ghosts S) (s : S) (o : Outcome) (t : S) (held : ℕ → Holding) (count counted : ℕ) (came pending : List Placed) (place : ℕ)
-    (latch latched : Option Refusal) (result : Result A E) → latch ≡ None → OnOk result ((counted ≡ count) × (latched ≡ latch) × (pending ≡ came)) →
-    IfErr result (λ _. latched ≡ Some (refusal faults.Memory place)) → Continues g s o t (held count) came → ReachesBy g s o t (held counted) pending latched
-presented g s o t held count counted came pending place latch latched (Ok x) live shown wants k =
-    reaches g s o t (held counted) pending latched (shown.1 ∙ live)
-    (subst (λ (n : ℕ). Continues g s o t (held n) pending) (sym shown.0) (subst (Continues g s o t (held count)) (sym shown.2) k))
-presented g s o t held count counted came pending place latch latched (Err r) live shown wants k =
-    reaches_refusal g s o t (held counted) pending latched _ wants
-    (λ own. let bad = sym own in cc)
-
--- where nothing was refused, this was done
-pub unrefused : {A E P : Type 0} (result : Result A E) (place : ℕ) (latch : Option Refusal) → OnOk result P →
-    IfErr result (λ _. latch ≡ Some (refusal faults.Memory place)) → latch ≡ None → P
-unrefused (Ok x) place latch h wants none = h
-unrefused (Err r) place latch h wants none = let bad : Some (refusal faults.Memory place) ≡ None = sym wants ∙ none in cc
-
--- bytes come next, or they can't be charged
-pub shows_reach : {S : Type 0} {g : Ghosts S} (old new : Reader S g) (bytes : List ℕ) (place : ℕ) → Shows old new bytes place → new.sink ≡ old.sink →
-    (s : S) (o : Outcome) (inputs : List Placed) →
-    (length bytes ≤ (machine_of old).left →
-    Continues g s o old.sink (record (holding_of old) { machine = charged (machine_of old) (length bytes) }) (all_at place bytes ++ (frames_left old ++ inputs))) →
-    ((machine_of old).left < length bytes → IsRefused g s o old.sink (holding_of old) (refusal faults.Budget place)) → ReachesWith new s o inputs
-shows_reach {S} {g} old new bytes place shows sink s o inputs k refused = at new.refusal shows
-  where
-    at : (r : Option Refusal) → ShowsBy old new bytes place r → ReachesBy g s o new.sink (holding_of new) (frames_left new ++ inputs) r
-    at None (few, presents) =
-        let all : all_at place bytes ++ (frames_left old ++ inputs) ≡ frames_left new ++ inputs =
-        sym (append_assoc (all_at place bytes) (frames_left old) inputs) ∙ ap (λ (xs : List Placed). xs ++ inputs) (sym presents.frames) in
-        subst (λ (t : S). Continues g s o t (holding_of new) (frames_left new ++ inputs)) (sym sink)
-        (subst (λ (h : Holding). Continues g s o old.sink h (frames_left new ++ inputs)) (sym presents.holding)
-        (subst (Continues g s o old.sink (record (holding_of old) { machine = charged (machine_of old) (length bytes) })) all (k few)))
-    at (Some r) answers = λ own.
-        let a = answers own in
-        let there = refused a.1 in
-        (there.0 ∙ ap Some (sym a.0), subst (g.took s o.entries) (sym sink) there.1, there.2 ∙ ap (λ (h : Holding). h.machine.left) (sym a.2))
 
 -- what a step of the lexer says of the front
 

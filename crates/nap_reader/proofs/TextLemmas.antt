@@ -1,13 +1,12 @@
-use Rattle.std.proofs.Common.{ℕ, suc, ◌+◌, ◌-◌, ◌≡◌, ◌<◌, ◌≤◌, ◌⊎◌, List, [], ◌∷◌, ◌++◌, length, take, get_or, All, Bool, true, false, cond, Option, Some, None, refl, ap, ap₂, sym, ◌∙◌, subst, inl, inr, arith, append-nil, append_assoc, length-append}
+use Rattle.std.proofs.Common.{ℕ, suc, ◌+◌, ◌-◌, ◌≡◌, ◌<◌, ◌≤◌, ◌⊎◌, List, [], ◌∷◌, ◌++◌, length, length-take, take, drop, get_or, All, Bool, true, false, cond, Option, Some, None, refl, ap, ap₂, sym, ◌∙◌, subst, inl, inr, arith, append-nil, append_assoc, length-append}
 use Rattle.std.proofs.Math.Seq.{take-append_seam, get_or-append_seam}
-use Rattle.std.proofs.lemmas.List.{take-take, get_or-take, get_or_append_left}
+use Rattle.std.proofs.lemmas.List.{take-take, get_or-drop, get_or-take, get_or_append_left, length-drop}
 use Rattle.std.proofs.lemmas.List.Elements.{All-head, All-tail}
 use Rattle.nap_codes.specs.declared.code.Code.TheVariants as code
 use Rattle.nap_codes.specs.declared.code_set.CharSet.{CharSet}
 use Rattle.nap_codes.specs.declared.code_set.CodeSets.{CodeSets}
 use Rattle.nap_codes.specs.Front as codes
 use Rattle.nap_codes.specs.Laws.{IsGraphic}
-use Rattle.nap_codes.specs.Lexer.{LexerState, IsCharacter}
 use Rattle.nap_list.specs.declared.entry.Entry.{Entry}
 use Rattle.nap_list.specs.declared.sink.Sink.{Ghosts}
 use Rattle.nap_list.specs.declared.sink.SinkFault.{SinkFault}
@@ -19,6 +18,7 @@ use Rattle.nap_list.specs.State.{after, walk}
 use Rattle.nap_draw.specs.Codes.{char_on, text}
 use Rattle.nap_draw.specs.Draws.{fault_of, memory, device}
 use Rattle.nap_draw.specs.Rule.{drawn}
+use Rattle.nap_reader.specs.declared.fault.Fault.{Fault}
 use Rattle.nap_reader.specs.declared.fault.Refusal.{Refusal}
 use Rattle.nap_reader.specs.declared.reader.Reader.{Reader}
 use Rattle.nap_reader.specs.Bodies.{between}
@@ -26,8 +26,9 @@ use Rattle.nap_reader.specs.Course.{prepend, paused, onward}
 use Rattle.nap_reader.specs.Faults.{draw_fault}
 use Rattle.nap_reader.specs.Stream.{Placed, Machine, Outcome, Unfinished, bytes_of, nothing, refusal, is_operand_byte, outcome_from, placed_from, begun, with_run, with_run_by}
 use Rattle.nap_reader.specs.Breaking.{cause_of, closed_by, BreaksFrom, TookFront, TookPart}
-use Rattle.nap_reader.specs.Holding.{Holding, Continues, holding_of, machine_of, frames_left}
-use Rattle.nap_reader.specs.Standing.{IsBroken, StopsBy, Stands, StopsAt, TakesStretch, left_of}
+use Rattle.nap_reader.specs.Holding.{Holding, Continues}
+use Rattle.nap_reader.specs.Standing.{IsBroken, StopsBy, Stands, StopsAt, left_of}
+use Rattle.nap_reader.specs.Steps.{StopsText}
 use Rattle.nap_reader.proofs.CourseLemmas.{prepend-append}
 use Rattle.nap_reader.proofs.HeldLemmas.{front_code, half_read_pauses}
 use Rattle.nap_reader.proofs.StreamLemmas.{bytes_of-placed, outcome_from-front}
@@ -35,7 +36,7 @@ use Rattle.nap_reader.proofs.PartLemmas.{was_failed}
 use Rattle.nap_reader.proofs.LeadsLemmas.{TookMore, TookBroke, WantsMore, is_between, fails_part, leads_more}
 use Rattle.nap_reader.proofs.ReadingLemmas.{nothing_yet, rest_of_nothing, is_half, holds_half}
 use Rattle.nap_reader.proofs.BreakingLemmas.{brings_breaks}
-use Rattle.nap_reader.proofs.StandingLemmas.{stands_by}
+use Rattle.nap_reader.proofs.PieceLemmas.{length_taken, taken_further}
 
 -- A stretch of characters is its characters in turn.
 
@@ -266,17 +267,6 @@ module _ {S : Type 0} (g : Ghosts S) (s : S) (budget : ℕ) (p : List ℕ) (t : 
       ∙ ap (prepend k.done) (text_comes h.machine set q (length p) (is_between h k.rest no_body k.held).mode are all)
       ∙ sym (prepend-append k.done (text h.machine.work.state set q) (paused (typed h.machine set q) [] (Some nothing)))
 
-  -- all of them were taken
-  text_leads : (q : List ℕ) → All IsGraphic q → (u : S) → TookMore g → g.took t (text h.machine.work.state set q) u → (g.failed t ≡ false → g.failed u ≡ false) →
-      Continues g s (begun budget (p ++ q)) u (record h { machine = typed h.machine set q }) []
-  text_leads q all u more took clear =
-      let xs = placed_from (length p) q in
-      let same : bytes_of xs ≡ q = bytes_of-placed (length p) q in
-      let come : Continues g s (begun budget (p ++ q)) t h (xs ++ []) = subst (Continues g s (begun budget (p ++ q)) t h) (sym (append-nil xs)) (leads_more g s budget p q t h k) in
-      subst (λ (bs : List ℕ). Continues g s (begun budget (p ++ q)) u (record h { machine = typed h.machine set bs }) []) same
-      (text_passes g s (begun budget (p ++ q)) t h xs [] come no_body closed none set are (subst (All IsGraphic) (sym same) all) u more
-      (subst (λ (bs : List ℕ). g.took t (text h.machine.work.state set bs) u) (sym same) took) clear)
-
   -- the next one wasn't taken, or broke
   text_breaks : (before : List ℕ) (b : ℕ) (behind : List ℕ) → All IsGraphic (before ++ b ∷ behind) → (u : S) (left : ℕ) (r : Refusal) → left ≡ h.machine.left → r.place ≡ length (p ++ before) →
       (cause_of r.fault ≡ memory → g.wants s ((k.done ++ text h.machine.work.state set before) ++ char_in (walk h.machine.work.state (text h.machine.work.state set before)) set b ∷ [])) →
@@ -339,59 +329,35 @@ module _ {S : Type 0} (g : Ghosts S) (s : S) (budget : ℕ) (p : List ℕ) (t : 
           let next = char_in (walk h.machine.work.state (text h.machine.work.state set halt.before)) set halt.byte in
           inr ([], next, [], refl, subst (λ (es : List Entry). g.broke s es next u) (sym (append-nil known)) (broken s t u k.done (text h.machine.work.state set halt.before) next k.taken broke))
 
--- The reader takes them.
-
--- all bytes from 20 to 7F are characters of this set for the lexer
-abbrev pub AllCharacters : LexerState → CharSet → Type 0
-AllCharacters lexer set = (b : ℕ) → IsGraphic b → IsCharacter lexer b set
-
-pub none_half : (lexer : LexerState) (set : CharSet) → AllCharacters lexer set → lexer.half ≡ []
-none_half lexer set chars = (chars 32 (omega arith, omega arith)).0
-
--- a reader took them
-pub text_takes : {S : Type 0} {g : Ghosts S} (old new : Reader S g) (set : CharSet) (piece q : List ℕ) → length q ≤ length piece → take (length q) piece ≡ q →
-    old.refusal ≡ None → old.open_body ≡ None → old.open_run ≡ None → AllCharacters old.lexer set → All IsGraphic q → TookMore g →
-    g.took old.sink (text old.work.state set q) new.sink → (g.failed old.sink ≡ false → g.failed new.sink ≡ false) →
-    new.refusal ≡ None → new.budget ≡ old.budget → holding_of new ≡ record (holding_of old) { machine = typed (machine_of old) set q } →
-    new.fed ≡ old.fed + length q → new.turns ≡ old.turns + length q → frames_left new ≡ frames_left old → TakesStretch old new piece (length q)
-text_takes {S} {g} old new set piece q within front live no_body closed chars all more took clear live' budget holding fed turns frames = record {
-  within = within;
-  stands = λ s p h.
-      let on = text_leads g s old.budget p old.sink (holding_of old) (h.continues live) no_body closed (none_half old.lexer set chars) set (λ b graphic. (chars b graphic).1) q all new.sink more took clear in
-      subst (λ (xs : List ℕ). Stands new s (p ++ xs)) (sym front)
-      (stands_by new s (p ++ q) live' (omega (arith, fed, h.fed live, length-append p q)) (frames ∙ h.empty live)
-      (subst (λ (held : Holding). Continues g s (begun new.budget (p ++ q)) new.sink held []) (sym holding)
-      (subst (λ (budget : ℕ). Continues g s (begun budget (p ++ q)) new.sink (record (holding_of old) { machine = typed (machine_of old) set q }) []) (sym budget) on)));
-  fed = fed;
-  turns = turns;
-  clear = clear;
-}
-
--- one that couldn't take all of them stopped at the next one
-pub text_stops : {S : Type 0} {g : Ghosts S} (old new : Reader S g) (set : CharSet) (piece q : List ℕ) (i : ℕ) (fault : SinkFault) → length q ≤ length piece →
-    take (length q) piece ≡ q → 0 < length q → old.refusal ≡ None → old.open_body ≡ None → old.open_run ≡ None → AllCharacters old.lexer set → All IsGraphic q →
-    TookMore g → TookBroke g → WantsMore g → HaltsAfter (shows_of g) (text old.work.state set q) old.sink new.sink i fault → new.budget ≡ old.budget → new.charged ≡ old.charged →
-    new.fed ≡ old.fed + (i + 1) → StopsAt old new piece (refusal (draw_fault (fault_of fault)) (old.fed + i)) i
-text_stops {S} {g} old new set piece q i fault within is some live no_body closed chars all more broken law halts budget charged fed =
-    let less = halts_less g old.work.state set q i old.sink new.sink fault some halts in
-    let halt = halts_in g old.work.state set q i old.sink new.sink fault some halts in
-    let front : take i piece ≡ halt.before =
-    sym (take-take i (length q) piece (omega (arith, less))) ∙ ap (take i) (is ∙ halt.parts) ∙ ap (λ (j : ℕ). take j (halt.before ++ halt.byte ∷ halt.behind)) halt.count
+-- Where a reading of the piece stops in characters: at the byte with this index.
+pub text_stops : {S : Type 0} {g : Ghosts S} (old new : Reader S g) (piece : List ℕ) (at : ℕ) (t : S) (h : Holding) (q : List ℕ) (i : ℕ) (r : Refusal) → old.refusal ≡ None → at ≤ length piece → left_of new ≡ h.machine.left →
+    ((s : S) (p : List ℕ) → Stands old s p → Continues g s (begun old.budget (p ++ take at piece)) t h []) → StopsText g t h q i new.sink r → take (length q) (drop at piece) ≡ q → r.place ≡ old.fed + at + i →
+    TookMore g → TookBroke g → WantsMore g → new.fed ≡ old.fed + at + (i + 1) → StopsAt old new piece r (at + i)
+text_stops {S} {g} old new piece at t h q i r live within left alone stops front place more broken law fed =
+    let less = halts_less g h.machine.work.state stops.set q i t new.sink stops.fault stops.some stops.halts in
+    let halt = halts_in g h.machine.work.state stops.set q i t new.sink stops.fault stops.some stops.halts in
+    let long : length q ≤ length piece - at = omega (arith, sym (ap length front), length-take (length q) (drop at piece), length-drop at piece) in
+    let first : take (length halt.before) (drop at piece) ≡ halt.before =
+    ap (λ (j : ℕ). take j (drop at piece)) (sym halt.count)
+    ∙ sym (take-take i (length q) (drop at piece) (omega (arith, less))) ∙ ap (take i) (front ∙ halt.parts) ∙ ap (λ (j : ℕ). take j (halt.before ++ halt.byte ∷ halt.behind)) halt.count
     ∙ take-append_seam halt.before (halt.byte ∷ halt.behind) in
-    let there : get_or piece i 0 ≡ halt.byte =
-    sym (get_or-take (length q) piece i 0 less) ∙ ap (λ (xs : List ℕ). get_or xs i 0) (is ∙ halt.parts)
+    let there : get_or piece (at + i) 0 ≡ halt.byte =
+    sym (get_or-drop at piece i 0)
+    ∙ sym (get_or-take (length q) (drop at piece) i 0 less) ∙ ap (λ (xs : List ℕ). get_or xs i 0) (front ∙ halt.parts)
     ∙ ap (λ (j : ℕ). get_or (halt.before ++ halt.byte ∷ halt.behind) j 0) halt.count ∙ get_or-append_seam halt.before halt.byte halt.behind 0 in
-    let left : left_of new ≡ old.budget - old.charged = ap₂ (λ (a b : ℕ). a - b) budget charged in
-    let stops = λ (s : S) (p : List ℕ) (h : Stands old s p).
-    subst (λ (q : List ℕ). IsBroken g s old.budget (p ++ q) (get_or piece i 0) new.sink (left_of new) (refusal (draw_fault (fault_of fault)) (old.fed + i))) (sym front)
-    (subst (λ (b : ℕ). IsBroken g s old.budget (p ++ halt.before) b new.sink (left_of new) (refusal (draw_fault (fault_of fault)) (old.fed + i))) (sym there)
-    (text_broken g s old.budget p old.sink (holding_of old) (h.continues live) no_body closed (none_half old.lexer set chars) set (λ b graphic. (chars b graphic).1) q all i new.sink fault more broken law halt
-    (left_of new) left (old.fed + i) (ap (λ (m : ℕ). m + i) (h.fed live)))) in
+    let stopped = λ (s : S) (p : List ℕ) (stood : Stands old s p).
+    subst (λ (q : List ℕ). IsBroken g s old.budget q (get_or piece (at + i) 0) new.sink (left_of new) (refusal (draw_fault (fault_of stops.fault)) r.place))
+    (taken_further p piece halt.before at first ∙ ap (λ (j : ℕ). p ++ take (at + j) piece) (sym halt.count))
+    (subst (λ (b : ℕ). IsBroken g s old.budget ((p ++ take at piece) ++ halt.before) b new.sink (left_of new) (refusal (draw_fault (fault_of stops.fault)) r.place)) (sym there)
+    (text_broken g s old.budget (p ++ take at piece) t h (alone s p stood) stops.between stops.closed stops.rested stops.set stops.chars q stops.graphic i new.sink stops.fault more broken law halt
+    (left_of new) left r.place (omega (arith, place, length_taken p piece at within, stood.fed live)))) in
     record {
-      within = omega (arith, less, within);
-      fed = fed;
-      before = λ s p h. (stops s p h).before;
-      there = λ s p h. by_fault fault s (p ++ take i piece) (get_or piece i 0) (old.fed + i) (stops s p h);
+      within = omega (arith, less, long, within);
+      fed = omega (arith, fed);
+      before = λ s p stood. (stopped s p stood).before;
+      there = λ s p stood.
+          subst (λ (r : Refusal). StopsBy g s old.budget (p ++ take (at + i) piece) (get_or piece (at + i) 0) new.sink (left_of new) r (cause_of r.fault))
+          (ap (λ (f : Fault). refusal f r.place) (sym stops.why)) (by_fault stops.fault s (p ++ take (at + i) piece) (get_or piece (at + i) 0) r.place (stopped s p stood));
     }
   where
     by_fault : (fault : SinkFault) (s : S) (p : List ℕ) (b place : ℕ) → IsBroken g s old.budget p b new.sink (left_of new) (refusal (draw_fault (fault_of fault)) place) →

@@ -1,4 +1,4 @@
-use Rattle.std.specs.Prelude.{◌≡◌, ◌<◌, ◌≤◌, ◌++◌, ℕ, List, [], ◌∷◌, All, take}
+use Rattle.std.specs.Prelude.{◌≡◌, ◌≢◌, ◌<◌, ◌≤◌, ◌+◌, ◌++◌, ℕ, List, [], ◌∷◌, All, drop, length, take}
 use Rattle.nap_reader.specs.declared.frames.Frame.{Frame}
 use Rattle.nap_reader.specs.Stored.{part}
 use Rattle.nap_reader.specs.Stream.{Placed, all_at}
@@ -36,3 +36,14 @@ pub record Innermost (bytes : List ℕ) (frames : List Frame) (text : List ℕ) 
 -- so many bytes at the front of the text were given, each at this place
 abbrev pub GivesFrom : List ℕ → List Frame → ℕ → List ℕ → ℕ → List Frame → Type 0
 GivesFrom bytes old place text count new = unread bytes old ≡ all_at place (take count text) ++ unread bytes new
+
+-- these bytes, with the place of the first, come next: of the innermost body, else of the piece from this index on
+pub record Comes (stored : List ℕ) (frames : List Frame) (piece : List ℕ) (at fed : ℕ) (text : List ℕ) (place : ℕ) : Type 0 where
+  pub of_piece : frames ≡ [] → (text ≡ drop at piece) × (place ≡ fed)
+  pub of_body : frames ≢ [] → Innermost stored frames text place
+
+-- so many of them were taken
+pub record MovesOn (stored : List ℕ) (old new : List Frame) (at until fed counted n : ℕ) : Type 0 where
+  pub of_piece : old ≡ [] → (new ≡ []) × (until ≡ at + n) × (counted ≡ fed + n)
+  pub of_body : old ≢ [] → (until ≡ at) × (counted ≡ fed)
+      × ((text : List ℕ) (place : ℕ) → Innermost stored old text place → n ≤ length text → GivesFrom stored old place text n new)

@@ -1,11 +1,10 @@
-use Rattle.std.specs.Prelude.{⊤, All, ◌≡◌, ◌≢◌, ◌<◌, ◌≤◌, ◌⊎◌, ◌-◌, ◌+◌, ◌++◌, ℕ, false, true, List, [], ◌∷◌, Option, Some, None, length}
+use Rattle.std.specs.Prelude.{⊤, ◌≡◌, ◌≢◌, ◌<◌, ◌≤◌, ◌⊎◌, ◌-◌, ◌+◌, ◌++◌, ℕ, false, true, List, [], ◌∷◌, Option, Some, None, length}
 use Rattle.nap_codes.specs.declared.code.Code.TheVariants as code
 use Rattle.nap_codes.specs.declared.code_set.CodeSets.{CodeSets}
 use Rattle.nap_codes.specs.Front as codes
 use Rattle.nap_list.specs.declared.sink.Sink.{Ghosts}
 use Rattle.nap_list.specs.declared.entry.Entry.{Entry}
 use Rattle.nap_draw.specs.Draws.{Cause, stream, memory}
-use Rattle.nap_reader.specs.declared.fault.Fault.TheVariants as faults
 use Rattle.nap_reader.specs.declared.fault.Refusal.{Refusal}
 use Rattle.nap_reader.specs.declared.body.OpenBody.{OpenBody}
 use Rattle.nap_reader.specs.declared.reader.OpenRun.{OpenRun}
@@ -183,18 +182,6 @@ IsOwn r = cause_of r.fault ≡ stream
 abbrev pub IsRefused : {S : Type 0} → Ghosts S → S → Outcome → S → Holding → Refusal → Type 0
 IsRefused g s o t h r = (o.refusal ≡ Some r) × g.took s o.entries t × (o.machine.left ≡ h.machine.left)
 
--- the same; or it was refused, as the outcome is where the fault is the stream's own, and as much is left to charge
-abbrev pub ReachesBy : {S : Type 0} → Ghosts S → S → Outcome → S → Holding → List Placed → Option Refusal → Type 0
-ReachesBy g s o t h pending None = Continues g s o t h pending
-ReachesBy g s o t h pending (Some r) = IsOwn r → IsRefused g s o t h r
-
-abbrev pub Reaches : {S : Type 0} {g : Ghosts S} → Reader S g → S → Outcome → List Placed → Type 0
-Reaches {S} {g} reader s o pending = ReachesBy g s o reader.sink (holding_of reader) pending reader.refusal
-
--- what pends behind what is held: what the bodies have still to give, and then the input
-abbrev pub ReachesWith : {S : Type 0} {g : Ghosts S} → Reader S g → S → Outcome → List Placed → Type 0
-ReachesWith reader s o inputs = Reaches reader s o (frames_left reader ++ inputs)
-
 -- an operand byte that carries this word
 abbrev pub CarriesWord : Placed → ℕ → Type 0
 CarriesWord x word = (is_operand x ≡ true) × (word ≡ x.byte - 64)
@@ -215,98 +202,11 @@ abbrev pub ClosesInto : {S : Type 0} → Ghosts S → S → ℕ → List ℕ →
 ClosesInto g s budget p t r stream = ((with_run (begun budget p)).refusal ≡ Some r) × g.took s (with_run (begun budget p)).entries t
 ClosesInto g s budget p t r _ = BeginsAll budget p × BreaksInRun g s budget p t r
 
-abbrev pub ClosesBy : {S : Type 0} → Ghosts S → S → ℕ → List ℕ → S → Holding → Option Refusal → Type 0
-ClosesBy g s budget p t h None = Ends g s (with_run (begun budget p)) t h
-ClosesBy g s budget p t h (Some r) = ClosesInto g s budget p t r (cause_of r.fault)
-
--- the counts and the budget stay
-pub record SameCounts {S : Type 0} {g : Ghosts S} (old new : Reader S g) : Type 0 where
-  pub budget : new.budget ≡ old.budget
-  pub fed : new.fed ≡ old.fed
-  pub turns : new.turns ≡ old.turns
-  pub charged : new.charged ≡ old.charged
-
 -- what the bodies have still to give, and what is left to charge, taken together
 abbrev pub to_come : {S : Type 0} {g : Ghosts S} → Reader S g → ℕ
 to_come reader = length (frames_left reader) + (reader.budget - reader.charged)
 
--- the counts and the budget stay, but that more may be charged, for which as much comes
-pub record Charges {S : Type 0} {g : Ghosts S} (old new : Reader S g) : Type 0 where
-  pub budget : new.budget ≡ old.budget
-  pub fed : new.fed ≡ old.fed
-  pub turns : new.turns ≡ old.turns
-  pub charged : old.charged ≤ new.charged
-  pub to_come : to_come new ≤ to_come old
-
--- bodies that were being read are read to their end, or up to a refusal
-pub record Drains {S : Type 0} {g : Ghosts S} (old new : Reader S g) : Type 0 where
-  pub budget : new.budget ≡ old.budget
-  pub fed : new.fed ≡ old.fed
-  pub turns : old.turns ≤ new.turns
-  pub charged : old.charged ≤ new.charged
-
--- what the bodies have still to give is at this place
-abbrev pub AllAt : {S : Type 0} {g : Ghosts S} → ℕ → Reader S g → Type 0
-AllAt n reader = All (λ (x : Placed). x.place ≡ n) (frames_left reader)
-
--- Bytes at the front of what the bodies have still to give were taken, each in its turn.
-pub record TakesFront {S : Type 0} {g : Ghosts S} (old new : Reader S g) : Type 0 where
-  pub leads : (s : S) (o : Outcome) (inputs : List Placed) →
-      Continues g s o old.sink (holding_of old) (frames_left old ++ inputs) → Continues g s o new.sink (holding_of new) (frames_left new ++ inputs)
-  pub places : (n : ℕ) → AllAt n old → AllAt n new
-  pub open_run : new.open_run ≡ old.open_run
-  pub clear : g.failed old.sink ≡ false → g.failed new.sink ≡ false
-  pub to_come : to_come new ≤ to_come old
-
--- One of them broke.
-pub record StopsInFront {S : Type 0} {g : Ghosts S} (old new : Reader S g) (r : Refusal) : Type 0 where
-  pub cause : cause_of r.fault ≢ stream
-  pub breaks : (s : S) (o : Outcome) (inputs : List Placed) →
-      Continues g s o old.sink (holding_of old) (frames_left old ++ inputs) → BreaksFrom g s [] o new.sink (cause_of r.fault)
-  pub some : 0 < length (frames_left old)
-  pub place : (n : ℕ) → AllAt n old → r.place ≡ n
-
--- what is kept of bodies stays
-pub record SameBodies {S : Type 0} {g : Ghosts S} (old new : Reader S g) : Type 0 where
-  pub store : new.store ≡ old.store
-  pub frames : new.frames.stack.items ≡ old.frames.stack.items
-
--- their bytes do
-pub record SameBytes {S : Type 0} {g : Ghosts S} (old new : Reader S g) : Type 0 where
-  pub store : new.store.bytes ≡ old.store.bytes
-  pub frames : new.frames.stack.items ≡ old.frames.stack.items
-
--- these bytes were charged, and come next at this place
-pub record Presents {S : Type 0} {g : Ghosts S} (old new : Reader S g) (bytes : List ℕ) (place : ℕ) : Type 0 where
-  pub holding : holding_of new ≡ record (holding_of old) { machine = charged (machine_of old) (length bytes) }
-  pub frames : frames_left new ≡ all_at place bytes ++ frames_left old
-
--- these bytes come next, or they can't be charged
-abbrev pub ShowsBy : {S : Type 0} {g : Ghosts S} → Reader S g → Reader S g → List ℕ → ℕ → Option Refusal → Type 0
-ShowsBy old new bytes place None = (length bytes ≤ (machine_of old).left) × Presents old new bytes place
-ShowsBy old new bytes place (Some r) =
-    IsOwn r → (r ≡ refusal faults.Budget place) × ((machine_of old).left < length bytes) × (holding_of new ≡ holding_of old)
-
-abbrev pub Shows : {S : Type 0} {g : Ghosts S} → Reader S g → Reader S g → List ℕ → ℕ → Type 0
-Shows old new bytes place = ShowsBy old new bytes place new.refusal
-
--- the place of the opcode whose run is open
-abbrev pub held_place : Option OpenRun → Option ℕ
-held_place None = None
-held_place (Some open_run) = Some open_run.place
-
--- the open run is, where there is one
+-- the open run is at this place, where there is one
 abbrev pub RunAt : ℕ → Option OpenRun → Type 0
 RunAt n None = ⊤
 RunAt n (Some open_run) = open_run.place ≡ n
-
--- the bodies have still to give what they had, and the same run is open
-pub record IsStill {S : Type 0} {g : Ghosts S} (old new : Reader S g) : Type 0 where
-  pub left : frames_left new ≡ frames_left old
-  pub open_run : new.open_run ≡ old.open_run
-
--- A byte at this place was taken. What it calls or shows is at that place too, and so is the run that is open then; or neither
--- changed.
-pub record Places {S : Type 0} {g : Ghosts S} (old new : Reader S g) (place : ℕ) : Type 0 where
-  pub left : AllAt place old → AllAt place new
-  pub run : RunAt place new.open_run ⊎ IsStill old new

@@ -10,9 +10,11 @@ pub mod Breaking
 pub mod Standing
 pub mod Feeding
 pub mod Laws
--- what a reader keeps, which no one sees
+-- what a reader keeps and does, which no one sees
 pub mod Carried
 pub mod Stored
 pub mod Framed
 pub mod Prefix
 pub mod Holding
+pub mod Steps
+pub mod Pieces

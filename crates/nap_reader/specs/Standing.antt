@@ -1,4 +1,4 @@
-use Rattle.std.specs.Prelude.{◌≡◌, ◌-◌, ◌+◌, ◌<◌, ◌≤◌, ◌++◌, ℕ, List, [], ◌∷◌, Option, Some, None, false, length, take, slice_index}
+use Rattle.std.specs.Prelude.{◌≡◌, ◌-◌, ◌+◌, ◌<◌, ◌≤◌, ◌++◌, ℕ, List, [], ◌∷◌, Option, Some, None, length, take, slice_index}
 use Rattle.nap_list.specs.declared.sink.Sink.{Ghosts}
 use Rattle.nap_draw.specs.Draws.{Cause, stream}
 use Rattle.nap_reader.specs.declared.fault.Refusal.{Refusal}
@@ -93,14 +93,6 @@ pub record StopsAt {S : Type 0} {g : Ghosts S} (old new : Reader S g) (piece : L
   pub before : (s : S) (p : List ℕ) → Stands old s p → (begun (budget_of old) (p ++ take i piece)).refusal ≡ None
   pub there : (s : S) (p : List ℕ) → Stands old s p →
       StopsBy g s (budget_of old) (p ++ take i piece) (slice_index piece i) (sink_of new) (left_of new) r (cause_of r.fault)
-
--- The first n bytes of the piece were taken, each in its turn.
-pub record TakesStretch {S : Type 0} {g : Ghosts S} (old new : Reader S g) (piece : List ℕ) (n : ℕ) : Type 0 where
-  pub within : n ≤ length piece
-  pub stands : (s : S) (p : List ℕ) → Stands old s p → Stands new s (p ++ take n piece)
-  pub fed : fed_of new ≡ fed_of old + n
-  pub turns : turns_of new ≡ turns_of old + n
-  pub clear : g.failed (sink_of old) ≡ false → g.failed (sink_of new) ≡ false
 
 -- The end of a stream.
 

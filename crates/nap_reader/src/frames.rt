@@ -1,6 +1,6 @@
 //! The bodies that are being read.
-ghost use Rattle.std.specs.Prelude.{ℕ, List, ◌≡◌, ◌<◌, ◌≤◌, ◌+◌, [], ◌∷◌, ◌++◌, length, MatchOption, IfSome, OnOk, OnErr};
-ghost use Rattle.nap_reader.specs.Framed.{FramesIn, GivesFrom, Innermost, unread, placed_at};
+ghost use Rattle.std.specs.Prelude.{true, ℕ, List, ◌≡◌, ◌<◌, ◌≤◌, ◌+◌, ◌↔◌, [], ◌∷◌, ◌++◌, length, MatchOption, IfSome, OnOk, OnErr};
+ghost use Rattle.nap_reader.specs.Framed.{FramesIn, GivesFrom, Innermost, unread};
 
 use crate::store::Span;
 use smallvec::SmallVec;
@@ -44,47 +44,18 @@ impl Frames {
         Ok(())
     }
 
-    /// Takes the next byte of the innermost body, with its place.
-    #[inline(always)]
-    pub(crate) fn next(&mut self, bytes: &[u8]) -> Option<(u8, u64)>
-        requires { FramesIn (length bytes.now) self.old.stack.items }
-        ensures byte { MatchOption result ((self.old.stack.items ≡ []) × (self.new.stack.items ≡ []))
-            (λ x. unread bytes.now self.old.stack.items ≡ placed_at x.0 x.1 ∷ unread bytes.now self.new.stack.items) }
-        ensures within { FramesIn (length bytes.now) self.new.stack.items }
+    /// Whether no body is being read.
+    #[inline]
+    pub(crate) fn is_empty(&self) -> bool
+        ensures { result ≡ true ↔ self.now.stack.items ≡ [] }
     {
-        // Most often no body is being read.
-        if self.stack.is_empty() {
-            return None;
-        }
-        self.next_of_body(bytes)
-    }
-
-    #[inline(never)]
-    fn next_of_body(&mut self, bytes: &[u8]) -> Option<(u8, u64)>
-        requires { FramesIn (length bytes.now) self.old.stack.items }
-        ensures byte { MatchOption result ((self.old.stack.items ≡ []) × (self.new.stack.items ≡ []))
-            (λ x. unread bytes.now self.old.stack.items ≡ placed_at x.0 x.1 ∷ unread bytes.now self.new.stack.items) }
-        ensures within { FramesIn (length bytes.now) self.new.stack.items }
-    {
-        if self.stack.len() == 0 {
-            return None;
-        }
-        let frame = self.stack.pop()?;
-        let byte = bytes[frame.next];
-        if frame.next + 1 < frame.end {
-            self.stack.push_reserved(Frame {
-                next: frame.next + 1,
-                end: frame.end,
-                place: frame.place,
-            });
-        }
-        Some((byte, frame.place))
+        self.stack.is_empty()
     }
 
     /// The bytes that the innermost body has still to give, with their place.
     pub(crate) fn innermost<'a>(&self, bytes: &'a [u8]) -> Option<(&'a [u8], u64)>
         requires { FramesIn (length bytes.now) self.now.stack.items }
-        ensures { IfSome result (λ x. Innermost bytes.now self.now.stack.items x.0.now x.1) }
+        ensures { MatchOption result (self.now.stack.items ≡ []) (λ x. Innermost bytes.now self.now.stack.items x.0.now x.1) }
     {
         let frame = self.stack.last()?;
         Some((&bytes[frame.next..frame.end], frame.place))

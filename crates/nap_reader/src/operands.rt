@@ -1,6 +1,7 @@
 //! The operand bytes at the front of a piece, and the words that they carry.
-ghost use Rattle.std.specs.Prelude.{All, map, take, ◌≡◌, ◌-◌, ◌≤◌, ◌%◌, ◌++◌, true, false, length, vec_len, MatchOption};
+ghost use Rattle.std.specs.Prelude.{All, map, take, ◌≡◌, ◌-◌, ◌≤◌, ◌%◌, ◌++◌, true, false, [], length, vec_len, MatchOption};
 ghost use Rattle.nap_draw.specs.Limits.{run_limit};
+ghost use Rattle.nap_reader.specs.Steps.{IsWholeRun};
 ghost use Rattle.nap_reader.specs.Stream.{is_operand_byte};
 
 use crate::prefix::prefix_from;
@@ -21,6 +22,23 @@ pub(crate) fn take_words(run: &mut Vec<Word>, piece: &[u8]) -> usize
     let front = &piece[..most];
     let count = prefix_from(front, 0x40);
     join_words(run, front, count)
+}
+
+/// The words of the operand bytes at the front become the run, where another byte comes behind them.
+#[inline]
+pub(crate) fn whole_run(run: &mut Vec<Word>, piece: &[u8]) -> Option<usize>
+    ensures { MatchOption result (run.new.items ≡ []) (λ count. IsWholeRun piece.now count run.new.items) }
+{
+    run.clear();
+    let count = prefix_from(piece, 0x40);
+    if count == piece.len() || count > RUN_LIMIT {
+        return None;
+    }
+    if join_words(run, piece, count) != count {
+        run.clear();
+        return None;
+    }
+    Some(count)
 }
 
 /// The word that an operand byte carries.

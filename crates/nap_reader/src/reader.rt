@@ -15,20 +15,25 @@ ghost use Rattle.nap_reader.specs.Stream.{all_at, is_operand_byte, refusal};
 ghost use Rattle.nap_draw.specs.Limits.{run_limit};
 ghost use Rattle.nap_reader.specs.Budgets.{most_budget};
 
-use crate::body::{OpenBody, ends_body};
+use crate::body::OpenBody;
 use crate::budget::Budget;
 use crate::fault::{Fault, Refusal};
 use crate::frames::Frames;
-use crate::kind::Kind;
-use crate::operands::operand;
-use crate::store::{Span, Store};
-use nap_codes::{Code, Lexer, Opcode, Step};
-use nap_draw::{DrawFault, RUN_LIMIT, Work};
+use crate::store::Store;
+use nap_codes::{Lexer, Opcode};
+use nap_draw::Work;
 use nap_list::Sink;
 use nap_values::{Point, Word};
 use std::alloc::Global;
 
+mod bodies;
+mod calls;
+mod codes;
+mod coming;
+mod runs;
+mod steps;
 mod stretches;
+mod whole_codes;
 
 /// The stream was refused, and its refusal is kept.
 #[derive(Clone, Copy, Drop)]
@@ -81,8 +86,8 @@ impl<S: Sink> Reader<S> {
     ghost use Rattle.nap_reader.specs.Breaking.{BreaksAt, BreaksFrom, BreaksInRun, cause_of};
     ghost use Rattle.nap_reader.specs.Bodies as bodies;
     ghost use Rattle.nap_reader.specs.Bodies.{body_of};
-    ghost use Rattle.nap_reader.specs.Framed.{placed_at};
-    ghost use Rattle.nap_reader.specs.Holding.{AllAt, BreaksInBody, BreaksSome, CarriesWord, Charges, ClosesBy, Continues, ContinuesPast, Drains, Ends, IsOwn, IsStill, Places, Reaches, ReachesWith, ReadsOn, RunAt, SameBodies, SameBytes, SameCounts, Shows, frames_left, held_place, holding_of};
+    ghost use Rattle.nap_reader.specs.Holding.{Ends, IsOwn, holding_of};
+    ghost use Rattle.nap_reader.specs.Pieces.{RefusesPiece, TakesPiece};
     ghost use Rattle.nap_reader.specs.Standing.{Answers, IsBounded, IsTaken, Stands, StopsAt, budget_of, charged_of, fed_of, left_of, refusal_of, sink_of, turns_of};
 
     /// A reader at the start of a stream, which puts the entries into this sink.
@@ -141,40 +146,29 @@ impl<S: Sink> Reader<S> {
         let Err(Refused) = self.take(piece) else {
             return Ok(());
         };
-        self.told()
+        self.kept_refusal()
     }
 
     /// Takes the next piece where nothing is refused yet.
     fn take(&mut self, piece: &[u8]) -> Result<(), Refused>
         requires live { self.old.refusal ≡ None }
         requires few { fed_of self.old + length piece.now < 2 ^ 63 }
-        ensures answered { MatchResult result (λ _. self.new.refusal ≡ None) (λ _. IsSome self.new.refusal) }
-        ensures stands { (s : S) (p : List ℕ) → Stands self.old s p → Stands self.new s (p ++ piece.now) }
-        ensures budget { self.new.budget ≡ self.old.budget }
-        ensures failed { IfErr result (λ _. IfSome self.new.refusal (λ r. r.fault ≡ Fault.Sink → S.failed self.new.sink ≡ true)) }
-        ensures kept { IfErr result (λ _. IfSome self.new.refusal (λ r. r.fault ≢ Fault.Sink → S.failed self.old.sink ≡ false → S.failed self.new.sink ≡ false)) }
-        ensures clear { OnOk result (S.failed self.old.sink ≡ false → S.failed self.new.sink ≡ false) }
-        ensures fed { OnOk result (self.new.fed ≡ self.old.fed + length piece.now) }
-        ensures stops { IfErr result (λ _. IfSome self.new.refusal (λ r. (i : ℕ) × StopsAt self.old self.new piece.now r i)) }
-        ensures turns { OnOk result (self.old.turns ≡ self.old.fed + self.old.charged → self.new.turns ≡ self.new.fed + self.new.charged) }
-        ensures more_turns { self.old.turns ≤ self.new.turns }
+        ensures { MatchResult result (λ _. TakesPiece self.old self.new piece.now) (λ _. RefusesPiece self.old self.new piece.now) }
     {
-        let mut at = 0;
-        while at < piece.len() {
-            let byte = &piece[at];
-            let place = self.fed;
-            self.fed += 1;
-            self.turns += 1;
-            self.turn(*byte, place)?;
-            self.drain()?;
-            at += 1;
-            at += self.stretch(&piece[at..])?;
+        // Between two pieces no body is read: a byte of the piece comes first.
+        let Some((byte, place)) = self.first(piece) else {
+            return Ok(());
+        };
+        let mut at = 1;
+        self.step(byte, place, piece, &mut at)?;
+        while let Some((byte, place)) = self.next(piece, &mut at) {
+            self.step(byte, place, piece, &mut at)?;
         }
         Ok(())
     }
 
     /// The refusal of the stream, where it is refused.
-    fn told(&self) -> Result<(), Refusal>
+    fn kept_refusal(&self) -> Result<(), Refusal>
         requires { IsSome self.now.refusal }
         ensures { IsErrAnd result (λ r. self.now.refusal ≡ Some r) }
     {
@@ -182,405 +176,6 @@ impl<S: Sink> Reader<S> {
             Some(refusal) => Err(refusal),
             None => Ok(()),
         }
-    }
-
-    /// Takes what the bodies have still to give that are being read.
-    fn drain(&mut self) -> Result<(), Refused>
-        requires live { self.old.refusal ≡ None }
-        requires few { fed_of self.old < 2 ^ 63 }
-        ensures answered { MatchResult result (λ _. (self.new.refusal ≡ None) × (self.new.frames.stack.items ≡ [])) (λ _. IsSome self.new.refusal) }
-        ensures reaches { (s : S) (o : Outcome) (inputs : List Placed) →
-            Continues S.Sink s o self.old.sink (holding_of self.old) (frames_left self.old ++ inputs) → ReachesWith self.new s o inputs }
-        ensures amid { IfErr result (λ _. IfSome self.new.refusal (λ r. cause_of r.fault ≢ stream → (s : S) (o : Outcome) (inputs : List Placed) →
-            Continues S.Sink s o self.old.sink (holding_of self.old) (frames_left self.old ++ inputs) →
-            BreaksFrom S.Sink s [] o self.new.sink (cause_of r.fault) × ((n : ℕ) → AllAt n self.old → RunAt n self.old.open_run → r.place ≡ n))) }
-        ensures some { IfErr result (λ _. 0 < length (frames_left self.old)) }
-        ensures failed { IfErr result (λ _. IfSome self.new.refusal (λ r. r.fault ≡ Fault.Sink → S.failed self.new.sink ≡ true)) }
-        ensures kept { IfErr result (λ _. IfSome self.new.refusal (λ r. S.failed self.old.sink ≡ false → S.failed self.new.sink ≡ true → r.fault ≡ Fault.Sink)) }
-        ensures clear { OnOk result (S.failed self.old.sink ≡ false → S.failed self.new.sink ≡ false) }
-        ensures counts { Drains self.old self.new }
-        ensures left { IfErr result (λ _. (s : S) (o : Outcome) (inputs : List Placed) →
-            Continues S.Sink s o self.old.sink (holding_of self.old) (frames_left self.old ++ inputs) → o.machine.left ≤ left_of self.new) }
-    {
-        while let Some((byte, place)) = self.frames.next(self.store.bytes()) {
-            self.turns += 1;
-            self.turn(byte, place)?;
-            self.stretch_of_body()?;
-        }
-        Ok(())
-    }
-
-    /// Takes one byte, which has this place.
-    #[inline(always)]
-    fn turn(&mut self, byte: u8, place: u64) -> Result<(), Refused>
-        requires { self.old.refusal ≡ None }
-        ensures answered { MatchResult result (λ _. self.new.refusal ≡ None) (λ _. IsSome self.new.refusal) }
-        ensures reaches { (s : S) (o : Outcome) (inputs : List Placed) →
-            Continues S.Sink s o self.old.sink (holding_of self.old) (placed_at byte place ∷ frames_left self.old ++ inputs) → ReachesWith self.new s o inputs }
-        ensures breaks { IfErr result (λ _. IfSome self.new.refusal (λ r. cause_of r.fault ≢ stream → (s : S) (p : List ℕ) →
-            Continues S.Sink s (begun (budget_of self.old) p) self.old.sink (holding_of self.old) [] → place ≡ length p →
-            BreaksAt S.Sink s (budget_of self.old) p byte self.new.sink r)) }
-        ensures amid { IfErr result (λ _. IfSome self.new.refusal (λ r. cause_of r.fault ≢ stream → (s : S) (o : Outcome) →
-            Continues S.Sink s o self.old.sink (holding_of self.old) (placed_at byte place ∷ []) →
-            BreaksFrom S.Sink s [] o self.new.sink (cause_of r.fault) × ((r.place ≡ place) ⊎ (held_place self.old.open_run ≡ Some r.place)))) }
-        ensures placed { OnOk result (Places self.old self.new place) }
-        ensures failed { IfErr result (λ _. IfSome self.new.refusal (λ r. r.fault ≡ Fault.Sink → S.failed self.new.sink ≡ true)) }
-        ensures kept { IfErr result (λ _. IfSome self.new.refusal (λ r. S.failed self.old.sink ≡ false → S.failed self.new.sink ≡ true → r.fault ≡ Fault.Sink)) }
-        ensures clear { OnOk result (S.failed self.old.sink ≡ false → S.failed self.new.sink ≡ false) }
-        ensures counts { Charges self.old self.new }
-        ensures uncharged { IfErr result (λ _. self.new.charged ≡ self.old.charged) }
-    {
-        if let Some(body) = self.open_body {
-            return self.read_body(body, byte, place);
-        }
-        let Some(open_run) = self.open_run else {
-            return self.lex(byte, place);
-        };
-        if let Some(word) = operand(byte) {
-            return self.join(open_run, word, place);
-        }
-        self.close(open_run)?;
-        self.lex(byte, place)
-    }
-
-    /// A word joins the open run.
-    fn join(&mut self, open_run: OpenRun, word: Word, place: u64) -> Result<(), Refused>
-        requires live { self.old.refusal ≡ None }
-        requires between { self.old.open_body ≡ None }
-        requires opened { self.old.open_run ≡ Some open_run }
-        ensures answered { MatchResult result (λ _. self.new.refusal ≡ None) (λ _. IsSome self.new.refusal) }
-        ensures reaches { (s : S) (o : Outcome) (x : Placed) (pending : List Placed) → CarriesWord x word →
-            Continues S.Sink s o self.old.sink (holding_of self.old) (x ∷ pending) → Reaches self.new s o pending }
-        ensures breaks { IfErr result (λ _. IfSome self.new.refusal (λ r. cause_of r.fault ≢ stream → (r ≡ refusal Fault.Memory place) × (length self.old.run.items < run_limit))) }
-        ensures sink { self.new.sink ≡ self.old.sink }
-        ensures counts { SameCounts self.old self.new }
-        ensures bodies { SameBodies self.old self.new }
-        ensures run { self.new.open_run ≡ self.old.open_run }
-    {
-        if self.run.len() >= RUN_LIMIT {
-            return refuse(&mut self.refusal, Fault::LongRun, open_run.place);
-        }
-        if self.run.push(word).is_err() {
-            return refuse(&mut self.refusal, Fault::Memory, place);
-        }
-        Ok(())
-    }
-
-    /// The open run is over, and its opcode acts.
-    fn close(&mut self, open_run: OpenRun) -> Result<(), Refused>
-        requires live { self.old.refusal ≡ None }
-        requires between { self.old.open_body ≡ None }
-        requires opened { self.old.open_run ≡ Some open_run }
-        ensures answered { MatchResult result (λ _. self.new.refusal ≡ None) (λ _. IsSome self.new.refusal) }
-        ensures reaches { (s : S) (o : Outcome) (x : Placed) (pending : List Placed) → is_operand x ≡ false →
-            Continues S.Sink s o self.old.sink (holding_of self.old) (x ∷ pending) → Reaches self.new s o (x ∷ pending) }
-        ensures closes { (s : S) (p : List ℕ) → Continues S.Sink s (begun (budget_of self.old) p) self.old.sink (holding_of self.old) [] →
-            ClosesBy S.Sink s (budget_of self.old) p self.new.sink (holding_of self.new) self.new.refusal }
-        ensures past { OnOk result ((s : S) (p : List ℕ) (b : ℕ) → is_operand_byte b ≡ false →
-            Continues S.Sink s (begun (budget_of self.old) p) self.old.sink (holding_of self.old) [] →
-            ContinuesPast S.Sink s (with_run (begun (budget_of self.old) p)).entries (begun (budget_of self.old) (p ++ b ∷ [])) self.new.sink (holding_of self.new)
-            (record { byte = b; place = length p } ∷ [])) }
-        ensures amid { IfErr result (λ _. IfSome self.new.refusal (λ r. cause_of r.fault ≢ stream → (s : S) (o : Outcome) (x : Placed) → is_operand x ≡ false →
-            Continues S.Sink s o self.old.sink (holding_of self.old) (x ∷ []) → BreaksFrom S.Sink s [] o self.new.sink (cause_of r.fault))) }
-        ensures closed { self.new.refusal ≡ None → self.new.open_run ≡ None }
-        ensures place { IfErr result (λ _. IfSome self.new.refusal (λ r. r.place ≡ open_run.place)) }
-        ensures between { self.new.open_body ≡ None }
-        ensures failed { IfErr result (λ _. IfSome self.new.refusal (λ r. r.fault ≡ Fault.Sink → S.failed self.new.sink ≡ true)) }
-        ensures kept { IfErr result (λ _. IfSome self.new.refusal (λ r. S.failed self.old.sink ≡ false → S.failed self.new.sink ≡ true → r.fault ≡ Fault.Sink)) }
-        ensures clear { OnOk result (S.failed self.old.sink ≡ false → S.failed self.new.sink ≡ false) }
-        ensures counts { SameCounts self.old self.new }
-        ensures bytes { SameBytes self.old self.new }
-    {
-        match self.work.act(
-            self.alloc,
-            &mut self.room,
-            open_run.op,
-            &self.run,
-            &mut self.sink,
-        ) {
-            Ok(clears) => {
-                self.store.clear_if(clears);
-                self.open_run = None;
-                self.run.clear();
-                Ok(())
-            }
-            Err(fault) => refuse(&mut self.refusal, Fault::from(fault), open_run.place),
-        }
-    }
-
-    /// Takes a byte where no run is open, and no body. Most codes are one byte, which needs no step of the lexer.
-    #[inline(always)]
-    fn lex(&mut self, byte: u8, place: u64) -> Result<(), Refused>
-        requires live { self.old.refusal ≡ None }
-        requires between { self.old.open_body ≡ None }
-        requires closed { self.old.open_run ≡ None }
-        ensures answered { MatchResult result (λ _. self.new.refusal ≡ None) (λ _. IsSome self.new.refusal) }
-        ensures reaches { (s : S) (o : Outcome) (inputs : List Placed) →
-            Continues S.Sink s o self.old.sink (holding_of self.old) (placed_at byte place ∷ frames_left self.old ++ inputs) → ReachesWith self.new s o inputs }
-        ensures breaks { IfErr result (λ _. IfSome self.new.refusal (λ r. cause_of r.fault ≢ stream → (s : S) (known : List Entry) (o : Outcome) →
-            ContinuesPast S.Sink s known o self.old.sink (holding_of self.old) (record { byte = byte; place = place } ∷ []) →
-            (r.place ≡ place) × BreaksSome S.Sink s known o self.new.sink (holding_of self.old) (cause_of r.fault))) }
-        ensures failed { IfErr result (λ _. IfSome self.new.refusal (λ r. r.fault ≡ Fault.Sink → S.failed self.new.sink ≡ true)) }
-        ensures kept { IfErr result (λ _. IfSome self.new.refusal (λ r. S.failed self.old.sink ≡ false → S.failed self.new.sink ≡ true → r.fault ≡ Fault.Sink)) }
-        ensures clear { OnOk result (S.failed self.old.sink ≡ false → S.failed self.new.sink ≡ false) }
-        ensures counts { Charges self.old self.new }
-        ensures uncharged { IfErr result (λ _. self.new.charged ≡ self.old.charged) }
-        ensures placed { OnOk result (Places self.old self.new place) }
-    {
-        if let Some(set) = self.lexer.character(byte) {
-            let put = self.work.text(set, byte, &mut self.sink);
-            return latched(&mut self.refusal, put, place);
-        }
-        if let Some(op) = self.lexer.opcode(byte) {
-            self.open_run = Some(OpenRun { op, place });
-            self.run.clear();
-            return Ok(());
-        }
-        if let Some(step) = self.lexer.format_effector(byte) {
-            let moved = self.work.control(&Code::Step(step), &mut self.sink);
-            return latched(&mut self.refusal, moved, place);
-        }
-        if self.lexer.is_shift(byte) {
-            self.lexer.shift(byte);
-            return Ok(());
-        }
-        self.read_code(byte, place)
-    }
-
-    /// Takes a byte of any code, where no run is open, and no body.
-    #[inline(never)]
-    fn read_code(&mut self, byte: u8, place: u64) -> Result<(), Refused>
-        requires live { self.old.refusal ≡ None }
-        requires between { self.old.open_body ≡ None }
-        requires closed { self.old.open_run ≡ None }
-        ensures answered { MatchResult result (λ _. self.new.refusal ≡ None) (λ _. IsSome self.new.refusal) }
-        ensures reaches { (s : S) (o : Outcome) (inputs : List Placed) →
-            Continues S.Sink s o self.old.sink (holding_of self.old) (placed_at byte place ∷ frames_left self.old ++ inputs) → ReachesWith self.new s o inputs }
-        ensures breaks { IfErr result (λ _. IfSome self.new.refusal (λ r. cause_of r.fault ≢ stream → (s : S) (known : List Entry) (o : Outcome) →
-            ContinuesPast S.Sink s known o self.old.sink (holding_of self.old) (record { byte = byte; place = place } ∷ []) →
-            (r.place ≡ place) × BreaksSome S.Sink s known o self.new.sink (holding_of self.old) (cause_of r.fault))) }
-        ensures failed { IfErr result (λ _. IfSome self.new.refusal (λ r. r.fault ≡ Fault.Sink → S.failed self.new.sink ≡ true)) }
-        ensures kept { IfErr result (λ _. IfSome self.new.refusal (λ r. S.failed self.old.sink ≡ false → S.failed self.new.sink ≡ true → r.fault ≡ Fault.Sink)) }
-        ensures clear { OnOk result (S.failed self.old.sink ≡ false → S.failed self.new.sink ≡ false) }
-        ensures counts { Charges self.old self.new }
-        ensures uncharged { IfErr result (λ _. self.new.charged ≡ self.old.charged) }
-        ensures placed { OnOk result (Places self.old self.new place) }
-    {
-        let code = match self.lexer.step(byte) {
-            Step::More => return Ok(()),
-            Step::Fault(fault) => return refuse(&mut self.refusal, Fault::from(fault), place),
-            Step::Code(code) => code,
-        };
-        match Kind::of(code) {
-            Kind::Opens(op) => {
-                self.open_run = Some(OpenRun { op, place });
-                self.run.clear();
-                Ok(())
-            }
-            Kind::Strays => refuse(&mut self.refusal, Fault::Stray, place),
-            Kind::AddsNothing => Ok(()),
-            Kind::Acts(code) => {
-                let acted = self.work.control(&code, &mut self.sink);
-                latched(&mut self.refusal, acted, place)
-            }
-            Kind::Calls(name) => self.call(name, place),
-            Kind::Binds { name, show } => {
-                let opened = self.work.control(&code, &mut self.sink);
-                self.open_body = Some(OpenBody {
-                    name,
-                    show,
-                    escape: None,
-                });
-                latched(&mut self.refusal, opened, place)
-            }
-        }
-    }
-
-    /// Takes a byte of the open body.
-    #[inline(never)]
-    fn read_body(&mut self, body: OpenBody, byte: u8, place: u64) -> Result<(), Refused>
-        requires live { self.old.refusal ≡ None }
-        requires opened { self.old.open_body ≡ Some body }
-        ensures answered { MatchResult result (λ _. self.new.refusal ≡ None) (λ _. IsSome self.new.refusal) }
-        ensures reaches { (s : S) (o : Outcome) (inputs : List Placed) →
-            Continues S.Sink s o self.old.sink (holding_of self.old) (placed_at byte place ∷ frames_left self.old ++ inputs) → ReachesWith self.new s o inputs }
-        ensures breaks { IfErr result (λ _. IfSome self.new.refusal (λ r. cause_of r.fault ≢ stream → (s : S) (known : List Entry) (o : Outcome) →
-            ContinuesPast S.Sink s known o self.old.sink (holding_of self.old) (placed_at byte place ∷ []) →
-            (r.place ≡ place) × BreaksInBody S.Sink s known o self.new.sink (holding_of self.old) (cause_of r.fault))) }
-        ensures failed { IfErr result (λ _. IfSome self.new.refusal (λ r. r.fault ≡ Fault.Sink → S.failed self.new.sink ≡ true)) }
-        ensures kept { IfErr result (λ _. IfSome self.new.refusal (λ r. S.failed self.old.sink ≡ false → S.failed self.new.sink ≡ true → r.fault ≡ Fault.Sink)) }
-        ensures clear { OnOk result (S.failed self.old.sink ≡ false → S.failed self.new.sink ≡ false) }
-        ensures counts { Charges self.old self.new }
-        ensures uncharged { IfErr result (λ _. self.new.charged ≡ self.old.charged) }
-        ensures placed { OnOk result (Places self.old self.new place) }
-    {
-        if byte >= 0x80 {
-            return refuse(&mut self.refusal, Fault::EighthBit, place);
-        }
-        let Some(escape) = body.escape else {
-            return self.keep(body, byte, place);
-        };
-        if ends_body(byte) {
-            return self.end_body(body, escape, byte, place);
-        }
-        let room = self.store.room();
-        if room == 0 {
-            return refuse(&mut self.refusal, Fault::Store, escape);
-        }
-        if room == 1 && byte != 0x1B {
-            return refuse(&mut self.refusal, Fault::Store, place);
-        }
-        let Ok(()) = self.store.push(0x1B) else {
-            return refuse(&mut self.refusal, Fault::Memory, place);
-        };
-        self.keep(body, byte, place)
-    }
-
-    /// Takes a byte of the open body, while no ESC is held back.
-    fn keep(&mut self, body: OpenBody, byte: u8, place: u64) -> Result<(), Refused>
-        requires live { self.old.refusal ≡ None }
-        requires named { IsGraphic body.name }
-        requires low { byte < 0x80 }
-        ensures answered { MatchResult result (λ _. self.new.refusal ≡ None) (λ _. IsSome self.new.refusal) }
-        ensures reaches { (s : S) (o : Outcome) (inputs : List Placed) →
-            ReadsOn S.Sink s o self.old.sink (holding_of self.old) body (placed_at byte place) (frames_left self.old ++ inputs) → ReachesWith self.new s o inputs }
-        ensures breaks { IfErr result (λ _. IfSome self.new.refusal (λ r. cause_of r.fault ≢ stream → (r ≡ refusal Fault.Memory place)
-            × ((s : S) (o : Outcome) → ReadsOn S.Sink s o self.old.sink (holding_of self.old) body (placed_at byte place) [] → o.refusal ≡ None))) }
-        ensures sink { self.new.sink ≡ self.old.sink }
-        ensures counts { Charges self.old self.new }
-        ensures uncharged { IfErr result (λ _. self.new.charged ≡ self.old.charged) }
-        ensures still { OnOk result (IsStill self.old self.new) }
-    {
-        if byte == 0x1B {
-            self.open_body = Some(OpenBody {
-                name: body.name,
-                show: body.show,
-                escape: Some(place),
-            });
-            return Ok(());
-        }
-        if self.store.room() == 0 {
-            return refuse(&mut self.refusal, Fault::Store, place);
-        }
-        let Ok(()) = self.store.push(byte) else {
-            return refuse(&mut self.refusal, Fault::Memory, place);
-        };
-        self.open_body = Some(OpenBody {
-            name: body.name,
-            show: body.show,
-            escape: None,
-        });
-        Ok(())
-    }
-
-    /// This byte behind a held ESC ends the open body.
-    fn end_body(
-        &mut self,
-        body: OpenBody,
-        escape: u64,
-        ender: u8,
-        place: u64,
-    ) -> Result<(), Refused>
-        requires live { self.old.refusal ≡ None }
-        requires opened { self.old.open_body ≡ Some body }
-        requires held { body.escape ≡ Some escape }
-        requires ends { bodies.ends_body ender ≡ true }
-        ensures answered { MatchResult result (λ _. self.new.refusal ≡ None) (λ _. IsSome self.new.refusal) }
-        ensures reaches { (s : S) (o : Outcome) (inputs : List Placed) →
-            Continues S.Sink s o self.old.sink (holding_of self.old) (placed_at ender place ∷ frames_left self.old ++ inputs) → ReachesWith self.new s o inputs }
-        ensures breaks { IfErr result (λ _. IfSome self.new.refusal (λ r. cause_of r.fault ≢ stream → (s : S) (known : List Entry) (o : Outcome) →
-            ContinuesPast S.Sink s known o self.old.sink (holding_of self.old) (placed_at ender place ∷ []) →
-            (r.place ≡ place) × BreaksInBody S.Sink s known o self.new.sink (holding_of self.old) (cause_of r.fault))) }
-        ensures failed { IfErr result (λ _. IfSome self.new.refusal (λ r. r.fault ≡ Fault.Sink → S.failed self.new.sink ≡ true)) }
-        ensures kept { IfErr result (λ _. IfSome self.new.refusal (λ r. S.failed self.old.sink ≡ false → S.failed self.new.sink ≡ true → r.fault ≡ Fault.Sink)) }
-        ensures clear { OnOk result (S.failed self.old.sink ≡ false → S.failed self.new.sink ≡ false) }
-        ensures counts { Charges self.old self.new }
-        ensures uncharged { IfErr result (λ _. self.new.charged ≡ self.old.charged) }
-        ensures placed { OnOk result (Places self.old self.new place) }
-    {
-        if body.show {
-            return self.show_body(body, escape, ender, place);
-        }
-        self.store.bind(body.name);
-        self.open_body = None;
-        // (no run is open in a body)
-        self.open_run = None;
-        // The two bytes that end the body are the next code.
-        let _ = self.lexer.step(0x1B);
-        self.lex(ender, place)
-    }
-
-    /// The open body is shown: it comes next, with the two bytes that end it.
-    fn show_body(
-        &mut self,
-        body: OpenBody,
-        escape: u64,
-        byte: u8,
-        place: u64,
-    ) -> Result<(), Refused>
-        requires live { self.old.refusal ≡ None }
-        requires opened { self.old.open_body ≡ Some body }
-        requires held { body.escape ≡ Some escape }
-        requires ends { bodies.ends_body byte ≡ true }
-        requires shows { body.show ≡ true }
-        ensures answered { MatchResult result (λ _. self.new.refusal ≡ None) (λ _. IsSome self.new.refusal) }
-        ensures reaches { (s : S) (o : Outcome) (inputs : List Placed) →
-            Continues S.Sink s o self.old.sink (holding_of self.old) (placed_at byte place ∷ frames_left self.old ++ inputs) → ReachesWith self.new s o inputs }
-        ensures breaks { IfErr result (λ _. IfSome self.new.refusal (λ r. cause_of r.fault ≢ stream → (r ≡ refusal Fault.Memory place)
-            × ((s : S) (o : Outcome) → Continues S.Sink s o self.old.sink (holding_of self.old) (placed_at byte place ∷ []) → o.machine.left < left_of self.old))) }
-        ensures sink { self.new.sink ≡ self.old.sink }
-        ensures counts { Charges self.old self.new }
-        ensures uncharged { IfErr result (λ _. self.new.charged ≡ self.old.charged) }
-        ensures placed { OnOk result (Places self.old self.new place) }
-    {
-        let count = self.store.open_len() as u64 + 2;
-        if count > self.left() {
-            return refuse(&mut self.refusal, Fault::Budget, place);
-        }
-        let Ok(span) = self.store.show(body.name, byte) else {
-            return refuse(&mut self.refusal, Fault::Memory, place);
-        };
-        self.open_body = None;
-        // (no run is open in a body)
-        self.open_run = None;
-        present(
-            &mut self.frames,
-            &mut self.charged,
-            &mut self.refusal,
-            span,
-            count,
-            place,
-        )
-    }
-
-    /// Calls the macro of this name.
-    fn call(&mut self, name: u8, place: u64) -> Result<(), Refused>
-        requires live { self.old.refusal ≡ None }
-        requires named { IsGraphic name }
-        ensures answered { MatchResult result (λ _. self.new.refusal ≡ None) (λ _. IsSome self.new.refusal) }
-        ensures shows { Shows self.old self.new (body_of self.old.store.names name) place }
-        ensures breaks { IfErr result (λ _. IfSome self.new.refusal (λ r. cause_of r.fault ≢ stream →
-            (r ≡ refusal Fault.Memory place) × (0 < length (body_of self.old.store.names name)) × (length (body_of self.old.store.names name) ≤ left_of self.old))) }
-        ensures sink { self.new.sink ≡ self.old.sink }
-        ensures counts { Charges self.old self.new }
-        ensures uncharged { IfErr result (λ _. self.new.charged ≡ self.old.charged) }
-    {
-        let span = self.store.span(name);
-        let count = (span.end - span.start) as u64;
-        if count == 0 {
-            return Ok(());
-        }
-        if count > self.left() {
-            return refuse(&mut self.refusal, Fault::Budget, place);
-        }
-        present(
-            &mut self.frames,
-            &mut self.charged,
-            &mut self.refusal,
-            span,
-            count,
-            place,
-        )
     }
 
     /// What is left to charge.
@@ -614,16 +209,16 @@ impl<S: Sink> Reader<S> {
             });
         }
         let Some(open_run) = self.open_run else {
-            return self.settle();
+            return self.check_finished();
         };
         let Err(Refused) = self.close(open_run) else {
-            return self.settle();
+            return self.check_finished();
         };
-        self.told()
+        self.kept_refusal()
     }
 
     /// No run is open at the end, nor a body, and what is unfinished is refused.
-    fn settle(&mut self) -> Result<(), Refusal>
+    fn check_finished(&mut self) -> Result<(), Refusal>
         requires { self.old.refusal ≡ None }
         ensures settled { (s : S) (o : Outcome) → Ends S.Sink s o self.old.sink (holding_of self.old) →
             MatchResult result (λ _. IsTaken S.Sink s (with_code o self.old.fed o.unfinished) self.new.sink None)
@@ -739,32 +334,6 @@ impl<S: Sink> Reader<S> {
     }
 }
 
-/// This part of the store comes next, at this place, and is charged.
-fn present(
-    frames: &mut Frames,
-    charged: &mut u64,
-    latch: &mut Option<Refusal>,
-    span: Span,
-    count: u64,
-    place: u64,
-) -> Result<(), Refused>
-    requires some { span.start < span.end }
-    requires counted { count + span.start ≡ span.end }
-    requires most { count + charged.old ≤ most_budget }
-    ensures shown { OnOk result ((charged.new ≡ charged.old + count) × (latch.new ≡ latch.old) × ((bytes : List ℕ) → unread bytes frames.new.stack.items ≡ all_at place (part_at bytes span) ++ unread bytes frames.old.stack.items)) }
-    ensures wants { IfErr result (λ _. latch.new ≡ Some (refusal Fault.Memory place)) }
-    ensures uncharged { IfErr result (λ _. charged.new ≡ charged.old) }
-    ensures within { (n : ℕ) → span.end ≤ n → FramesIn n frames.old.stack.items → FramesIn n frames.new.stack.items }
-    ensures turned { (bytes : List ℕ) → span.end ≤ length bytes → length (unread bytes frames.new.stack.items) + charged.old ≡ length (unread bytes frames.old.stack.items) + charged.new }
-    ensures more { (charged.old ≤ charged.new) × (charged.new ≤ charged.old + count) }
-{
-    let Ok(()) = frames.push(span, place) else {
-        return refuse(latch, Fault::Memory, place);
-    };
-    *charged += count;
-    Ok(())
-}
-
 /// Refuses the stream, for good.
 fn refuse<T>(latch: &mut Option<Refusal>, fault: Fault, place: u64) -> Result<T, Refused>
     ensures latched { latch.new ≡ Some (refusal fault place) }
@@ -772,21 +341,6 @@ fn refuse<T>(latch: &mut Option<Refusal>, fault: Fault, place: u64) -> Result<T,
 {
     *latch = Some(Refusal { fault, place });
     Err(Refused)
-}
-
-/// Refuses the stream, for good, where a code there was refused.
-fn latched(
-    latch: &mut Option<Refusal>,
-    acted: Result<(), DrawFault>,
-    place: u64,
-) -> Result<(), Refused>
-    ensures ok { IfOk acted (λ _. (IsOk result) × (latch.new ≡ latch.old)) }
-    ensures err { IfErr acted (λ fault. (latch.new ≡ Some (refusal (draw_fault fault) place)) × (IsErr result)) }
-{
-    match acted {
-        Ok(()) => Ok(()),
-        Err(fault) => refuse(latch, Fault::from(fault), place),
-    }
 }
 
 /// The sink as it stands, and why the reading stopped.

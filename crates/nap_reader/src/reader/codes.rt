@@ -1,0 +1,171 @@
+//! One byte: of a body, of a run, or of a code.
+ghost use Rattle.std.specs.Prelude.{◌≡◌, ◌++◌, ◌+◌, ◌≤◌, ◌<◌, ℕ, List, None, Some, length, OnOk, IfOk, IfErr, IsOk, IsErr, MatchResult};
+ghost use Rattle.nap_codes.specs.Laws.{IsGraphic};
+ghost use Rattle.nap_reader.specs.Budgets.{most_budget};
+ghost use Rattle.nap_reader.specs.Faults.{draw_fault};
+ghost use Rattle.nap_reader.specs.Framed.{FramesIn, unread};
+ghost use Rattle.nap_reader.specs.Stored.{part_at};
+ghost use Rattle.nap_reader.specs.Stream.{all_at, refusal};
+
+use super::{OpenRun, Reader, Refused, refuse};
+use crate::body::OpenBody;
+use crate::fault::{Fault, Refusal};
+use crate::frames::Frames;
+use crate::kind::Kind;
+use crate::operands::operand;
+use crate::store::Span;
+use nap_codes::{Code, Step};
+use nap_draw::DrawFault;
+use nap_list::Sink;
+
+impl<S: Sink> Reader<S> {
+    ghost use Rattle.nap_reader.specs.Bodies.{body_of};
+    ghost use Rattle.nap_reader.specs.Framed.{placed_at};
+    ghost use Rattle.nap_reader.specs.Steps.{IsBetween, Presents, Refuses, RefusesCall, Takes};
+
+    /// Takes one byte, which has this place.
+    #[inline(always)]
+    pub(super) fn take_byte(&mut self, byte: u8, place: u64) -> Result<(), Refused>
+        requires { self.old.refusal ≡ None }
+        ensures { MatchResult result (λ _. Takes self.old self.new (placed_at byte place)) (λ _. Refuses self.old self.new (placed_at byte place)) }
+    {
+        if let Some(body) = self.open_body {
+            return self.read_body(body, byte, place);
+        }
+        let Some(open_run) = self.open_run else {
+            return self.lex(byte, place);
+        };
+        if let Some(word) = operand(byte) {
+            return self.join(open_run, word, place);
+        }
+        self.close(open_run)?;
+        self.lex(byte, place)
+    }
+
+    /// Takes a byte where no run is open, and no body. Most codes are one byte, which needs no step of the lexer.
+    #[inline(always)]
+    pub(super) fn lex(&mut self, byte: u8, place: u64) -> Result<(), Refused>
+        requires { IsBetween self.old }
+        ensures { MatchResult result (λ _. Takes self.old self.new (placed_at byte place)) (λ _. Refuses self.old self.new (placed_at byte place)) }
+    {
+        if let Some(set) = self.lexer.character(byte) {
+            let put = self.work.text(set, byte, &mut self.sink);
+            return latch_fault(&mut self.refusal, put, place);
+        }
+        if let Some(op) = self.lexer.opcode(byte) {
+            self.open_run = Some(OpenRun { op, place });
+            self.run.clear();
+            return Ok(());
+        }
+        if let Some(step) = self.lexer.format_effector(byte) {
+            let moved = self.work.control(&Code::Step(step), &mut self.sink);
+            return latch_fault(&mut self.refusal, moved, place);
+        }
+        if self.lexer.is_shift(byte) {
+            self.lexer.shift(byte);
+            return Ok(());
+        }
+        self.read_code(byte, place)
+    }
+
+    /// Takes a byte of any code, where no run is open, and no body.
+    #[inline(never)]
+    fn read_code(&mut self, byte: u8, place: u64) -> Result<(), Refused>
+        requires { IsBetween self.old }
+        ensures { MatchResult result (λ _. Takes self.old self.new (placed_at byte place)) (λ _. Refuses self.old self.new (placed_at byte place)) }
+    {
+        let code = match self.lexer.step(byte) {
+            Step::More => return Ok(()),
+            Step::Fault(fault) => return refuse(&mut self.refusal, Fault::from(fault), place),
+            Step::Code(code) => code,
+        };
+        match Kind::of(code) {
+            Kind::Opens(op) => {
+                self.open_run = Some(OpenRun { op, place });
+                self.run.clear();
+                Ok(())
+            }
+            Kind::Strays => refuse(&mut self.refusal, Fault::Stray, place),
+            Kind::AddsNothing => Ok(()),
+            Kind::Acts(code) => {
+                let acted = self.work.control(&code, &mut self.sink);
+                latch_fault(&mut self.refusal, acted, place)
+            }
+            Kind::Calls(name) => self.call(name, place),
+            Kind::Binds { name, show } => {
+                let opened = self.work.control(&code, &mut self.sink);
+                self.open_body = Some(OpenBody {
+                    name,
+                    show,
+                    escape: None,
+                });
+                latch_fault(&mut self.refusal, opened, place)
+            }
+        }
+    }
+
+    /// Calls the macro of this name.
+    pub(super) fn call(&mut self, name: u8, place: u64) -> Result<(), Refused>
+        requires live { self.old.refusal ≡ None }
+        requires named { IsGraphic name }
+        ensures { MatchResult result (λ _. Presents self.old self.new (body_of self.old.store.names name) place) (λ _. RefusesCall self.old self.new (body_of self.old.store.names name) place) }
+    {
+        let span = self.store.span(name);
+        let count = (span.end - span.start) as u64;
+        if count == 0 {
+            return Ok(());
+        }
+        if count > self.left() {
+            return refuse(&mut self.refusal, Fault::Budget, place);
+        }
+        push_body(
+            &mut self.frames,
+            &mut self.charged,
+            &mut self.refusal,
+            span,
+            count,
+            place,
+        )
+    }
+}
+
+/// This part of the store comes next, at this place, and is charged.
+pub(super) fn push_body(
+    frames: &mut Frames,
+    charged: &mut u64,
+    latch: &mut Option<Refusal>,
+    span: Span,
+    count: u64,
+    place: u64,
+) -> Result<(), Refused>
+    requires some { span.start < span.end }
+    requires counted { count + span.start ≡ span.end }
+    requires most { count + charged.old ≤ most_budget }
+    ensures shows { MatchResult result (λ _. (charged.new ≡ charged.old + count) × (latch.new ≡ latch.old)
+        × ((bytes : List ℕ) → unread bytes frames.new.stack.items ≡ all_at place (part_at bytes span) ++ unread bytes frames.old.stack.items))
+        (λ _. (charged.new ≡ charged.old) × (latch.new ≡ Some (refusal Fault.Memory place))) }
+    ensures within { (n : ℕ) → span.end ≤ n → FramesIn n frames.old.stack.items → FramesIn n frames.new.stack.items }
+    ensures turned { (bytes : List ℕ) → span.end ≤ length bytes → length (unread bytes frames.new.stack.items) + charged.old ≡ length (unread bytes frames.old.stack.items) + charged.new }
+    ensures more { (charged.old ≤ charged.new) × (charged.new ≤ charged.old + count) }
+{
+    let Ok(()) = frames.push(span, place) else {
+        return refuse(latch, Fault::Memory, place);
+    };
+    *charged += count;
+    Ok(())
+}
+
+/// Refuses the stream, for good, where a code there was refused.
+fn latch_fault(
+    latch: &mut Option<Refusal>,
+    acted: Result<(), DrawFault>,
+    place: u64,
+) -> Result<(), Refused>
+    ensures ok { IfOk acted (λ _. (IsOk result) × (latch.new ≡ latch.old)) }
+    ensures err { IfErr acted (λ fault. (latch.new ≡ Some (refusal (draw_fault fault) place)) × (IsErr result)) }
+{
+    match acted {
+        Ok(()) => Ok(()),
+        Err(fault) => refuse(latch, Fault::from(fault), place),
+    }
+}

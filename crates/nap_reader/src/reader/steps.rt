@@ -1,0 +1,50 @@
+//! One step: a byte or a call, and what comes behind it at once.
+ghost use Rattle.std.specs.Prelude.{◌≡◌, ◌+◌, ◌-◌, ◌^◌, ◌<◌, ◌≤◌, ℕ, None, length, MatchResult};
+
+use super::{Reader, Refused};
+use nap_list::Sink;
+
+impl<S: Sink> Reader<S> {
+    ghost use Rattle.nap_reader.specs.Framed.{placed_at};
+    ghost use Rattle.nap_reader.specs.Pieces.{RefusesByte, RefusesStep, TakesByte, TakesStep};
+    ghost use Rattle.nap_reader.specs.Standing.{fed_of};
+
+    /// Takes one byte, which has this place, and then what comes next at once: operands of the run, and whole codes.
+    #[inline(always)]
+    pub(super) fn step(
+        &mut self,
+        byte: u8,
+        place: u64,
+        piece: &[u8],
+        at: &mut usize,
+    ) -> Result<(), Refused>
+        requires live { self.old.refusal ≡ None }
+        requires within { at.old ≤ length piece.now }
+        requires few { fed_of self.old + (length piece.now - at.old) < 2 ^ 63 }
+        ensures { MatchResult result (λ _. TakesStep self.old self.new piece.now at.old at.new (placed_at byte place)) (λ _. RefusesStep self.old self.new piece.now at.old (placed_at byte place)) }
+    {
+        self.byte_or_call(byte, place, piece, at)?;
+        self.operands(piece, at);
+        self.codes(piece, at)
+    }
+
+    /// Takes one byte, which has this place, and with SS3 the name behind it where both call a macro.
+    #[inline(always)]
+    fn byte_or_call(
+        &mut self,
+        byte: u8,
+        place: u64,
+        piece: &[u8],
+        at: &mut usize,
+    ) -> Result<(), Refused>
+        requires live { self.old.refusal ≡ None }
+        requires within { at.old ≤ length piece.now }
+        requires few { fed_of self.old + (length piece.now - at.old) < 2 ^ 63 }
+        ensures { MatchResult result (λ _. TakesByte self.old self.new piece.now at.old at.new (placed_at byte place)) (λ _. RefusesByte self.old self.new piece.now at.old (placed_at byte place)) }
+    {
+        let Some((name, there)) = self.name_of_call(byte, piece, at) else {
+            return self.take_byte(byte, place);
+        };
+        self.call(name, there)
+    }
+}

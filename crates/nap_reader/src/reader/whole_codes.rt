@@ -1,0 +1,242 @@
+//! Whole codes at the front of bytes, where nothing is open or half read.
+ghost use Rattle.std.specs.Prelude.{◌≡◌, ◌+◌, ◌-◌, ◌≤◌, ◌<◌, ◌^◌, ℕ, List, [], ◌∷◌, true, false, None, drop, length, vec_len, IfSome, MatchOption, MatchResult};
+ghost use Rattle.nap_codes.specs.declared.code.Code.TheVariants as codes;
+ghost use Rattle.nap_codes.specs.Front.{front, whole};
+ghost use Rattle.nap_codes.specs.Laws.{IsGraphic};
+ghost use Rattle.nap_codes.specs.Lexer.{LexerState};
+ghost use Rattle.nap_list.specs.Agreement.{StatesAgree};
+ghost use Rattle.nap_draw.specs.declared.work.Work.{Work};
+ghost use Rattle.nap_draw.specs.Limits.{run_limit};
+ghost use Rattle.nap_reader.specs.Steps.{CodesStop, Leaves, OneMore, WholeCodes};
+
+use super::coming::{coming, pass, place_of};
+use super::{Reader, Refused, refuse};
+use crate::fault::Fault;
+use crate::graphic::graphic_bytes;
+use crate::operands::whole_run;
+use nap_codes::{CharSet, Code, Lexer};
+use nap_draw::Work;
+use nap_list::Sink;
+use nap_values::{Point, Word};
+use std::alloc::Global;
+
+impl<S: Sink> Reader<S> {
+    ghost use Rattle.nap_reader.specs.Pieces.{RefusesCodes, TakesCodes};
+    ghost use Rattle.nap_reader.specs.Standing.{fed_of};
+
+    /// Takes whole codes that come next, where nothing is open or half read.
+    pub(super) fn codes(&mut self, piece: &[u8], at: &mut usize) -> Result<(), Refused>
+        requires live { self.old.refusal ≡ None }
+        requires within { at.old ≤ length piece.now }
+        requires few { fed_of self.old + (length piece.now - at.old) < 2 ^ 63 }
+        ensures { MatchResult result (λ _. TakesCodes self.old self.new piece.now at.old at.new) (λ _. RefusesCodes self.old self.new piece.now at.old) }
+    {
+        if let Some(_) = self.open_body {
+            return Ok(());
+        }
+        if let Some(_) = self.open_run {
+            return Ok(());
+        }
+        if !self.lexer.at_rest() {
+            return Ok(());
+        }
+        let (bytes, first) = coming(&self.frames, self.store.bytes(), piece, *at, self.fed);
+        let whole = whole_codes(
+            self.alloc,
+            &mut self.work,
+            &mut self.lexer,
+            &mut self.run,
+            &mut self.room,
+            &mut self.sink,
+            bytes,
+        );
+        let place = match whole.stop {
+            Some((_, index)) => place_of(&self.frames, first, index),
+            None => first,
+        };
+        pass(
+            &mut self.frames,
+            self.store.bytes(),
+            at,
+            &mut self.fed,
+            &mut self.turns,
+            whole.count,
+        );
+        match whole.stop {
+            Some((fault, _)) => refuse(&mut self.refusal, fault, place),
+            None => {
+                self.store.clear_if(whole.clears);
+                Ok(())
+            }
+        }
+    }
+}
+
+/// What became of whole codes.
+#[derive(Clone, Copy, Drop)]
+struct Whole {
+    /// How many bytes were taken, with those of a code that is refused or breaks.
+    count: usize,
+    /// Whether the last opcode unbinds all macros.
+    clears: bool,
+    /// Why the last code is refused or breaks, and the index of the byte that has the place.
+    stop: Option<(Fault, usize)>,
+}
+
+/// What became of one code.
+#[derive(Clone, Copy, Drop)]
+enum One {
+    /// It acted: so many bytes; and whether it unbinds all macros.
+    Acted(usize, bool),
+    /// It is refused or breaks: so many bytes, why, and the index of the byte that has the place.
+    Stopped(usize, Fault, usize),
+    /// It isn't whole, or is none of these codes.
+    Other,
+}
+
+/// Takes whole codes at the front of the bytes. A run is whole if a byte behind it is there.
+#[inline(never)]
+fn whole_codes<S: Sink>(
+    alloc: Global,
+    work: &mut Work,
+    lexer: &mut Lexer,
+    run: &mut Vec<Word>,
+    room: &mut Vec<Point>,
+    sink: &mut S,
+    bytes: &[u8],
+) -> Whole
+    requires agrees { StatesAgree work.old.state (S.state sink.old) }
+    requires rested { lexer.old.half ≡ [] }
+    ensures short { vec_len run.old ≤ run_limit → vec_len run.new ≤ run_limit }
+    ensures agree { result.stop ≡ None → StatesAgree work.new.state (S.state sink.new) }
+    ensures taken { MatchOption result.stop (WholeCodes S.Sink sink.old work.old lexer.old sink.new work.new lexer.new run.new.items result.clears bytes.now result.count)
+        (λ stop. CodesStop S.Sink sink.old work.old lexer.old sink.new bytes.now result.count stop.1 stop.0) }
+    ensures failed { IfSome result.stop (λ stop. stop.0 ≡ Fault.Sink → S.failed sink.new ≡ true) }
+    ensures kept { IfSome result.stop (λ stop. S.failed sink.old ≡ false → S.failed sink.new ≡ true → stop.0 ≡ Fault.Sink) }
+{
+    let mut count = 0;
+    while count < bytes.len() {
+        match whole_code(alloc, work, lexer, run, room, sink, &bytes[count..]) {
+            One::Acted(more, clears) => {
+                count += more;
+                if clears {
+                    return Whole {
+                        count,
+                        clears,
+                        stop: None,
+                    };
+                }
+            }
+            One::Stopped(more, fault, index) => {
+                return Whole {
+                    count: count + more,
+                    clears: false,
+                    stop: Some((fault, count + index)),
+                };
+            }
+            One::Other => break,
+        }
+    }
+    Whole {
+        count,
+        clears: false,
+        stop: None,
+    }
+}
+
+/// Takes the code at the front of the bytes.
+#[inline(always)]
+fn whole_code<S: Sink>(
+    alloc: Global,
+    work: &mut Work,
+    lexer: &mut Lexer,
+    run: &mut Vec<Word>,
+    room: &mut Vec<Point>,
+    sink: &mut S,
+    bytes: &[u8],
+) -> One
+    requires agrees { StatesAgree work.old.state (S.state sink.old) }
+    ensures short { vec_len run.old ≤ run_limit → vec_len run.new ≤ run_limit }
+    ensures one { (t : S) (w : Work) (l : LexerState) (all : List ℕ) (at : ℕ) → drop at all ≡ bytes.now →
+        WholeCodes S.Sink t w l sink.old work.old lexer.old run.old.items false all at → OneMore S.Sink t w l sink.new work.new lexer.new run.new.items all at result }
+    ensures leaves { Leaves S.Sink sink.old sink.new work.new result }
+{
+    let Some(byte) = bytes.first() else {
+        return One::Other;
+    };
+    let byte = *byte;
+    if byte >= 0x20 {
+        if let Some(set) = lexer.characters() {
+            return characters(work, set, sink, bytes);
+        }
+        if byte < 0x40 {
+            return opcode(alloc, work, lexer, run, room, sink, bytes);
+        }
+        return One::Other;
+    }
+    if let Some(step) = lexer.format_effector(byte) {
+        return match work.control(&Code::Step(step), sink) {
+            Ok(()) => One::Acted(1, false),
+            Err(fault) => One::Stopped(1, Fault::from(fault), 0),
+        };
+    }
+    if lexer.is_shift(byte) {
+        lexer.shift(byte);
+        return One::Acted(1, false);
+    }
+    One::Other
+}
+
+/// Takes the characters at the front of the bytes, which are of this set.
+#[inline(always)]
+fn characters<S: Sink>(work: &mut Work, set: CharSet, sink: &mut S, bytes: &[u8]) -> One
+    requires agrees { StatesAgree work.old.state (S.state sink.old) }
+    ensures one { (t : S) (w : Work) (l m : LexerState) (run : List ℕ) (all : List ℕ) (at : ℕ) → drop at all ≡ bytes.now →
+        ((b : ℕ) → IsGraphic b → front m.sets (b ∷ []) ≡ whole (codes.Char set b) 1 m.sets) →
+        WholeCodes S.Sink t w l sink.old work.old m run false all at → OneMore S.Sink t w l sink.new work.new m run all at result }
+    ensures leaves { Leaves S.Sink sink.old sink.new work.new result }
+{
+    let text = graphic_bytes(bytes);
+    if text.is_empty() {
+        return One::Other;
+    }
+    match work.characters(set, text, sink) {
+        Ok(()) => One::Acted(text.len(), false),
+        Err(short) => One::Stopped(short.taken + 1, Fault::from(short.fault), short.taken),
+    }
+}
+
+/// Takes the opcode at the front of the bytes, with its run.
+#[inline(always)]
+fn opcode<S: Sink>(
+    alloc: Global,
+    work: &mut Work,
+    lexer: &Lexer,
+    run: &mut Vec<Word>,
+    room: &mut Vec<Point>,
+    sink: &mut S,
+    bytes: &[u8],
+) -> One
+    requires agrees { StatesAgree work.old.state (S.state sink.old) }
+    requires graphic { (byte : ℕ) (rest : List ℕ) → bytes.now ≡ byte ∷ rest → IsGraphic byte }
+    ensures short { vec_len run.old ≤ run_limit → vec_len run.new ≤ run_limit }
+    ensures one { (t : S) (w : Work) (l : LexerState) (all : List ℕ) (at : ℕ) → drop at all ≡ bytes.now →
+        WholeCodes S.Sink t w l sink.old work.old lexer.now run.old.items false all at → OneMore S.Sink t w l sink.new work.new lexer.now run.new.items all at result }
+    ensures leaves { Leaves S.Sink sink.old sink.new work.new result }
+{
+    let Some((byte, rest)) = bytes.split_first() else {
+        return One::Other;
+    };
+    let Some(op) = lexer.opcode(*byte) else {
+        return One::Other;
+    };
+    let Some(count) = whole_run(run, rest) else {
+        return One::Other;
+    };
+    let acted = work.act(alloc, room, op, run, sink);
+    run.clear();
+    match acted {
+        Ok(clears) => One::Acted(count + 1, clears),
+        Err(fault) => One::Stopped(count + 2, Fault::from(fault), 0),
+    }
+}
