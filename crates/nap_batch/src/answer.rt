@@ -1,5 +1,5 @@
 //! The answer to a request.
-ghost use Rattle.std.specs.Prelude.{◌≡◌, ◌<◌, ◌^◌, [], false, IfOk, IfSome, IsSome, length};
+ghost use Rattle.std.specs.Prelude.{◌≡◌, [], false, IfOk, IfSome, IsSome};
 ghost use Rattle.nap_list.specs.State.{start};
 ghost use Rattle.nap_command.specs.declared.command.Action.TheVariants.{Check};
 ghost use Rattle.nap_command.specs.Commands.{PrintsBy, count_line};
@@ -43,7 +43,6 @@ impl Answer {
 
 /// What `check` prints of a page.
 fn check(alloc: Global, budget: Budget, page: &[u8]) -> Result<Printout, AllocError>
-    requires { length page.now < 2 ^ 63 }
     ensures { IfOk result (λ a. PrintsBy Check (page_command Check budget) page.now a.text.items a.verdict) }
 {
     let command = Command {
@@ -98,7 +97,6 @@ fn read_counted<S: Sink + Drop>(
     page: &[u8],
     sink: S,
 ) -> Result<(S, Option<u64>), Refusal>
-    requires small { length page.now < 2 ^ 63 }
     requires start { S.state sink ≡ start }
     requires works { S.failed sink ≡ false }
     ensures { IsCounted S.Sink sink budget page.now result }
@@ -114,7 +112,6 @@ fn read_counted<S: Sink + Drop>(
 
 /// The answer that shows the lines of a page's entries.
 fn listed(alloc: Global, budget: Budget, page: &[u8]) -> Result<Answer, AllocError>
-    requires { length page.now < 2 ^ 63 }
     ensures { IfOk result (λ a. IsAnswer Question.List budget page.now a.line.items a.body.items) }
 {
     match read_counted(alloc, budget, page, LineSink::new(alloc)) {
@@ -125,7 +122,6 @@ fn listed(alloc: Global, budget: Budget, page: &[u8]) -> Result<Answer, AllocErr
 
 /// The answer that shows the canonical text of a page.
 fn spelled(alloc: Global, budget: Budget, page: &[u8]) -> Result<Answer, AllocError>
-    requires { length page.now < 2 ^ 63 }
     ensures { IfOk result (λ a. IsAnswer Question.Canon budget page.now a.line.items a.body.items) }
 {
     let sink = CanonSink::new(Target::new(Vec::new(alloc)));
@@ -150,7 +146,6 @@ fn ended_line(alloc: Global, ended: Result<usize, Refusal>) -> Result<Vec<u8>, A
 
 /// The answer that shows where entries come from.
 fn placed(alloc: Global, budget: Budget, page: &[u8]) -> Result<Answer, AllocError>
-    requires { length page.now < 2 ^ 63 }
     ensures { IfOk result (λ a. IsAnswer Question.Places budget page.now a.line.items a.body.items) }
 {
     let placed = read_places(alloc, budget, page)?;
@@ -168,7 +163,6 @@ pub fn answer_page(
     budget: Budget,
     page: &[u8],
 ) -> Result<Answer, AllocError>
-    requires { length page.now < 2 ^ 63 }
     ensures { IfOk result (λ a. IsAnswer question budget page.now a.line.items a.body.items) }
 {
     match question {

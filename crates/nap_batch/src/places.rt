@@ -1,5 +1,5 @@
 //! Where the entries of a page come from.
-ghost use Rattle.std.specs.Prelude.{◌≡◌, ◌≢◌, ◌++◌, ◌^◌, ◌<◌, ◌≤◌, [], Err, IfOk, drop, length};
+ghost use Rattle.std.specs.Prelude.{◌≡◌, ◌≢◌, ◌++◌, ◌≤◌, [], Err, IfOk, drop, length};
 ghost use Rattle.nap_list.specs.declared.entry.Entry.{Entry};
 ghost use Rattle.nap_batch.specs.Answers.{IsPlaced, lines_at};
 
@@ -75,7 +75,6 @@ fn stopped(
 
 /// Reads a page byte by byte, and writes the lines of each byte's entries after its place.
 pub fn read_places(alloc: Global, budget: Budget, page: &[u8]) -> Result<Placed, AllocError>
-    requires { length page.now < 2 ^ 63 }
     ensures { IfOk result (λ r. IsPlaced budget page.now r.text.items r.ended) }
 {
     let mut text = Vec::new(alloc);

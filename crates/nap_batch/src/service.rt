@@ -1,5 +1,5 @@
 //! Requests one after another, and their answers.
-ghost use Rattle.std.specs.Prelude.{◌≡◌, ◌+◌, ◌<◌, ◌^◌, IfOk, drop, length, take};
+ghost use Rattle.std.specs.Prelude.{◌≡◌, ◌+◌, IfOk, drop, length, take};
 ghost use Rattle.nap_command.specs.Devices.{devices};
 ghost use Rattle.nap_batch.specs.declared.held.TheConstants.{ROOM};
 ghost use Rattle.nap_batch.specs.Requests.{IsWhole};
@@ -36,7 +36,6 @@ const NO_MEMORY: &[u8] = b"no memory\n0\n";
 
 /// The answer to a request whose page is here, as it goes out.
 fn answer_text(alloc: Global, line: RequestLine, page: &[u8]) -> Result<Vec<u8>, AllocError>
-    requires { length page.now < 2 ^ 63 }
     ensures { IfOk result (λ text. IsAnswered line.question line.budget page.now text.items) }
 {
     let answer = answer_page(alloc, line.question, line.budget, page)?;
@@ -63,7 +62,6 @@ fn answer<O: Outlet>(
     output: &mut O,
     written: u64,
 ) -> Result<u64, Ended>
-    requires { length page.now < 2 ^ 63 }
     ensures { Replies O.Outlet written line.question line.budget page.now output.old output.new result }
 {
     match answer_text(alloc, line, page) {

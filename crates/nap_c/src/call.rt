@@ -1,5 +1,5 @@
 //! The calls of the library.
-ghost use Rattle.std.specs.Prelude.{◌≡◌, ◌↔◌, ◌<◌, ◌^◌, IsTrue, length};
+ghost use Rattle.std.specs.Prelude.{◌≡◌, ◌↔◌, IsTrue};
 ghost use Rattle.nap_reader.specs.Breaking.{BreaksWithin};
 ghost use Rattle.nap_canon.specs.Plain.{IsPlain};
 ghost use Rattle.nap_canon.specs.Streams.{list_of};
@@ -19,7 +19,6 @@ use std::alloc::{AllocError, Global};
 /// How many entries a page has.
 #[unsafe(no_mangle)]
 pub extern "C" fn naplps_check(alloc: Global, budget: u32, page: &[u8]) -> Answer
-    requires { length page.now < 2 ^ 63 }
     ensures { AnswersCount budget page.now result }
 {
     let Some(budget) = Budget::new(budget) else {
@@ -34,7 +33,6 @@ pub extern "C" fn naplps_check(alloc: Global, budget: u32, page: &[u8]) -> Answe
 /// The lines of a page's entries.
 #[unsafe(no_mangle)]
 pub extern "C" fn naplps_list(alloc: Global, budget: u32, page: &[u8], room: &mut [u8]) -> Answer
-    requires { length page.now < 2 ^ 63 }
     ensures { let accepted = lines (list_of budget page.now) in
         AnswersText budget page.now (BreaksWithin budget page.now) accepted room.old room.new result }
 {
@@ -47,7 +45,6 @@ pub extern "C" fn naplps_list(alloc: Global, budget: u32, page: &[u8], room: &mu
 /// The canonical stream of a page.
 #[unsafe(no_mangle)]
 pub extern "C" fn naplps_canon(alloc: Global, budget: u32, page: &[u8], room: &mut [u8]) -> Answer
-    requires { length page.now < 2 ^ 63 }
     ensures { let accepted = text (list_of budget page.now) in
         AnswersText budget page.now (LacksForText budget page.now) accepted room.old room.new result }
 {
@@ -65,7 +62,6 @@ pub extern "C" fn naplps_canon_form1(
     page: &[u8],
     room: &mut [u8],
 ) -> Answer
-    requires { length page.now < 2 ^ 63 }
     ensures { let accepted = text1 (list_of budget page.now) in
         AnswersText budget page.now (LacksForText budget page.now) accepted room.old room.new result }
 {
@@ -78,7 +74,6 @@ pub extern "C" fn naplps_canon_form1(
 /// The lines of a page's entries, also of those before a refusal, each after the place of the byte that brought it.
 #[unsafe(no_mangle)]
 pub extern "C" fn naplps_places(alloc: Global, budget: u32, page: &[u8], room: &mut [u8]) -> Answer
-    requires { length page.now < 2 ^ 63 }
     ensures { AnswersPlaces budget page.now room.old room.new result }
 {
     let Some(budget) = Budget::new(budget) else {

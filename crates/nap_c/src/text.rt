@@ -1,5 +1,5 @@
 //! The texts of a page.
-ghost use Rattle.std.specs.Prelude.{◌≡◌, ◌<◌, ◌^◌, length, MatchResult};
+ghost use Rattle.std.specs.Prelude.{◌≡◌, MatchResult};
 ghost use Rattle.nap_reader.specs.Breaking.{BreaksWithin};
 ghost use Rattle.nap_canon.specs.Streams.{list_of};
 ghost use Rattle.nap_canon.specs.Text.{text, text1};
@@ -25,7 +25,6 @@ pub(crate) fn wanting_at_end(page: &[u8]) -> Refusal
 
 /// The lines of a page's entries, or why it is refused.
 pub(crate) fn list_text(alloc: Global, budget: Budget, page: &[u8]) -> Result<Vec<u8>, Refusal>
-    requires { length page.now < 2 ^ 63 }
     ensures { MatchResult result
         (λ found. IsTextOf budget page.now (lines (list_of budget page.now)) found.items)
         (IsRefusal budget page.now (BreaksWithin budget page.now)) }
@@ -36,7 +35,6 @@ pub(crate) fn list_text(alloc: Global, budget: Budget, page: &[u8]) -> Result<Ve
 
 /// The canonical text of a page, or why it is refused.
 pub(crate) fn canon_text(alloc: Global, budget: Budget, page: &[u8]) -> Result<Vec<u8>, Refusal>
-    requires { length page.now < 2 ^ 63 }
     ensures { MatchResult result
         (λ found. IsTextOf budget page.now (text (list_of budget page.now)) found.items)
         (IsRefusal budget page.now (LacksForText budget page.now)) }
@@ -53,7 +51,6 @@ pub(crate) fn canon_text(alloc: Global, budget: Budget, page: &[u8]) -> Result<V
 
 /// The text of a page's list in form 1, or why it is refused.
 pub(crate) fn form1_text(alloc: Global, budget: Budget, page: &[u8]) -> Result<Vec<u8>, Refusal>
-    requires { length page.now < 2 ^ 63 }
     ensures { MatchResult result
         (λ found. IsTextOf budget page.now (text1 (list_of budget page.now)) found.items)
         (IsRefusal budget page.now (LacksForText budget page.now)) }

@@ -44,7 +44,7 @@ points_bytes (p ∷ ps) = point_bytes p ++ points_bytes ps
 
 -- so many points join the run of this opcode
 abbrev pub PointsJoin : Form → Tail → ℕ → ℕ → Type 0
-PointsJoin form tail byte count = (count ≤ 32) × (form ≡ Two) × (is_joined tail byte (8 * count) ≡ true)
+PointsJoin form tail byte count = (count ≤ 128) × (form ≡ Two) × (is_joined tail byte (8 * count) ≡ true)
 
 -- so many entries of a batch, from this index on, join the last run or text
 abbrev pub Joins : Form → Tail → State → Batch → ℕ → ℕ → Type 0

@@ -25,6 +25,11 @@ use Rattle.nap_canon.specs.declared.command.Flag.TheVariants as flags
 abbrev pub unless : Bool → List Command → List Command
 unless same commands = if same then [] else commands
 
+-- the command, where there is one
+abbrev pub told : Option Command → List Command
+told None = []
+told (Some c) = c ∷ []
+
 -- to a pen
 abbrev pub to_pen : Pen → List Command
 to_pen (pens.At p) = commands.PointSet p ∷ []

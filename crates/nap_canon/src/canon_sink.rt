@@ -72,12 +72,12 @@ impl<O: Outlet + Drop> CanonSink<O> {
         Ok(())
     }
 
-    /// Whether a batch is a text whose values are current, so that its first character needs no bring either.
+    /// Whether the values of a batch's first entry are current, so that it needs no bring either.
     #[inline(always)]
     fn goes_on(&self, batch: &Batch) -> bool
         ensures { result ≡ true → (O.failed self.now.outlet ≡ false) × FirstStands batch.now self.now.state.drawing }
     {
-        matches!(batch, Batch::Text { .. }) && !self.failed() && self.writer.stands_first(batch)
+        !self.failed() && self.writer.stands_first(batch)
     }
 
     /// Takes the first entry of a batch.

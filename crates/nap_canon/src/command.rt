@@ -1,10 +1,11 @@
 //! The bring of an entry: commands that lead to the values that it holds, and draw nothing.
 ghost use Rattle.std.specs.Prelude.{◌≡◌, ◌+◌, ◌≤◌, ◌++◌, [], ◌∷◌, length};
-ghost use Rattle.nap_canon.specs.Bring.{to_pen, to_base, to_colour, to_mask, to_words, to_given, to_named, to_flag, bring_pen, bring_pel, bring_colour, bring_texture, bring_text, bring};
+ghost use Rattle.nap_canon.specs.Bring.{told, unless, to_pen, to_base, to_colour, to_mask, to_words, to_given, to_named, to_flag, bring_pen, bring_pel, bring_colour, bring_texture, bring_text};
+ghost use Rattle.nap_canon.specs.Equality.{same_base};
 
 use arrayvec::ArrayVec;
 use nap_codes::Size;
-use nap_list::{Base, CharSize, Colour, Drawing, Held, Pen, TextLook, Texture};
+use nap_list::{Base, CharSize, Colour, Pen, TextLook, Texture};
 use nap_values::{Addr, Grb, Move, Point, Word};
 use std::marker::Model;
 
@@ -51,8 +52,109 @@ pub(crate) enum Command {
     Flag(Flag, bool),
 }
 
-/// The most commands of one bring.
-pub(crate) const COMMANDS: usize = 11;
+fn point_set(pen: Pen) -> Option<Command>
+    ensures { told result ≡ to_pen pen }
+{
+    match pen {
+        Pen::At(point) => Some(Command::PointSet(point)),
+        _ => None,
+    }
+}
+
+/// The bring of a pen.
+#[inline]
+#[tactic(auto, unfolding(crate::specs::Bring::bring_pen))]
+pub(crate) fn bring_pen(old: Pen, pen: Option<Pen>) -> Option<Command>
+    ensures { told result ≡ bring_pen old pen }
+{
+    match pen {
+        Some(pen) if old != pen => point_set(pen),
+        _ => None,
+    }
+}
+
+/// The bring of a pel.
+#[inline]
+#[tactic(auto, unfolding(crate::specs::Bring::bring_pel))]
+pub(crate) fn bring_pel(old: Move, pel: Option<Move>) -> Option<Command>
+    ensures { told result ≡ bring_pel old pel }
+{
+    match pel {
+        Some(pel) if old != pel => Some(Command::Pel(pel)),
+        _ => None,
+    }
+}
+
+fn mode_0(old: Colour) -> Option<Command>
+    ensures { told result ≡ to_base old }
+{
+    match old {
+        Colour::Own(_) | Colour::Direct(_) => None,
+        _ => Some(Command::SelectBase),
+    }
+}
+
+fn set_colour(base: Base, grb: Grb) -> Option<Command>
+    ensures { told result ≡ unless (same_base base (Base.Direct grb)) (Command.SetColor grb ∷ []) }
+{
+    if base == Base::Direct(grb) {
+        return None;
+    }
+    Some(Command::SetColor(grb))
+}
+
+#[inline]
+fn other_colour(base: Base, old: Colour, colour: Colour) -> (Option<Command>, Option<Command>)
+    ensures { told result.0 ++ told result.1 ≡ to_colour base old colour }
+{
+    match colour {
+        Colour::Own(_) => (Some(Command::SelectBase), None),
+        Colour::Direct(grb) => (mode_0(old), set_colour(base, grb)),
+        Colour::Front(addr) => (Some(Command::SelectFront(addr)), None),
+        Colour::Pair(front, back) => (Some(Command::SelectPair(front, back)), None),
+        Colour::ByReset(_) => (None, None),
+    }
+}
+
+/// The bring of a colour: one command behind another.
+#[inline]
+#[tactic(auto, unfolding(crate::specs::Bring::bring_colour))]
+pub(crate) fn bring_colour(
+    base: Base,
+    old: Colour,
+    colour: Option<Colour>,
+) -> (Option<Command>, Option<Command>)
+    ensures { told result.0 ++ told result.1 ≡ bring_colour base old colour }
+{
+    match colour {
+        Some(colour) if old != colour => other_colour(base, old, colour),
+        _ => (None, None),
+    }
+}
+
+fn mask(word: Word, old: Option<Move>, mask: Option<Move>) -> Command
+    ensures { result ∷ [] ≡ to_mask word old mask }
+{
+    match mask {
+        Some(mask) if old != Some(mask) => Command::TextureMask(word, mask),
+        _ => Command::Texture(word),
+    }
+}
+
+/// The bring of a texture.
+#[inline]
+#[tactic(auto, unfolding(crate::specs::Bring::bring_texture))]
+pub(crate) fn bring_texture(old: Texture, texture: Option<Texture>) -> Option<Command>
+    ensures { told result ≡ bring_texture old texture }
+{
+    match texture {
+        Some(texture) if old != texture => Some(mask(texture.word, old.mask, texture.mask)),
+        _ => None,
+    }
+}
+
+/// The most commands that bring the look of text.
+pub(crate) const COMMANDS: usize = 6;
 
 /// Commands in the order in which they are given.
 #[derive(Drop)]
@@ -70,30 +172,14 @@ impl Model for Commands {
 }
 
 impl Commands {
-    /// The bring of an entry that holds these values.
-    #[tactic(auto, unfolding(crate::specs::Bring::bring))]
-    pub(crate) fn bring(old: &Drawing, held: &Held) -> Commands
-        ensures { result ≡ bring old.now held.now }
+    /// The bring of the look of text.
+    pub(crate) fn bring_text(old: &TextLook, look: &Option<TextLook>) -> Commands
+        ensures { result ≡ bring_text old.now look.now }
     {
         let mut commands = Commands {
             list: ArrayVec::new(),
         };
-        commands.pen(old.pen, held.pen);
-        commands.pel(old.pel, held.pel);
-        commands.colour(old.base, old.colour, held.colour);
-        commands.texture(old.texture, held.texture);
-        commands.text(&old.text, &held.text);
-        commands
-    }
-
-    /// The bring of a colour alone.
-    pub(crate) fn bring_colour(base: Base, old: Colour, colour: Colour) -> Commands
-        ensures { result ≡ bring_colour base old (Some colour) }
-    {
-        let mut commands = Commands {
-            list: ArrayVec::new(),
-        };
-        commands.colour(base, old, Some(colour));
+        commands.text(old, look);
         commands
     }
 
@@ -105,114 +191,15 @@ impl Commands {
     }
 
     fn push(&mut self, command: Command)
-        requires room { length self.old + 1 ≤ 11 }
+        requires room { length self.old + 1 ≤ 6 }
         ensures told { self.new ≡ self.old ++ command ∷ [] }
         ensures few { length self.new ≤ length self.old + 1 }
     {
         self.list.push(command);
     }
 
-    fn point_set(&mut self, pen: Pen)
-        requires room { length self.old + 1 ≤ 11 }
-        ensures told { self.new ≡ self.old ++ to_pen pen }
-        ensures few { length self.new ≤ length self.old + 1 }
-    {
-        if let Pen::At(point) = pen {
-            self.push(Command::PointSet(point));
-        }
-    }
-
-    #[tactic(auto, unfolding(crate::specs::Bring::bring_pen))]
-    fn pen(&mut self, old: Pen, pen: Option<Pen>)
-        requires room { length self.old + 1 ≤ 11 }
-        ensures told { self.new ≡ self.old ++ bring_pen old pen }
-        ensures few { length self.new ≤ length self.old + 1 }
-    {
-        match pen {
-            Some(pen) if old != pen => self.point_set(pen),
-            _ => {}
-        }
-    }
-
-    #[tactic(auto, unfolding(crate::specs::Bring::bring_pel))]
-    fn pel(&mut self, old: Move, pel: Option<Move>)
-        requires room { length self.old + 1 ≤ 11 }
-        ensures told { self.new ≡ self.old ++ bring_pel old pel }
-        ensures few { length self.new ≤ length self.old + 1 }
-    {
-        match pel {
-            Some(pel) if old != pel => self.push(Command::Pel(pel)),
-            _ => {}
-        }
-    }
-
-    fn mode_0(&mut self, old: Colour)
-        requires room { length self.old + 1 ≤ 11 }
-        ensures told { self.new ≡ self.old ++ to_base old }
-        ensures few { length self.new ≤ length self.old + 1 }
-    {
-        match old {
-            Colour::Own(_) | Colour::Direct(_) => {}
-            _ => self.push(Command::SelectBase),
-        }
-    }
-
-    fn other_colour(&mut self, base: Base, old: Colour, colour: Colour)
-        requires room { length self.old + 2 ≤ 11 }
-        ensures told { self.new ≡ self.old ++ to_colour base old colour }
-        ensures few { length self.new ≤ length self.old + 2 }
-    {
-        match colour {
-            Colour::Own(_) => self.push(Command::SelectBase),
-            Colour::Direct(grb) => {
-                self.mode_0(old);
-                if base != Base::Direct(grb) {
-                    self.push(Command::SetColor(grb));
-                }
-            }
-            Colour::Front(addr) => self.push(Command::SelectFront(addr)),
-            Colour::Pair(front, back) => self.push(Command::SelectPair(front, back)),
-            Colour::ByReset(_) => {}
-        }
-    }
-
-    #[tactic(auto, unfolding(crate::specs::Bring::bring_colour))]
-    fn colour(&mut self, base: Base, old: Colour, colour: Option<Colour>)
-        requires room { length self.old + 2 ≤ 11 }
-        ensures told { self.new ≡ self.old ++ bring_colour base old colour }
-        ensures few { length self.new ≤ length self.old + 2 }
-    {
-        match colour {
-            Some(colour) if old != colour => self.other_colour(base, old, colour),
-            _ => {}
-        }
-    }
-
-    fn mask(&mut self, word: Word, old: Option<Move>, mask: Option<Move>)
-        requires room { length self.old + 1 ≤ 11 }
-        ensures told { self.new ≡ self.old ++ to_mask word old mask }
-        ensures few { length self.new ≤ length self.old + 1 }
-    {
-        match mask {
-            Some(mask) if old != Some(mask) => self.push(Command::TextureMask(word, mask)),
-            _ => self.push(Command::Texture(word)),
-        }
-    }
-
-    #[tactic(auto, unfolding(crate::specs::Bring::bring_texture))]
-    fn texture(&mut self, old: Texture, texture: Option<Texture>)
-        requires room { length self.old + 1 ≤ 11 }
-        ensures told { self.new ≡ self.old ++ bring_texture old texture }
-        ensures few { length self.new ≤ length self.old + 1 }
-    {
-        match texture {
-            Some(texture) if old != texture => self.mask(texture.word, old.mask, texture.mask),
-            _ => {}
-        }
-    }
-
     fn words(&mut self, old: &TextLook, look: &TextLook)
-        requires room { length self.old + 1 ≤ 11 }
+        requires room { length self.old + 1 ≤ 6 }
         ensures told { self.new ≡ self.old ++ to_words old.now look.now }
         ensures few { length self.new ≤ length self.old + 1 }
     {
@@ -222,7 +209,7 @@ impl Commands {
     }
 
     fn given_size(&mut self, old: &TextLook, look: &TextLook)
-        requires room { length self.old + 1 ≤ 11 }
+        requires room { length self.old + 1 ≤ 6 }
         ensures told { self.new ≡ self.old ++ to_given old.now look.now look.now.size }
         ensures few { length self.new ≤ length self.old + 1 }
     {
@@ -235,7 +222,7 @@ impl Commands {
     }
 
     fn named_size(&mut self, old: CharSize, size: CharSize)
-        requires room { length self.old + 1 ≤ 11 }
+        requires room { length self.old + 1 ≤ 6 }
         ensures told { self.new ≡ self.old ++ to_named old size }
         ensures few { length self.new ≤ length self.old + 1 }
     {
@@ -246,7 +233,7 @@ impl Commands {
     }
 
     fn flag(&mut self, flag: Flag, old: bool, on: bool)
-        requires room { length self.old + 1 ≤ 11 }
+        requires room { length self.old + 1 ≤ 6 }
         ensures told { self.new ≡ self.old ++ to_flag flag old on }
         ensures few { length self.new ≤ length self.old + 1 }
     {
@@ -257,7 +244,7 @@ impl Commands {
 
     #[tactic(auto, unfolding(crate::specs::Bring::bring_text))]
     fn text(&mut self, old: &TextLook, look: &Option<TextLook>)
-        requires room { length self.old + 6 ≤ 11 }
+        requires room { length self.old + 6 ≤ 6 }
         ensures told { self.new ≡ self.old ++ bring_text old.now look.now }
         ensures few { length self.new ≤ length self.old + 6 }
     {

@@ -56,6 +56,21 @@ impl Piece {
         piece
     }
 
+    /// An opcode with its operands, behind SO where G1 isn't in GL.
+    #[inline(always)]
+    pub(crate) fn opened(gl: GSet, opcode: u8, operands: &[u8]) -> Piece
+        requires few { length operands.now ≤ 16 }
+        ensures { result ≡ to_opcodes gl ++ opcode ∷ operands.now }
+    {
+        let mut bytes = ArrayVec::new();
+        if gl != GSet::G1 {
+            bytes.push(0x0E);
+        }
+        bytes.push(opcode);
+        bytes.try_extend_from_slice(operands).unwrap();
+        Piece { bytes }
+    }
+
     /// A code of the primary characters, behind SI where G0 isn't in GL.
     pub(crate) fn primary(gl: GSet, code: u8) -> Piece
         ensures { result ≡ to_primary gl ++ code ∷ [] }

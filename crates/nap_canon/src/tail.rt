@@ -37,7 +37,7 @@ impl Tail {
 
     /// Whether this many bytes of operands join the run: it is of the same opcode, and has room for them.
     pub(crate) fn joins(self, opcode: u8, count: usize) -> bool
-        requires few { count ≤ 256 }
+        requires few { count ≤ 1024 }
         ensures { result ≡ is_joined self opcode count }
     {
         match self {
@@ -67,7 +67,7 @@ impl Tail {
 
     /// The tail after this many bytes of operands.
     pub(crate) fn behind(self, opcode: u8, count: usize) -> Tail
-        requires few { count ≤ 256 }
+        requires few { count ≤ 1024 }
         ensures { result ≡ InRun (run_behind self opcode count) }
     {
         let length = if self.joins(opcode, count) {

@@ -1,20 +1,23 @@
 //! Writes the canonical text of entries, one after another.
-ghost use Rattle.std.specs.Prelude.{◌≡◌, map, is_err, OnOk, OnErr};
+ghost use Rattle.std.specs.Prelude.{◌≡◌, ◌++◌, map, is_err, None, OnOk, OnErr};
 ghost use Rattle.nap_codes.specs.declared.code_set.GSet.TheVariants.{G1};
 ghost use Rattle.nap_canon.specs.declared.tail.Tail.TheVariants.{Apart};
 ghost use Rattle.nap_list.specs.Entry.{held};
-ghost use Rattle.nap_list.specs.State.{start, after, Fits};
-ghost use Rattle.nap_canon.specs.Bring.{bring};
-ghost use Rattle.nap_canon.specs.Spelling.{size_byte, flag_byte, escape, command_piece};
+ghost use Rattle.nap_list.specs.Agreement.{Stands};
+ghost use Rattle.nap_list.specs.State.{start, after, with_pen, Fits};
+ghost use Rattle.nap_canon.specs.Bring.{told, bring_pel, bring_colour, bring_texture, bring_text, bring};
+ghost use Rattle.nap_canon.specs.Spelling.{size_byte, flag_byte, escape, command_piece, step_bytes};
 ghost use Rattle.nap_canon.specs.Text.{header, gl_of, begun_tail, piece_bytes, written, tail_behind, tail_after, entry_pieces};
 
 use crate::byte_sink::ByteSink;
-use crate::command::{Command, Commands, Flag};
+use crate::command::{Command, Commands, Flag, bring_colour, bring_pel, bring_pen, bring_texture};
 use crate::form::Form;
+use crate::gathered::ROOM;
 use crate::piece::Piece;
 use crate::tail::Tail;
-use nap_codes::{GSet, Size};
-use nap_list::{Entry, State};
+use arrayvec::ArrayVec;
+use nap_codes::{GSet, Size, TextStep};
+use nap_list::{Base, Colour, Drawing, Entry, Held, Pen, State, TextLook, corner};
 use nap_values::{put_addr, put_grb, put_move, put_point};
 
 mod joining;
@@ -66,6 +69,8 @@ pub(crate) struct Writer<T: ByteSink + Drop> {
     form: Form,
     tail: Tail,
     state: State,
+    /// Operands that are gathered for one write.
+    room: ArrayVec<u8, ROOM>,
 }
 
 /// The control of a size that has a name.
@@ -100,13 +105,17 @@ fn flag_byte(flag: Flag, on: bool) -> u8
 impl<T: ByteSink + Drop> Writer<T> {
     /// A writer of a text in this form that isn't begun.
     pub(crate) fn new(form: Form, to: T) -> Writer<T>
-        ensures { result ≡ record { to = to; form = form; tail = begun_tail; state = start } }
+        ensures to { result.to ≡ to }
+        ensures form { result.form ≡ form }
+        ensures tail { result.tail ≡ begun_tail }
+        ensures state { result.state ≡ start }
     {
         Writer {
             to,
             form,
             tail: Tail::Apart(GSet::G1),
             state: State::start(),
+            room: ArrayVec::new(),
         }
     }
 
@@ -171,7 +180,7 @@ impl<T: ByteSink + Drop> Writer<T> {
         let gl = self.tail.gl();
         match command {
             Command::PointSet(point) => {
-                self.drawn(Piece::opcode(gl, opcodes::POINT_SET_ABS).with(&put_point(point)))
+                self.drawn(Piece::opened(gl, opcodes::POINT_SET_ABS, &put_point(point)))
             }
             Command::Pel(pel) => self.drawn(
                 Piece::opcode(gl, opcodes::DOMAIN)
@@ -180,7 +189,7 @@ impl<T: ByteSink + Drop> Writer<T> {
             ),
             Command::SelectBase => self.drawn(Piece::opcode(gl, opcodes::SELECT_COLOR)),
             Command::SelectFront(addr) => {
-                self.drawn(Piece::opcode(gl, opcodes::SELECT_COLOR).with(&put_addr(addr)))
+                self.drawn(Piece::opened(gl, opcodes::SELECT_COLOR, &put_addr(addr)))
             }
             Command::SelectPair(front, back) => self.drawn(
                 Piece::opcode(gl, opcodes::SELECT_COLOR)
@@ -188,7 +197,7 @@ impl<T: ByteSink + Drop> Writer<T> {
                     .with(&put_addr(back)),
             ),
             Command::SetColor(grb) => {
-                self.drawn(Piece::opcode(gl, opcodes::SET_COLOR).with(&put_grb(grb)))
+                self.drawn(Piece::opened(gl, opcodes::SET_COLOR, &put_grb(grb)))
             }
             Command::Texture(word) => self.drawn(Piece::opcode(gl, opcodes::TEXTURE).word(word)),
             Command::TextureMask(word, mask) => self.drawn(
@@ -221,21 +230,93 @@ impl<T: ByteSink + Drop> Writer<T> {
         Ok(())
     }
 
-    /// Writes the bring of an entry, which has nothing where all values that it holds stand.
+    /// Writes a command, where there is one.
+    #[tactic(auto, unfolding(crate::specs::Text::written, crate::specs::Text::tail_after))]
+    fn tell(&mut self, command: Option<Command>) -> Result<(), T::Fault>
+        ensures sent { T.sent self.old.to (written self.old.tail (map command_piece (told command))) (is_err result) self.new.to }
+        ensures tail { OnOk result (self.new.tail ≡ tail_after self.old.tail (map command_piece (told command))) }
+        ensures kept { (self.new.form ≡ self.old.form) × (self.new.state ≡ self.old.state) }
+    {
+        match command {
+            Some(command) => self.command(command),
+            None => Ok(()),
+        }
+    }
+
+    /// Writes the bring of a colour.
+    fn lead_colour(
+        &mut self,
+        base: Base,
+        old: Colour,
+        colour: Option<Colour>,
+    ) -> Result<(), T::Fault>
+        ensures sent { T.sent self.old.to (written self.old.tail (map command_piece (bring_colour base old colour))) (is_err result) self.new.to }
+        ensures tail { OnOk result (self.new.tail ≡ tail_after self.old.tail (map command_piece (bring_colour base old colour))) }
+        ensures kept { (self.new.form ≡ self.old.form) × (self.new.state ≡ self.old.state) }
+    {
+        let (first, second) = bring_colour(base, old, colour);
+        self.tell(first)?;
+        self.tell(second)
+    }
+
+    /// Writes the bring of the look of text.
+    #[tactic(auto, unfolding(crate::specs::Text::written, crate::specs::Text::tail_after, crate::specs::Bring::bring_text))]
+    fn lead_text(&mut self, old: &TextLook, look: &Option<TextLook>) -> Result<(), T::Fault>
+        ensures sent { T.sent self.old.to (written self.old.tail (map command_piece (bring_text old.now look.now))) (is_err result) self.new.to }
+        ensures tail { OnOk result (self.new.tail ≡ tail_after self.old.tail (map command_piece (bring_text old.now look.now))) }
+        ensures kept { (self.new.form ≡ self.old.form) × (self.new.state ≡ self.old.state) }
+    {
+        if look.is_none() {
+            return Ok(());
+        }
+        self.commands(&Commands::bring_text(old, look))
+    }
+
+    /// Writes the bring of an entry from its texture on.
+    fn lead_texture(&mut self, old: &Drawing, held: &Held) -> Result<(), T::Fault>
+        ensures sent { T.sent self.old.to (written self.old.tail (map command_piece (bring_texture old.now.texture held.now.texture ++ bring_text old.now.text held.now.text))) (is_err result) self.new.to }
+        ensures tail { OnOk result (self.new.tail ≡ tail_after self.old.tail (map command_piece (bring_texture old.now.texture held.now.texture ++ bring_text old.now.text held.now.text))) }
+        ensures kept { (self.new.form ≡ self.old.form) × (self.new.state ≡ self.old.state) }
+    {
+        self.tell(bring_texture(old.texture, held.texture))?;
+        self.lead_text(&old.text, &held.text)
+    }
+
+    /// Writes the bring of an entry from its colour on.
+    fn lead_colours(&mut self, old: &Drawing, held: &Held) -> Result<(), T::Fault>
+        ensures sent { T.sent self.old.to (written self.old.tail (map command_piece (bring_colour old.now.base old.now.colour held.now.colour ++ (bring_texture old.now.texture held.now.texture ++ bring_text old.now.text held.now.text)))) (is_err result) self.new.to }
+        ensures tail { OnOk result (self.new.tail ≡ tail_after self.old.tail (map command_piece (bring_colour old.now.base old.now.colour held.now.colour ++ (bring_texture old.now.texture held.now.texture ++ bring_text old.now.text held.now.text)))) }
+        ensures kept { (self.new.form ≡ self.old.form) × (self.new.state ≡ self.old.state) }
+    {
+        self.lead_colour(old.base, old.colour, held.colour)?;
+        self.lead_texture(old, held)
+    }
+
+    /// Writes the bring of an entry from its pel on.
+    fn lead_pel(&mut self, old: &Drawing, held: &Held) -> Result<(), T::Fault>
+        ensures sent { T.sent self.old.to (written self.old.tail (map command_piece (bring_pel old.now.pel held.now.pel ++ (bring_colour old.now.base old.now.colour held.now.colour ++ (bring_texture old.now.texture held.now.texture ++ bring_text old.now.text held.now.text))))) (is_err result) self.new.to }
+        ensures tail { OnOk result (self.new.tail ≡ tail_after self.old.tail (map command_piece (bring_pel old.now.pel held.now.pel ++ (bring_colour old.now.base old.now.colour held.now.colour ++ (bring_texture old.now.texture held.now.texture ++ bring_text old.now.text held.now.text))))) }
+        ensures kept { (self.new.form ≡ self.old.form) × (self.new.state ≡ self.old.state) }
+    {
+        self.tell(bring_pel(old.pel, held.pel))?;
+        self.lead_colours(old, held)
+    }
+
+    /// Writes the bring of an entry.
     fn lead(&mut self, entry: &Entry) -> Result<(), T::Fault>
         ensures sent { T.sent self.old.to (written self.old.tail (map command_piece (bring self.old.state.drawing (held entry.now)))) (is_err result) self.new.to }
         ensures tail { OnOk result (self.new.tail ≡ tail_after self.old.tail (map command_piece (bring self.old.state.drawing (held entry.now)))) }
         ensures kept { (self.new.form ≡ self.old.form) × (self.new.state ≡ self.old.state) }
     {
-        if self.state.drawing.stands(entry) {
-            return Ok(());
-        }
-        let bring = Commands::bring(&self.state.drawing, &entry.held());
-        self.commands(&bring)
+        let held = entry.held();
+        let old = self.state.drawing;
+        self.tell(bring_pen(old.pen, held.pen))?;
+        self.lead_pel(&old, &held)
     }
 
-    /// Writes an entry that may come next: its bring, and its spelling. The state stays where this fails.
-    pub(crate) fn put_ref(&mut self, entry: &Entry) -> Result<(), T::Fault>
+    /// Writes an entry that may come next: its bring, and its spelling.
+    #[inline(never)]
+    fn put_led(&mut self, entry: &Entry) -> Result<(), T::Fault>
         requires { Fits self.old.state entry.now }
         ensures sent { T.sent self.old.to (written self.old.tail (entry_pieces self.old.form self.old.state entry.now)) (is_err result) self.new.to }
         ensures tail { OnOk result (self.new.tail ≡ tail_after self.old.tail (entry_pieces self.old.form self.old.state entry.now)) }
@@ -248,4 +329,69 @@ impl<T: ByteSink + Drop> Writer<T> {
         self.state.step(entry);
         Ok(())
     }
+
+    /// Writes a format effector whose values are current.
+    #[inline(always)]
+    fn put_move(&mut self, step: TextStep) -> Result<(), T::Fault>
+        ensures sent { T.sent self.old.to (step_bytes step) (is_err result) self.new.to }
+        ensures tail { self.new.tail ≡ Apart (gl_of self.old.tail) }
+        ensures form { self.new.form ≡ self.old.form }
+        ensures state { OnOk result (self.new.state ≡ record self.old.state { drawing = with_pen Pen.After self.old.state.drawing; last = None }) }
+        ensures still { OnErr result (self.new.state ≡ self.old.state) }
+    {
+        self.text_move(step)?;
+        self.state.drawing.pen = Pen::After;
+        self.state.last = None;
+        Ok(())
+    }
+
+    /// Writes an entry that may come next, whose values are current.
+    #[inline(always)]
+    fn put_current(&mut self, entry: &Entry) -> Result<(), T::Fault>
+        requires fits { Fits self.old.state entry.now }
+        requires stand { Stands (held entry.now) self.old.state.drawing }
+        ensures sent { T.sent self.old.to (written self.old.tail (entry_pieces self.old.form self.old.state entry.now)) (is_err result) self.new.to }
+        ensures tail { OnOk result (self.new.tail ≡ tail_after self.old.tail (entry_pieces self.old.form self.old.state entry.now)) }
+        ensures form { self.new.form ≡ self.old.form }
+        ensures state { OnOk result (self.new.state ≡ after self.old.state entry.now) }
+        ensures still { OnErr result (self.new.state ≡ self.old.state) }
+    {
+        if let Entry::TextMove { step, .. } = entry {
+            return self.put_move(*step);
+        }
+        self.spelling(entry)?;
+        pass(&mut self.state, entry);
+        Ok(())
+    }
+
+    /// Writes an entry that may come next: its bring where a value that it holds isn't current, and its spelling. The
+    /// state stays where this fails.
+    pub(crate) fn put_ref(&mut self, entry: &Entry) -> Result<(), T::Fault>
+        requires { Fits self.old.state entry.now }
+        ensures sent { T.sent self.old.to (written self.old.tail (entry_pieces self.old.form self.old.state entry.now)) (is_err result) self.new.to }
+        ensures tail { OnOk result (self.new.tail ≡ tail_after self.old.tail (entry_pieces self.old.form self.old.state entry.now)) }
+        ensures form { self.new.form ≡ self.old.form }
+        ensures state { OnOk result (self.new.state ≡ after self.old.state entry.now) }
+        ensures still { OnErr result (self.new.state ≡ self.old.state) }
+    {
+        if self.state.drawing.stands(entry) {
+            return self.put_current(entry);
+        }
+        self.put_led(entry)
+    }
+}
+
+/// Goes on to the state that an entry leaves whose values stand.
+#[inline(always)]
+fn pass(state: &mut State, entry: &Entry)
+    requires fits { Fits state.old entry.now }
+    requires stand { Stands (held entry.now) state.old.drawing }
+    ensures { state.new ≡ after state.old entry.now }
+{
+    match entry {
+        Entry::Line { to, .. } => state.drawing.pen = Pen::At(*to),
+        Entry::Rect { from, to, .. } => state.drawing.pen = Pen::At(corner(*from, *to)),
+        _ => return state.step(entry),
+    }
+    state.last = None;
 }

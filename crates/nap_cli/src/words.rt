@@ -1,6 +1,6 @@
 //! How the words of a command line say a command.
-ghost use Rattle.std.specs.Prelude.{◌≡◌, ◌≢◌, ◌⊎◌, Bool, false, IfErr, IfOk, MatchOption, codes, decimal, map, string_bytes};
-ghost use Rattle.clap.specs.Words.{app_of, found_of, kind_of, new_app, rows_of};
+ghost use Rattle.std.specs.Prelude.{◌≡◌, ◌≢◌, ◌⊎◌, Bool, false, IfErr, IfOk, MatchOption, decimal, map, string_bytes};
+ghost use Rattle.clap.specs.Words.{app_of, found_of, kind_of, rows_of};
 ghost use Rattle.clap.specs.declared.builder.command.Command.TheViews.{out-Command as fields_of};
 ghost use Rattle.nap_reader.specs.Budgets.{usual_budget};
 ghost use Rattle.nap_cli.specs.CommandLine.{Chooses, ChoosesJob, ChoosesStream, IsFault, SaysJob, action_name, canon_app, command_app, command_line_by, job_name};
@@ -183,19 +183,6 @@ fn canon_command<'a>(alloc: Global, texts: &'a BudgetTexts) -> Result<clap::Comm
     subcommand(alloc, texts, CANON, CANON_USAGE, CANON_HELP, CANON_EXAMPLE)?.arg(stream)
 }
 
-/// `batch`, which has no option.
-fn batch_command<'a>(alloc: Global) -> Result<clap::Command<'a>, AllocError>
-    ensures app { IfOk result (λ c. app_of c ≡ new_app (codes "batch")) }
-    ensures local { IfOk result (λ c. (fields_of c).has_globals ≡ false) }
-{
-    Ok(
-        clap::Command::new(alloc, BATCH)
-            .override_usage(BATCH_USAGE)
-            .about(BATCH_HELP)
-            .after_help(BATCH_EXAMPLE),
-    )
-}
-
 /// The whole command line.
 fn program<'a>(alloc: Global, texts: &'a BudgetTexts) -> Result<clap::Command<'a>, AllocError>
     ensures { IfOk result (λ c. app_of c ≡ command_line_by (string_bytes texts.entry.now.usual)) }
@@ -211,7 +198,13 @@ fn program<'a>(alloc: Global, texts: &'a BudgetTexts) -> Result<clap::Command<'a
         .subcommand(subcommand(alloc, texts, LIST, LIST_USAGE, LIST_HELP, LIST_EXAMPLE)?)?
         .subcommand(subcommand(alloc, texts, CHECK, CHECK_USAGE, CHECK_HELP, CHECK_EXAMPLE)?)?
         .subcommand(canon_command(alloc, texts)?)?
-        .subcommand(batch_command(alloc)?)
+        .subcommand(
+            // It has no option.
+            clap::Command::new(alloc, BATCH)
+                .override_usage(BATCH_USAGE)
+                .about(BATCH_HELP)
+                .after_help(BATCH_EXAMPLE),
+        )
 }
 
 /// What clap says where words say no command.

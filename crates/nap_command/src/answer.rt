@@ -1,5 +1,5 @@
 //! What a command prints.
-ghost use Rattle.std.specs.Prelude.{◌≡◌, ◌+◌, ◌<◌, ◌≤◌, ◌^◌, ◌++◌, ◌∷◌, [], ℕ, List, true, false, Err, IfOk, length, MatchResult};
+ghost use Rattle.std.specs.Prelude.{◌≡◌, ◌+◌, ◌<◌, ◌≤◌, ◌^◌, ◌++◌, ◌∷◌, [], ℕ, List, true, false, Err, IfOk, MatchResult};
 ghost use Rattle.std.specs.Io.KnownBytes.{Consumes};
 ghost use Rattle.nap_list.specs.Limits.{reads_limit};
 ghost use Rattle.nap_list.specs.Reading.{reading};
@@ -9,6 +9,7 @@ ghost use Rattle.nap_command.specs.Commands.{Fails, FailsOn, FailsToSpell, Finds
 
 use crate::collect::{read_input, read_stream};
 use crate::command::{Action, Command};
+use crate::device::read_whole;
 use crate::failure::Failure;
 use hex::FromHexError;
 use nap_canon::CanonSink;
@@ -167,7 +168,6 @@ fn print_text(
 
 /// What a command prints of a stream.
 pub fn answer_stream(alloc: Global, command: &Command, stream: &[u8]) -> Result<Printout, Failure>
-    requires { length stream.now < 2 ^ 63 }
     ensures { MatchResult result (λ a. PrintsBy command.now.action command.now stream.now a.text.items a.verdict) (Denies command.now stream.now) }
 {
     let budget = command.budget;
@@ -189,8 +189,7 @@ pub fn answer_stream(alloc: Global, command: &Command, stream: &[u8]) -> Result<
 
 /// What a command prints of hexadecimal text.
 pub fn answer_text(alloc: Global, command: &Command, text: &[u8]) -> Result<Printout, Failure>
-    requires small { length text.now < 2 ^ 63 }
-    requires hex { command.now.hex ≡ true }
+    requires { command.now.hex ≡ true }
     ensures { MatchResult result (λ a. Prints command.now text.now a.text.items a.verdict) (FailsOn command.now text.now) }
 {
     let stream = bytes_of(alloc, text)?;
@@ -228,4 +227,23 @@ pub fn answer_input<I: Inlet>(
             print_text(alloc, false, found)
         }
     }
+}
+
+/// What a command prints of its input.
+pub(crate) fn find<I: Inlet>(
+    alloc: Global,
+    command: &Command,
+    input: &mut I,
+) -> Result<Printout, Failure>
+    requires { I.calls input.old < 2 ^ 63 }
+    ensures few { I.calls input.new ≤ I.calls input.old + reads_limit }
+    ensures found { let seen = reading I.Inlet input.old input.new in
+        (p : List ℕ) × Consumes (I.left input.old) (I.left input.new) p
+        × MatchResult result (λ a. Finds command.now p seen a.text.items a.verdict) (Fails command.now p seen) }
+{
+    if !command.hex {
+        return answer_input(alloc, command, input);
+    }
+    let text = read_whole(alloc, input)?;
+    answer_text(alloc, command, text.as_slice())
 }

@@ -72,7 +72,6 @@ pub fn read_stream<S: Sink + Drop>(
     stream: &[u8],
     sink: S,
 ) -> Result<S, Refusal>
-    requires small { length stream.now < 2 ^ 63 }
     requires start { S.state sink ≡ start }
     requires works { S.failed sink ≡ false }
     ensures { IsRead S.Sink sink budget stream.now result }

@@ -1,15 +1,15 @@
 //! A command on its input and its outputs.
-ghost use Rattle.std.specs.Prelude.{◌≡◌, ◌+◌, ◌<◌, ◌≤◌, ◌^◌, ℕ, List, true, false, Err, MatchResult};
+ghost use Rattle.std.specs.Prelude.{◌≡◌, ◌+◌, ◌<◌, ◌≤◌, ◌^◌, ℕ, List, true, false, Err};
 ghost use Rattle.std.specs.Io.KnownBytes.{Appends, Consumes};
 ghost use Rattle.nap_list.specs.Flushing.{FlushedOnce};
 ghost use Rattle.nap_list.specs.Limits.{reads_limit};
 ghost use Rattle.nap_list.specs.Reading.{reading};
 ghost use Rattle.nap_command.specs.Devices.{devices};
-ghost use Rattle.nap_command.specs.Commands.{Ends, EndsWhole, Fails, Finds, Ran, SendsOn, StreamsAtOnce, Tells, flushed_by};
+ghost use Rattle.nap_command.specs.Commands.{EndsWhole, Ran, Tells, ended_by};
 
-use crate::answer::{Printout, Verdict, answer_input, answer_text};
+use crate::answer::{Verdict, find};
 use crate::command::Command;
-use crate::device::{read_whole, write_whole};
+use crate::device::write_whole;
 use crate::failure::Failure;
 use nap_canon::{ConvertFault, convert};
 use nap_list::{Inlet, Outlet};
@@ -32,19 +32,14 @@ pub fn tell<E: Outlet>(alloc: Global, failure: Failure, errors: &mut E) -> u8
     }
 }
 
-/// What a command prints of its input.
-fn find<I: Inlet>(alloc: Global, command: &Command, input: &mut I) -> Result<Printout, Failure>
-    requires { I.calls input.old < 2 ^ 63 }
-    ensures few { I.calls input.new ≤ I.calls input.old + reads_limit }
-    ensures found { let seen = reading I.Inlet input.old input.new in
-        (p : List ℕ) × Consumes (I.left input.old) (I.left input.new) p
-        × MatchResult result (λ a. Finds command.now p seen a.text.items a.verdict) (Fails command.now p seen) }
+/// Tells of a failure, if a command ended with one, and answers the exit status.
+fn conclude<E: Outlet>(alloc: Global, ended: Result<Verdict, Failure>, errors: &mut E) -> u8
+    ensures { (e : List ℕ) × Appends (E.taken errors.old) (E.taken errors.new) e × Tells e (E.failed errors.new) ended result }
 {
-    if !command.hex {
-        return answer_input(alloc, command, input);
+    match ended {
+        Ok(verdict) => verdict.status(),
+        Err(failure) => tell(alloc, failure, errors),
     }
-    let text = read_whole(alloc, input)?;
-    answer_text(alloc, command, text.as_slice())
 }
 
 /// Prints what a command finds, and flushes the output also where that is nothing. A failing output takes the place of
@@ -76,58 +71,16 @@ fn perform<I: Inlet, O: Outlet>(
     }
 }
 
-/// Prints the canonical stream of a page as it is read: the output again, and how that ended.
-fn stream<I: Inlet, O: Outlet + Drop>(
-    alloc: Global,
-    command: &Command,
-    input: &mut I,
-    output: O,
-) -> (O, Result<Verdict, Failure>)
-    requires streams { command.now.stream ≡ true }
-    requires calls { I.calls input.old < 2 ^ 63 }
-    requires works { O.failed output ≡ false }
-    ensures few { I.calls input.new ≤ I.calls input.old + reads_limit }
-    ensures ends { let seen = reading I.Inlet input.old input.new in
-        (p : List ℕ) × (q : List ℕ) × Consumes (I.left input.old) (I.left input.new) p × Appends (O.taken output) (O.taken result.0) q
-        × Ends command.now p seen q (O.failed result.0) result.1 × StreamsAtOnce I.Inlet command.now p input.old input.new q }
-    ensures sends { SendsOn result.1 (O.failed result.0) (O.sent result.0) }
-    ensures flushes { O.flushes result.0 ≡ flushed_by command.now.stream command.now.hex (O.write_failed result.0) (O.flushes output) }
+/// How a command ends that converts a page.
+fn ended_by(converted: Result<u64, ConvertFault>) -> Result<Verdict, Failure>
+    ensures { result ≡ ended_by converted }
 {
-    if command.hex {
-        return (output, Err(Failure::Excluded));
-    }
-    let (output, converted) = convert(alloc, input, output, command.budget);
-    let ended = match converted {
+    match converted {
         Ok(_) => Ok(Verdict::Accepted),
         Err(ConvertFault::Refused { refusal, .. }) => Err(Failure::Refused(refusal)),
         Err(ConvertFault::Read { .. }) => Err(Failure::Read),
         Err(ConvertFault::Write { written }) => Err(Failure::Write(written)),
-    };
-    (output, ended)
-}
-
-/// Does what a command says: the output again, and how that ended.
-fn act<I: Inlet, O: Outlet + Drop>(
-    alloc: Global,
-    command: &Command,
-    input: &mut I,
-    output: O,
-) -> (O, Result<Verdict, Failure>)
-    requires calls { I.calls input.old < 2 ^ 63 }
-    requires works { O.failed output ≡ false }
-    ensures few { I.calls input.new ≤ I.calls input.old + reads_limit }
-    ensures ends { let seen = reading I.Inlet input.old input.new in
-        (p : List ℕ) × (q : List ℕ) × Consumes (I.left input.old) (I.left input.new) p × Appends (O.taken output) (O.taken result.0) q
-        × Ends command.now p seen q (O.failed result.0) result.1 × StreamsAtOnce I.Inlet command.now p input.old input.new q }
-    ensures sends { SendsOn result.1 (O.failed result.0) (O.sent result.0) }
-    ensures flushes { O.flushes result.0 ≡ flushed_by command.now.stream command.now.hex (O.write_failed result.0) (O.flushes output) }
-{
-    if command.stream {
-        return stream(alloc, command, input, output);
     }
-    let mut output = output;
-    let ended = perform(alloc, command, input, &mut output);
-    (output, ended)
 }
 
 /// A command on its input: the output again, and the exit status.
@@ -143,12 +96,18 @@ pub fn execute<I: Inlet, O: Outlet + Drop, E: Outlet>(
     ensures { let seen = devices I.Inlet O.Outlet E.Outlet in
         Ran I.Inlet command.now input.old input.new (seen input.old output errors.old) (seen input.new result.0 errors.new) result.1 }
 {
-    let (output, ended) = act(alloc, command, input, output);
-    match ended {
-        Ok(verdict) => (output, verdict.status()),
-        Err(failure) => {
-            let status = tell(alloc, failure, errors);
-            (output, status)
-        }
+    if !command.stream {
+        let mut output = output;
+        let ended = perform(alloc, command, input, &mut output);
+        let status = conclude(alloc, ended, errors);
+        return (output, status);
     }
+    if command.hex {
+        let status = conclude(alloc, Err(Failure::Excluded), errors);
+        return (output, status);
+    }
+    let (output, converted) = convert(alloc, input, output, command.budget);
+    let ended = ended_by(converted);
+    let status = conclude(alloc, ended, errors);
+    (output, status)
 }

@@ -2,3 +2,4 @@ pub mod Batches
 pub mod Lines
 pub mod Listing
 pub mod Parts
+pub mod Writing

@@ -3,6 +3,7 @@ ghost use Rattle.std.specs.Prelude.{◌≡◌, ◌+◌, ◌≤◌, ◌++◌, fla
 ghost use Rattle.nap_list.specs.Batches.{listed, text_in};
 ghost use Rattle.nap_lines.specs.Listing.{lines};
 ghost use Rattle.nap_lines.specs.Batches.{point_front, point_end, line_front, char_front, lines_with};
+ghost use Rattle.nap_lines.specs.Writing.{line_limit};
 
 use crate::tail::Tail;
 use nap_codes::CharSet;
@@ -12,7 +13,7 @@ use nap_values::{Move, Point};
 impl Tail {
     /// The end of a point's line.
     pub(crate) fn dot_end(&mut self, pel: Move, colour: &Colour)
-        requires room { length self.old ≤ 1 }
+        requires room { length self.old + 75 ≤ line_limit }
         ensures text { self.new ≡ point_end pel colour.now ++ self.old }
         ensures size { length self.new ≤ length self.old + 75 }
     {
@@ -23,7 +24,7 @@ impl Tail {
 
     /// The front of a point's line.
     pub(crate) fn dot_front(&mut self, at: Point)
-        requires room { length self.old + 27 ≤ 256 }
+        requires room { length self.old + 27 ≤ line_limit }
         ensures { self.new ≡ point_front at ++ self.old }
     {
         self.point(at);
@@ -32,7 +33,7 @@ impl Tail {
 
     /// The front of a line's line.
     pub(crate) fn line_front(&mut self, from: Point, to: Point)
-        requires room { length self.old + 48 ≤ 256 }
+        requires room { length self.old + 48 ≤ line_limit }
         ensures { self.new ≡ line_front from to ++ self.old }
     {
         self.point(to);
@@ -43,7 +44,7 @@ impl Tail {
 
     /// The front of a character's line.
     pub(crate) fn letter_front(&mut self, set: CharSet, code: u8)
-        requires room { length self.old + 21 ≤ 256 }
+        requires room { length self.old + 21 ≤ line_limit }
         ensures { self.new ≡ char_front set code ++ self.old }
     {
         self.code(code);
@@ -56,7 +57,7 @@ impl Tail {
 /// Writes a line for each point, which ends as the room holds it, and answers how many it wrote: not all of them where
 /// memory is wanting.
 fn write_dots(room: &mut Tail, text: &mut Vec<u8>, points: &[Point]) -> usize
-    requires room { length room.old + 27 ≤ 256 }
+    requires room { length room.old + 27 ≤ line_limit }
     ensures count { result ≤ length points.now }
     ensures text { text.new.items ≡ text.old.items ++ flat_map (λ at. point_front at ++ room.old) (take result points.now) }
 {
@@ -75,7 +76,7 @@ fn write_dots(room: &mut Tail, text: &mut Vec<u8>, points: &[Point]) -> usize
 
 /// Writes a line from this point to the first, and on from each to the next, as `write_dots` does.
 fn write_lines(room: &mut Tail, text: &mut Vec<u8>, from: Point, points: &[Point]) -> usize
-    requires room { length room.old + 48 ≤ 256 }
+    requires room { length room.old + 48 ≤ line_limit }
     ensures count { result ≤ length points.now }
     ensures text { text.new.items ≡ text.old.items ++ lines_with room.old from (take result points.now) }
 {
@@ -96,7 +97,7 @@ fn write_lines(room: &mut Tail, text: &mut Vec<u8>, from: Point, points: &[Point
 
 /// Writes a line for each character, as `write_dots` does.
 fn write_letters(room: &mut Tail, text: &mut Vec<u8>, set: CharSet, codes: &[u8]) -> usize
-    requires room { length room.old + 21 ≤ 256 }
+    requires room { length room.old + 21 ≤ line_limit }
     ensures count { result ≤ length codes.now }
     ensures text { text.new.items ≡ text.old.items ++ flat_map (λ code. char_front set code ++ room.old) (take result codes.now) }
 {

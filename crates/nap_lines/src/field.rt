@@ -2,6 +2,7 @@
 ghost use Rattle.std.specs.Prelude.{◌≡◌, ◌+◌, ◌≤◌, [], ◌∷◌, ◌++◌, codes, decimal, length};
 ghost use Rattle.nap_lines.specs.Lines.{point_text, move_text, grb_text, colour_text, pen_text, texture_text, mask_size_text, ink_text, size_text, flag_text, flags_text, look_text, hand_text, fill_text, set_text, step_text, area_text, mark_text, cursor_text, mask_text};
 ghost use Rattle.nap_lines.specs.Batches.{written_text};
+ghost use Rattle.nap_lines.specs.Writing.{line_limit};
 
 use crate::tail::Tail;
 use nap_codes::{CharSet, CursorKind, Mask, Size, TextStep};
@@ -11,7 +12,7 @@ use nap_values::{Addr, Grb, Move, Point, Word};
 impl Tail {
     /// A word by its number.
     pub(crate) fn word(&mut self, word: Word)
-        requires room { length self.old + 10 ≤ 256 }
+        requires room { length self.old + 10 ≤ line_limit }
         ensures text { self.new ≡ decimal word ++ self.old }
         ensures size { length self.new ≤ length self.old + 10 }
     {
@@ -20,7 +21,7 @@ impl Tail {
 
     /// An address of the colour map by its number.
     pub(crate) fn addr(&mut self, addr: Addr)
-        requires room { length self.old + 10 ≤ 256 }
+        requires room { length self.old + 10 ≤ line_limit }
         ensures text { self.new ≡ decimal addr ++ self.old }
         ensures size { length self.new ≤ length self.old + 10 }
     {
@@ -29,7 +30,7 @@ impl Tail {
 
     /// A point.
     pub(crate) fn point(&mut self, point: Point)
-        requires room { length self.old + 21 ≤ 256 }
+        requires room { length self.old + 21 ≤ line_limit }
         ensures text { self.new ≡ point_text point ++ self.old }
         ensures size { length self.new ≤ length self.old + 21 }
     {
@@ -40,7 +41,7 @@ impl Tail {
 
     /// A displacement, or a size.
     pub(crate) fn displacement(&mut self, size: Move)
-        requires room { length self.old + 23 ≤ 256 }
+        requires room { length self.old + 23 ≤ line_limit }
         ensures text { self.new ≡ move_text size ++ self.old }
         ensures size { length self.new ≤ length self.old + 23 }
     {
@@ -51,7 +52,7 @@ impl Tail {
 
     /// A colour's parts.
     pub(crate) fn grb(&mut self, grb: Grb)
-        requires room { length self.old + 32 ≤ 256 }
+        requires room { length self.old + 32 ≤ line_limit }
         ensures text { self.new ≡ grb_text grb ++ self.old }
         ensures size { length self.new ≤ length self.old + 32 }
     {
@@ -64,7 +65,7 @@ impl Tail {
 
     /// A colour.
     pub(crate) fn colour(&mut self, colour: &Colour)
-        requires room { length self.old + 39 ≤ 256 }
+        requires room { length self.old + 39 ≤ line_limit }
         ensures text { self.new ≡ colour_text colour.now ++ self.old }
         ensures size { length self.new ≤ length self.old + 39 }
     {
@@ -92,7 +93,7 @@ impl Tail {
 
     /// The colour that an entry ends with, and its name.
     pub(crate) fn coloured(&mut self, colour: &Colour)
-        requires room { length self.old + 47 ≤ 256 }
+        requires room { length self.old + 47 ≤ line_limit }
         ensures text { self.new ≡ codes " colour=" ++ colour_text colour.now ++ self.old }
         ensures size { length self.new ≤ length self.old + 47 }
     {
@@ -102,7 +103,7 @@ impl Tail {
 
     /// A pen.
     pub(crate) fn pen(&mut self, pen: Pen)
-        requires room { length self.old + 21 ≤ 256 }
+        requires room { length self.old + 21 ≤ line_limit }
         ensures text { self.new ≡ pen_text pen ++ self.old }
         ensures size { length self.new ≤ length self.old + 21 }
     {
@@ -115,7 +116,7 @@ impl Tail {
 
     /// How lines and areas are filled in.
     pub(crate) fn texture(&mut self, texture: Texture)
-        requires room { length self.old + 34 ≤ 256 }
+        requires room { length self.old + 34 ≤ line_limit }
         ensures text { self.new ≡ texture_text texture ++ self.old }
         ensures size { length self.new ≤ length self.old + 34 }
     {
@@ -131,7 +132,7 @@ impl Tail {
 
     /// What lines and areas are drawn with.
     pub(crate) fn ink(&mut self, ink: &Ink)
-        requires room { length self.old + 117 ≤ 256 }
+        requires room { length self.old + 117 ≤ line_limit }
         ensures text { self.new ≡ ink_text ink.now ++ self.old }
         ensures size { length self.new ≤ length self.old + 117 }
     {
@@ -144,7 +145,7 @@ impl Tail {
 
     /// The size of a character.
     pub(crate) fn char_size(&mut self, size: &CharSize)
-        requires room { length self.old + 23 ≤ 256 }
+        requires room { length self.old + 23 ≤ line_limit }
         ensures text { self.new ≡ size_text size.now ++ self.old }
         ensures size { length self.new ≤ length self.old + 23 }
     {
@@ -160,7 +161,7 @@ impl Tail {
 
     /// The modes of characters that are on.
     pub(crate) fn flags(&mut self, look: &TextLook)
-        requires room { length self.old + 4 ≤ 256 }
+        requires room { length self.old + 4 ≤ line_limit }
         ensures text { self.new ≡ flags_text look.now ++ self.old }
         ensures size { length self.new ≡ length self.old + 4 }
     {
@@ -172,7 +173,7 @@ impl Tail {
 
     /// How characters look.
     pub(crate) fn look(&mut self, look: &TextLook)
-        requires room { length self.old + 50 ≤ 256 }
+        requires room { length self.old + 50 ≤ line_limit }
         ensures text { self.new ≡ look_text look.now ++ self.old }
         ensures size { length self.new ≤ length self.old + 50 }
     {
@@ -187,7 +188,7 @@ impl Tail {
 
     /// What characters are drawn with, but for their pen.
     pub(crate) fn written(&mut self, hand: &Hand)
-        requires room { length self.old + 103 ≤ 256 }
+        requires room { length self.old + 103 ≤ line_limit }
         ensures text { self.new ≡ written_text hand.now ++ self.old }
         ensures size { length self.new ≤ length self.old + 103 }
     {
@@ -198,7 +199,7 @@ impl Tail {
 
     /// What characters are drawn with.
     pub(crate) fn hand(&mut self, hand: &Hand)
-        requires room { length self.old + 128 ≤ 256 }
+        requires room { length self.old + 128 ≤ line_limit }
         ensures text { self.new ≡ hand_text hand.now ++ self.old }
         ensures size { length self.new ≤ length self.old + 128 }
     {
@@ -209,7 +210,7 @@ impl Tail {
 
     /// A code set of characters.
     pub(crate) fn char_set(&mut self, set: CharSet)
-        requires room { length self.old + 13 ≤ 256 }
+        requires room { length self.old + 13 ≤ line_limit }
         ensures text { self.new ≡ set_text set ++ self.old }
         ensures size { length self.new ≤ length self.old + 13 }
     {
@@ -223,7 +224,7 @@ impl Tail {
 
     /// A move of the active position of text.
     pub(crate) fn step(&mut self, step: TextStep)
-        requires room { length self.old + 9 ≤ 256 }
+        requires room { length self.old + 9 ≤ line_limit }
         ensures text { self.new ≡ step_text step ++ self.old }
         ensures size { length self.new ≤ length self.old + 9 }
     {
@@ -245,7 +246,7 @@ impl Tail {
 
     /// An area.
     pub(crate) fn area(&mut self, area: Area)
-        requires room { length self.old + 43 ≤ 256 }
+        requires room { length self.old + 43 ≤ line_limit }
         ensures text { self.new ≡ area_text area ++ self.old }
         ensures size { length self.new ≤ length self.old + 43 }
     {
@@ -261,7 +262,7 @@ impl Tail {
 
     /// How the cursor shows.
     pub(crate) fn cursor_kind(&mut self, kind: CursorKind)
-        requires room { length self.old + 6 ≤ 256 }
+        requires room { length self.old + 6 ≤ line_limit }
         ensures text { self.new ≡ cursor_text kind ++ self.old }
         ensures size { length self.new ≤ length self.old + 6 }
     {
@@ -274,7 +275,7 @@ impl Tail {
 
     /// A mask by its letter.
     pub(crate) fn mask_letter(&mut self, mask: Mask)
-        requires room { length self.old + 1 ≤ 256 }
+        requires room { length self.old + 1 ≤ line_limit }
         ensures text { self.new ≡ mask_text mask ++ self.old }
         ensures size { length self.new ≡ length self.old + 1 }
     {

@@ -1,8 +1,9 @@
 //! The line of an entry.
-ghost use Rattle.std.specs.Prelude.{◌≡◌, ◌+◌, ◌≤◌, [], ◌∷◌, ◌++◌, IfOk, OnOk, OnErr, codes, length, take, string_bytes};
+ghost use Rattle.std.specs.Prelude.{◌≡◌, ◌+◌, ◌≤◌, [], ◌∷◌, ◌++◌, IfOk, OnOk, OnErr, codes, length, string_bytes};
 ghost use Rattle.std.specs.Str.{IsUtf8};
 ghost use Rattle.nap_lines.specs.Lines.{line, points_text, fill_text, ink_text};
 ghost use Rattle.nap_lines.specs.Parts.{first_part, last_part};
+ghost use Rattle.nap_lines.specs.Writing.{Writes, line_limit};
 
 use crate::field::{fill_name, mark_name};
 use crate::tail::Tail;
@@ -11,9 +12,10 @@ use nap_list::{Area, Colour, Entry, Hand, Ink, Pen, Points};
 use nap_values::{Addr, Grb, Move, Point, Word};
 use std::alloc::{AllocError, Global};
 
+// Each line asks for the room that it takes at most.
 impl Tail {
     fn dot(&mut self, at: Point, pel: Move, colour: &Colour)
-        requires { length self.old ≤ 1 }
+        requires { length self.old + 102 ≤ line_limit }
         ensures { self.new ≡ line (Entry.Point at pel colour.now) ++ self.old }
     {
         self.dot_end(pel, colour);
@@ -22,7 +24,7 @@ impl Tail {
 
     // What a line, a rectangle or a shape is drawn with.
     pub(crate) fn inked(&mut self, ink: &Ink)
-        requires { length self.old ≤ 1 }
+        requires { length self.old + 118 ≤ line_limit }
         ensures text { self.new ≡ codes " " ++ ink_text ink.now ++ self.old }
         ensures size { length self.new ≤ length self.old + 118 }
     {
@@ -31,7 +33,7 @@ impl Tail {
     }
 
     fn line(&mut self, from: Point, to: Point, ink: &Ink)
-        requires { length self.old ≤ 1 }
+        requires { length self.old + 166 ≤ line_limit }
         ensures { self.new ≡ line (Entry.Line from to ink.now) ++ self.old }
     {
         self.inked(ink);
@@ -39,7 +41,7 @@ impl Tail {
     }
 
     fn rect(&mut self, filled: bool, from: Point, to: Point, ink: &Ink)
-        requires { length self.old ≤ 1 }
+        requires { length self.old + 175 ≤ line_limit }
         ensures { self.new ≡ line (Entry.Rect filled from to ink.now) ++ self.old }
     {
         self.inked(ink);
@@ -52,7 +54,7 @@ impl Tail {
     }
 
     fn letter(&mut self, set: CharSet, code: u8, hand: &Hand)
-        requires { length self.old ≤ 1 }
+        requires { length self.old + 150 ≤ line_limit }
         ensures { self.new ≡ line (Entry.Char set code hand.now) ++ self.old }
     {
         self.hand(hand);
@@ -61,7 +63,7 @@ impl Tail {
     }
 
     fn text_move(&mut self, step: TextStep, hand: &Hand)
-        requires { length self.old ≤ 1 }
+        requires { length self.old + 143 ≤ line_limit }
         ensures { self.new ≡ line (Entry.TextMove step hand.now) ++ self.old }
     {
         self.hand(hand);
@@ -71,7 +73,7 @@ impl Tail {
     }
 
     fn to_eol(&mut self, hand: &Hand)
-        requires { length self.old ≤ 1 }
+        requires { length self.old + 135 ≤ line_limit }
         ensures { self.new ≡ line (Entry.ToEol hand.now) ++ self.old }
     {
         self.hand(hand);
@@ -79,7 +81,7 @@ impl Tail {
     }
 
     fn map(&mut self, addr: Addr, grb: Grb)
-        requires { length self.old ≤ 1 }
+        requires { length self.old + 47 ≤ line_limit }
         ensures { self.new ≡ line (Entry.Map addr grb) ++ self.old }
     {
         self.grb(grb);
@@ -89,7 +91,7 @@ impl Tail {
     }
 
     fn blink(&mut self, addr: Addr, on: Word, off: Word, delay: Word, colour: &Colour)
-        requires { length self.old ≤ 1 }
+        requires { length self.old + 96 ≤ line_limit }
         ensures { self.new ≡ line (Entry.Blink addr on off delay colour.now) ++ self.old }
     {
         self.coloured(colour);
@@ -104,7 +106,7 @@ impl Tail {
     }
 
     fn blink_end(&mut self, colour: &Colour)
-        requires { length self.old ≤ 1 }
+        requires { length self.old + 56 ≤ line_limit }
         ensures { self.new ≡ line (Entry.BlinkEnd colour.now) ++ self.old }
     {
         self.coloured(colour);
@@ -112,7 +114,7 @@ impl Tail {
     }
 
     fn blink_mark(&mut self, on: bool, colour: &Colour)
-        requires { length self.old ≤ 1 }
+        requires { length self.old + 58 ≤ line_limit }
         ensures { self.new ≡ line (Entry.BlinkMark on colour.now) ++ self.old }
     {
         self.coloured(colour);
@@ -121,7 +123,7 @@ impl Tail {
     }
 
     fn wait(&mut self, tenths: Word)
-        requires { length self.old ≤ 1 }
+        requires { length self.old + 15 ≤ line_limit }
         ensures { self.new ≡ line (Entry.Wait tenths) ++ self.old }
     {
         self.word(tenths);
@@ -129,7 +131,7 @@ impl Tail {
     }
 
     fn cursor(&mut self, kind: CursorKind)
-        requires { length self.old ≤ 1 }
+        requires { length self.old + 13 ≤ line_limit }
         ensures { self.new ≡ line (Entry.Cursor kind) ++ self.old }
     {
         self.cursor_kind(kind);
@@ -137,7 +139,7 @@ impl Tail {
     }
 
     fn field(&mut self, area: Area, pen: Pen)
-        requires { length self.old ≤ 1 }
+        requires { length self.old + 75 ≤ line_limit }
         ensures { self.new ≡ line (Entry.Field area pen) ++ self.old }
     {
         self.pen(pen);
@@ -147,7 +149,7 @@ impl Tail {
     }
 
     fn reset(&mut self, first: Word, second: Word, pen: Pen)
-        requires { length self.old ≤ 1 }
+        requires { length self.old + 53 ≤ line_limit }
         ensures { self.new ≡ line (Entry.Reset first second pen) ++ self.old }
     {
         self.pen(pen);
@@ -159,7 +161,7 @@ impl Tail {
     }
 
     fn screen_clear(&mut self, pen: Pen)
-        requires { length self.old ≤ 1 }
+        requires { length self.old + 31 ≤ line_limit }
         ensures { self.new ≡ line (Entry.Clear pen) ++ self.old }
     {
         self.pen(pen);
@@ -167,7 +169,7 @@ impl Tail {
     }
 
     fn glyph(&mut self, code: u8)
-        requires { length self.old ≤ 1 }
+        requires { length self.old + 8 ≤ line_limit }
         ensures { self.new ≡ line (Entry.GlyphStart code) ++ self.old }
     {
         self.code(code);
@@ -175,7 +177,7 @@ impl Tail {
     }
 
     fn mask(&mut self, mask: Mask)
-        requires { length self.old ≤ 1 }
+        requires { length self.old + 6 ≤ line_limit }
         ensures { self.new ≡ line (Entry.MaskStart mask) ++ self.old }
     {
         self.mask_letter(mask);
@@ -226,9 +228,7 @@ impl Tail {
 
 // Points, each after a space.
 fn write_points(room: &mut Tail, text: &mut Vec<u8>, points: &[Point]) -> Result<(), AllocError>
-    ensures ok { OnOk result (text.new.items ≡ text.old.items ++ points_text points.now) }
-    ensures err { OnErr result (take (length text.old.items) text.new.items ≡ text.old.items) }
-    ensures utf8 { IsUtf8 text.old.items → OnOk result (IsUtf8 text.new.items) }
+    ensures { Writes text.old.items (points_text points.now) text.new.items result }
 {
     for point in points {
         room.clear();
@@ -248,22 +248,19 @@ fn write_shape(
     points: &Points,
 ) -> Result<(), AllocError>
     requires { length name.now ≤ 5 }
-    ensures ok { OnOk result (text.new.items ≡ text.old.items ++ (name.now ++ fill_text filled ++ points_text points.now)) }
-    ensures err { OnErr result (take (length text.old.items) text.new.items ≡ text.old.items) }
-    ensures utf8 { IsUtf8 text.old.items → OnOk result (IsUtf8 text.new.items) }
+    ensures { Writes text.old.items (name.now ++ fill_text filled ++ points_text points.now) text.new.items result }
 {
     room.clear();
     room.push(fill_name(filled));
     room.push(name);
     text.extend_from_slice(room.as_slice())?;
-    write_points(room, text, points.as_slice())
+    write_points(room, text, points.as_slice())?;
+    Ok(())
 }
 
 // Of a shape its name and its points, and nothing of any other entry.
 fn write_first_part(room: &mut Tail, text: &mut Vec<u8>, entry: &Entry) -> Result<(), AllocError>
-    ensures ok { OnOk result (text.new.items ≡ text.old.items ++ first_part entry.now) }
-    ensures err { OnErr result (take (length text.old.items) text.new.items ≡ text.old.items) }
-    ensures utf8 { IsUtf8 text.old.items → OnOk result (IsUtf8 text.new.items) }
+    ensures { Writes text.old.items (first_part entry.now) text.new.items result }
 {
     match entry {
         Entry::Arc { filled, points, .. } => write_shape(room, text, "ARC-", *filled, points),
@@ -280,9 +277,7 @@ fn write_parts(
     end: &str,
 ) -> Result<(), AllocError>
     requires { length end.now ≤ 1 }
-    ensures ok { OnOk result (text.new.items ≡ text.old.items ++ line entry.now ++ end.now) }
-    ensures err { OnErr result (take (length text.old.items) text.new.items ≡ text.old.items) }
-    ensures utf8 { IsUtf8 text.old.items → OnOk result (IsUtf8 text.new.items) }
+    ensures { Writes text.old.items (line entry.now ++ end.now) text.new.items result }
 {
     write_first_part(room, text, entry)?;
     room.clear();

@@ -4,6 +4,7 @@ ghost use Rattle.std.specs.Char.{digit_char};
 ghost use Rattle.std.specs.Fmt.{signed_decimal};
 ghost use Rattle.std.specs.Str.{IsUtf8};
 ghost use Rattle.nap_lines.specs.Lines.{code_text};
+ghost use Rattle.nap_lines.specs.Writing.{line_limit};
 
 use itoa::write_digits;
 use std::marker::Model;
@@ -73,7 +74,7 @@ impl Tail {
     }
 
     fn put(&mut self, bytes: &[u8])
-        requires room { length bytes.now + length self.old ≤ 256 }
+        requires room { length bytes.now + length self.old ≤ line_limit }
         requires utf8 { IsUtf8 bytes.now }
         ensures text { self.new ≡ bytes.now ++ self.old }
         ensures size { length self.new ≡ length bytes.now + length self.old }
@@ -86,7 +87,7 @@ impl Tail {
 
     /// This text in front.
     pub(crate) fn push(&mut self, text: &str)
-        requires room { length text.now + length self.old ≤ 256 }
+        requires room { length text.now + length self.old ≤ line_limit }
         ensures text { self.new ≡ text.now ++ self.old }
         ensures size { length self.new ≡ length text.now + length self.old }
     {
@@ -95,7 +96,7 @@ impl Tail {
 
     /// A number by its decimal digits.
     pub(crate) fn number(&mut self, number: u32)
-        requires room { length self.old + 10 ≤ 256 }
+        requires room { length self.old + 10 ≤ line_limit }
         ensures text { self.new ≡ decimal number ++ self.old }
         ensures size { length self.new ≤ length self.old + 10 }
     {
@@ -104,7 +105,7 @@ impl Tail {
 
     /// A number that may be below zero.
     pub(crate) fn signed(&mut self, number: i32)
-        requires room { length self.old + 11 ≤ 256 }
+        requires room { length self.old + 11 ≤ line_limit }
         ensures text { self.new ≡ signed_decimal number ++ self.old }
         ensures size { length self.new ≤ length self.old + 11 }
     {
@@ -127,7 +128,7 @@ impl Tail {
 
     /// A code by two hexadecimal digits.
     pub(crate) fn code(&mut self, code: u8)
-        requires room { length self.old + 2 ≤ 256 }
+        requires room { length self.old + 2 ≤ line_limit }
         ensures text { self.new ≡ code_text code ++ self.old }
         ensures size { length self.new ≡ length self.old + 2 }
     {

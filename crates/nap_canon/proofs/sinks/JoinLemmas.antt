@@ -41,7 +41,7 @@ use Rattle.nap_canon.proofs.reading.RunLemmas.{same_opcode, room_for}
 use Rattle.nap_canon.proofs.bring.StandingLemmas.{nothing_to_bring}
 
 -- an entry whose values stand is written by its spelling alone
-alone : (form : Form) (s : State) (e : Entry) → Stands (held e) s.drawing → entry_pieces form s e ≡ spelled form (taking s.drawing (held e)) e
+pub alone : (form : Form) (s : State) (e : Entry) → Stands (held e) s.drawing → entry_pieces form s e ≡ spelled form (taking s.drawing (held e)) e
 alone form s e is = ap (λ (commands : List Command). map command_piece commands ++ spelled form (taking s.drawing (held e)) e) (nothing_to_bring (held e) s.drawing is)
 
 -- the bytes of an entry that is one piece, and the tail behind it

@@ -60,17 +60,18 @@ onward_part now piece whole from to left part rest parts spelled last so_far =
     ∙ ap (λ (ps : List Coordinates). now ++ onward_bytes from ps) (sym parts)
     ∙ so_far
 
--- a shape: its opcode with the first point, and the displacements to the others
-pub shape_joined : (tail : Tail) (outlined code : ℕ) (filled : Bool) (first : Coordinates) (others points : List Coordinates) (head point bytes : List ℕ) →
-    code ≡ (if filled then (outlined + 1) else outlined) → head ≡ to_opcodes (gl_of tail) ++ code ∷ [] → point ≡ point_bytes first → bytes ≡ head ++ point →
-    points ≡ first ∷ others → bytes ++ onward_bytes first others ≡ piece_bytes tail (shape outlined filled points)
-shape_joined tail outlined code filled first others points head point bytes opcode begun placed both all =
-    let rest : List ℕ = onward_bytes first others in
-    ap (λ (bs : List ℕ). bs ++ rest) (both ∙ ap (λ (bs : List ℕ). bs ++ point) begun ∙ ap (λ (bs : List ℕ). (to_opcodes (gl_of tail) ++ code ∷ []) ++ bs) placed)
-    ∙ append_assoc (to_opcodes (gl_of tail) ++ code ∷ []) (point_bytes first) rest
-    ∙ append_assoc (to_opcodes (gl_of tail)) (code ∷ []) (point_bytes first ++ rest)
+-- a shape: its opcode with the first point and some displacements, and those to the other points
+pub shape_joined : (tail : Tail) (outlined code : ℕ) (filled : Bool) (first last : Coordinates) (near far others points : List Coordinates) (bytes : List ℕ) →
+    code ≡ (if filled then (outlined + 1) else outlined) → bytes ≡ (to_opcodes (gl_of tail) ++ code ∷ point_bytes first) ++ onward_bytes first near →
+    others ≡ near ++ far → last ≡ last_of first near → points ≡ first ∷ others → bytes ++ onward_bytes last far ≡ piece_bytes tail (shape outlined filled points)
+shape_joined tail outlined code filled first last near far others points bytes opcode begun parts ends all =
+    let head : List ℕ = to_opcodes (gl_of tail) ++ code ∷ point_bytes first in
+    let whole : head ++ onward_bytes first others ≡ piece_bytes tail (shape outlined filled points) =
+    append_assoc (to_opcodes (gl_of tail)) (code ∷ point_bytes first) (onward_bytes first others)
     ∙ ap (λ (byte : ℕ). to_opcodes (gl_of tail) ++ byte ∷ shape_bytes (first ∷ others)) opcode
-    ∙ ap (λ (ps : List Coordinates). piece_bytes tail (shape outlined filled ps)) (sym all)
+    ∙ ap (λ (ps : List Coordinates). piece_bytes tail (shape outlined filled ps)) (sym all) in
+    ap (λ (bs : List ℕ). bs ++ onward_bytes last far) begun
+    ∙ onward_part head (onward_bytes first near) (piece_bytes tail (shape outlined filled points)) first last others near far parts refl ends whole
 
 -- pieces behind others
 
@@ -107,6 +108,40 @@ module _ {T : Type 0} (sent : T → List ℕ → Bool → T → Type 0)
   -- a failure in the second part, where there is a third
   pub sent_second : (s t u : T) (a b c whole : List ℕ) → (a ++ b) ++ c ≡ whole → sent s a false t → sent t b true u → sent s whole true u
   sent_second s t u a b c whole is first second = sent_first s u (a ++ b) c whole is (more s t u a b true first second)
+
+-- commands behind others
+
+told_bytes : (tail mid : Tail) (front back whole : List Command) → front ++ back ≡ whole → mid ≡ tail_after tail (map command_piece front) →
+    written tail (map command_piece front) ++ written mid (map command_piece back) ≡ written tail (map command_piece whole)
+told_bytes tail mid front back whole is ends =
+    ap (λ (u : Tail). written tail (map command_piece front) ++ written u (map command_piece back)) ends
+    ∙ sym (written-append tail (map command_piece front) (map command_piece back))
+    ∙ ap (written tail) (sym (map-append command_piece front back) ∙ ap (map command_piece) is)
+
+pub told_tail : (tail mid next : Tail) (front back whole : List Command) → front ++ back ≡ whole → mid ≡ tail_after tail (map command_piece front) →
+    next ≡ tail_after mid (map command_piece back) → next ≡ tail_after tail (map command_piece whole)
+told_tail tail mid next front back whole is ends step =
+    step
+    ∙ ap (λ (u : Tail). tail_after u (map command_piece back)) ends
+    ∙ sym (tail_after-append tail (map command_piece front) (map command_piece back))
+    ∙ ap (tail_after tail) (sym (map-append command_piece front back) ∙ ap (map command_piece) is)
+
+pub on_ok_to : {T E P Q : Type 0} (r : Result T E) → (P → Q) → OnOk r P → OnOk r Q
+on_ok_to (Ok _) to p = to p
+on_ok_to (Err _) to p = tt
+
+module _ {T : Type 0} (sent : T → List ℕ → Bool → T → Type 0)
+    (more : (s t u : T) (a b : List ℕ) (broke : Bool) → sent s a false t → sent t b broke u → sent s (a ++ b) broke u)
+    (cut : (s t : T) (a b : List ℕ) → sent s a true t → sent s (a ++ b) true t) (tail : Tail) (front back whole : List Command) (is : front ++ back ≡ whole) where
+  pub told_both : (s t u : T) (mid : Tail) (broke : Bool) → mid ≡ tail_after tail (map command_piece front) →
+      sent s (written tail (map command_piece front)) false t → sent t (written mid (map command_piece back)) broke u → sent s (written tail (map command_piece whole)) broke u
+  told_both s t u mid broke ends first second =
+      sent_both sent more cut s t u (written tail (map command_piece front)) (written mid (map command_piece back)) _ broke (told_bytes tail mid front back whole is ends) first second
+
+  pub told_first : (s t : T) → sent s (written tail (map command_piece front)) true t → sent s (written tail (map command_piece whole)) true t
+  told_first s t first =
+      sent_first sent more cut s t (written tail (map command_piece front)) (written (tail_after tail (map command_piece front)) (map command_piece back)) _
+      (told_bytes tail (tail_after tail (map command_piece front)) front back whole is refl) first
 
 -- one command more
 

@@ -11,7 +11,6 @@ use crate::form::Form;
 use crate::gathered::{MOST, gather};
 use crate::tail::Tail;
 use crate::writer::{Writer, opcodes};
-use arrayvec::ArrayVec;
 use nap_codes::{CharSet, GSet};
 use nap_list::{Batch, Pen, start_at};
 use nap_values::{Point, put_point};
@@ -112,15 +111,14 @@ impl<T: ByteSink + Drop> Writer<T> {
 
     /// Writes points that join the run of this opcode. An error has the number of their bytes that were taken.
     fn join_run(&mut self, opcode: u8, points: &[Point]) -> Result<(), usize>
-        requires few { length points.now ≤ 32 }
+        requires few { length points.now ≤ 128 }
         ensures sent { SentUpTo T.sent self.old.to (points_bytes points.now) self.new.to result }
         ensures tail { OnOk result (self.new.tail ≡ InRun (run_behind self.old.tail opcode (8 * length points.now))) }
         ensures kept { (self.new.form ≡ self.old.form) × (self.new.state ≡ self.old.state) }
     {
-        let mut bytes = ArrayVec::new();
-        gather(&mut bytes, points);
-        self.to.take_counted(bytes.as_slice())?;
-        self.tail = self.tail.behind(opcode, bytes.len());
+        gather(&mut self.room, points);
+        self.to.take_counted(self.room.as_slice())?;
+        self.tail = self.tail.behind(opcode, self.room.len());
         Ok(())
     }
 

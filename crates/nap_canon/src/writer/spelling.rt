@@ -8,9 +8,8 @@ ghost use Rattle.nap_canon.specs.Spelling.{word_byte, mask_byte, cursor_byte, st
 ghost use Rattle.nap_canon.specs.Text.{gl_of, piece_bytes, written, tail_behind, tail_after};
 
 use crate::byte_sink::ByteSink;
-use crate::command::Commands;
 use crate::form::Form;
-use crate::gathered::{MOST, displacements};
+use crate::gathered::{MOST, NEAR, gather_onward, gather_shape};
 use crate::piece::Piece;
 use crate::tail::Tail;
 use crate::writer::{LENGTHS, Writer, opcodes};
@@ -57,7 +56,8 @@ impl<T: ByteSink + Drop> Writer<T> {
     {
         let mut from = first;
         for chunk in others.chunks(MOST) {
-            self.to.take(displacements(from, chunk).as_slice())?;
+            gather_onward(&mut self.room, from, chunk);
+            self.to.take(self.room.as_slice())?;
             from = start_at(from, chunk, chunk.len());
         }
         Ok(())
@@ -70,13 +70,17 @@ impl<T: ByteSink + Drop> Writer<T> {
         ensures tail { self.new.tail ≡ Apart G1 }
         ensures kept { (self.new.form ≡ self.old.form) × (self.new.state ≡ self.old.state) }
     {
-        let piece = Piece::opcode(self.tail.gl(), shape_opcode(outlined, filled));
+        let opcode = shape_opcode(outlined, filled);
+        let gl = self.tail.gl();
         match points.split_first() {
             Some((first, others)) => {
-                self.drawn(piece.with(&put_point(*first)))?;
-                self.onward(*first, others)
+                let (near, far) = others.split_at(others.len().min(NEAR));
+                gather_shape(&mut self.room, gl, opcode, *first, near);
+                self.tail = Tail::Apart(GSet::G1);
+                self.to.take(self.room.as_slice())?;
+                self.onward(start_at(*first, near, near.len()), far)
             }
-            None => self.drawn(piece),
+            None => self.drawn(Piece::opcode(gl, opcode)),
         }
     }
 
@@ -92,7 +96,7 @@ impl<T: ByteSink + Drop> Writer<T> {
         if tail.joins(opcode, operands.len()) {
             return self.to.take(operands);
         }
-        let piece = Piece::opcode(tail.gl(), opcode).with(operands);
+        let piece = Piece::opened(tail.gl(), opcode, operands);
         self.to.take(piece.as_slice())
     }
 
@@ -104,7 +108,7 @@ impl<T: ByteSink + Drop> Writer<T> {
         ensures kept { (self.new.form ≡ self.old.form) × (self.new.state ≡ self.old.state) }
     {
         match self.form {
-            Form::One => self.drawn(Piece::opcode(self.tail.gl(), opcode).with(operands)),
+            Form::One => self.drawn(Piece::opened(self.tail.gl(), opcode, operands)),
             Form::Two => self.group(opcode, operands),
         }
     }
@@ -157,7 +161,8 @@ impl<T: ByteSink + Drop> Writer<T> {
     }
 
     /// A format effector.
-    fn text_move(&mut self, step: TextStep) -> Result<(), T::Fault>
+    #[inline(always)]
+    pub(super) fn text_move(&mut self, step: TextStep) -> Result<(), T::Fault>
         ensures sent { T.sent self.old.to (step_bytes step) (is_err result) self.new.to }
         ensures tail { self.new.tail ≡ Apart (gl_of self.old.tail) }
         ensures kept { (self.new.form ≡ self.old.form) × (self.new.state ≡ self.old.state) }
@@ -179,10 +184,9 @@ impl<T: ByteSink + Drop> Writer<T> {
         ensures tail { OnOk result (self.new.tail ≡ tail_after self.old.tail (map_pieces self.old.state.drawing addr grb)) }
         ensures kept { (self.new.form ≡ self.old.form) × (self.new.state ≡ self.old.state) }
     {
-        let drawing = &self.state.drawing;
-        let bring = Commands::bring_colour(drawing.base, drawing.colour, Colour::Front(addr));
-        self.commands(&bring)?;
-        self.drawn(Piece::opcode(self.tail.gl(), opcodes::SET_COLOR).with(&put_grb(grb)))
+        let (base, old) = (self.state.drawing.base, self.state.drawing.colour);
+        self.lead_colour(base, old, Some(Colour::Front(addr)))?;
+        self.drawn(Piece::opened(self.tail.gl(), opcodes::SET_COLOR, &put_grb(grb)))
     }
 
     /// RESET, and DOMAIN once more where that puts the lengths of operands back.

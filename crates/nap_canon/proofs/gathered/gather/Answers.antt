@@ -6,7 +6,7 @@ use Rattle.nap_canon.proofs.gathered.gather.Goals as goal
 
 pub loop-point-init : goal.loop-point-init
 unfolding points_bytes
-loop-point-init c = record { bytes = c.requires.empty; size = ap length c.requires.empty }
+loop-point-init c = record { bytes = c.clear.ensures; size = ap length c.clear.ensures }
 
 pub unwrap-requires : goal.unwrap-requires
 unwrap-requires c =

@@ -1,7 +1,8 @@
-use Rattle.std.proofs.Common.{◌≡◌, ◌∙◌, true, ap, ap₂, codes, string_bytes}
+use Rattle.std.proofs.Common.{◌≡◌, ◌∙◌, true, false, ap, ap₂, codes, string_bytes}
 use Rattle.std.proofs.lemmas.Result.{IfOk-weaker}
 use Rattle.clap.specs.Words.{App, app_of, new_app, with_subcommand}
 use Rattle.clap.specs.Simple.{app_of_fields}
+use Rattle.clap.specs.declared.builder.command.Command.TheViews.{out-Command as fields_of}
 use Rattle.nap_cli.specs.CommandLine.{command_app, page_commands, program_app}
 use Rattle.nap_cli.proofs.words.program.Goals as goal
 
@@ -26,4 +27,6 @@ returns c =
     c.in_ok-subcommand-4.ensures.shape c.in_ok-subcommand-3.ensures.local ∙ ap₂ with_subcommand one (ap (λ (a : App). a.top) c.in_ok-subcommand-3.ensures.app) in
     let three : app_of c.in_ok-subcommand-5.field-0 ≡ page_commands usual =
     c.in_ok-subcommand-5.ensures.shape c.in_ok-canon_command.ensures.local ∙ ap₂ with_subcommand two (ap (λ (a : App). a.top) c.in_ok-canon_command.ensures.app) in
-    IfOk-weaker c.subcommand-6.result _ _ (λ r h. h.shape c.in_ok-batch_command.ensures.local ∙ ap₂ with_subcommand three (ap (λ (a : App). a.top) c.in_ok-batch_command.ensures.app)) c.subcommand-6.ensures
+    let batch_is : app_of c.after_help-2.result ≡ new_app (codes "batch") = ap app_of_fields c.after_help-2.ensures ∙ (ap app_of_fields c.about-2.ensures ∙ (ap app_of_fields c.override_usage-2.ensures ∙ c.new-2.ensures.app)) in
+    let local : (fields_of c.after_help-2.result).has_globals ≡ false = ap (λ f. f.has_globals) c.after_help-2.ensures ∙ (ap (λ f. f.has_globals) c.about-2.ensures ∙ (ap (λ f. f.has_globals) c.override_usage-2.ensures ∙ c.new-2.ensures.local)) in
+    IfOk-weaker c.subcommand-6.result _ _ (λ r h. h.shape local ∙ ap₂ with_subcommand three (ap (λ (a : App). a.top) batch_is)) c.subcommand-6.ensures

@@ -10,7 +10,7 @@ use Rattle.nap_canon.proofs.writer.Writer.onward.Goals as goal
 
 pub loop-chunk-init : goal.loop-chunk-init
 loop-chunk-init g c =
-    let size : chunks_size c.into_iter-chunk-iterator.result ≡ 32 = search rules in
+    let size : chunks_size c.into_iter-chunk-iterator.result ≡ 128 = search rules in
     let all : chunks_rest c.into_iter-chunk-iterator.result ≡ c.args.others.now = search rules in
     record {
       can = omega arith;
@@ -38,7 +38,7 @@ loop-chunk-preserved g c =
         so_far.0 ++ piece,
         g.met.T.ByteSink.sent_more c.args.self.now.to c.loop-chunk.self.to c.take.new.self so_far.0 piece false so_far.1 c.in_ok-take.ensures,
         onward_part so_far.0 piece (onward_bytes c.args.first c.args.others.now) c.loop-chunk.from c.start_at-from.result _ c.in-Some.chunk.now (chunks_rest c.next.new.self)
-            steps.1.0 (c.as_slice.ensures.value ∙ c.displacements.ensures) last so_far.2,
+            steps.1.0 (c.as_slice.ensures.value ∙ c.gather_onward.ensures) last so_far.2,
       );
       tail = inv.tail;
       kept = inv.kept;
@@ -53,7 +53,7 @@ returns-in_err-take-clause-sent g c =
     let part = c.in-Some.chunk.now in
     let failure = err_from_is_err_and c.from_residual.result c.from_residual.ensures.1 in
     rw failure.1 (sent_second g.T.ByteSink.sent g.met.T.ByteSink.sent_more g.met.T.ByteSink.sent_cut c.args.self.now.to c.loop-chunk.self.to c.take.new.self so_far.0 piece _ whole
-    (onward_part so_far.0 piece whole from (last_of from part) _ part (chunks_rest c.next.new.self) c.in-Some.ensures.steps.1.0 (c.as_slice.ensures.value ∙ c.displacements.ensures) refl so_far.2)
+    (onward_part so_far.0 piece whole from (last_of from part) _ part (chunks_rest c.next.new.self) c.in-Some.ensures.steps.1.0 (c.as_slice.ensures.value ∙ c.gather_onward.ensures) refl so_far.2)
     so_far.1 c.in_err-take.ensures)
 
 pub returns-clause-sent : goal.returns-clause-sent

@@ -8,7 +8,7 @@ abbrev pub invariant-loop-chunk : goal.invariant-loop-chunk
 invariant-loop-chunk g l = record {
   can : (goal.iterator-loop-chunk g).can_next l.chunk-iterator;
   finite : (goal.iterator-loop-chunk g).is_finite l.chunk-iterator;
-  size : chunks_size l.chunk-iterator ≡ 32;
+  size : chunks_size l.chunk-iterator ≡ 128;
   sent : (done : List ℕ) × g.T.ByteSink.sent l.fn.self.to done false l.self.to
       × (done ++ onward_bytes l.from (chunks_rest l.chunk-iterator) ≡ onward_bytes l.fn.first l.others);
   tail : l.self.tail ≡ l.fn.self.tail;

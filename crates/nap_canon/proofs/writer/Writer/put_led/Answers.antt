@@ -6,7 +6,7 @@ use Rattle.nap_canon.specs.Bring.{bring}
 use Rattle.nap_canon.specs.Spelling.{command_piece, spelled}
 use Rattle.nap_canon.specs.Text.{written}
 use Rattle.nap_canon.proofs.texts.WriterLemmas.{entry_bytes, entry_tail, led_bytes, sent_both, sent_first}
-use Rattle.nap_canon.proofs.writer.Writer.put_ref.Goals as goal
+use Rattle.nap_canon.proofs.writer.Writer.put_led.Goals as goal
 
 pub returns-in_err-lead-clause-sent : goal.returns-in_err-lead-clause-sent
 returns-in_err-lead-clause-sent g c =
