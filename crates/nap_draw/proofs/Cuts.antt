@@ -4,9 +4,9 @@ use Rattle.std.proofs.Math.Seq.{take-append_seam, drop-append_seam}
 use Rattle.std.proofs.lemmas.List.{length-map}
 use Rattle.std.proofs.lemmas.Bool.Decides.{nat_tests}
 use Rattle.std.specs.Int.{div_ceil}
-use Rattle.nap_values.specs.Operands.{multi_of, single_of}
+use Rattle.nap_values.specs.Operands.{multi_of}
 use Rattle.nap_draw.specs.declared.fault.DrawFault.TheVariants.{Missing}
-use Rattle.nap_draw.specs.Operands.{cut, operands, moves, addresses}
+use Rattle.nap_draw.specs.Operands.{cut, operands, moves}
 use Rattle.nap_draw.specs.declared.fault.DrawFault.{DrawFault}
 use Rattle.nap_draw.specs.declared.work.Work.{Work}
 use Rattle.nap_values.specs.Coordinates.{Displacement}
@@ -45,9 +45,6 @@ moves_none k run none = ap (map multi_of) (operands_none k run none)
 pub moves_turn : (k n : ℕ) (run front after : List ℕ) → 1 ≤ k → 0 < length run →
     n ≡ min k (length run) → front ≡ take n run → after ≡ drop n run → moves k run ≡ multi_of front ∷ moves k after
 moves_turn k n run front after some more is first rest = rw (first, rest, is) (ap (map multi_of) (operands-front k run some more))
-
-pub addresses_none : (k : ℕ) (run : List ℕ) → length run ≡ 0 → addresses k run ≡ []
-addresses_none k run none = ap (map single_of) (operands_none k run none)
 
 pub none_of : (work : Work) (run : List ℕ) → length run ≡ 0 → (f : List Displacement → Result Drawn DrawFault) → with_operands work run f ≡ Err Missing
 none_of work run none f = ap (λ ms. and_then (some_of ms) f) (moves_none work.domain.multi run none)
@@ -113,19 +110,6 @@ operands_chunk k size left x rest is some parts long more =
 pub moves_chunk : (k size : ℕ) (left x rest : List ℕ) → size ≡ k → 1 ≤ k → left ≡ x ++ rest → length x ≡ min size (length left) → 0 < length left →
     moves k left ≡ multi_of x ∷ moves k rest
 moves_chunk k size left x rest is some parts long more = ap (map multi_of) (operands_chunk k size left x rest is some parts long more)
-
--- a run whose first chunk was taken, or its first two
-module _ (k size most value : ℕ) (run left x rest : List ℕ) (all : left ≡ run) (cut_by : size ≡ most) (same : most ≡ value) (is : value ≡ k) (least : 1 ≤ value)
-    (parts : left ≡ x ++ rest) (long : length x ≡ min size (length left)) (more : 0 < length left) where
-  pub first_operand : operands k run ≡ x ∷ operands k rest
-  first_operand = ap (operands k) (sym all) ∙ operands_chunk k size left x rest (omega arith) (omega arith) parts long more
-
-  pub only_operand : length rest ≡ 0 → operands k run ≡ x ∷ []
-  only_operand none = first_operand ∙ ap (λ (os : List (List ℕ)). x ∷ os) (operands_none k rest none)
-
-  pub two_operands : (still : ℕ) (y behind : List ℕ) → still ≡ size → rest ≡ y ++ behind → length y ≡ min still (length rest) → 0 < length rest → operands k run ≡ x ∷ y ∷ operands k behind
-  two_operands still y behind kept parts long more =
-      first_operand ∙ ap (λ (os : List (List ℕ)). x ∷ os) (operands_chunk k still rest y behind (omega arith) (omega arith) parts long more)
 
 -- a run that is cut behind its first operand
 

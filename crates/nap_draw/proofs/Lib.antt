@@ -1,6 +1,7 @@
 pub mod Acting
 pub mod Areas
 pub mod Attributes
+pub mod ByteRuns
 pub mod CodeRanges
 pub mod Copies
 pub mod Cuts

@@ -1,8 +1,8 @@
-use Rattle.std.proofs.Common.{◌≡◌, ℕ, ◌+◌, List, [], ◌∷◌, ◌++◌, map, length, take, drop, get_or, min, ◌<◌, arith, Option, None, refl, sym, ◌∙◌, ap, subst}
+use Rattle.std.proofs.Common.{◌≡◌, ℕ, ◌+◌, ◌%◌, List, [], ◌∷◌, ◌++◌, map, length, take, drop, drop-cons, add-one, get_or, min, ◌<◌, arith, Option, None, refl, sym, ◌∙◌, ap, subst}
 use Rattle.std.proofs.lemmas.List.{take_min, drop_min}
-use Rattle.nap_values.specs.Operands.{single_of}
+use Rattle.nap_values.specs.Operands.{carried, single_of}
 use Rattle.nap_draw.specs.Operands.{operands}
-use Rattle.nap_draw.proofs.Cuts.{operands_chunk}
+use Rattle.nap_draw.proofs.ByteRuns.{operands_chunk}
 use Rattle.nap_list.specs.declared.attribute.Colour.{Colour}
 use Rattle.nap_list.specs.declared.entry.Entry.{Entry}
 use Rattle.nap_list.specs.declared.entry.Entry.TheVariants as entries
@@ -70,8 +70,15 @@ blink_made k m colour group address times a on off delay part front back at one 
     let behind = back ∙ (ap (λ (m : ℕ). drop m group) part ∙ drop_min k group) in
     rw (at, one, two, three, by, behind) refl
 
+-- the first pause of what is left
+pub pause_left : (run : List ℕ) (i word : ℕ) → i < length run → word ≡ get_or run i 0 % 64 →
+    map entries.Wait (carried (drop i run)) ≡ entries.Wait word ∷ map entries.Wait (carried (drop (i + 1) run))
+pause_left run i word inside made =
+    let front : drop i run ≡ get_or run i 0 ∷ drop (i + 1) run = rw add-one (drop-cons run i 0 inside) in
+    ap (λ (left : List ℕ). map entries.Wait (carried left)) front ∙ ap (λ (word : ℕ). entries.Wait word ∷ map entries.Wait (carried (drop (i + 1) run))) (sym made)
+
 -- the first blink of what is left
 pub blink_left : (k size : ℕ) (colour : Colour) (left group rest : List ℕ) (e : Entry) → size ≡ k + 3 → left ≡ group ++ rest → length group ≡ min size (length left) → 0 < length left →
-    e ≡ blink k colour group → map (blink k colour) (operands (k + 3) left) ≡ e ∷ map (blink k colour) (operands (k + 3) rest)
+    e ≡ blink k colour (carried group) → map (blink k colour) (operands (k + 3) (carried left)) ≡ e ∷ map (blink k colour) (operands (k + 3) (carried rest))
 blink_left k size colour left group rest e is parts long more made =
-    ap (map (blink k colour)) (operands_chunk (k + 3) size left group rest is (omega arith) parts long more) ∙ ap (λ (e : Entry). e ∷ map (blink k colour) (operands (k + 3) rest)) (sym made)
+    ap (map (blink k colour)) (operands_chunk (k + 3) size left group rest is (omega arith) parts long more) ∙ ap (λ (e : Entry). e ∷ map (blink k colour) (operands (k + 3) (carried rest))) (sym made)

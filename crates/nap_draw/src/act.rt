@@ -1,5 +1,6 @@
 //! An opcode acts on its whole run, as the PDI opcodes have it.
-ghost use Rattle.std.specs.Prelude.{◌≡◌, ◌≤◌, ◌≢◌, length, true, false, OnOk, IfOk, IfErr, IsErrOf};
+ghost use Rattle.std.specs.Prelude.{◌≡◌, ◌≤◌, ◌≢◌, length, take, true, false, OnOk, IfOk, IfErr, IsErrOf};
+ghost use Rattle.nap_values.specs.Operands.{carried};
 ghost use Rattle.nap_list.specs.Agreement.{StatesAgree};
 ghost use Rattle.nap_draw.specs.Limits.{run_limit};
 ghost use Rattle.nap_draw.specs.Rule.{rule, IsDrawn};
@@ -21,6 +22,7 @@ pub const RUN_LIMIT: usize = 16_384;
 /// Puts the entries that the opcode gives on its whole run, once all its checks have passed (PDI opcodes), and gives
 /// what they leave; the work that is passed stays as it was. A refused opcode puts nothing, except if memory runs
 /// out or the sink fails: then some of its first entries may stay. The incremental opcodes are no part of our profile.
+/// `act` takes the run as bytes: a byte carries a word in its low six bits.
 pub fn apply<S: Sink>(
     alloc: Global,
     work: &Work,
@@ -38,26 +40,40 @@ pub fn apply<S: Sink>(
 {
     let mut next = work.copy();
     let mut room = Vec::new(alloc);
-    let clears = next.act(alloc, &mut room, op, run, sink)?;
+    let bytes = bytes_of(run);
+    let clears = next.act(alloc, &mut room, op, &bytes[..run.len()], sink)?;
     Ok(Effects { work: next, clears })
 }
 
+/// The words of a run, a byte for each, and zero behind them. They are on no heap, so that no refused opcode wants memory.
+fn bytes_of(run: &[Word]) -> [u8; RUN_LIMIT]
+    requires { length run.now ≤ run_limit }
+    ensures { carried (take (length run.now) result) ≡ run.now }
+{
+    let mut bytes = [0; RUN_LIMIT];
+    for at in 0..run.len() {
+        bytes[at] = run[at].get();
+    }
+    bytes
+}
+
 impl Work {
-    /// Acts as `apply` does, upon this work itself, and says whether all macros are cleared. Where it fails the work
-    /// stays as it was. The room is lent for the points of the run; what it held before means nothing, and kept by the
-    /// caller it grows to what the longest run needs, `RUN_LIMIT` points at most.
+    /// Acts as `apply` does, upon this work itself, and says whether all macros are cleared. A byte of the run carries a
+    /// word in its low six bits, whatever its others are. Where it fails the work stays as it was. The room is lent for
+    /// the points of the run; what it held before means nothing, and kept by the caller it grows to what the longest run
+    /// needs, `RUN_LIMIT` points at most.
     pub fn act<S: Sink>(
         &mut self,
         alloc: Global,
         room: &mut Vec<Point>,
         op: Opcode,
-        run: &[Word],
+        run: &[u8],
         sink: &mut S,
     ) -> Result<bool, DrawFault>
         requires agrees { StatesAgree self.old.state (S.state sink.old) }
         requires few { length run.now ≤ run_limit }
         requires drawn { IsDrawn op }
-        ensures acts { Acts S.Sink told (rule self.old op run.now) self.old self.new sink.old sink.new result }
+        ensures acts { Acts S.Sink told (rule self.old op (carried run.now)) self.old self.new sink.old sink.new result }
         ensures failed { IsErrOf result DrawFault.Sink → S.failed sink.new ≡ true }
         ensures kept { IfErr result (λ fault. S.failed sink.old ≡ false → S.failed sink.new ≡ true → fault ≡ DrawFault.Sink) }
         ensures clear { OnOk result (S.failed sink.old ≡ false → S.failed sink.new ≡ false) }
@@ -77,13 +93,13 @@ impl Work {
         alloc: Global,
         room: &mut Vec<Point>,
         op: Opcode,
-        run: &[Word],
+        run: &[u8],
         sink: &mut S,
     ) -> Result<(), DrawFault>
         requires agrees { StatesAgree self.old.state (S.state sink.old) }
         requires drawn { IsDrawn op }
         requires other { op ≢ Opcode.Reset }
-        ensures { Does S.Sink quiet (rule self.old op run.now) self.old self.new sink.old sink.new result }
+        ensures { Does S.Sink quiet (rule self.old op (carried run.now)) self.old self.new sink.old sink.new result }
     {
         match op {
             Opcode::Domain => self.set_domain(run),

@@ -1,5 +1,6 @@
 //! SELECT COLOR and SET COLOR: the colour modes and the colour map.
 ghost use Rattle.std.specs.Prelude.{◌≡◌};
+ghost use Rattle.nap_values.specs.Operands.{carried};
 ghost use Rattle.nap_list.specs.Agreement.{StatesAgree};
 ghost use Rattle.nap_draw.specs.Operands.{addresses};
 ghost use Rattle.nap_draw.specs.Rule.{selected, colours_as, maps, with_drawing, rule};
@@ -9,20 +10,20 @@ use crate::fault::DrawFault;
 use crate::work::Work;
 use nap_codes::Opcode;
 use nap_list::{Base, Colour, Entry, Sink};
-use nap_values::{Addr, Domain, Grb, Word, colour, single};
+use nap_values::{Addr, Domain, Grb, colour_bytes, single_bytes};
 
 impl Work {
-    pub(crate) fn select_color(&mut self, run: &[Word]) -> Result<(), DrawFault>
-        ensures { Sets (rule self.old Opcode.SelectColor run.now) self.old self.new result }
+    pub(crate) fn select_color(&mut self, run: &[u8]) -> Result<(), DrawFault>
+        ensures { Sets (rule self.old Opcode.SelectColor (carried run.now)) self.old self.new result }
     {
         let base = self.base();
         self.state.drawing.colour = selected(base, self.domain, run);
         Ok(())
     }
 
-    pub(crate) fn set_color<S: Sink>(&mut self, run: &[Word], sink: &mut S) -> Result<(), DrawFault>
+    pub(crate) fn set_color<S: Sink>(&mut self, run: &[u8], sink: &mut S) -> Result<(), DrawFault>
         requires { StatesAgree self.old.state (S.state sink.old) }
-        ensures { Does S.Sink quiet (rule self.old Opcode.SetColor run.now) self.old self.new sink.old sink.new result }
+        ensures { Does S.Sink quiet (rule self.old Opcode.SetColor (carried run.now)) self.old self.new sink.old sink.new result }
     {
         let size = self.domain.multi();
         if run.is_empty() {
@@ -31,7 +32,7 @@ impl Work {
         if run.len() > usize::from(size) {
             return Err(DrawFault::ManyColours);
         }
-        self.set(colour(run, size), sink)
+        self.set(colour_bytes(run), sink)
     }
 
     /// A new colour: of mode 0, or at the address that is chosen.
@@ -78,8 +79,8 @@ impl Work {
 }
 
 /// The colour that the operands select.
-fn selected(base: Base, domain: Domain, run: &[Word]) -> Colour
-    ensures { result ≡ selected base (addresses domain.single run.now) }
+fn selected(base: Base, domain: Domain, run: &[u8]) -> Colour
+    ensures { result ≡ selected base (addresses domain.single (carried run.now)) }
 {
     let size = domain.single();
     let mut addresses = run.chunks(usize::from(size));
@@ -89,9 +90,9 @@ fn selected(base: Base, domain: Domain, run: &[Word]) -> Colour
             Base::Direct(grb) => Colour::Direct(grb),
         };
     };
-    let first = single(first, size);
+    let first = single_bytes(first);
     match addresses.next() {
         None => Colour::Front(first),
-        Some(second) => Colour::Pair(first, single(second, size)),
+        Some(second) => Colour::Pair(first, single_bytes(second)),
     }
 }

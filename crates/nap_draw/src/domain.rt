@@ -1,5 +1,6 @@
 //! DOMAIN: the lengths of operands, and the logical pel.
 ghost use Rattle.std.specs.Prelude.{◌≡◌};
+ghost use Rattle.nap_values.specs.Operands.{carried};
 ghost use Rattle.nap_draw.specs.Rule.{domain_in, rule};
 ghost use Rattle.nap_draw.specs.Doing.{Sets};
 
@@ -18,16 +19,17 @@ fn domain_in(word: Word) -> Domain
 }
 
 impl Work {
-    pub(crate) fn set_domain(&mut self, run: &[Word]) -> Result<(), DrawFault>
-        ensures { Sets (rule self.old Opcode.Domain run.now) self.old self.new result }
+    pub(crate) fn set_domain(&mut self, run: &[u8]) -> Result<(), DrawFault>
+        ensures { Sets (rule self.old Opcode.Domain (carried run.now)) self.old self.new result }
     {
         let Some((word, words)) = run.split_first() else {
             return Err(DrawFault::Missing);
         };
+        let word = Word::of_byte(*word);
         if word.get() / 32 == 1 {
             return Err(DrawFault::ThreeD);
         }
-        self.domain = domain_in(*word);
+        self.domain = domain_in(word);
         let pel = first_move(self.domain, words);
         self.set_pel(pel);
         Ok(())

@@ -1,5 +1,6 @@
 //! FIELD: the whole unit screen, or a part of it.
 ghost use Rattle.std.specs.Prelude.{◌≡◌};
+ghost use Rattle.nap_values.specs.Operands.{carried};
 ghost use Rattle.nap_list.specs.Agreement.{StatesAgree};
 ghost use Rattle.nap_draw.specs.Rule.{moves_of, part, area_of, rule};
 ghost use Rattle.nap_draw.specs.Doing.{Does, quiet};
@@ -9,12 +10,12 @@ use crate::spans::{Span, span_by};
 use crate::work::Work;
 use nap_codes::Opcode;
 use nap_list::{Area, Entry, Pen, Sink};
-use nap_values::{Move, Point, Word, multi};
+use nap_values::{Move, Point, multi_bytes};
 
 impl Work {
-    pub(crate) fn field<S: Sink>(&mut self, run: &[Word], sink: &mut S) -> Result<(), DrawFault>
+    pub(crate) fn field<S: Sink>(&mut self, run: &[u8], sink: &mut S) -> Result<(), DrawFault>
         requires { StatesAgree self.old.state (S.state sink.old) }
-        ensures { Does S.Sink quiet (rule self.old Opcode.Field run.now) self.old self.new sink.old sink.new result }
+        ensures { Does S.Sink quiet (rule self.old Opcode.Field (carried run.now)) self.old self.new sink.old sink.new result }
     {
         let area = self.area_of(run)?;
         let pen = self.pen();
@@ -22,18 +23,18 @@ impl Work {
     }
 
     /// The whole square, or a part from the pen on, or from a point on.
-    fn area_of(&self, run: &[Word]) -> Result<Area, DrawFault>
-        ensures { result ≡ area_of self.now (moves_of self.now run.now) }
+    fn area_of(&self, run: &[u8]) -> Result<Area, DrawFault>
+        ensures { result ≡ area_of self.now (moves_of self.now (carried run.now)) }
     {
         let size = self.domain.multi();
         let mut operands = run.chunks(usize::from(size));
         let Some(first) = operands.next() else {
             return Ok(Area::Whole);
         };
-        let first = multi(first, size);
+        let first = multi_bytes(first);
         match operands.next() {
             None => part(Some(self.pen_point()?), first),
-            Some(second) => part(first.point(), multi(second, size)),
+            Some(second) => part(first.point(), multi_bytes(second)),
         }
     }
 }

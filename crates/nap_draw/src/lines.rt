@@ -1,5 +1,6 @@
 //! LINE and RECTANGLE, and their SET forms.
 ghost use Rattle.std.specs.Prelude.{Some, if◌then◌else◌};
+ghost use Rattle.nap_values.specs.Operands.{carried};
 ghost use Rattle.nap_list.specs.Agreement.{StatesAgree};
 ghost use Rattle.nap_draw.specs.Geometry.{joined};
 ghost use Rattle.nap_draw.specs.Rule.{draws, line_on, rule};
@@ -13,17 +14,17 @@ use crate::spans::Figure;
 use crate::work::Work;
 use nap_codes::Opcode;
 use nap_list::{Batch, Sink};
-use nap_values::{Point, Word};
+use nap_values::Point;
 
 impl Work {
     pub(crate) fn line_abs<S: Sink>(
         &mut self,
         room: &mut Vec<Point>,
-        run: &[Word],
+        run: &[u8],
         sink: &mut S,
     ) -> Result<(), DrawFault>
         requires { StatesAgree self.old.state (S.state sink.old) }
-        ensures { Does S.Sink quiet (rule self.old Opcode.LineAbs run.now) self.old self.new sink.old sink.new result }
+        ensures { Does S.Sink quiet (rule self.old Opcode.LineAbs (carried run.now)) self.old self.new sink.old sink.new result }
     {
         let from = start(self, run)?;
         points_into(room, self.domain, run)?;
@@ -33,11 +34,11 @@ impl Work {
     pub(crate) fn line_rel<S: Sink>(
         &mut self,
         room: &mut Vec<Point>,
-        run: &[Word],
+        run: &[u8],
         sink: &mut S,
     ) -> Result<(), DrawFault>
         requires { StatesAgree self.old.state (S.state sink.old) }
-        ensures { Does S.Sink quiet (rule self.old Opcode.LineRel run.now) self.old self.new sink.old sink.new result }
+        ensures { Does S.Sink quiet (rule self.old Opcode.LineRel (carried run.now)) self.old self.new sink.old sink.new result }
     {
         let from = start(self, run)?;
         steps_into(room, from, self.domain, run)?;
@@ -47,11 +48,11 @@ impl Work {
     pub(crate) fn set_line_abs<S: Sink>(
         &mut self,
         room: &mut Vec<Point>,
-        run: &[Word],
+        run: &[u8],
         sink: &mut S,
     ) -> Result<(), DrawFault>
         requires { StatesAgree self.old.state (S.state sink.old) }
-        ensures { Does S.Sink quiet (rule self.old Opcode.SetLineAbs run.now) self.old self.new sink.old sink.new result }
+        ensures { Does S.Sink quiet (rule self.old Opcode.SetLineAbs (carried run.now)) self.old self.new sink.old sink.new result }
     {
         some_pairs(self, run)?;
         points_into(room, self.domain, run)?;
@@ -61,11 +62,11 @@ impl Work {
     pub(crate) fn set_line_rel<S: Sink>(
         &mut self,
         room: &mut Vec<Point>,
-        run: &[Word],
+        run: &[u8],
         sink: &mut S,
     ) -> Result<(), DrawFault>
         requires { StatesAgree self.old.state (S.state sink.old) }
-        ensures { Does S.Sink quiet (rule self.old Opcode.SetLineRel run.now) self.old self.new sink.old sink.new result }
+        ensures { Does S.Sink quiet (rule self.old Opcode.SetLineRel (carried run.now)) self.old self.new sink.old sink.new result }
     {
         some_pairs(self, run)?;
         pairs_into(room, self.domain, run)?;
@@ -77,11 +78,11 @@ impl Work {
         &mut self,
         room: &mut Vec<Point>,
         filled: bool,
-        run: &[Word],
+        run: &[u8],
         sink: &mut S,
     ) -> Result<(), DrawFault>
         requires { StatesAgree self.old.state (S.state sink.old) }
-        ensures { Does S.Sink quiet (rule self.old (if filled then Opcode.RectFilled else Opcode.RectOutlined) run.now) self.old self.new sink.old sink.new result }
+        ensures { Does S.Sink quiet (rule self.old (if filled then Opcode.RectFilled else Opcode.RectOutlined) (carried run.now)) self.old self.new sink.old sink.new result }
     {
         let from = start(self, run)?;
         corners_into(room, from, self.domain, run)?;
@@ -93,11 +94,11 @@ impl Work {
         &mut self,
         room: &mut Vec<Point>,
         filled: bool,
-        run: &[Word],
+        run: &[u8],
         sink: &mut S,
     ) -> Result<(), DrawFault>
         requires { StatesAgree self.old.state (S.state sink.old) }
-        ensures { Does S.Sink quiet (rule self.old (if filled then Opcode.SetRectFilled else Opcode.SetRectOutlined) run.now) self.old self.new sink.old sink.new result }
+        ensures { Does S.Sink quiet (rule self.old (if filled then Opcode.SetRectFilled else Opcode.SetRectOutlined) (carried run.now)) self.old self.new sink.old sink.new result }
     {
         some_pairs(self, run)?;
         pairs_into(room, self.domain, run)?;

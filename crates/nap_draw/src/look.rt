@@ -1,5 +1,6 @@
 //! RESET, TEXT and TEXTURE.
 ghost use Rattle.std.specs.Prelude.{◌≡◌, ◌%◌, ◌==◌, if◌then◌else◌, slice_get, unwrap_or, option_map};
+ghost use Rattle.nap_values.specs.Operands.{carried};
 ghost use Rattle.std.specs.Option.{option_or};
 ghost use Rattle.nap_list.specs.Agreement.{StatesAgree};
 ghost use Rattle.nap_draw.specs.Rule.{start_domain, rule};
@@ -7,7 +8,7 @@ ghost use Rattle.nap_draw.specs.Acts.{told};
 ghost use Rattle.nap_draw.specs.Doing.{Does, Sets};
 
 use crate::fault::DrawFault;
-use crate::operands::{first_move, word_at, words_from};
+use crate::operands::{first_move, word_at, word_or, words_from};
 use crate::work::Work;
 use nap_codes::Opcode;
 use nap_list::{CharSize, Entry, Sink, TextLook, Texture};
@@ -15,9 +16,9 @@ use nap_values::{Domain, Move, Word};
 
 impl Work {
     /// Says whether all macros are cleared.
-    pub(crate) fn reset<S: Sink>(&mut self, run: &[Word], sink: &mut S) -> Result<bool, DrawFault>
+    pub(crate) fn reset<S: Sink>(&mut self, run: &[u8], sink: &mut S) -> Result<bool, DrawFault>
         requires { StatesAgree self.old.state (S.state sink.old) }
-        ensures { Does S.Sink told (rule self.old Opcode.Reset run.now) self.old self.new sink.old sink.new result }
+        ensures { Does S.Sink told (rule self.old Opcode.Reset (carried run.now)) self.old self.new sink.old sink.new result }
     {
         let first = word_at(run, 0);
         let second = word_at(run, 1);
@@ -31,8 +32,8 @@ impl Work {
         Ok(second.get() / 16 % 2 == 1)
     }
 
-    pub(crate) fn set_text(&mut self, run: &[Word]) -> Result<(), DrawFault>
-        ensures { Sets (rule self.old Opcode.Text run.now) self.old self.new result }
+    pub(crate) fn set_text(&mut self, run: &[u8]) -> Result<(), DrawFault>
+        ensures { Sets (rule self.old Opcode.Text (carried run.now)) self.old self.new result }
     {
         let size = first_move(self.domain, words_from(run, 2));
         let look = text_after(self.look(), run, size);
@@ -40,8 +41,8 @@ impl Work {
         Ok(())
     }
 
-    pub(crate) fn set_texture(&mut self, run: &[Word]) -> Result<(), DrawFault>
-        ensures { Sets (rule self.old Opcode.Texture run.now) self.old self.new result }
+    pub(crate) fn set_texture(&mut self, run: &[u8]) -> Result<(), DrawFault>
+        ensures { Sets (rule self.old Opcode.Texture (carried run.now)) self.old self.new result }
     {
         let mask = first_move(self.domain, words_from(run, 1));
         let texture = texture_after(self.texture(), run, mask);
@@ -62,12 +63,12 @@ fn domain_after(domain: Domain, first: Word) -> Domain
 }
 
 /// The look with the words that the run has, and with the size.
-fn text_after(look: TextLook, run: &[Word], size: Option<Move>) -> TextLook
-    ensures { result ≡ record look { first = unwrap_or (slice_get run.now 0) look.first; second = unwrap_or (slice_get run.now 1) look.second; size = unwrap_or (option_map CharSize.Given size) look.size } }
+fn text_after(look: TextLook, run: &[u8], size: Option<Move>) -> TextLook
+    ensures { result ≡ record look { first = unwrap_or (slice_get (carried run.now) 0) look.first; second = unwrap_or (slice_get (carried run.now) 1) look.second; size = unwrap_or (option_map CharSize.Given size) look.size } }
 {
     TextLook {
-        first: run.first().copied().unwrap_or(look.first),
-        second: run.get(1).copied().unwrap_or(look.second),
+        first: word_or(run, 0, look.first),
+        second: word_or(run, 1, look.second),
         size: match size {
             Some(size) => CharSize::Given(size),
             None => look.size,
@@ -77,11 +78,11 @@ fn text_after(look: TextLook, run: &[Word], size: Option<Move>) -> TextLook
 }
 
 /// The texture with the word that the run has, and with the mask.
-fn texture_after(texture: Texture, run: &[Word], mask: Option<Move>) -> Texture
-    ensures { result ≡ record { word = unwrap_or (slice_get run.now 0) texture.word; mask = option_or mask texture.mask } }
+fn texture_after(texture: Texture, run: &[u8], mask: Option<Move>) -> Texture
+    ensures { result ≡ record { word = unwrap_or (slice_get (carried run.now) 0) texture.word; mask = option_or mask texture.mask } }
 {
     Texture {
-        word: run.first().copied().unwrap_or(texture.word),
+        word: word_or(run, 0, texture.word),
         mask: mask.or(texture.mask),
     }
 }

@@ -1,5 +1,6 @@
 //! POINT SET and POINT.
 ghost use Rattle.std.specs.Prelude.{◌≡◌, [], false, Some, Ok};
+ghost use Rattle.nap_values.specs.Operands.{carried};
 ghost use Rattle.nap_list.specs.Agreement.{StatesAgree};
 ghost use Rattle.nap_list.specs.Batches.{point_on};
 ghost use Rattle.nap_draw.specs.Rule.{draws, goes, rule};
@@ -11,15 +12,15 @@ use crate::room::{points_into, steps_into};
 use crate::work::Work;
 use nap_codes::Opcode;
 use nap_list::{Batch, Pen, Sink};
-use nap_values::{Point, Word};
+use nap_values::Point;
 
 impl Work {
     pub(crate) fn point_set_abs(
         &mut self,
         room: &mut Vec<Point>,
-        run: &[Word],
+        run: &[u8],
     ) -> Result<(), DrawFault>
-        ensures { Sets (rule self.old Opcode.PointSetAbs run.now) self.old self.new result }
+        ensures { Sets (rule self.old Opcode.PointSetAbs (carried run.now)) self.old self.new result }
     {
         some_operand(self, run)?;
         points_into(room, self.domain, run)?;
@@ -30,9 +31,9 @@ impl Work {
     pub(crate) fn point_set_rel(
         &mut self,
         room: &mut Vec<Point>,
-        run: &[Word],
+        run: &[u8],
     ) -> Result<(), DrawFault>
-        ensures { Sets (rule self.old Opcode.PointSetRel run.now) self.old self.new result }
+        ensures { Sets (rule self.old Opcode.PointSetRel (carried run.now)) self.old self.new result }
     {
         let from = start(self, run)?;
         steps_into(room, from, self.domain, run)?;
@@ -43,11 +44,11 @@ impl Work {
     pub(crate) fn point_abs<S: Sink>(
         &mut self,
         room: &mut Vec<Point>,
-        run: &[Word],
+        run: &[u8],
         sink: &mut S,
     ) -> Result<(), DrawFault>
         requires { StatesAgree self.old.state (S.state sink.old) }
-        ensures { Does S.Sink quiet (rule self.old Opcode.PointAbs run.now) self.old self.new sink.old sink.new result }
+        ensures { Does S.Sink quiet (rule self.old Opcode.PointAbs (carried run.now)) self.old self.new sink.old sink.new result }
     {
         some_operand(self, run)?;
         points_into(room, self.domain, run)?;
@@ -57,11 +58,11 @@ impl Work {
     pub(crate) fn point_rel<S: Sink>(
         &mut self,
         room: &mut Vec<Point>,
-        run: &[Word],
+        run: &[u8],
         sink: &mut S,
     ) -> Result<(), DrawFault>
         requires { StatesAgree self.old.state (S.state sink.old) }
-        ensures { Does S.Sink quiet (rule self.old Opcode.PointRel run.now) self.old self.new sink.old sink.new result }
+        ensures { Does S.Sink quiet (rule self.old Opcode.PointRel (carried run.now)) self.old self.new sink.old sink.new result }
     {
         let from = start(self, run)?;
         steps_into(room, from, self.domain, run)?;

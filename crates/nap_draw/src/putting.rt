@@ -1,5 +1,6 @@
 //! Putting the entries of an opcode into a sink, one after another, up to the first that it doesn't take.
 ghost use Rattle.std.specs.Prelude.{◌≡◌, ◌+◌, ◌<◌, None, map, length, IfOk};
+ghost use Rattle.nap_values.specs.Operands.{carried};
 ghost use Rattle.nap_list.specs.State.{AllFit};
 ghost use Rattle.nap_list.specs.declared.entry.Entry.TheVariants.{Wait};
 ghost use Rattle.nap_draw.specs.Operands.{operands};
@@ -10,7 +11,7 @@ ghost use Rattle.nap_draw.specs.Doing.{Put, copies_in, linked, paired, stroke_on
 use crate::operands::word_at;
 use crate::spans::{Figure, Span};
 use nap_list::{Drawing, Entry, Hand, LastChar, Pen, Sink, SinkFault};
-use nap_values::{Domain, Point, Word, single};
+use nap_values::{Domain, Point, Word, single_bytes};
 
 /// The figure from this point to the first, and on from its end to each further one. Gives the last span.
 pub(crate) fn put_linked<S: Sink>(
@@ -77,12 +78,12 @@ pub(crate) fn put_copies<S: Sink>(
 }
 
 /// A pause for each word.
-pub(crate) fn put_pauses<S: Sink>(run: &[Word], sink: &mut S) -> Result<(), SinkFault>
-    requires { AllFit (S.state sink.old) (map Wait run.now) }
-    ensures { Put S.Sink (map Wait run.now) sink.old sink.new result }
+pub(crate) fn put_pauses<S: Sink>(run: &[u8], sink: &mut S) -> Result<(), SinkFault>
+    requires { AllFit (S.state sink.old) (map Wait (carried run.now)) }
+    ensures { Put S.Sink (map Wait (carried run.now)) sink.old sink.new result }
 {
-    for word in run {
-        sink.put(Entry::Wait(*word))?;
+    for byte in run {
+        sink.put(Entry::Wait(Word::of_byte(*byte)))?;
     }
     Ok(())
 }
@@ -91,11 +92,11 @@ pub(crate) fn put_pauses<S: Sink>(run: &[Word], sink: &mut S) -> Result<(), Sink
 pub(crate) fn put_blinks<S: Sink>(
     domain: Domain,
     drawing: &Drawing,
-    run: &[Word],
+    run: &[u8],
     sink: &mut S,
 ) -> Result<(), SinkFault>
-    requires { AllFit (S.state sink.old) (map (blink domain.single drawing.now.colour) (operands (domain.single + 3) run.now)) }
-    ensures { Put S.Sink (map (blink domain.single drawing.now.colour) (operands (domain.single + 3) run.now)) sink.old sink.new result }
+    requires { AllFit (S.state sink.old) (map (blink domain.single drawing.now.colour) (operands (domain.single + 3) (carried run.now))) }
+    ensures { Put S.Sink (map (blink domain.single drawing.now.colour) (operands (domain.single + 3) (carried run.now))) sink.old sink.new result }
 {
     for group in run.chunks(usize::from(domain.single()) + 3) {
         sink.put(blink_of(domain, drawing, group))?;
@@ -104,14 +105,14 @@ pub(crate) fn put_blinks<S: Sink>(
 }
 
 /// The blink of one group: an address, and three words.
-fn blink_of(domain: Domain, drawing: &Drawing, group: &[Word]) -> Entry
+fn blink_of(domain: Domain, drawing: &Drawing, group: &[u8]) -> Entry
     requires { 0 < length group.now }
-    ensures { result ≡ blink domain.single drawing.now.colour group.now }
+    ensures { result ≡ blink domain.single drawing.now.colour (carried group.now) }
 {
     let size = domain.single();
     let (address, times) = group.split_at(usize::from(size).min(group.len()));
     Entry::Blink {
-        addr: single(address, size),
+        addr: single_bytes(address),
         on: word_at(times, 0),
         off: word_at(times, 1),
         delay: word_at(times, 2),

@@ -1,5 +1,6 @@
 //! Decoding of a run into a room of points that the caller lends. What the room held before means nothing.
 ghost use Rattle.std.specs.Prelude.{◌≡◌, ◌+◌, ◌*◌, ◌/◌, ◌≤◌, [], true, false, length, vec_capacity, IfOk, IfErr};
+ghost use Rattle.nap_values.specs.Operands.{carried};
 ghost use Rattle.nap_draw.specs.declared.fault.DrawFault.TheVariants.{Memory, Outside};
 ghost use Rattle.nap_draw.specs.Operands.{moves};
 ghost use Rattle.nap_draw.specs.Geometry.{points_at, reached, away, across};
@@ -8,21 +9,21 @@ ghost use Rattle.nap_draw.specs.Doing.{Fills, Filling, paired, crossed};
 use crate::fault::DrawFault;
 use crate::spans::span_by;
 use nap_list::corner;
-use nap_values::{Domain, Point, Word, multi};
+use nap_values::{Domain, Point, multi_bytes, multi_of_three};
 
 /// Each operand as a point.
 pub(crate) fn points_into(
     room: &mut Vec<Point>,
     domain: Domain,
-    run: &[Word],
+    run: &[u8],
 ) -> Result<(), DrawFault>
-    ensures { Fills (points_at (moves domain.multi run.now)) room.new.items result }
+    ensures { Fills (points_at (moves domain.multi (carried run.now))) room.new.items result }
 {
     let size = domain.multi();
     let mut full = emptied(room, run.len().div_ceil(usize::from(size)));
     let rest = whole_points(room, size, run)?;
     for operand in rest.chunks(usize::from(size)) {
-        let Some(point) = multi(operand, size).point() else {
+        let Some(point) = multi_bytes(operand).point() else {
             return Err(DrawFault::Outside);
         };
         full |= room.push(point).is_err();
@@ -35,16 +36,16 @@ pub(crate) fn steps_into(
     room: &mut Vec<Point>,
     from: Point,
     domain: Domain,
-    run: &[Word],
+    run: &[u8],
 ) -> Result<(), DrawFault>
-    ensures { Fills (reached from (moves domain.multi run.now)) room.new.items result }
+    ensures { Fills (reached from (moves domain.multi (carried run.now))) room.new.items result }
 {
     let size = domain.multi();
     let mut at = from;
     let mut full = emptied(room, run.len().div_ceil(usize::from(size)));
     let rest = whole_steps(room, &mut at, size, run)?;
     for operand in rest.chunks(usize::from(size)) {
-        let Some(point) = at.by(multi(operand, size)) else {
+        let Some(point) = at.by(multi_bytes(operand)) else {
             return Err(DrawFault::Outside);
         };
         full |= room.push(point).is_err();
@@ -58,15 +59,15 @@ pub(crate) fn corners_into(
     room: &mut Vec<Point>,
     from: Point,
     domain: Domain,
-    run: &[Word],
+    run: &[u8],
 ) -> Result<(), DrawFault>
-    ensures { Fills (across from (moves domain.multi run.now)) (crossed from room.new.items) result }
+    ensures { Fills (across from (moves domain.multi (carried run.now))) (crossed from room.new.items) result }
 {
     let size = domain.multi();
     let mut at = from;
     let mut full = emptied(room, run.len().div_ceil(usize::from(size)));
     for operand in run.chunks(usize::from(size)) {
-        let Some(point) = at.by(multi(operand, size)) else {
+        let Some(point) = at.by(multi_bytes(operand)) else {
             return Err(DrawFault::Outside);
         };
         full |= room.push(point).is_err();
@@ -76,12 +77,8 @@ pub(crate) fn corners_into(
 }
 
 /// Pairs of operands: a point, and the one as far from it as the second.
-pub(crate) fn pairs_into(
-    room: &mut Vec<Point>,
-    domain: Domain,
-    run: &[Word],
-) -> Result<(), DrawFault>
-    ensures { Fills (away (moves domain.multi run.now)) (paired room.new.items) result }
+pub(crate) fn pairs_into(room: &mut Vec<Point>, domain: Domain, run: &[u8]) -> Result<(), DrawFault>
+    ensures { Fills (away (moves domain.multi (carried run.now))) (paired room.new.items) result }
 {
     let size = domain.multi();
     let mut full = emptied(room, run.len().div_ceil(usize::from(size)));
@@ -90,7 +87,7 @@ pub(crate) fn pairs_into(
         let Some(second) = operands.next() else {
             return Err(DrawFault::Outside);
         };
-        let Some(span) = span_by(multi(first, size).point(), multi(second, size)) else {
+        let Some(span) = span_by(multi_bytes(first).point(), multi_bytes(second)) else {
             return Err(DrawFault::Outside);
         };
         full |= room.push(span.from).is_err();
@@ -99,16 +96,12 @@ pub(crate) fn pairs_into(
     settled(full)
 }
 
-/// The points of whole operands of three words, the most common size, where the room has places for all of them. Gives the
-/// words that are left.
-fn whole_points<'a>(
-    room: &mut Vec<Point>,
-    size: u8,
-    run: &'a [Word],
-) -> Result<&'a [Word], DrawFault>
+/// The points of whole operands of three words, the most common size, where the room has places for all of them. They are
+/// read from eight bytes at once while there are so many. Gives the bytes that are left.
+fn whole_points<'a>(room: &mut Vec<Point>, size: u8, run: &'a [u8]) -> Result<&'a [u8], DrawFault>
     requires { room.old.items ≡ [] }
-    ensures ok { IfOk result (λ rest. Filling (points_at (moves size run.now)) (points_at (moves size rest.now)) false (λ front. room.new.items ≡ front)) }
-    ensures err { IfErr result (λ fault. (fault ≡ Outside) × (points_at (moves size run.now) ≡ None)) }
+    ensures ok { IfOk result (λ rest. Filling (points_at (moves size (carried run.now))) (points_at (moves size (carried rest.now))) false (λ front. room.new.items ≡ front)) }
+    ensures err { IfErr result (λ fault. (fault ≡ Outside) × (points_at (moves size (carried run.now)) ≡ None)) }
 {
     if size != 3 || run.len() / 3 > room.capacity() {
         return Ok(run);
@@ -116,16 +109,24 @@ fn whole_points<'a>(
     points_of_three(room, run)
 }
 
-fn points_of_three<'a>(room: &mut Vec<Point>, run: &'a [Word]) -> Result<&'a [Word], DrawFault>
+fn points_of_three<'a>(room: &mut Vec<Point>, run: &'a [u8]) -> Result<&'a [u8], DrawFault>
     requires empty { room.old.items ≡ [] }
     requires places { length run.now / 3 ≤ vec_capacity room.old }
-    ensures ok { IfOk result (λ rest. Filling (points_at (moves 3 run.now)) (points_at (moves 3 rest.now)) false (λ front. room.new.items ≡ front)) }
-    ensures err { IfErr result (λ fault. (fault ≡ Outside) × (points_at (moves 3 run.now) ≡ None)) }
+    ensures ok { IfOk result (λ rest. Filling (points_at (moves 3 (carried run.now))) (points_at (moves 3 (carried rest.now))) false (λ front. room.new.items ≡ front)) }
+    ensures err { IfErr result (λ fault. (fault ≡ Outside) × (points_at (moves 3 (carried run.now)) ≡ None)) }
 {
     let mut rest = run;
+    while let Some((block, _)) = rest.split_first_chunk::<8>() {
+        let (_, others) = rest.split_at(3);
+        let Some(point) = multi_of_three(block).point() else {
+            return Err(DrawFault::Outside);
+        };
+        room.push_reserved(point);
+        rest = others;
+    }
     while rest.len() >= 3 {
         let (operand, others) = rest.split_at(3);
-        let Some(point) = multi(operand, 3).point() else {
+        let Some(point) = multi_bytes(operand).point() else {
             return Err(DrawFault::Outside);
         };
         room.push_reserved(point);
@@ -135,16 +136,16 @@ fn points_of_three<'a>(room: &mut Vec<Point>, run: &'a [Word]) -> Result<&'a [Wo
 }
 
 /// The points that whole operands of three words reach from this one, where the room has places for all of them. The point
-/// becomes the last of them, and what is given are the words that are left.
+/// becomes the last of them, and what is given are the bytes that are left.
 fn whole_steps<'a>(
     room: &mut Vec<Point>,
     at: &mut Point,
     size: u8,
-    run: &'a [Word],
-) -> Result<&'a [Word], DrawFault>
+    run: &'a [u8],
+) -> Result<&'a [u8], DrawFault>
     requires { room.old.items ≡ [] }
-    ensures ok { IfOk result (λ rest. Filling (reached at.old (moves size run.now)) (reached at.new (moves size rest.now)) false (λ front. room.new.items ≡ front)) }
-    ensures err { IfErr result (λ fault. (fault ≡ Outside) × (reached at.old (moves size run.now) ≡ None)) }
+    ensures ok { IfOk result (λ rest. Filling (reached at.old (moves size (carried run.now))) (reached at.new (moves size (carried rest.now))) false (λ front. room.new.items ≡ front)) }
+    ensures err { IfErr result (λ fault. (fault ≡ Outside) × (reached at.old (moves size (carried run.now)) ≡ None)) }
 {
     if size != 3 || run.len() / 3 > room.capacity() {
         return Ok(run);
@@ -155,18 +156,27 @@ fn whole_steps<'a>(
 fn steps_of_three<'a>(
     room: &mut Vec<Point>,
     at: &mut Point,
-    run: &'a [Word],
-) -> Result<&'a [Word], DrawFault>
+    run: &'a [u8],
+) -> Result<&'a [u8], DrawFault>
     requires empty { room.old.items ≡ [] }
     requires places { length run.now / 3 ≤ vec_capacity room.old }
-    ensures ok { IfOk result (λ rest. Filling (reached at.old (moves 3 run.now)) (reached at.new (moves 3 rest.now)) false (λ front. room.new.items ≡ front)) }
-    ensures err { IfErr result (λ fault. (fault ≡ Outside) × (reached at.old (moves 3 run.now) ≡ None)) }
+    ensures ok { IfOk result (λ rest. Filling (reached at.old (moves 3 (carried run.now))) (reached at.new (moves 3 (carried rest.now))) false (λ front. room.new.items ≡ front)) }
+    ensures err { IfErr result (λ fault. (fault ≡ Outside) × (reached at.old (moves 3 (carried run.now)) ≡ None)) }
 {
     let mut last = *at;
     let mut rest = run;
+    while let Some((block, _)) = rest.split_first_chunk::<8>() {
+        let (_, others) = rest.split_at(3);
+        let Some(point) = last.by(multi_of_three(block)) else {
+            return Err(DrawFault::Outside);
+        };
+        room.push_reserved(point);
+        last = point;
+        rest = others;
+    }
     while rest.len() >= 3 {
         let (operand, others) = rest.split_at(3);
-        let Some(point) = last.by(multi(operand, 3)) else {
+        let Some(point) = last.by(multi_bytes(operand)) else {
             return Err(DrawFault::Outside);
         };
         room.push_reserved(point);

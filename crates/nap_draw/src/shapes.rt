@@ -1,5 +1,6 @@
 //! ARC and POLYGON, and their SET forms.
 ghost use Rattle.std.specs.Prelude.{◌≡◌, ◌-◌, ◌<◌, ◌≤◌, ◌∷◌, Some, length, OnOk, IfOk, slice_get};
+ghost use Rattle.nap_values.specs.Operands.{carried};
 ghost use Rattle.nap_list.specs.Agreement.{StatesAgree};
 ghost use Rattle.nap_list.specs.Limits.{steps_limit};
 ghost use Rattle.nap_draw.specs.Geometry.{round};
@@ -11,7 +12,7 @@ use crate::operands::count;
 use crate::room::steps_into;
 use crate::work::Work;
 use nap_list::{Entry, Ink, Pen, Points, SHAPE_POINTS, Sink};
-use nap_values::{Point, Word, multi};
+use nap_values::{Point, multi_bytes};
 use std::alloc::{AllocError, Global};
 
 /// What is drawn through points in turn.
@@ -32,11 +33,11 @@ impl Work {
         room: &mut Vec<Point>,
         shape: Shape,
         filled: bool,
-        run: &[Word],
+        run: &[u8],
         sink: &mut S,
     ) -> Result<(), DrawFault>
         requires { StatesAgree self.old.state (S.state sink.old) }
-        ensures { Does S.Sink quiet (shape_from_pen self.old run.now (shape_on shape filled) (shape_points shape)) self.old self.new sink.old sink.new result }
+        ensures { Does S.Sink quiet (shape_from_pen self.old (carried run.now) (shape_on shape filled) (shape_points shape)) self.old self.new sink.old sink.new result }
     {
         let count = count(self.domain, run);
         if count == 0 {
@@ -57,11 +58,11 @@ impl Work {
         room: &mut Vec<Point>,
         shape: Shape,
         filled: bool,
-        run: &[Word],
+        run: &[u8],
         sink: &mut S,
     ) -> Result<(), DrawFault>
         requires { StatesAgree self.old.state (S.state sink.old) }
-        ensures { Does S.Sink quiet (shape_from_point self.old run.now (shape_on shape filled) (shape_points shape)) self.old self.new sink.old sink.new result }
+        ensures { Does S.Sink quiet (shape_from_point self.old (carried run.now) (shape_on shape filled) (shape_points shape)) self.old self.new sink.old sink.new result }
     {
         let size = self.domain.multi();
         let (first, rest) = run.split_at(usize::from(size).min(run.len()));
@@ -72,7 +73,7 @@ impl Work {
         if count > MOST_STEPS {
             return Err(DrawFault::ManyPoints);
         }
-        let Some(from) = multi(first, size).point() else {
+        let Some(from) = multi_bytes(first).point() else {
             return Err(DrawFault::Outside);
         };
         steps_into(room, from, self.domain, rest)?;

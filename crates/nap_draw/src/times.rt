@@ -1,4 +1,5 @@
 //! WAIT and BLINK.
+ghost use Rattle.nap_values.specs.Operands.{carried};
 ghost use Rattle.nap_list.specs.Agreement.{StatesAgree};
 ghost use Rattle.nap_draw.specs.Rule.{rule};
 ghost use Rattle.nap_draw.specs.Doing.{Does, quiet};
@@ -8,12 +9,11 @@ use crate::putting::{put_blinks, put_pauses};
 use crate::work::Work;
 use nap_codes::Opcode;
 use nap_list::{Entry, Sink};
-use nap_values::Word;
 
 impl Work {
-    pub(crate) fn wait<S: Sink>(&mut self, run: &[Word], sink: &mut S) -> Result<(), DrawFault>
+    pub(crate) fn wait<S: Sink>(&mut self, run: &[u8], sink: &mut S) -> Result<(), DrawFault>
         requires { StatesAgree self.old.state (S.state sink.old) }
-        ensures { Does S.Sink quiet (rule self.old Opcode.Wait run.now) self.old self.new sink.old sink.new result }
+        ensures { Does S.Sink quiet (rule self.old Opcode.Wait (carried run.now)) self.old self.new sink.old sink.new result }
     {
         if run.is_empty() {
             return Ok(());
@@ -23,9 +23,9 @@ impl Work {
         Ok(())
     }
 
-    pub(crate) fn blink<S: Sink>(&mut self, run: &[Word], sink: &mut S) -> Result<(), DrawFault>
+    pub(crate) fn blink<S: Sink>(&mut self, run: &[u8], sink: &mut S) -> Result<(), DrawFault>
         requires { StatesAgree self.old.state (S.state sink.old) }
-        ensures { Does S.Sink quiet (rule self.old Opcode.Blink run.now) self.old self.new sink.old sink.new result }
+        ensures { Does S.Sink quiet (rule self.old Opcode.Blink (carried run.now)) self.old self.new sink.old sink.new result }
     {
         if run.is_empty() {
             let colour = self.colour();

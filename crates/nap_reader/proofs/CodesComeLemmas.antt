@@ -6,9 +6,10 @@ use Rattle.nap_draw.specs.declared.work.Work.{Work}
 use Rattle.nap_reader.specs.declared.fault.Fault.{Fault}
 use Rattle.nap_reader.specs.declared.fault.Fault.TheVariants as faults
 use Rattle.nap_reader.specs.declared.frames.Frame.{Frame}
+use Rattle.nap_reader.specs.declared.reader.OpenRun.{OpenRun}
 use Rattle.nap_reader.specs.declared.reader.Reader.{Reader}
 use Rattle.nap_reader.specs.Framed.{Comes, MovesOn, placed_at, unread}
-use Rattle.nap_reader.specs.Holding.{Holding, frames_left, holding_of}
+use Rattle.nap_reader.specs.Holding.{Holding, frames_left, holding_of, run_by}
 use Rattle.nap_reader.specs.Pieces.{RefusesCodes, TakesCodes}
 use Rattle.nap_reader.specs.Steps.{Acted, Came, CodesStop, Conveys, IsBetween, IsRested, LeadsOn, StopsByte, StopsCode, TextComes, WholeCodes, ahead, as_it_was, at_byte, in_characters, in_text, of_body, of_piece, with_byte, with_codes}
 use Rattle.nap_reader.specs.Stream.{Placed, all_at, bytes_of, place_at, refusal}
@@ -42,17 +43,17 @@ bytes_to before count text xs ys x is one first next =
     ∙ ap (λ (n : ℕ). take n text) is
 
 -- Whole codes are no more than the bytes, also where they stop.
-pub few_codes : {S : Type 0} (g : Ghosts S) (t : S) (work : Work) (lexer : LexerState) (u : S) (work' : Work) (lexer' : LexerState) (run : List ℕ) (clears : Bool) (bytes : List ℕ) (count : ℕ) (stop : Option (Fault × ℕ)) →
-    MatchOption stop (WholeCodes g t work lexer u work' lexer' run clears bytes count) (λ s. CodesStop g t work lexer u bytes count s.1 s.0) → count ≤ length bytes
-few_codes g t work lexer u work' lexer' run clears bytes count None whole = whole.within
-few_codes g t work lexer u work' lexer' run clears bytes count (Some s) stop = (codes_stop_within g t work lexer u bytes count s.1 s.0 stop).0
+pub few_codes : {S : Type 0} (g : Ghosts S) (t : S) (work : Work) (lexer : LexerState) (u : S) (work' : Work) (lexer' : LexerState) (clears : Bool) (bytes : List ℕ) (count : ℕ) (stop : Option (Fault × ℕ)) →
+    MatchOption stop (WholeCodes g t work lexer u work' lexer' clears bytes count) (λ s. CodesStop g t work lexer u bytes count s.1 s.0) → count ≤ length bytes
+few_codes g t work lexer u work' lexer' clears bytes count None whole = whole.within
+few_codes g t work lexer u work' lexer' clears bytes count (Some s) stop = (codes_stop_within g t work lexer u bytes count s.1 s.0 stop).0
 
 module _ {S : Type 0} {g : Ghosts S} (old new : Reader S g) (piece : List ℕ) (at until : ℕ) (text : List ℕ) (place count : ℕ) (between : IsBetween old) (none : old.lexer.half ≡ []) (within : at ≤ length piece)
     (few : count ≤ length text) (comes : Comes old.store.bytes old.frames.stack.items piece at old.fed text place)
     (moves : MovesOn old.store.bytes old.frames.stack.items new.frames.stack.items at until old.fed new.fed count) (stored : new.store.bytes ≡ old.store.bytes) (budget : new.budget ≡ old.budget)
     (charged : new.charged ≡ old.charged) (turns : new.turns ≡ old.turns + count) where
   rested : IsRested (holding_of old) old.work old.lexer
-  rested = record { between = between.between; closed = between.closed; work = refl; sets = refl; half = none }
+  rested = record { between = between.between; closed = between.closed; work = refl; sets = refl; half = none; run = ap (λ (open_run : Option OpenRun). run_by open_run old.run.items) between.closed }
 
   moved : new.fed + at ≡ old.fed + until
   moved = counted_by old.store.bytes old.frames.stack.items new.frames.stack.items old.framed piece at until old.fed new.fed text place count within few comes moves
@@ -88,9 +89,9 @@ module _ {S : Type 0} {g : Ghosts S} (old new : Reader S g) (piece : List ℕ) (
                 ∙ append_assoc (b ∷ bs) (bytes_of (unread old.store.bytes inner.before)) (drop until piece),
           )
 
-  pub takes_codes : (run : List ℕ) (clears : Bool) → WholeCodes g old.sink old.work old.lexer new.sink new.work new.lexer run clears text count →
-      holding_of new ≡ with_codes (holding_of old) new.work new.lexer run clears → new.refusal ≡ None → TakesCodes old new piece at until
-  takes_codes run clears whole holding live =
+  pub takes_codes : (clears : Bool) → WholeCodes g old.sink old.work old.lexer new.sink new.work new.lexer clears text count →
+      holding_of new ≡ with_codes (holding_of old) new.work new.lexer clears → new.refusal ≡ None → TakesCodes old new piece at until
+  takes_codes clears whole holding live =
       let came = came_by old.store.bytes old.frames.stack.items new.frames.stack.items old.framed piece at until old.fed new.fed text place count within few comes moves in
       let leads = whole.leads (holding_of old) came.0 rested came.1 in
       record {
@@ -107,7 +108,7 @@ module _ {S : Type 0} {g : Ghosts S} (old new : Reader S g) (piece : List ℕ) (
         };
         leads = subst (λ (h : Holding). LeadsOn g old.sink (holding_of old) new.sink h came.0 (bytes_of (frames_left new) ++ drop until piece)) (sym holding) (record {
           conveys = leads.conveys;
-          acted = acted_more g leads.conveys.sink leads.conveys.holding new.sink (with_codes (holding_of old) new.work new.lexer run clears) (drop count text) (bytes_of (frames_left new) ++ drop until piece) begins leads.acted;
+          acted = acted_more g leads.conveys.sink leads.conveys.holding new.sink (with_codes (holding_of old) new.work new.lexer clears) (drop count text) (bytes_of (frames_left new) ++ drop until piece) begins leads.acted;
           typed = leads.typed;
         });
       }

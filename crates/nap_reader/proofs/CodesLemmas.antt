@@ -1,4 +1,4 @@
-use Rattle.std.proofs.Common.{ℕ, suc, zero, ◌≡◌, ◌<◌, ◌≤◌, ◌+◌, List, [], ◌∷◌, ◌++◌, All, Bool, true, false, length, take, drop, get_or, None, Option, Some, Ok, refl, ap, ap₂, sym, ◌∙◌, subst, arith, append_assoc, length-append}
+use Rattle.std.proofs.Common.{ℕ, suc, zero, ◌≡◌, ◌<◌, ◌≤◌, ◌+◌, List, [], ◌∷◌, ◌++◌, All, Bool, true, false, length, take, drop, get_or, Option, Some, Ok, refl, ap, ap₂, sym, ◌∙◌, subst, arith, append_assoc, length-append}
 use Rattle.std.proofs.lemmas.List.Elements.{All-drop, All-head}
 use Rattle.std.proofs.Math.Seq.{get_or-append_seam}
 use Rattle.std.proofs.lemmas.List.{drop-map, drop-take, get_or-drop, get_or-take, take-append-le, take_all, take_more, length-drop, length-map, length-take-le, nil_from_length, take-append-drop, take-map, take-take}
@@ -29,11 +29,11 @@ use Rattle.nap_reader.specs.declared.fault.Fault.{Fault}
 use Rattle.nap_reader.specs.declared.kind.Kind.TheVariants as kinds
 use Rattle.nap_reader.specs.declared.reader.OpenRun.{OpenRun}
 use Rattle.nap_reader.specs.Faults.{draw_fault}
-use Rattle.nap_reader.specs.Holding.{Continues, Holding, IsHeldBy}
+use Rattle.nap_reader.specs.Holding.{Continues, Holding}
 use Rattle.nap_reader.specs.Kinds.{kind_of}
-use Rattle.nap_reader.specs.Steps.{Acted, CodesStop, Conveys, IsRested, LeadsOn, Passes, StopsByte, StopsText, WholeCodes, ahead, as_it_was, in_characters, with_byte, with_codes}
+use Rattle.nap_reader.specs.Steps.{CodesStop, Conveys, IsRested, LeadsOn, Passes, StopsByte, StopsText, WholeCodes, ahead, as_it_was, in_characters, with_byte, with_codes}
 use Rattle.nap_reader.specs.Stream.{Outcome, Placed, bytes_of, drawn_front, is_operand_byte, place_at, refusal}
-use Rattle.nap_reader.proofs.LeadsLemmas.{TookBroke, TookMore, WantsMore, holds_between, is_between, leads_on}
+use Rattle.nap_reader.proofs.LeadsLemmas.{TookBroke, TookMore, WantsMore, leads_on}
 use Rattle.nap_reader.proofs.PieceLemmas.{IsAt, passes_acted, stops_acted}
 use Rattle.nap_reader.proofs.ReadingLemmas.{acts, code_acts, run_opens, still_between}
 use Rattle.nap_reader.proofs.StepLemmas.{stops_code, stops_run}
@@ -43,34 +43,16 @@ use Rattle.nap_reader.proofs.TextLemmas.{text_passes, typed}
 
 -- Whole codes, one after another.
 
--- the words of a run that is over mean nothing
-run_means_nothing : {S : Type 0} (g : Ghosts S) (s : S) (o : Outcome) (t : S) (h : Holding) (pending : List Placed) (run : List ℕ) → h.open_body ≡ None → h.open_run ≡ None →
-    Continues g s o t h pending → Continues g s o t (record h { run = run }) pending
-run_means_nothing g s o t h pending run between closed k =
-    let half = is_between h k.rest between k.held in
-    record {
-      done = k.done;
-      taken = k.taken;
-      clear = k.clear;
-      rest = k.rest;
-      held = holds_between (record h { run = run }) k.rest between (record {
-        mode = half.mode;
-        body = half.body;
-        half = subst (IsHeldBy k.rest (record h { run = run })) (sym closed) (subst (IsHeldBy k.rest h) closed half.half);
-      });
-      leads = k.leads;
-    }
-
 -- what is held of what codes act on is what was
-with_codes_is : (h : Holding) (work : Work) (lexer : LexerState) (run : List ℕ) → IsRested h work lexer → lexer.half ≡ [] → with_codes h work lexer run false ≡ record h { run = run }
-with_codes_is h work lexer run rested none =
+with_codes_is : (h : Holding) (work : Work) (lexer : LexerState) → IsRested h work lexer → lexer.half ≡ [] → with_codes h work lexer false ≡ h
+with_codes_is h work lexer rested none =
     rw (sym rested.work, sym rested.sets, none, sym rested.half) refl
 
 -- so is what is held once codes have acted that clear nothing
-rests_on : {S : Type 0} (g : Ghosts S) (s : S) (o : Outcome) (t : S) (h : Holding) (work : Work) (lexer : LexerState) (run : List ℕ) (pending : List Placed) → IsRested h work lexer → lexer.half ≡ [] →
-    Continues g s o t h pending → Continues g s o t (with_codes h work lexer run false) pending
-rests_on g s o t h work lexer run pending rested none k =
-    subst (λ (h : Holding). Continues g s o t h pending) (sym (with_codes_is h work lexer run rested none)) (run_means_nothing g s o t h pending run rested.between rested.closed k)
+rests_on : {S : Type 0} (g : Ghosts S) (s : S) (o : Outcome) (t : S) (h : Holding) (work : Work) (lexer : LexerState) (pending : List Placed) → IsRested h work lexer → lexer.half ≡ [] →
+    Continues g s o t h pending → Continues g s o t (with_codes h work lexer false) pending
+rests_on g s o t h work lexer pending rested none k =
+    subst (λ (h : Holding). Continues g s o t h pending) (sym (with_codes_is h work lexer rested none)) k
 
 -- bytes at places, in two parts
 parts_of : (xs : List Placed) (bytes : List ℕ) (at n : ℕ) → bytes_of xs ≡ take (at + n) bytes →
@@ -87,14 +69,14 @@ first_of [] bs is some = absurd (omega (arith, some, ap length is))
 first_of (x ∷ zs) bs is some = (x, zs, refl)
 
 -- Nothing was taken.
-pub no_codes : {S : Type 0} (g : Ghosts S) (t : S) (work : Work) (lexer : LexerState) (run bytes : List ℕ) → lexer.half ≡ [] → WholeCodes g t work lexer t work lexer run false bytes 0
-no_codes g t work lexer run bytes none = record {
+pub no_codes : {S : Type 0} (g : Ghosts S) (t : S) (work : Work) (lexer : LexerState) (bytes : List ℕ) → lexer.half ≡ [] → WholeCodes g t work lexer t work lexer false bytes 0
+no_codes g t work lexer bytes none = record {
   within = omega arith;
   rested = none;
   clear = λ works. works;
   leads = λ h xs rested is.
-      let h' = with_codes h work lexer run false in
-      let same = with_codes_is h work lexer run rested none in
+      let h' = with_codes h work lexer false in
+      let same = with_codes_is h work lexer rested none in
       let empty : xs ≡ [] = nil_from_length xs (omega (arith, ap length is, length-map xs (λ (x : Placed). x.byte))) in
       record {
         conveys = record {
@@ -103,44 +85,12 @@ no_codes g t work lexer run bytes none = record {
           left = refl;
           run = λ n all before. before;
           passes = λ s o pending k.
-              subst (λ (h : Holding). Continues g s o t h pending) (sym same)
-              (run_means_nothing g s o t h pending run rested.between rested.closed (subst (λ (ys : List Placed). Continues g s o t h (ys ++ pending)) empty k));
+              subst (λ (h : Holding). Continues g s o t h pending) (sym same) (subst (λ (ys : List Placed). Continues g s o t h (ys ++ pending)) empty k);
         };
         acted = as_it_was refl refl;
         typed = λ set chars. (refl, refl);
       };
 }
-
--- The words of a run that is over go.
-pub codes_cleared : {S : Type 0} (g : Ghosts S) (t : S) (work : Work) (lexer : LexerState) (u : S) (work' : Work) (lexer' : LexerState) (run : List ℕ) (clears : Bool) (bytes : List ℕ) (count : ℕ) →
-    WholeCodes g t work lexer u work' lexer' run clears bytes count → WholeCodes g t work lexer u work' lexer' [] clears bytes count
-codes_cleared {S} g t work lexer u work' lexer' run clears bytes count whole = record {
-  within = whole.within;
-  rested = whole.rested;
-  clear = whole.clear;
-  leads = λ h xs rested is. at h xs rested (whole.leads h xs rested is);
-}
-  where
-    at : (h : Holding) (xs : List Placed) → IsRested h work lexer → LeadsOn g t h u (with_codes h work' lexer' run clears) xs (drop count bytes) → LeadsOn g t h u (with_codes h work' lexer' [] clears) xs (drop count bytes)
-    at h xs rested led = by led.acted
-      where
-        by : Acted g led.conveys.sink led.conveys.holding u (with_codes h work' lexer' run clears) (drop count bytes) → LeadsOn g t h u (with_codes h work' lexer' [] clears) xs (drop count bytes)
-        by (as_it_was sink holding) = record {
-          conveys = record {
-            sink = u;
-            holding = with_codes h work' lexer' [] clears;
-            left = refl;
-            run = λ n all before. before;
-            passes = λ s o pending k.
-                run_means_nothing g s o u (with_codes h work' lexer' run clears) pending [] rested.between rested.closed
-                (subst (λ (t : S). Continues g s o t (with_codes h work' lexer' run clears) pending) (sym sink)
-                (subst (λ (h : Holding). Continues g s o led.conveys.sink h pending) (sym holding) (led.conveys.passes s o pending k)));
-          };
-          acted = as_it_was refl refl;
-          typed = λ set chars. (refl, refl);
-        }
-        by (ahead b bs is other acts) =
-            subst (λ (run : List ℕ). LeadsOn g t h u (with_codes h work' lexer' run clears) xs (drop count bytes)) (ap (λ (h : Holding). h.run) acts.holds) led
 
 -- the last of bytes at places
 last_of : (xs : List Placed) (x : Placed) (bytes : List ℕ) (at b : ℕ) (bs : List ℕ) → bytes_of (xs ++ x ∷ []) ≡ take (at + 1) bytes → drop at bytes ≡ b ∷ bs →
@@ -174,12 +124,12 @@ codes_stop_within g t work lexer u bytes count index fault (with_byte before is 
 codes_stop_within g t work lexer u bytes count index fault (in_characters before taken text there is front within stops) = (within, omega (arith, is))
 
 -- Whole codes were taken, and then one more, of so many bytes.
-module _ {S : Type 0} (g : Ghosts S) (t : S) (work : Work) (lexer : LexerState) (u : S) (work' : Work) (lexer' : LexerState) (run bytes : List ℕ) (at n : ℕ) (more : TookMore g) (some : 0 < n)
-    (few : n ≤ length (drop at bytes)) (before : WholeCodes g t work lexer u work' lexer' run false bytes at) where
+module _ {S : Type 0} (g : Ghosts S) (t : S) (work : Work) (lexer : LexerState) (u : S) (work' : Work) (lexer' : LexerState) (bytes : List ℕ) (at n : ℕ) (more : TookMore g) (some : 0 < n)
+    (few : n ≤ length (drop at bytes)) (before : WholeCodes g t work lexer u work' lexer' false bytes at) where
   -- what the code's bytes come to, by its first one
   module _ (h : Holding) (xs : List Placed) (rested : IsRested h work lexer) (is : bytes_of xs ≡ take (at + n) bytes) where
     abbrev h' : Holding
-    h' = with_codes h work' lexer' run false
+    h' = with_codes h work' lexer' false
 
     parts : (xs ≡ take at xs ++ drop at xs) × (bytes_of (take at xs) ≡ take at bytes) × (bytes_of (drop at xs) ≡ take n (drop at bytes))
     parts = parts_of xs bytes at n is
@@ -206,21 +156,21 @@ module _ {S : Type 0} (g : Ghosts S) (t : S) (work : Work) (lexer : LexerState) 
         (subst (λ (ys : List Placed). Continues g s o led.conveys.sink led.conveys.holding (ys ++ pending)) code_first.2 conveyed))
 
   -- It acts at once.
-  pub codes_more : (v : S) (work'' : Work) (lexer'' : LexerState) (run' : List ℕ) (clears : Bool) → lexer''.half ≡ [] → (g.failed u ≡ false → g.failed v ≡ false) →
-      ((h : Holding) (ys : List Placed) → IsRested h work' lexer' → bytes_of ys ≡ take n (drop at bytes) → Passes g u h ys v (with_codes h work'' lexer'' run' clears) []) →
-      WholeCodes g t work lexer v work'' lexer'' run' clears bytes (at + n)
-  codes_more v work'' lexer'' run' clears none clear acts = record {
+  pub codes_more : (v : S) (work'' : Work) (lexer'' : LexerState) (clears : Bool) → lexer''.half ≡ [] → (g.failed u ≡ false → g.failed v ≡ false) →
+      ((h : Holding) (ys : List Placed) → IsRested h work' lexer' → bytes_of ys ≡ take n (drop at bytes) → Passes g u h ys v (with_codes h work'' lexer'' clears) []) →
+      WholeCodes g t work lexer v work'' lexer'' clears bytes (at + n)
+  codes_more v work'' lexer'' clears none clear acts = record {
     within = omega (arith, few, before.within, length-drop at bytes);
     rested = none;
     clear = λ works. clear (before.clear works);
     leads = λ h xs rested is. record {
       conveys = record {
         sink = v;
-        holding = with_codes h work'' lexer'' run' clears;
+        holding = with_codes h work'' lexer'' clears;
         left = refl;
         run = λ m all before. before;
         passes = λ s o pending k.
-            acts (with_codes h work' lexer' run false) (drop at xs) (record { between = rested.between; closed = rested.closed; work = refl; sets = refl; half = before.rested }) (parts_of xs bytes at n is).2 s o pending
+            acts (with_codes h work' lexer' false) (drop at xs) (record { between = rested.between; closed = rested.closed; work = refl; sets = refl; half = before.rested; run = rested.run }) (parts_of xs bytes at n is).2 s o pending
             (leads_to_code h xs rested is s o pending k);
       };
       acted = as_it_was refl refl;
@@ -231,14 +181,14 @@ module _ {S : Type 0} (g : Ghosts S) (t : S) (work : Work) (lexer : LexerState) 
   -- Characters act.
   pub codes_text : (set : CharSet) (text : List ℕ) (v : S) (work'' : Work) → take n (drop at bytes) ≡ text → All IsGraphic text →
       ((b : ℕ) → IsGraphic b → codes.front lexer'.sets (b ∷ []) ≡ codes.whole (code.Char set b) 1 lexer'.sets) → work'' ≡ (drawn work' (draws_codes.text work'.state set text)).work →
-      g.took u (draws_codes.text work'.state set text) v → (g.failed u ≡ false → g.failed v ≡ false) → WholeCodes g t work lexer v work'' lexer' run false bytes (at + n)
+      g.took u (draws_codes.text work'.state set text) v → (g.failed u ≡ false → g.failed v ≡ false) → WholeCodes g t work lexer v work'' lexer' false bytes (at + n)
   codes_text set text v work'' unit graphic chars same took clear =
-      codes_more v work'' lexer' run false before.rested clear
+      codes_more v work'' lexer' false before.rested clear
       (λ h ys rested is s o pending k.
       let all : bytes_of ys ≡ text = is ∙ unit in
       let after = ap₂ (λ (w : Work) (bs : List ℕ). drawn w (draws_codes.text w.state set bs)) rested.work all in
-      rests_on g s o v (record h { machine = typed h.machine set (bytes_of ys) }) work'' lexer' run pending
-      (record { between = rested.between; closed = rested.closed; work = ap (λ (d : Drawn). d.work) after ∙ sym same; sets = rested.sets; half = rested.half }) before.rested
+      rests_on g s o v (record h { machine = typed h.machine set (bytes_of ys) }) work'' lexer' pending
+      (record { between = rested.between; closed = rested.closed; work = ap (λ (d : Drawn). d.work) after ∙ sym same; sets = rested.sets; half = rested.half; run = rested.run }) before.rested
       (text_passes g s o u h ys pending k rested.between rested.closed rested.half set
       (λ b graphic. ap (λ (sets : CodeSets). codes.front sets (b ∷ [])) rested.sets ∙ chars b graphic ∙ ap (codes.whole (code.Char set b) 1) (sym rested.sets))
       (subst (All IsGraphic) (sym all) graphic) v more (subst (λ (es : List Entry). g.took u es v) (sym (ap (λ (d : Drawn). d.entries) after)) took) clear))
@@ -259,32 +209,32 @@ module _ {S : Type 0} (g : Ghosts S) (t : S) (work : Work) (lexer : LexerState) 
     )
 
     pub codes_step : (v : S) (entries : List Entry) (work'' : Work) → kind_of c ≡ kinds.Acts c → sets ≡ lexer'.sets → code_rule work' c ≡ Ok (record { entries = entries; work = work''; clears = false }) → g.took u entries v →
-        (g.failed u ≡ false → g.failed v ≡ false) → WholeCodes g t work lexer v work'' lexer' run false bytes (at + n)
+        (g.failed u ≡ false → g.failed v ≡ false) → WholeCodes g t work lexer v work'' lexer' false bytes (at + n)
     codes_step v entries work'' kind same by took clear =
-        codes_more v work'' lexer' run false before.rested clear
+        codes_more v work'' lexer' false before.rested clear
         (λ h ys rested is s o pending k.
         let first = one_byte ys is in
         let x = first.0 in
         let k' : Continues g s o u h (x ∷ pending) = subst (λ (zs : List Placed). Continues g s o u h (zs ++ pending)) first.1 k in
         let whole = whole_at h x rested first.2 in
         let h1 : Holding = record h { machine = record h.machine { work = work''; sets = sets } } in
-        rests_on g s o v h1 work'' lexer' run pending (record { between = rested.between; closed = rested.closed; work = refl; sets = same; half = rested.half }) before.rested
+        rests_on g s o v h1 work'' lexer' pending (record { between = rested.between; closed = rested.closed; work = refl; sets = same; half = rested.half; run = rested.run }) before.rested
         (leads_on g s o u h (x ∷ pending) k' v entries h1 pending more
         (still_between g s o u h rested.between rested.closed x pending k' c 1 sets whole.0 whole.1 h1 rested.between refl refl rested.closed rested.half)
         (acts g s o u h rested.between rested.closed x pending k' c 1 sets whole.0 whole.1 c kind
         ∙ ap (drawn_front (record h.machine { sets = sets }) x.place pending) (ap (λ (w : Work). code_rule w c) rested.work ∙ by)) took clear))
 
-    pub codes_shift : (lexer'' : LexerState) → kind_of c ≡ kinds.AddsNothing → lexer'' ≡ record { sets = sets; half = [] } → WholeCodes g t work lexer u work' lexer'' run false bytes (at + n)
+    pub codes_shift : (lexer'' : LexerState) → kind_of c ≡ kinds.AddsNothing → lexer'' ≡ record { sets = sets; half = [] } → WholeCodes g t work lexer u work' lexer'' false bytes (at + n)
     codes_shift lexer'' kind same =
-        codes_more u work' lexer'' run false (ap (λ (l : LexerState). l.half) same) (λ works. works)
+        codes_more u work' lexer'' false (ap (λ (l : LexerState). l.half) same) (λ works. works)
         (λ h ys rested is s o pending k.
         let first = one_byte ys is in
         let x = first.0 in
         let k' : Continues g s o u h (x ∷ pending) = subst (λ (zs : List Placed). Continues g s o u h (zs ++ pending)) first.1 k in
         let whole = whole_at h x rested first.2 in
         let h1 : Holding = record h { machine = record h.machine { sets = sets }; half = [] } in
-        rests_on g s o u h1 work' lexer'' run pending
-        (record { between = rested.between; closed = rested.closed; work = rested.work; sets = ap (λ (l : LexerState). l.sets) (sym same); half = refl }) (ap (λ (l : LexerState). l.half) same)
+        rests_on g s o u h1 work' lexer'' pending
+        (record { between = rested.between; closed = rested.closed; work = rested.work; sets = ap (λ (l : LexerState). l.sets) (sym same); half = refl; run = rested.run }) (ap (λ (l : LexerState). l.half) same)
         (code_acts g s o u h rested.between rested.closed x pending k' c 1 sets whole.0 whole.1 kind))
 
   -- It is an opcode with its run, behind which another byte comes; the opcode acts on the run ahead of that byte.
@@ -292,7 +242,7 @@ module _ {S : Type 0} (g : Ghosts S) (t : S) (work : Work) (lexer : LexerState) 
       (operands : All (λ b. is_operand_byte b ≡ true) ws) (short : length ws ≤ run_limit) where
     -- what is held while the run is open
     abbrev pub open_at : Holding → Placed → Holding
-    open_at h x = record (with_codes h work' lexer' run false) { open_run = Some (record { op = op; place = x.place }); run = words ws }
+    open_at h x = record (with_codes h work' lexer' false) { open_run = Some (record { op = op; place = x.place }); run = words ws }
 
     opcode_and_run : (h : Holding) (xs : List Placed) (rested : IsRested h work lexer) (is : bytes_of xs ≡ take (at + n) bytes) →
         ((code_first h xs rested is).0.byte ≡ byte) × (bytes_of (code_first h xs rested is).1 ≡ ws)
@@ -306,7 +256,7 @@ module _ {S : Type 0} (g : Ghosts S) (t : S) (work : Work) (lexer : LexerState) 
         let x = (code_first h xs rested is).0 in
         let ys = (code_first h xs rested is).1 in
         let parts = opcode_and_run h xs rested is in
-        let h' = with_codes h work' lexer' run false in
+        let h' = with_codes h work' lexer' false in
         record {
           sink = u;
           holding = open_at h x;
@@ -327,7 +277,7 @@ module _ {S : Type 0} (g : Ghosts S) (t : S) (work : Work) (lexer : LexerState) 
         all_drop m i xs all = All-drop (IsAt m) i xs all
 
     pub codes_run : (v : S) (drawn : Drawn) (b : ℕ) (bs : List ℕ) → IsGraphic byte → drop (at + n) bytes ≡ b ∷ bs → is_operand_byte b ≡ false → rule work' op (words ws) ≡ Ok drawn → g.took u drawn.entries v →
-        (g.failed u ≡ false → g.failed v ≡ false) → WholeCodes g t work lexer v drawn.work lexer' [] drawn.clears bytes (at + n)
+        (g.failed u ≡ false → g.failed v ≡ false) → WholeCodes g t work lexer v drawn.work lexer' drawn.clears bytes (at + n)
     unfolding opens
     codes_run v drawn b bs graphic next other by took clear = record {
       within = omega (arith, few, before.within, length-drop at bytes);
@@ -345,7 +295,7 @@ module _ {S : Type 0} (g : Ghosts S) (t : S) (work : Work) (lexer : LexerState) 
               by = by;
               took = took;
               clear = clear;
-              holds = ap (λ (open_run : Option OpenRun). record (with_codes h drawn.work lexer' [] drawn.clears) { open_run = open_run }) rested.closed;
+              holds = ap₂ (λ (open_run : Option OpenRun) (run : List ℕ). record (with_codes h drawn.work lexer' drawn.clears) { open_run = open_run; run = run }) rested.closed rested.run;
             });
             typed = λ set chars. let bad : codes.whole (code.Op op) 1 lexer'.sets ≡ codes.whole (code.Char set byte) 1 lexer'.sets = sym front ∙ chars byte graphic in cc;
           };
@@ -380,7 +330,7 @@ module _ {S : Type 0} (g : Ghosts S) (t : S) (work : Work) (lexer : LexerState) 
       with_byte at refl (omega (arith, few, some, before.within, length-drop at bytes)) (omega arith)
       (λ h xs x rested is.
       let split = last_of xs x bytes at byte (drop 1 (drop at bytes)) is (sym (take-append-drop 1 (drop at bytes)) ∙ ap (λ (ys : List ℕ). ys ++ drop 1 (drop at bytes)) unit) in
-      let h' = with_codes h work' lexer' run false in
+      let h' = with_codes h work' lexer' false in
       let there = before.leads h xs rested split.0 in
       let whole : codes.front lexer'.sets (lexer'.half ++ x.byte ∷ []) ≡ codes.whole c 1 lexer'.sets =
       ap (λ (half : List ℕ). codes.front lexer'.sets (half ++ x.byte ∷ [])) before.rested ∙ ap (λ (b : ℕ). codes.front lexer'.sets (b ∷ [])) split.1 ∙ front in

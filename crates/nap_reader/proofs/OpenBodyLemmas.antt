@@ -241,9 +241,9 @@ module _ {S : Type 0} (g : Ghosts S) (s : S) (o : Outcome) (t : S) (h : Holding)
   unread_room = store_limit - h.machine.stored - length h.body
 
   -- what is held once the body has ended
-  pub body_over : (m : Machine) → m.mode ≡ between → IsHeld [] (record h { machine = m; open_run = None; open_body = None; body = [] })
+  pub body_over : (m : Machine) → m.mode ≡ between → IsHeld [] (record h { machine = m; open_run = None; run = []; open_body = None; body = [] })
   body_over m mode =
-      holds_half (record h { machine = m; open_run = None; open_body = None; body = [] }) [] refl mode refl refl (sym held_body.at.half)
+      holds_half (record h { machine = m; open_run = None; run = []; open_body = None; body = [] }) [] refl mode refl refl (sym held_body.at.half)
       (ap (codes.front m.sets) held_body.at.half ∙ nothing_yet m.sets)
 
   -- where no ESC is held
@@ -346,9 +346,9 @@ module _ {S : Type 0} (g : Ghosts S) (s : S) (o : Outcome) (t : S) (h : Holding)
           ∙ ap (course.act [] (after_body h.machine b.name h.body)) pair_left
 
       pub body_bound : b.show ≡ false →
-          Continues g s o t (record h { machine = after_body h.machine b.name h.body; half = 27 ∷ []; open_run = None; open_body = None; body = [] }) (x ∷ pending)
+          Continues g s o t (record h { machine = after_body h.machine b.name h.body; half = 27 ∷ []; open_run = None; run = []; open_body = None; body = [] }) (x ∷ pending)
       body_bound hidden =
-          let h' : Holding = record h { machine = after_body h.machine b.name h.body; half = []; open_run = None; open_body = None; body = [] } in
+          let h' : Holding = record h { machine = after_body h.machine b.name h.body; half = []; open_run = None; run = []; open_body = None; body = [] } in
           let there = leads_past g s o t h (x ∷ pending) k h' (escape ∷ x ∷ pending) (holds_half h' [] refl refl refl refl refl (nothing_yet h.machine.sets)) (body_binds hidden) in
           code_goes_on g s o t h' refl refl escape (x ∷ pending) there (escape_unfinished h.machine.sets)
 
@@ -393,7 +393,7 @@ module _ {S : Type 0} (g : Ghosts S) (s : S) (o : Outcome) (t : S) (h : Holding)
           let bytes = h.body ++ 27 ∷ x.byte ∷ [] in
           let size = length-append h.body (27 ∷ x.byte ∷ []) in
           let m : Machine = after_body h.machine b.name h.body in
-          let h' : Holding = record h { machine = charged m (length bytes); open_run = None; open_body = None; body = [] } in
+          let h' : Holding = record h { machine = charged m (length bytes); open_run = None; run = []; open_body = None; body = [] } in
           let there =
           leads_shown g s o t h (x ∷ pending) k m x.place bytes pending (body_shows shown) (omega (arith, size, few)) h' refl (body_over (charged m (length bytes)) refl) in
           omega (arith, size, few, leads_left g s o t h' (all_at x.place bytes ++ pending) there)

@@ -10,7 +10,7 @@ use Rattle.nap_reader.specs.Framed.{placed_at}
 use Rattle.nap_reader.specs.Stream.{Placed, Machine, Outcome, begun, bytes_of, is_operand_byte, outcome_from, placed_from}
 use Rattle.nap_reader.specs.Breaking.{BreaksFrom, cause_of}
 use Rattle.nap_reader.specs.Holding.{Continues, Holding, IsOwn, RunAt, frames_left, holding_of}
-use Rattle.nap_reader.specs.Pieces.{Amid, HasTaken, IsAheadTo, IsTakenTo, LeadsTo, RefusesCodes, RefusesStep, TakesByte, TakesCodes, TakesPiece, TakesStep, at_a_code, by_itself, with_name}
+use Rattle.nap_reader.specs.Pieces.{Amid, HasTaken, IsAheadTo, IsTakenTo, LeadsTo, RefusesCodes, RefusesStep, TakesByte, TakesCodes, TakesPiece, TakesStep, at_a_code, by_itself, with_name, Reads}
 use Rattle.nap_reader.specs.Standing.{IsBroken, IsKnown, Stands, StopsBy}
 use Rattle.nap_reader.specs.Steps.{Acted, Came, Firsts, Nexts, NothingComes, Passes, StopsByte, Stretches, Takes, TakesBytes, ahead, as_it_was, behind_run, of_body, of_piece}
 use Rattle.nap_reader.proofs.BreakingLemmas.{uses_breaks}
@@ -452,10 +452,12 @@ steps_codes old turned joined new piece at after mid until x takes joins (Ok a) 
     record { after = after; turned = turned; takes = takes; mid = mid; joined = joined; joins = joins; codes = codes }
 steps_codes old turned joined new piece at after mid until x takes joins (Err e) refuses = at_a_code turned joined after mid takes joins refuses
 
--- how far the piece was read with a byte
-pub read_by : {S : Type 0} {g : Ghosts S} (old new : Reader S g) (piece : List ℕ) (at until : ℕ) (x : Placed) → at ≤ length piece → TakesByte old new piece at until x →
-    (until ≤ length piece) × (new.fed + at ≡ old.fed + until)
-read_by old new piece at until x within (by_itself same takes) = (omega (arith, same, within), omega (arith, same, takes.counts.fed))
-read_by old new piece at until x within (with_name half named y first nexts second) =
-    let read = came_within (frames_left half) (frames_left named) piece at until half.fed (y.byte ∷ []) (y ∷ []) within nexts.came in
-    (read.1, omega (arith, first.counts.fed, nexts.fed, second.counts.fed))
+-- a reader that took a byte reads on behind it
+pub reads_behind : {S : Type 0} {g : Ghosts S} (old new : Reader S g) (piece : List ℕ) (at until : ℕ) (x : Placed) → Reads old piece at → TakesByte old new piece at until x → Reads new piece until
+reads_behind old new piece at until x reads (by_itself same takes) =
+    let few = reads.few in
+    record { live = takes.live; within = omega (arith, same, reads.within); few = omega (arith, same, reads.within, takes.counts.fed, few) }
+reads_behind old new piece at until x reads (with_name half named y first nexts second) =
+    let few = reads.few in
+    let read = came_within (frames_left half) (frames_left named) piece at until half.fed (y.byte ∷ []) (y ∷ []) reads.within nexts.came in
+    record { live = second.live; within = read.1; few = omega (arith, reads.within, read.1, first.counts.fed, nexts.fed, second.counts.fed, few) }

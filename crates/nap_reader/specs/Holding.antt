@@ -1,4 +1,5 @@
-use Rattle.std.specs.Prelude.{⊤, ◌≡◌, ◌≢◌, ◌<◌, ◌≤◌, ◌⊎◌, ◌-◌, ◌+◌, ◌++◌, ℕ, false, true, List, [], ◌∷◌, Option, Some, None, length}
+use Rattle.std.specs.Prelude.{⊤, ◌≡◌, ◌≢◌, ◌<◌, ◌≤◌, ◌⊎◌, ◌-◌, ◌+◌, ◌++◌, ℕ, false, List, [], ◌∷◌, Option, Some, None, length}
+use Rattle.nap_values.specs.Operands.{carried}
 use Rattle.nap_codes.specs.declared.code.Code.TheVariants as code
 use Rattle.nap_codes.specs.declared.code_set.CodeSets.{CodeSets}
 use Rattle.nap_codes.specs.Front as codes
@@ -15,7 +16,7 @@ use Rattle.nap_reader.specs.Framed.{unread}
 use Rattle.nap_reader.specs.Course.{prepend}
 use Rattle.nap_reader.specs.Stream as model
 use Rattle.nap_draw.specs.Limits.{run_limit}
-use Rattle.nap_reader.specs.Stream.{Placed, Machine, Outcome, Unfinished, open_body, all_at, charged, refusal, bytes_of, words_of, is_operand, is_operand_byte, run_length, half_read, outcome_from, begun, with_run}
+use Rattle.nap_reader.specs.Stream.{Placed, Machine, Outcome, Unfinished, open_body, charged, refusal, bytes_of, words_of, is_operand_byte, run_length, half_read, outcome_from, begun, with_run}
 use Rattle.nap_reader.specs.Breaking.{cause_of, TookPart, BreaksInRun, BreaksFrom, Begins}
 
 -- What a reader keeps between two bytes, and how it leads to what the stream means. No one sees this.
@@ -44,12 +45,17 @@ machine_of reader = record {
   mode = mode_of reader.open_body;
 }
 
+-- the words of the open run, of which these bytes are kept
+abbrev pub run_by : Option OpenRun → List ℕ → List ℕ
+run_by None bytes = []
+run_by (Some open_run) bytes = carried bytes
+
 abbrev pub holding_of : {S : Type 0} {g : Ghosts S} → Reader S g → Holding
 holding_of reader = record {
   machine = machine_of reader;
   half = reader.lexer.half;
   open_run = reader.open_run;
-  run = reader.run.items;
+  run = run_by reader.open_run reader.run.items;
   open_body = reader.open_body;
   body = reader.store.body;
 }
@@ -181,10 +187,6 @@ IsOwn r = cause_of r.fault ≡ stream
 -- the outcome is refused, a sink that was s has its entries, and as much is left to charge
 abbrev pub IsRefused : {S : Type 0} → Ghosts S → S → Outcome → S → Holding → Refusal → Type 0
 IsRefused g s o t h r = (o.refusal ≡ Some r) × g.took s o.entries t × (o.machine.left ≡ h.machine.left)
-
--- an operand byte that carries this word
-abbrev pub CarriesWord : Placed → ℕ → Type 0
-CarriesWord x word = (is_operand x ≡ true) × (word ≡ x.byte - 64)
 
 -- A sink that was s has taken the entries of an outcome that ends with this work, and with these bytes of a half-read code.
 pub record Ends {S : Type 0} (g : Ghosts S) (s : S) (o : Outcome) (t : S) (h : Holding) : Type 0 where

@@ -1,4 +1,4 @@
-use Rattle.std.specs.Prelude.{All, ◌≡◌, ◌<◌, ◌≤◌, ◌+◌, ◌++◌, ℕ, List, [], ◌∷◌, Some, None, false, true, drop, length, take, slice_index}
+use Rattle.std.specs.Prelude.{All, ◌≡◌, ◌<◌, ◌≤◌, ◌+◌, ◌-◌, ◌^◌, ◌++◌, ℕ, List, [], ◌∷◌, Some, None, false, true, drop, length, take, slice_index}
 use Rattle.nap_codes.specs.declared.code_set.CodeSet.TheVariants.{Macros}
 use Rattle.nap_codes.specs.Laws.{IsGraphic}
 use Rattle.nap_list.specs.declared.sink.Sink.{Ghosts}
@@ -16,6 +16,12 @@ use Rattle.nap_reader.specs.Stream.{Outcome, Placed, begun, bytes_of}
 -- the bytes that come next, of bodies and then of the piece
 abbrev pub next_bytes : {S : Type 0} {g : Ghosts S} → Reader S g → List ℕ → ℕ → List ℕ
 next_bytes reader piece at = bytes_of (frames_left reader) ++ drop at piece
+
+-- A reader that isn't refused reads this piece from this index on.
+pub record Reads {S : Type 0} {g : Ghosts S} (reader : Reader S g) (piece : List ℕ) (at : ℕ) : Type 0 where
+  pub live : reader.refusal ≡ None
+  pub within : at ≤ length piece
+  pub few : fed_of reader + (length piece - at) < 2 ^ 63
 
 -- All of the piece was taken.
 pub record TakesPiece {S : Type 0} {g : Ghosts S} (old new : Reader S g) (piece : List ℕ) : Type 0 where

@@ -1,4 +1,4 @@
-use Rattle.std.specs.Prelude.{All, Bool, if◌then◌else◌, ◌≡◌, ◌≢◌, ◌<◌, ◌≤◌, ◌⊎◌, ◌+◌, ◌-◌, ◌++◌, ℕ, false, true, List, [], ◌∷◌, Some, None, Ok, length, map, take, drop, slice_index}
+use Rattle.std.specs.Prelude.{All, Bool, if◌then◌else◌, ◌≡◌, ◌≢◌, ◌<◌, ◌≤◌, ◌⊎◌, ◌+◌, ◌++◌, ℕ, false, true, List, [], ◌∷◌, Some, None, Ok, length, take, drop, slice_index}
 use Rattle.nap_codes.specs.declared.code_set.CharSet.{CharSet}
 use Rattle.nap_codes.specs.Laws.{IsGraphic}
 use Rattle.nap_codes.specs.Lexer.{LexerState}
@@ -313,13 +313,13 @@ pub record IsRested (h : Holding) (now : Work) (lexer : LexerState) : Type 0 whe
   pub work : h.machine.work ≡ now
   pub sets : h.machine.sets ≡ lexer.sets
   pub half : h.half ≡ []
+  pub run : h.run ≡ []
 
 -- what is held once codes have acted, which may unbind all names
-abbrev pub with_codes : Holding → Work → LexerState → List ℕ → Bool → Holding
-with_codes h work lexer run clears = record h {
+abbrev pub with_codes : Holding → Work → LexerState → Bool → Holding
+with_codes h work lexer clears = record h {
   machine = record h.machine { work = work; sets = lexer.sets; names = if clears then no_names else h.machine.names };
   half = lexer.half;
-  run = run;
 }
 
 -- Where bytes lead to that were taken: a sink, and what is held. A run that is open there is at the place of the bytes, where one
@@ -339,11 +339,11 @@ pub record LeadsOn {S : Type 0} (g : Ghosts S) (t : S) (h : Holding) (u : S) (h'
   pub typed : (set : CharSet) → ((b : ℕ) → IsGraphic b → codes.front h'.machine.sets (b ∷ []) ≡ codes.whole (code.Char set b) 1 h'.machine.sets) → (u ≡ conveys.sink) × (h' ≡ conveys.holding)
 
 -- Whole codes at the front of these bytes acted, so many bytes.
-pub record WholeCodes {S : Type 0} (g : Ghosts S) (t : S) (work : Work) (lexer : LexerState) (u : S) (work' : Work) (lexer' : LexerState) (run : List ℕ) (clears : Bool) (bytes : List ℕ) (count : ℕ) : Type 0 where
+pub record WholeCodes {S : Type 0} (g : Ghosts S) (t : S) (work : Work) (lexer : LexerState) (u : S) (work' : Work) (lexer' : LexerState) (clears : Bool) (bytes : List ℕ) (count : ℕ) : Type 0 where
   pub within : count ≤ length bytes
   pub rested : lexer'.half ≡ []
   pub clear : g.failed t ≡ false → g.failed u ≡ false
-  pub leads : (h : Holding) (xs : List Placed) → IsRested h work lexer → bytes_of xs ≡ take count bytes → LeadsOn g t h u (with_codes h work' lexer' run clears) xs (drop count bytes)
+  pub leads : (h : Holding) (xs : List Placed) → IsRested h work lexer → bytes_of xs ≡ take count bytes → LeadsOn g t h u (with_codes h work' lexer' clears) xs (drop count bytes)
 
 -- Whole codes at the front of these bytes acted, and then one is refused or breaks: with the byte that comes then, of which the
 -- place is that of the byte with this index; or in characters that come then, at the one with this index.
@@ -357,22 +357,20 @@ pub data CodesStop {S : Type 0} (g : Ghosts S) (t : S) (work : Work) (lexer : Le
       (c : Conveys g t h xs) × StopsText g c.sink c.holding text taken u (refusal fault place)) →
       CodesStop g t work lexer u bytes count index fault
 
--- So many operand bytes are at the front, which carry these words, and behind them another byte.
-pub record IsWholeRun (bytes : List ℕ) (count : ℕ) (run : List ℕ) : Type 0 where
-  pub within : count < length bytes
-  pub short : count ≤ run_limit
-  pub operands : All (λ b. is_operand_byte b ≡ true) (take count bytes)
-  pub words : run ≡ map (λ b. b - 64) (take count bytes)
+-- These are all operand bytes at the front, and behind them there is another byte.
+pub record IsWholeRun (bytes run : List ℕ) : Type 0 where
+  pub short : length run ≤ run_limit
+  pub operands : All (λ b. is_operand_byte b ≡ true) run
   pub next : ℕ
   pub rest : List ℕ
-  pub behind : drop count bytes ≡ next ∷ rest
+  pub behind : bytes ≡ run ++ next ∷ rest
   pub other : is_operand_byte next ≡ false
 
 -- One code more, behind those that were taken: it acted, so many bytes; or it is refused or breaks.
-abbrev pub OneMore : {S : Type 0} → Ghosts S → S → Work → LexerState → S → Work → LexerState → List ℕ → List ℕ → ℕ → One → Type 0
-OneMore g t work lexer u work' lexer' run bytes at (ones.Acted n clears) = (0 < n) × WholeCodes g t work lexer u work' lexer' run clears bytes (at + n)
-OneMore g t work lexer u work' lexer' run bytes at (ones.Stopped n fault index) = CodesStop g t work lexer u bytes (at + n) (at + index) fault
-OneMore g t work lexer u work' lexer' run bytes at ones.Other = WholeCodes g t work lexer u work' lexer' run false bytes at
+abbrev pub OneMore : {S : Type 0} → Ghosts S → S → Work → LexerState → S → Work → LexerState → List ℕ → ℕ → One → Type 0
+OneMore g t work lexer u work' lexer' bytes at (ones.Acted n clears) = (0 < n) × WholeCodes g t work lexer u work' lexer' clears bytes (at + n)
+OneMore g t work lexer u work' lexer' bytes at (ones.Stopped n fault index) = CodesStop g t work lexer u bytes (at + n) (at + index) fault
+OneMore g t work lexer u work' lexer' bytes at ones.Other = WholeCodes g t work lexer u work' lexer' false bytes at
 
 -- What a code leaves of a sink: its state agrees with that of the work, unless the code is refused or breaks. Then its failure
 -- is told.

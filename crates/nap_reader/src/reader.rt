@@ -1,5 +1,5 @@
 //! Reads a stream in pieces.
-ghost use Rattle.std.specs.Prelude.{take, ◌⊎◌, ◌≡◌, ◌≢◌, ◌+◌, ◌-◌, ◌^◌, ◌<◌, ◌≤◌, ℕ, List, [], ◌∷◌, ◌++◌, None, Some, Err, true, false, length, vec_len, OnOk, IfOk, IsOk, IfSome, IfErr, IsSome, IsErr, IsErrAnd, MatchResult};
+ghost use Rattle.std.specs.Prelude.{◌≡◌, ◌≢◌, ◌+◌, ◌-◌, ◌^◌, ◌<◌, ◌≤◌, ℕ, List, [], ◌++◌, None, Some, Err, true, false, length, vec_len, OnOk, IfOk, IfErr, IsSome, IsErrAnd, MatchResult};
 ghost use Rattle.std.specs.Option.{ForNone};
 ghost use Rattle.nap_list.specs.State.{start};
 ghost use Rattle.std.proofs.Props.{props};
@@ -7,11 +7,8 @@ ghost use Rattle.nap_list.specs.Agreement.{StatesAgree};
 ghost use Rattle.nap_list.specs.Propositions.{StatesAgree-prop};
 ghost use Rattle.nap_reader.specs.Carried.{HasName, HasName-prop, HasRule, HasRule-prop};
 ghost use Rattle.nap_reader.specs.Framed.{FramesIn, unread};
-ghost use Rattle.nap_reader.specs.Faults.{draw_fault};
-ghost use Rattle.nap_codes.specs.Laws.{IsGraphic};
-ghost use Rattle.nap_reader.specs.Stored.{part_at};
 ghost use Rattle.nap_reader.specs.Bodies.{store_limit};
-ghost use Rattle.nap_reader.specs.Stream.{all_at, is_operand_byte, refusal};
+ghost use Rattle.nap_reader.specs.Stream.{refusal};
 ghost use Rattle.nap_draw.specs.Limits.{run_limit};
 ghost use Rattle.nap_reader.specs.Budgets.{most_budget};
 
@@ -23,7 +20,7 @@ use crate::store::Store;
 use nap_codes::{Lexer, Opcode};
 use nap_draw::Work;
 use nap_list::Sink;
-use nap_values::{Point, Word};
+use nap_values::Point;
 use std::alloc::Global;
 
 mod bodies;
@@ -56,7 +53,7 @@ pub struct Reader<S: Sink> {
     work: Work,
     lexer: Lexer,
     open_run: Option<OpenRun>,
-    run: Vec<Word>,
+    run: Vec<u8>,
     room: Vec<Point>,
     open_body: Option<OpenBody>,
     store: Store,
@@ -80,12 +77,9 @@ pub struct Reader<S: Sink> {
 }
 
 impl<S: Sink> Reader<S> {
-    ghost use Rattle.nap_list.specs.declared.entry.Entry.{Entry};
-    ghost use Rattle.nap_reader.specs.Stream.{Placed, Outcome, begun, is_operand, means, with_code, with_run};
+    ghost use Rattle.nap_reader.specs.Stream.{Outcome, means, with_code};
     ghost use Rattle.nap_draw.specs.Draws.{stream};
-    ghost use Rattle.nap_reader.specs.Breaking.{BreaksAt, BreaksFrom, BreaksInRun, cause_of};
-    ghost use Rattle.nap_reader.specs.Bodies as bodies;
-    ghost use Rattle.nap_reader.specs.Bodies.{body_of};
+    ghost use Rattle.nap_reader.specs.Breaking.{BreaksInRun, cause_of};
     ghost use Rattle.nap_reader.specs.Holding.{Ends, IsOwn, holding_of};
     ghost use Rattle.nap_reader.specs.Pieces.{RefusesPiece, TakesPiece};
     ghost use Rattle.nap_reader.specs.Standing.{Answers, IsBounded, IsTaken, Stands, StopsAt, budget_of, charged_of, fed_of, left_of, refusal_of, sink_of, turns_of};

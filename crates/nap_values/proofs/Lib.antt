@@ -13,3 +13,4 @@ mod SignLemmas
 mod GatherLemmas
 mod InsideLemmas
 mod RunLemmas
+mod CarriedLemmas

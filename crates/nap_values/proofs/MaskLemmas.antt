@@ -2,23 +2,19 @@ use Rattle.std.proofs.Common.{◌≡◌, ℕ, suc, zero, ◌+◌, ◌-◌, ◌*�
 use Rattle.std.proofs.Math.Nat.{pow-le-pow_right, pow-zero, mul-zero}
 use Rattle.std.specs.Int.Bits.{and_zero_r}
 use Rattle.std.proofs.lemmas.Nat.{and_block, pow-add, pow_pos, mod_below, div-add-mod'}
-use Rattle.std.proofs.lemmas.List.Elements.{All-nil, All-cons, All-head, All-tail}
+use Rattle.std.proofs.lemmas.List.Elements.{All-nil, All-cons, All-head, All-tail, All-replicate}
 use lib.Bits.{and_high}
 use Rattle.nap_values.specs.Digits.{value_of, digits_of}
 use Rattle.nap_values.proofs.DigitLemmas.{value_of-below}
 
 -- The same bits of each digit, where a mask keeps them.
 
-pow_of_pow : (width places : ℕ) → (2 ^ width) ^ places ≡ 2 ^ (width * places)
+pub pow_of_pow : (width places : ℕ) → (2 ^ width) ^ places ≡ 2 ^ (width * places)
 pow_of_pow width zero = pow-zero (2 ^ width) ∙ ap (λ k. 2 ^ k) (sym (mul-zero width))
 pow_of_pow width (suc places) =
     let steps : width * places + width ≡ width * suc places = omega arith in
     pow-suc (2 ^ width) places ∙ ap (λ n. n * 2 ^ width) (pow_of_pow width places)
     ∙ sym (pow-add 2 (width * places) width) ∙ ap (λ k. 2 ^ k) steps
-
-all_replicate : (P : ℕ → Type 0) (n d : ℕ) → P d → All P (replicate n d)
-all_replicate P zero d is = All-nil P
-all_replicate P (suc n) d is = All-cons P d (replicate n d) is (all_replicate P n d is)
 
 -- the same so many bits of each digit, where others are masked out
 module _ (width bits low : ℕ) (within : bits + low ≤ width) where
@@ -41,7 +37,7 @@ module _ (width bits low : ℕ) (within : bits + low ≤ width) where
       let mask = value_of (2 ^ width) places (replicate places field) in
       let rest_fits : n % unit < 2 ^ (width * places) = omega (arith, unit_is, mod_below n unit (omega (arith, unit_is, pow_pos (width * places)))) in
       let mask_fits : mask < 2 ^ (width * places) =
-      omega (arith, unit_is, value_of-below (2 ^ width) places (replicate places field) (pow_pos width) (all_replicate (λ d. d < 2 ^ width) places field field_fits)) in
+      omega (arith, unit_is, value_of-below (2 ^ width) places (replicate places field) (pow_pos width) (All-replicate (λ d. d < 2 ^ width) places field field_fits)) in
       let whole : n / unit * unit + n % unit ≡ n = div-add-mod' n unit in
       ap (λ m. bit_and m (field * unit + mask)) (sym whole)
       ∙ ap (λ u. bit_and (n / unit * u + n % unit) (field * u + mask)) unit_is

@@ -1,5 +1,4 @@
-use Rattle.std.proofs.Common.{◌≡◌, ℕ, suc, zero, ◌+◌, ◌-◌, ◌*◌, ◌<◌, ◌≤◌, List, [], ◌∷◌, ◌++◌, length, replicate, All, sym, ap, ◌∙◌, arith, length-append, get_or, take, subst, add-one}
-use Rattle.std.proofs.Math.Seq.{take-suc}
+use Rattle.std.proofs.Common.{◌≡◌, ℕ, suc, zero, ◌+◌, ◌-◌, ◌<◌, ◌≤◌, List, ◌++◌, length, replicate, All, sym, ap, ◌∙◌, arith, length-append}
 use Rattle.std.proofs.lemmas.List.{length-replicate}
 use Rattle.std.proofs.lemmas.List.Elements.{All-nil, All-cons, All-append, All-weaker}
 use Rattle.nap_values.specs.Digits.{value_of, digits_of}
@@ -36,18 +35,3 @@ module _ (words : List ℕ) (all : All IsWord words) (few : length words ≤ 8) 
 
   pub run_spells : multi_of (words_in (value_of 256 8 words)) ≡ multi_of words
   run_spells = ap multi_of words_in_run ∙ (missing_words_are_zero words missing).0
-
--- the number that three words are at the front of
-pub three_words : (a b c : ℕ) → a * 72057594037927936 + b * 281474976710656 + c * 1099511627776 ≡ value_of 256 8 (a ∷ b ∷ c ∷ [])
-unfolding value_of
-three_words a b c = omega arith
-
-pub three-words : (a b c : ℕ) → a < 64 → b < 64 → c < 64 → All IsWord (a ∷ b ∷ c ∷ [])
-three-words a b c a_fits b_fits c_fits =
-    All-cons IsWord a (b ∷ c ∷ []) a_fits (All-cons IsWord b (c ∷ []) b_fits (All-cons IsWord c [] c_fits (All-nil IsWord)))
-
--- a word more in front
-pub more_words : (run : List ℕ) (i word : ℕ) → i < length run → word ≡ get_or run i 0 → word < 64 → All IsWord (take i run) → All IsWord (take (i + 1) run)
-more_words run i word inside is fits all =
-    rw (add-one, take-suc run i 0 inside)
-    (All-append IsWord (take i run) (get_or run i 0 ∷ []) all (All-cons IsWord (get_or run i 0) [] (subst IsWord is fits) (All-nil IsWord)))

@@ -4,6 +4,10 @@ use Rattle.nap_values.specs.Digits.{value_of}
 use Rattle.nap_values.specs.Coordinates.{Displacement}
 use Rattle.nap_values.specs.Colours.{Components}
 
+-- the words that bytes carry: the low six bits of each
+abbrev pub carried : List ℕ → List ℕ
+carried bytes = map (λ byte. byte % 64) bytes
+
 -- the three bits of a word for the way from left to right
 abbrev pub x_digit : ℕ → ℕ
 x_digit word = word / 8

@@ -15,7 +15,7 @@ mod word;
 pub use colours::{Addr, Grb};
 pub use displacement::Move;
 pub use domain::Domain;
-pub use operand::{colour, multi, single};
+pub use operand::{colour, colour_bytes, multi, multi_bytes, multi_of_three, single, single_bytes};
 pub use point::Point;
 pub use spelling::{put_addr, put_grb, put_move, put_point};
 pub use word::Word;

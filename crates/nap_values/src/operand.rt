@@ -1,55 +1,80 @@
-//! Reading of operands: the values that words spell.
+//! Reading of operands: the values that words spell. A byte carries a word in its low six bits, whatever its others are.
 
-ghost use Rattle.std.specs.Prelude.{◌≡◌, ◌<◌, ◌≤◌, [], ◌∷◌, length};
-ghost use Rattle.nap_values.specs.Operands.{multi_of, single_of, colour_of};
+ghost use Rattle.std.specs.Prelude.{◌≡◌, ◌<◌, ◌≤◌, length, take};
+ghost use Rattle.nap_values.specs.Operands.{carried, multi_of, single_of, colour_of};
 
 use crate::colours::{Addr, Grb};
 use crate::displacement::Move;
 use crate::word::Word;
 
-/// What the first of eight words weighs, where each has a byte.
-const FIRST: u64 = 0x0100_0000_0000_0000;
+/// The low six bits of each of eight bytes.
+const LOW: u64 = 0x3F3F_3F3F_3F3F_3F3F;
+
+/// The low six bits of the first three of eight bytes.
+const LOW_OF_THREE: u64 = 0x3F3F_3F00_0000_0000;
+
+/// The most words of an operand.
+const MOST: usize = 8;
 
 /// The displacement that a multi-value operand of this size spells. Words that the run lacks are zero (PDI operands).
-#[inline]
 pub fn multi(run: &[Word], size: u8) -> Move
     requires some { 0 < length run.now }
     requires most { length run.now ≤ size }
     requires places { size ≤ 8 }
     ensures { result ≡ multi_of run.now }
 {
-    if let [first, second, third] = run {
-        return three(*first, *second, *third);
-    }
-    several(run, size)
+    multi_bytes(&padded(run)[..run.len()])
 }
 
-/// The displacement that any number of words spell. It is a call of its own, so that loops over three have room for theirs.
-#[inline(never)]
-fn several(run: &[Word], size: u8) -> Move
-    requires some { 0 < length run.now }
-    requires most { length run.now ≤ size }
-    requires places { size ≤ 8 }
-    ensures { result ≡ multi_of run.now }
-{
-    let mut words: u64 = 0;
-    let mut unit = FIRST;
-    for word in run {
-        words += u64::from(word.get()) * unit;
-        unit /= 256;
-    }
-    Move::spelled(words)
-}
-
-/// The displacement that three words spell, the most common size.
+/// The displacement that the bytes of a multi-value operand spell, eight at most. Words that it lacks are zero (PDI operands).
 #[inline]
-fn three(first: Word, second: Word, third: Word) -> Move
-    ensures { result ≡ multi_of (first ∷ second ∷ third ∷ []) }
+pub fn multi_bytes(operand: &[u8]) -> Move
+    requires { length operand.now ≤ 8 }
+    ensures { result ≡ multi_of (carried operand.now) }
 {
-    let first = u64::from(first.get());
-    let second = u64::from(second.get());
-    let third = u64::from(third.get());
-    Move::spelled(first * FIRST + second * (FIRST / 256) + third * (FIRST / 65_536))
+    if let [first, second, third] = operand {
+        return eight([*first, *second, *third, 0, 0, 0, 0, 0]);
+    }
+    several(operand)
+}
+
+/// The displacement that the first three of eight bytes spell.
+#[inline]
+pub fn multi_of_three(block: &[u8; 8]) -> Move
+    ensures { result ≡ multi_of (carried (take 3 block.now)) }
+{
+    Move::spelled(u64::from_be_bytes(*block) & LOW_OF_THREE)
+}
+
+/// The displacement that any number of bytes spell. It is a call of its own, so that loops over three have room for theirs.
+#[inline(never)]
+fn several(run: &[u8]) -> Move
+    requires { length run.now ≤ 8 }
+    ensures { result ≡ multi_of (carried run.now) }
+{
+    let mut bytes = [0; MOST];
+    bytes[..run.len()].copy_from_slice(run);
+    eight(bytes)
+}
+
+/// The displacement that eight bytes spell.
+#[inline]
+fn eight(bytes: [u8; MOST]) -> Move
+    ensures { result ≡ multi_of (carried bytes) }
+{
+    Move::spelled(u64::from_be_bytes(bytes) & LOW)
+}
+
+/// The words of an operand, a byte for each, and zero behind them.
+fn padded(run: &[Word]) -> [u8; MOST]
+    requires { length run.now ≤ 8 }
+    ensures { carried (take (length run.now) result) ≡ run.now }
+{
+    let mut bytes = [0; MOST];
+    for at in 0..run.len() {
+        bytes[at] = run[at].get();
+    }
+    bytes
 }
 
 /// The address that a single-value operand of this size spells. Words that the run lacks are zero (PDI operands).
@@ -59,11 +84,19 @@ pub fn single(run: &[Word], size: u8) -> Addr
     requires places { size ≤ 4 }
     ensures { result ≡ single_of run.now }
 {
+    single_bytes(&padded(run)[..run.len()])
+}
+
+/// The address that the bytes of a single-value operand spell, four at most. Words that it lacks are zero (PDI operands).
+pub fn single_bytes(operand: &[u8]) -> Addr
+    requires { length operand.now ≤ 4 }
+    ensures { result ≡ single_of (carried operand.now) }
+{
     let mut number: u32 = 0;
     let mut unit = Addr::LIMIT;
-    for word in run {
+    for byte in operand {
         unit /= 64;
-        number += u32::from(word.get()) * unit;
+        number += u32::from(*byte % Word::LIMIT) * unit;
     }
     Addr::new(number)
 }
@@ -75,14 +108,22 @@ pub fn colour(run: &[Word], size: u8) -> Grb
     requires places { size ≤ 8 }
     ensures { result ≡ colour_of run.now }
 {
+    colour_bytes(&padded(run)[..run.len()])
+}
+
+/// The colour that the bytes of a multi-value operand spell, eight at most. Words that it lacks are zero (SET COLOR).
+pub fn colour_bytes(operand: &[u8]) -> Grb
+    requires { length operand.now ≤ 8 }
+    ensures { result ≡ colour_of (carried operand.now) }
+{
     let mut g: u32 = 0;
     let mut r: u32 = 0;
     let mut b: u32 = 0;
     let mut unit = Grb::LIMIT;
-    for word in run {
+    for byte in operand {
         unit /= 4;
-        let bits = u32::from(word.get());
-        g += (bits / 32 * 2 + bits / 4 % 2) * unit;
+        let bits = u32::from(*byte);
+        g += (bits / 32 % 2 * 2 + bits / 4 % 2) * unit;
         r += (bits / 16 % 2 * 2 + bits / 2 % 2) * unit;
         b += (bits / 8 % 2 * 2 + bits % 2) * unit;
     }

@@ -12,7 +12,7 @@ use arrayvec::ArrayVec;
 
 /// The eight bytes that carry the words of a number.
 #[inline]
-fn carried(words: u64) -> ArrayVec<u8, 8>
+fn carrying(words: u64) -> ArrayVec<u8, 8>
     requires { HoldsWords words }
     ensures { result.items ≡ bytes_of (words_in words) }
 {
@@ -38,7 +38,7 @@ fn colour_bits(g: u32, r: u32, b: u32) -> u8
 pub fn put_move(step: Move) -> ArrayVec<u8, 8>
     ensures { result.items ≡ move_bytes step }
 {
-    carried(step.words())
+    carrying(step.words())
 }
 
 /// The eight bytes that spell a point in a multi-value operand of eight words (PDI operands).
@@ -48,7 +48,7 @@ pub fn put_point(point: Point) -> ArrayVec<u8, 8>
     ensures bytes { result.items ≡ point_bytes point }
     ensures inside { IsInSquare point }
 {
-    carried(point.words())
+    carrying(point.words())
 }
 
 /// The four bytes that spell an address in a single-value operand of four words (PDI operands).

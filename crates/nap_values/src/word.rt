@@ -1,6 +1,6 @@
 //! The words that operands consist of.
 
-ghost use Rattle.std.specs.Prelude.{◌≡◌, ◌<◌, ◌↔◌, IsSome, IfSome};
+ghost use Rattle.std.specs.Prelude.{◌≡◌, ◌<◌, ◌%◌, ◌↔◌, IsSome, IfSome};
 
 use std::marker::Model;
 
@@ -37,6 +37,14 @@ impl Word {
         } else {
             None
         }
+    }
+
+    /// The word that a byte carries: its low six bits (PDI operands).
+    #[inline]
+    pub fn of_byte(byte: u8) -> Word
+        ensures { result ≡ byte % 64 }
+    {
+        Word(byte % Self::LIMIT)
     }
 
     /// The word's number, from 0 to 63.

@@ -2,7 +2,7 @@
 ghost use Rattle.std.specs.Prelude.{◌≡◌, ◌<◌, true, None, MatchResult};
 ghost use Rattle.nap_codes.specs.Laws.{IsGraphic};
 
-use super::codes::push_body;
+use super::calls::push_body;
 use super::{Reader, Refused, refuse};
 use crate::body::{OpenBody, ends_body};
 use crate::fault::Fault;

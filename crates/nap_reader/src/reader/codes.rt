@@ -1,27 +1,20 @@
 //! One byte: of a body, of a run, or of a code.
-ghost use Rattle.std.specs.Prelude.{◌≡◌, ◌++◌, ◌+◌, ◌≤◌, ◌<◌, ℕ, List, None, Some, length, OnOk, IfOk, IfErr, IsOk, IsErr, MatchResult};
-ghost use Rattle.nap_codes.specs.Laws.{IsGraphic};
-ghost use Rattle.nap_reader.specs.Budgets.{most_budget};
+ghost use Rattle.std.specs.Prelude.{◌≡◌, None, Some, IfOk, IfErr, IsOk, IsErr, MatchResult};
 ghost use Rattle.nap_reader.specs.Faults.{draw_fault};
-ghost use Rattle.nap_reader.specs.Framed.{FramesIn, unread};
-ghost use Rattle.nap_reader.specs.Stored.{part_at};
-ghost use Rattle.nap_reader.specs.Stream.{all_at, refusal};
+ghost use Rattle.nap_reader.specs.Stream.{refusal};
 
 use super::{OpenRun, Reader, Refused, refuse};
 use crate::body::OpenBody;
 use crate::fault::{Fault, Refusal};
-use crate::frames::Frames;
 use crate::kind::Kind;
-use crate::operands::operand;
-use crate::store::Span;
+use crate::operands::is_operand;
 use nap_codes::{Code, Step};
 use nap_draw::DrawFault;
 use nap_list::Sink;
 
 impl<S: Sink> Reader<S> {
-    ghost use Rattle.nap_reader.specs.Bodies.{body_of};
     ghost use Rattle.nap_reader.specs.Framed.{placed_at};
-    ghost use Rattle.nap_reader.specs.Steps.{IsBetween, Presents, Refuses, RefusesCall, Takes};
+    ghost use Rattle.nap_reader.specs.Steps.{IsBetween, Refuses, Takes};
 
     /// Takes one byte, which has this place.
     #[inline(always)]
@@ -35,8 +28,8 @@ impl<S: Sink> Reader<S> {
         let Some(open_run) = self.open_run else {
             return self.lex(byte, place);
         };
-        if let Some(word) = operand(byte) {
-            return self.join(open_run, word, place);
+        if is_operand(byte) {
+            return self.join(open_run, byte, place);
         }
         self.close(open_run)?;
         self.lex(byte, place)
@@ -103,56 +96,6 @@ impl<S: Sink> Reader<S> {
             }
         }
     }
-
-    /// Calls the macro of this name.
-    pub(super) fn call(&mut self, name: u8, place: u64) -> Result<(), Refused>
-        requires live { self.old.refusal ≡ None }
-        requires named { IsGraphic name }
-        ensures { MatchResult result (λ _. Presents self.old self.new (body_of self.old.store.names name) place) (λ _. RefusesCall self.old self.new (body_of self.old.store.names name) place) }
-    {
-        let span = self.store.span(name);
-        let count = (span.end - span.start) as u64;
-        if count == 0 {
-            return Ok(());
-        }
-        if count > self.left() {
-            return refuse(&mut self.refusal, Fault::Budget, place);
-        }
-        push_body(
-            &mut self.frames,
-            &mut self.charged,
-            &mut self.refusal,
-            span,
-            count,
-            place,
-        )
-    }
-}
-
-/// This part of the store comes next, at this place, and is charged.
-pub(super) fn push_body(
-    frames: &mut Frames,
-    charged: &mut u64,
-    latch: &mut Option<Refusal>,
-    span: Span,
-    count: u64,
-    place: u64,
-) -> Result<(), Refused>
-    requires some { span.start < span.end }
-    requires counted { count + span.start ≡ span.end }
-    requires most { count + charged.old ≤ most_budget }
-    ensures shows { MatchResult result (λ _. (charged.new ≡ charged.old + count) × (latch.new ≡ latch.old)
-        × ((bytes : List ℕ) → unread bytes frames.new.stack.items ≡ all_at place (part_at bytes span) ++ unread bytes frames.old.stack.items))
-        (λ _. (charged.new ≡ charged.old) × (latch.new ≡ Some (refusal Fault.Memory place))) }
-    ensures within { (n : ℕ) → span.end ≤ n → FramesIn n frames.old.stack.items → FramesIn n frames.new.stack.items }
-    ensures turned { (bytes : List ℕ) → span.end ≤ length bytes → length (unread bytes frames.new.stack.items) + charged.old ≡ length (unread bytes frames.old.stack.items) + charged.new }
-    ensures more { (charged.old ≤ charged.new) × (charged.new ≤ charged.old + count) }
-{
-    let Ok(()) = frames.push(span, place) else {
-        return refuse(latch, Fault::Memory, place);
-    };
-    *charged += count;
-    Ok(())
 }
 
 /// Refuses the stream, for good, where a code there was refused.

@@ -1,26 +1,26 @@
 //! The open run: an opcode with its operands.
-ghost use Rattle.std.specs.Prelude.{◌≡◌, MatchResult};
+ghost use Rattle.std.specs.Prelude.{◌≡◌, true, MatchResult};
 
 use super::{OpenRun, Reader, Refused, refuse};
 use crate::fault::Fault;
 use nap_draw::RUN_LIMIT;
 use nap_list::Sink;
-use nap_values::Word;
 
 impl<S: Sink> Reader<S> {
-    ghost use Rattle.nap_reader.specs.Stream.{Placed};
-    ghost use Rattle.nap_reader.specs.Holding.{CarriesWord};
+    ghost use Rattle.nap_reader.specs.Framed.{placed_at};
+    ghost use Rattle.nap_reader.specs.Stream.{is_operand_byte};
     ghost use Rattle.nap_reader.specs.Steps.{Closes, HasRun, Refuses, RefusesRun, Takes};
 
-    /// A word joins the open run.
-    pub(super) fn join(&mut self, open_run: OpenRun, word: Word, place: u64) -> Result<(), Refused>
-        requires { HasRun self.old open_run }
-        ensures { (x : Placed) → CarriesWord x word → x.place ≡ place → MatchResult result (λ _. Takes self.old self.new x) (λ _. Refuses self.old self.new x) }
+    /// An operand byte joins the open run.
+    pub(super) fn join(&mut self, open_run: OpenRun, byte: u8, place: u64) -> Result<(), Refused>
+        requires run { HasRun self.old open_run }
+        requires operand { is_operand_byte byte ≡ true }
+        ensures { MatchResult result (λ _. Takes self.old self.new (placed_at byte place)) (λ _. Refuses self.old self.new (placed_at byte place)) }
     {
         if self.run.len() >= RUN_LIMIT {
             return refuse(&mut self.refusal, Fault::LongRun, open_run.place);
         }
-        if self.run.push(word).is_err() {
+        if self.run.push(byte).is_err() {
             return refuse(&mut self.refusal, Fault::Memory, place);
         }
         Ok(())

@@ -1,13 +1,12 @@
 //! One step: a byte or a call, and what comes behind it at once.
-ghost use Rattle.std.specs.Prelude.{◌≡◌, ◌+◌, ◌-◌, ◌^◌, ◌<◌, ◌≤◌, ℕ, None, length, MatchResult};
+ghost use Rattle.std.specs.Prelude.{MatchResult};
 
 use super::{Reader, Refused};
 use nap_list::Sink;
 
 impl<S: Sink> Reader<S> {
     ghost use Rattle.nap_reader.specs.Framed.{placed_at};
-    ghost use Rattle.nap_reader.specs.Pieces.{RefusesByte, RefusesStep, TakesByte, TakesStep};
-    ghost use Rattle.nap_reader.specs.Standing.{fed_of};
+    ghost use Rattle.nap_reader.specs.Pieces.{Reads, RefusesByte, RefusesStep, TakesByte, TakesStep};
 
     /// Takes one byte, which has this place, and then what comes next at once: operands of the run, and whole codes.
     #[inline(always)]
@@ -18,9 +17,7 @@ impl<S: Sink> Reader<S> {
         piece: &[u8],
         at: &mut usize,
     ) -> Result<(), Refused>
-        requires live { self.old.refusal ≡ None }
-        requires within { at.old ≤ length piece.now }
-        requires few { fed_of self.old + (length piece.now - at.old) < 2 ^ 63 }
+        requires { Reads self.old piece.now at.old }
         ensures { MatchResult result (λ _. TakesStep self.old self.new piece.now at.old at.new (placed_at byte place)) (λ _. RefusesStep self.old self.new piece.now at.old (placed_at byte place)) }
     {
         self.byte_or_call(byte, place, piece, at)?;
@@ -37,9 +34,7 @@ impl<S: Sink> Reader<S> {
         piece: &[u8],
         at: &mut usize,
     ) -> Result<(), Refused>
-        requires live { self.old.refusal ≡ None }
-        requires within { at.old ≤ length piece.now }
-        requires few { fed_of self.old + (length piece.now - at.old) < 2 ^ 63 }
+        requires { Reads self.old piece.now at.old }
         ensures { MatchResult result (λ _. TakesByte self.old self.new piece.now at.old at.new (placed_at byte place)) (λ _. RefusesByte self.old self.new piece.now at.old (placed_at byte place)) }
     {
         let Some((name, there)) = self.name_of_call(byte, piece, at) else {

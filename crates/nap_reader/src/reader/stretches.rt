@@ -1,13 +1,14 @@
 //! The bytes that come next: one of them, or operands of the open run.
-ghost use Rattle.std.specs.Prelude.{◌≡◌, ◌+◌, ◌-◌, ◌^◌, ◌<◌, ◌≤◌, ℕ, [], None, length, MatchOption};
+ghost use Rattle.std.specs.Prelude.{◌≡◌, ◌+◌, ◌^◌, ◌<◌, [], length, MatchOption};
 
 use super::Reader;
 use super::coming::{coming, pass};
-use crate::operands::take_words;
+use crate::operands::take_operands;
 use nap_list::Sink;
 
 impl<S: Sink> Reader<S> {
     ghost use Rattle.nap_reader.specs.Framed.{placed_at};
+    ghost use Rattle.nap_reader.specs.Pieces.{Reads};
     ghost use Rattle.nap_reader.specs.Standing.{fed_of};
     ghost use Rattle.nap_reader.specs.Steps.{Firsts, Nexts, NothingComes, Stretches};
 
@@ -28,9 +29,7 @@ impl<S: Sink> Reader<S> {
     /// Takes the next byte, with its place.
     #[inline(always)]
     pub(super) fn next(&mut self, piece: &[u8], at: &mut usize) -> Option<(u8, u64)>
-        requires live { self.old.refusal ≡ None }
-        requires within { at.old ≤ length piece.now }
-        requires few { fed_of self.old + (length piece.now - at.old) < 2 ^ 63 }
+        requires { Reads self.old piece.now at.old }
         ensures { MatchOption result (NothingComes self.old self.new piece.now at.old) (λ x. Nexts self.old self.new piece.now at.old at.new (placed_at x.0 x.1)) }
     {
         let (bytes, place) = coming(&self.frames, self.store.bytes(), piece, *at, self.fed);
@@ -52,9 +51,7 @@ impl<S: Sink> Reader<S> {
     /// Takes operands of the open run that come next.
     #[inline(always)]
     pub(super) fn operands(&mut self, piece: &[u8], at: &mut usize)
-        requires live { self.old.refusal ≡ None }
-        requires within { at.old ≤ length piece.now }
-        requires few { fed_of self.old + (length piece.now - at.old) < 2 ^ 63 }
+        requires { Reads self.old piece.now at.old }
         ensures { Stretches self.old self.new piece.now at.old at.new }
     {
         if let Some(_) = self.open_body {
@@ -64,7 +61,7 @@ impl<S: Sink> Reader<S> {
             return;
         };
         let (bytes, _) = coming(&self.frames, self.store.bytes(), piece, *at, self.fed);
-        let count = take_words(&mut self.run, bytes);
+        let count = take_operands(&mut self.run, bytes);
         pass(
             &mut self.frames,
             self.store.bytes(),

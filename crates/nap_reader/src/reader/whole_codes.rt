@@ -1,12 +1,11 @@
 //! Whole codes at the front of bytes, where nothing is open or half read.
-ghost use Rattle.std.specs.Prelude.{◌≡◌, ◌+◌, ◌-◌, ◌≤◌, ◌<◌, ◌^◌, ℕ, List, [], ◌∷◌, true, false, None, drop, length, vec_len, IfSome, MatchOption, MatchResult};
+ghost use Rattle.std.specs.Prelude.{◌≡◌, ℕ, List, [], ◌∷◌, true, false, None, drop, IfSome, MatchOption, MatchResult};
 ghost use Rattle.nap_codes.specs.declared.code.Code.TheVariants as codes;
 ghost use Rattle.nap_codes.specs.Front.{front, whole};
 ghost use Rattle.nap_codes.specs.Laws.{IsGraphic};
 ghost use Rattle.nap_codes.specs.Lexer.{LexerState};
 ghost use Rattle.nap_list.specs.Agreement.{StatesAgree};
 ghost use Rattle.nap_draw.specs.declared.work.Work.{Work};
-ghost use Rattle.nap_draw.specs.Limits.{run_limit};
 ghost use Rattle.nap_reader.specs.Steps.{CodesStop, Leaves, OneMore, WholeCodes};
 
 use super::coming::{coming, pass, place_of};
@@ -17,18 +16,15 @@ use crate::operands::whole_run;
 use nap_codes::{CharSet, Code, Lexer};
 use nap_draw::Work;
 use nap_list::Sink;
-use nap_values::{Point, Word};
+use nap_values::Point;
 use std::alloc::Global;
 
 impl<S: Sink> Reader<S> {
-    ghost use Rattle.nap_reader.specs.Pieces.{RefusesCodes, TakesCodes};
-    ghost use Rattle.nap_reader.specs.Standing.{fed_of};
+    ghost use Rattle.nap_reader.specs.Pieces.{Reads, RefusesCodes, TakesCodes};
 
     /// Takes whole codes that come next, where nothing is open or half read.
     pub(super) fn codes(&mut self, piece: &[u8], at: &mut usize) -> Result<(), Refused>
-        requires live { self.old.refusal ≡ None }
-        requires within { at.old ≤ length piece.now }
-        requires few { fed_of self.old + (length piece.now - at.old) < 2 ^ 63 }
+        requires { Reads self.old piece.now at.old }
         ensures { MatchResult result (λ _. TakesCodes self.old self.new piece.now at.old at.new) (λ _. RefusesCodes self.old self.new piece.now at.old) }
     {
         if let Some(_) = self.open_body {
@@ -45,7 +41,6 @@ impl<S: Sink> Reader<S> {
             self.alloc,
             &mut self.work,
             &mut self.lexer,
-            &mut self.run,
             &mut self.room,
             &mut self.sink,
             bytes,
@@ -100,23 +95,21 @@ fn whole_codes<S: Sink>(
     alloc: Global,
     work: &mut Work,
     lexer: &mut Lexer,
-    run: &mut Vec<Word>,
     room: &mut Vec<Point>,
     sink: &mut S,
     bytes: &[u8],
 ) -> Whole
     requires agrees { StatesAgree work.old.state (S.state sink.old) }
     requires rested { lexer.old.half ≡ [] }
-    ensures short { vec_len run.old ≤ run_limit → vec_len run.new ≤ run_limit }
     ensures agree { result.stop ≡ None → StatesAgree work.new.state (S.state sink.new) }
-    ensures taken { MatchOption result.stop (WholeCodes S.Sink sink.old work.old lexer.old sink.new work.new lexer.new run.new.items result.clears bytes.now result.count)
+    ensures taken { MatchOption result.stop (WholeCodes S.Sink sink.old work.old lexer.old sink.new work.new lexer.new result.clears bytes.now result.count)
         (λ stop. CodesStop S.Sink sink.old work.old lexer.old sink.new bytes.now result.count stop.1 stop.0) }
     ensures failed { IfSome result.stop (λ stop. stop.0 ≡ Fault.Sink → S.failed sink.new ≡ true) }
     ensures kept { IfSome result.stop (λ stop. S.failed sink.old ≡ false → S.failed sink.new ≡ true → stop.0 ≡ Fault.Sink) }
 {
     let mut count = 0;
     while count < bytes.len() {
-        match whole_code(alloc, work, lexer, run, room, sink, &bytes[count..]) {
+        match whole_code(alloc, work, lexer, room, sink, &bytes[count..]) {
             One::Acted(more, clears) => {
                 count += more;
                 if clears {
@@ -150,15 +143,13 @@ fn whole_code<S: Sink>(
     alloc: Global,
     work: &mut Work,
     lexer: &mut Lexer,
-    run: &mut Vec<Word>,
     room: &mut Vec<Point>,
     sink: &mut S,
     bytes: &[u8],
 ) -> One
     requires agrees { StatesAgree work.old.state (S.state sink.old) }
-    ensures short { vec_len run.old ≤ run_limit → vec_len run.new ≤ run_limit }
     ensures one { (t : S) (w : Work) (l : LexerState) (all : List ℕ) (at : ℕ) → drop at all ≡ bytes.now →
-        WholeCodes S.Sink t w l sink.old work.old lexer.old run.old.items false all at → OneMore S.Sink t w l sink.new work.new lexer.new run.new.items all at result }
+        WholeCodes S.Sink t w l sink.old work.old lexer.old false all at → OneMore S.Sink t w l sink.new work.new lexer.new all at result }
     ensures leaves { Leaves S.Sink sink.old sink.new work.new result }
 {
     let Some(byte) = bytes.first() else {
@@ -170,7 +161,7 @@ fn whole_code<S: Sink>(
             return characters(work, set, sink, bytes);
         }
         if byte < 0x40 {
-            return opcode(alloc, work, lexer, run, room, sink, bytes);
+            return opcode(alloc, work, lexer, room, sink, bytes);
         }
         return One::Other;
     }
@@ -191,9 +182,9 @@ fn whole_code<S: Sink>(
 #[inline(always)]
 fn characters<S: Sink>(work: &mut Work, set: CharSet, sink: &mut S, bytes: &[u8]) -> One
     requires agrees { StatesAgree work.old.state (S.state sink.old) }
-    ensures one { (t : S) (w : Work) (l m : LexerState) (run : List ℕ) (all : List ℕ) (at : ℕ) → drop at all ≡ bytes.now →
+    ensures one { (t : S) (w : Work) (l m : LexerState) (all : List ℕ) (at : ℕ) → drop at all ≡ bytes.now →
         ((b : ℕ) → IsGraphic b → front m.sets (b ∷ []) ≡ whole (codes.Char set b) 1 m.sets) →
-        WholeCodes S.Sink t w l sink.old work.old m run false all at → OneMore S.Sink t w l sink.new work.new m run all at result }
+        WholeCodes S.Sink t w l sink.old work.old m false all at → OneMore S.Sink t w l sink.new work.new m all at result }
     ensures leaves { Leaves S.Sink sink.old sink.new work.new result }
 {
     let text = graphic_bytes(bytes);
@@ -212,16 +203,14 @@ fn opcode<S: Sink>(
     alloc: Global,
     work: &mut Work,
     lexer: &Lexer,
-    run: &mut Vec<Word>,
     room: &mut Vec<Point>,
     sink: &mut S,
     bytes: &[u8],
 ) -> One
     requires agrees { StatesAgree work.old.state (S.state sink.old) }
     requires graphic { (byte : ℕ) (rest : List ℕ) → bytes.now ≡ byte ∷ rest → IsGraphic byte }
-    ensures short { vec_len run.old ≤ run_limit → vec_len run.new ≤ run_limit }
     ensures one { (t : S) (w : Work) (l : LexerState) (all : List ℕ) (at : ℕ) → drop at all ≡ bytes.now →
-        WholeCodes S.Sink t w l sink.old work.old lexer.now run.old.items false all at → OneMore S.Sink t w l sink.new work.new lexer.now run.new.items all at result }
+        WholeCodes S.Sink t w l sink.old work.old lexer.now false all at → OneMore S.Sink t w l sink.new work.new lexer.now all at result }
     ensures leaves { Leaves S.Sink sink.old sink.new work.new result }
 {
     let Some((byte, rest)) = bytes.split_first() else {
@@ -230,13 +219,11 @@ fn opcode<S: Sink>(
     let Some(op) = lexer.opcode(*byte) else {
         return One::Other;
     };
-    let Some(count) = whole_run(run, rest) else {
+    let Some(run) = whole_run(rest) else {
         return One::Other;
     };
-    let acted = work.act(alloc, room, op, run, sink);
-    run.clear();
-    match acted {
-        Ok(clears) => One::Acted(count + 1, clears),
-        Err(fault) => One::Stopped(count + 2, Fault::from(fault), 0),
+    match work.act(alloc, room, op, run, sink) {
+        Ok(clears) => One::Acted(run.len() + 1, clears),
+        Err(fault) => One::Stopped(run.len() + 2, Fault::from(fault), 0),
     }
 }

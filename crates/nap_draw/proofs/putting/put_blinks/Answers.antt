@@ -1,10 +1,11 @@
 use Rattle.std.proofs.Common.{◌≡◌, ◌+◌, map, ◌∙◌, ap, arith, rules, subst, sym, ℕ, List}
 use Rattle.std.specs.Slice.Iter.{chunks_rest, chunks_size}
 use Rattle.std.proofs.lemmas.Result.{err_from_is_err_and}
+use Rattle.nap_values.specs.Operands.{carried}
 use Rattle.nap_draw.specs.Operands.{operands}
 use Rattle.nap_draw.specs.Rule.{blink}
 use Rattle.nap_draw.specs.Doing.{Putting}
-use Rattle.nap_draw.proofs.Cuts.{operands_none}
+use Rattle.nap_draw.proofs.ByteRuns.{operands_none}
 use Rattle.nap_draw.proofs.Still.{blink_left}
 use Rattle.nap_list.specs.Shown.{shows_of}
 use Rattle.nap_list.specs.PuttingLaws.{put_begins, one_fits, one_goes, one_stops, put_ends}
@@ -19,7 +20,7 @@ loop-group-init g c =
       can = omega arith;
       finite = tt;
       size = size;
-      putting = subst (λ (run : List ℕ). Putting g.S.Sink c.args.sink.now c.args.sink.now (map f (operands (c.args.domain.single + 3) c.args.run.now)) (map f (operands (c.args.domain.single + 3) run)))
+      putting = subst (λ (run : List ℕ). Putting g.S.Sink c.args.sink.now c.args.sink.now (map f (operands (c.args.domain.single + 3) (carried c.args.run.now))) (map f (operands (c.args.domain.single + 3) (carried run))))
           (sym all) (put_begins (shows_of g.S.Sink) c.args.sink.now _ (g.met.S.Sink.took_none c.args.sink.now));
     }
 

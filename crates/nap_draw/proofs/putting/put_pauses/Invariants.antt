@@ -1,7 +1,8 @@
 use Rattle.std.proofs.Common.{map, drop}
+use Rattle.nap_values.specs.Operands.{carried}
 use Rattle.nap_list.specs.declared.entry.Entry.TheVariants.{Wait}
 use Rattle.nap_draw.specs.Doing.{Putting}
 use Rattle.nap_draw.proofs.putting.put_pauses.Given as goal
 
-abbrev pub invariant-loop-word : goal.invariant-loop-word
-invariant-loop-word g l = Putting g.S.Sink l.fn.sink l.sink (map Wait l.run) (map Wait (drop l.word-index l.run))
+abbrev pub invariant-loop-byte : goal.invariant-loop-byte
+invariant-loop-byte g l = Putting g.S.Sink l.fn.sink l.sink (map Wait (carried l.run)) (map Wait (carried (drop l.byte-index l.run)))

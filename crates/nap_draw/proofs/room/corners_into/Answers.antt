@@ -2,7 +2,7 @@ use Rattle.std.proofs.Common.{sym, ◌∙◌, ap, arith, Some}
 use Rattle.nap_values.specs.Coordinates.{moved}
 use Rattle.nap_draw.specs.declared.spans.Span.{Span}
 use Rattle.nap_draw.specs.Geometry.{across, span}
-use Rattle.nap_draw.proofs.Cuts.{moves_chunk, moves_none}
+use Rattle.nap_draw.proofs.ByteRuns.{moves_chunk, moves_none}
 use Rattle.nap_draw.proofs.Decoding.{filling_more, filling_none, filled, still_kept, pushed, crossed_more, crossed_all}
 use Rattle.nap_draw.proofs.Turns.{across_turn, onward_more, onward_none}
 use Rattle.nap_draw.proofs.room.corners_into.Goals as goal
@@ -12,7 +12,7 @@ returns-in_default c =
     let inv = c.loop-operand.invariant in
     let steps = c.in-Some.ensures.steps in
     let cut = moves_chunk c.args.domain.multi _ _ _ _ inv.size (omega (arith, c.multi-size.ensures.value, c.multi-size.ensures.least)) steps.1.0 steps.1.1 steps.1.2 in
-    let out = sym (c.by.ensures ∙ ap (moved c.loop-operand.at) c.multi.ensures) ∙ c.in_default.is in
+    let out = sym (c.by.ensures ∙ ap (moved c.loop-operand.at) c.multi_bytes.ensures) ∙ c.in_default.is in
     filling_none _ _ _ _ inv.filling (onward_none _ _ _ (across_turn _ _ _ _ cut) (ap (span (Some c.loop-operand.at)) out))
 
 pub loop-operand-preserved : goal.loop-operand-preserved
@@ -22,7 +22,7 @@ loop-operand-preserved c =
     let at = c.loop-operand.at in
     let here : Span = record { from = at; to = c.in-Some-by.point } in
     let cut = moves_chunk c.args.domain.multi _ _ _ _ inv.size (omega (arith, c.multi-size.ensures.value, c.multi-size.ensures.least)) steps.1.0 steps.1.1 steps.1.2 in
-    let inside = sym (c.by.ensures ∙ ap (moved at) c.multi.ensures) ∙ c.in-Some-by.is in
+    let inside = sym (c.by.ensures ∙ ap (moved at) c.multi_bytes.ensures) ∙ c.in-Some-by.is in
     rw c.corner-at.ensures (record {
       can = omega (arith, steps.0, inv.can);
       finite = tt;

@@ -1,9 +1,9 @@
 use Rattle.std.proofs.Common.{◌≡◌, ◌≤◌, ℕ, List, sym, ◌∙◌, ap, arith, refl}
 use Rattle.nap_values.specs.Coordinates.{point_at}
-use Rattle.nap_values.specs.Operands.{multi_of}
+use Rattle.nap_values.specs.Operands.{carried, multi_of}
 use Rattle.nap_draw.specs.Operands.{moves}
 use Rattle.nap_draw.specs.Geometry.{span_by, away}
-use Rattle.nap_draw.proofs.Cuts.{moves_chunk, moves_none}
+use Rattle.nap_draw.proofs.ByteRuns.{moves_chunk, moves_none}
 use Rattle.nap_draw.proofs.Decoding.{filling_begins, filling_more, filling_none, filled, still_kept, pushed, flat_none, flat_kept, paired_flat}
 use Rattle.nap_draw.proofs.Turns.{away_lacks, away_turn, onward_more, onward_none}
 use Rattle.nap_draw.proofs.room.pairs_into.Goals as goal
@@ -23,14 +23,14 @@ returns-in_default-span_by c =
     let next = c.in-Some-next.ensures.steps in
     let k = c.args.domain.multi in
     let some : 1 ≤ k = omega (arith, c.multi-size.ensures.value, c.multi-size.ensures.least) in
-    let by : c.span_by.result ≡ span_by (point_at (multi_of c.in-Some.first.now)) (multi_of c.in-Some-next.second.now) = rw (c.span_by.ensures, c.point.ensures, c.multi.ensures, c.multi-in-Some.ensures) refl in
+    let by : c.span_by.result ≡ span_by (point_at (multi_of (carried c.in-Some.first.now))) (multi_of (carried c.in-Some-next.second.now)) = rw (c.span_by.ensures, c.point.ensures, c.multi_bytes.ensures, c.multi_bytes-in-Some.ensures) refl in
     filling_none _ _ _ _ inv.filling
     (onward_none _ _ _ (away_turn _ _ _ _ _ (moves_chunk k _ _ _ _ inv.size some steps.1.0 steps.1.1 steps.1.2) (moves_chunk k _ _ _ _ (steps.0 ∙ inv.size) some next.1.0 next.1.1 next.1.2)) (sym by ∙ c.in_default-span_by.is))
 
 pub loop-first-init : goal.loop-first-init
 loop-first-init c = record {
   size = c.chunks-operands.ensures.size ∙ omega (arith, c.from-2.ensures, c.multi-size.ensures.value);
-  filling = filling_begins _ _ c.emptied-full.result _ (ap (λ (run : List ℕ). away (moves c.args.domain.multi run)) (sym c.chunks-operands.ensures.rest)) (flat_none c.emptied-full.new.room.items c.emptied-full.ensures);
+  filling = filling_begins _ _ c.emptied-full.result _ (ap (λ (run : List ℕ). away (moves c.args.domain.multi (carried run))) (sym c.chunks-operands.ensures.rest)) (flat_none c.emptied-full.new.room.items c.emptied-full.ensures);
 }
 
 pub loop-first-preserved : goal.loop-first-preserved
@@ -40,7 +40,7 @@ loop-first-preserved c =
     let next = c.in-Some-next.ensures.steps in
     let k = c.args.domain.multi in
     let some : 1 ≤ k = omega (arith, c.multi-size.ensures.value, c.multi-size.ensures.least) in
-    let by : c.span_by.result ≡ span_by (point_at (multi_of c.in-Some.first.now)) (multi_of c.in-Some-next.second.now) = rw (c.span_by.ensures, c.point.ensures, c.multi.ensures, c.multi-in-Some.ensures) refl in
+    let by : c.span_by.result ≡ span_by (point_at (multi_of (carried c.in-Some.first.now))) (multi_of (carried c.in-Some-next.second.now)) = rw (c.span_by.ensures, c.point.ensures, c.multi_bytes.ensures, c.multi_bytes-in-Some.ensures) refl in
     record {
       size = next.0 ∙ steps.0 ∙ inv.size;
       filling = filling_more _ _ _ c.in-Some-span_by.span _ _ _ _ inv.filling

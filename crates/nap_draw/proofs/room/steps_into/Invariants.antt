@@ -1,5 +1,6 @@
 use Rattle.std.proofs.Common.{◌≡◌}
 use Rattle.std.specs.Slice.Iter.{chunks_rest, chunks_size}
+use Rattle.nap_values.specs.Operands.{carried}
 use Rattle.nap_draw.specs.Operands.{moves}
 use Rattle.nap_draw.specs.Geometry.{reached}
 use Rattle.nap_draw.specs.Doing.{Filling}
@@ -10,5 +11,5 @@ invariant-loop-operand l = record {
   can : (goal.iterator-loop-operand).can_next l.operand-iterator;
   finite : (goal.iterator-loop-operand).is_finite l.operand-iterator;
   size : chunks_size l.operand-iterator ≡ l.fn.domain.multi;
-  filling : Filling (reached l.fn.from (moves l.fn.domain.multi l.fn.run)) (reached l.at (moves l.fn.domain.multi (chunks_rest l.operand-iterator))) l.full (λ front. l.room.items ≡ front);
+  filling : Filling (reached l.fn.from (moves l.fn.domain.multi (carried l.fn.run))) (reached l.at (moves l.fn.domain.multi (carried (chunks_rest l.operand-iterator)))) l.full (λ front. l.room.items ≡ front);
 }

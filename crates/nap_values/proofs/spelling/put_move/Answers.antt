@@ -6,5 +6,5 @@ use Rattle.nap_values.proofs.spelling.put_move.Goals as goal
 pub returns : goal.returns
 unfolding move_bytes
 returns c =
-    c.carried.ensures
+    c.carrying.ensures
     ∙ ap bytes_of (words_of_move c.words.result c.words.ensures.words _ _ c.words.ensures.x c.words.ensures.y)

@@ -6,5 +6,5 @@ use Rattle.nap_values.proofs.spelling.put_point.Goals as goal
 pub returns-clause-bytes : goal.returns-clause-bytes
 unfolding point_bytes
 returns-clause-bytes c =
-    c.carried.ensures
+    c.carrying.ensures
     ∙ ap bytes_of (words_of_point c.words.result c.words.ensures.words _ _ c.words.ensures.x c.words.ensures.y)

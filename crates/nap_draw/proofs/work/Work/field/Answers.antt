@@ -2,6 +2,7 @@ use Rattle.std.proofs.Common.{refl, [], ◌∷◌, Ok, Some, Result, sym, ap, �
 use Rattle.nap_list.specs.declared.attribute.Area.{Area}
 use Rattle.nap_list.specs.declared.attribute.Pen.{Pen}
 use Rattle.nap_list.specs.declared.entry.Entry.TheVariants as entries
+use Rattle.nap_values.specs.Operands.{carried}
 use Rattle.nap_draw.specs.declared.fault.DrawFault.{DrawFault}
 use Rattle.nap_draw.specs.Rule.{and_then, drawn, draws_one, field_on, moves_of}
 use Rattle.nap_draw.specs.Doing.{quiet}
@@ -26,7 +27,7 @@ pub returns-in_err-area : goal.returns-in_err-area
 returns-in_err-area g c =
     let w = c.args.self.now in
     let by = ap (λ (r : Result Area DrawFault). and_then r (λ area. draws_one w field_on (Some area))) (sym c.in_err-area.ensures) in
-    does_refused g.S.Sink _ (g.met.S.Sink.took_none _) _ _ _ _ c.from_residual.ensures.1 (area_stream w (moves_of w c.args.run.now) _ (sym c.in_err-area.ensures)) by
+    does_refused g.S.Sink _ (g.met.S.Sink.took_none _) _ _ _ _ c.from_residual.ensures.1 (area_stream w (moves_of w (carried c.args.run.now)) _ (sym c.in_err-area.ensures)) by
 
 pub returns : goal.returns
 returns g c =

@@ -1,4 +1,5 @@
 use Rattle.std.proofs.Common.{refl, ◌∙◌}
+use Rattle.nap_values.specs.Operands.{carried}
 use Rattle.nap_draw.specs.Rule.{draws, rect_on}
 use Rattle.nap_draw.specs.Doing.{crossed}
 use Rattle.nap_draw.proofs.Acting.{does_refused, does_unfilled, does_filled}
@@ -6,14 +7,14 @@ use Rattle.nap_draw.proofs.Rows.{rect_rule}
 use Rattle.nap_draw.proofs.work.Work.rect.Goals as goal
 
 pub returns-in_err-from : goal.returns-in_err-from
-returns-in_err-from g c = does_refused g.S.Sink _ (g.met.S.Sink.took_none _) _ _ _ _ c.from_residual.ensures.1 c.in_err-from.ensures.err.0 (rect_rule c.args.self.now c.args.filled c.args.run.now ∙ c.in_err-from.ensures.err.1 _)
+returns-in_err-from g c = does_refused g.S.Sink _ (g.met.S.Sink.took_none _) _ _ _ _ c.from_residual.ensures.1 c.in_err-from.ensures.err.0 (rect_rule c.args.self.now c.args.filled (carried c.args.run.now) ∙ c.in_err-from.ensures.err.1 _)
 
 pub returns-in_err-corners_into : goal.returns-in_err-corners_into
 returns-in_err-corners_into g c =
     does_unfilled g.S.Sink _ (g.met.S.Sink.took_none _) _ _ _ _ _ c.from_residual-in_err-corners_into.ensures.1 (draws c.args.self.now (rect_on c.args.filled))
-    (rect_rule c.args.self.now c.args.filled c.args.run.now ∙ c.in_ok-from.ensures.ok _) refl (λ xs. (_, refl)) c.in_err-corners_into.ensures
+    (rect_rule c.args.self.now c.args.filled (carried c.args.run.now) ∙ c.in_ok-from.ensures.ok _) refl (λ xs. (_, refl)) c.in_err-corners_into.ensures
 
 pub returns : goal.returns
 returns g c =
     does_filled g.S.Sink _ _ _ _ _ _ (draws c.args.self.now (rect_on c.args.filled)) (crossed c.in_ok-from.from) _ _ _
-    (rect_rule c.args.self.now c.args.filled c.args.run.now ∙ c.in_ok-from.ensures.ok _) c.in_ok-corners_into.ensures c.deref.ensures.value c.linked.ensures
+    (rect_rule c.args.self.now c.args.filled (carried c.args.run.now) ∙ c.in_ok-from.ensures.ok _) c.in_ok-corners_into.ensures c.deref.ensures.value c.linked.ensures

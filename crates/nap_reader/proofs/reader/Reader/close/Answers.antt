@@ -1,4 +1,5 @@
-use Rattle.std.proofs.Common.{ℕ, List, [], None, Some, Ok, Err, refl, ap, ◌∙◌, subst}
+use Rattle.std.proofs.Common.{ℕ, List, [], None, Some, Ok, Err, refl, ap, sym, ◌∙◌, subst}
+use Rattle.nap_values.specs.Operands.{carried}
 use Rattle.nap_draw.specs.Acts.{Acts, told}
 use Rattle.nap_draw.specs.Rule.{Drawn, rule}
 use Rattle.nap_reader.specs.Faults.{draw_fault}
@@ -6,18 +7,19 @@ use Rattle.nap_reader.specs.Framed.{unread}
 use Rattle.nap_reader.specs.Holding.{holding_of, machine_of}
 use Rattle.nap_reader.specs.Stored.{StoreState}
 use Rattle.nap_reader.specs.Stream.{refusal}
+use Rattle.nap_reader.proofs.OperandLemmas.{words_kept}
 use Rattle.nap_reader.proofs.StepLemmas.{sink_fault}
 use Rattle.nap_reader.proofs.reader.Reader.close.Goals as goal
 
 pub returns-in-Ok : goal.returns-in-Ok
 returns-in-Ok g c =
     let r = c.args.self.now in
-    let acts = subst (λ (run : List ℕ). Acts g.S.Sink told (rule r.work c.args.open_run.op run) r.work c.act.new.self r.sink c.act.new.sink (Ok c.in-Ok.clears)) c.deref.ensures.value c.in-Ok.ensures.acts in
+    let acts = subst (λ (run : List ℕ). Acts g.S.Sink told (rule r.work c.args.open_run.op run) r.work c.act.new.self r.sink c.act.new.sink (Ok c.in-Ok.clears)) (ap carried c.deref.ensures.value ∙ sym (words_kept r.open_run c.args.open_run r.run.items c.requires.is)) c.in-Ok.ensures.acts in
     let drawn : Drawn = record { entries = acts.0; work = c.act.new.self; clears = c.in-Ok.clears } in
-    let h = λ (store : StoreState) (run : List ℕ). record (holding_of r) {
+    let h = λ (store : StoreState). record (holding_of r) {
       machine = record (machine_of r) { work = c.act.new.self; names = store.names; stored = store.stored };
       open_run = None;
-      run = run;
+      run = [];
       body = store.body;
     } in
     record {
@@ -33,14 +35,14 @@ returns-in-Ok g c =
         by = acts.1;
         took = acts.2;
         clear = c.in-Ok.ensures.clear;
-        holds = ap (h c.clear_if.new.self) c.clear.ensures.items ∙ ap (λ (store : StoreState). h store []) c.clear_if.ensures;
+        holds = ap h c.clear_if.ensures;
       };
     }
 
 pub returns-in-Err : goal.returns-in-Err
 returns-in-Err g c =
     let r = c.args.self.now in
-    let acts = subst (λ (run : List ℕ). Acts g.S.Sink told (rule r.work c.args.open_run.op run) r.work c.act.new.self r.sink c.act.new.sink (Err c.in-Err.fault)) c.deref.ensures.value c.in-Err.ensures.acts in
+    let acts = subst (λ (run : List ℕ). Acts g.S.Sink told (rule r.work c.args.open_run.op run) r.work c.act.new.self r.sink c.act.new.sink (Err c.in-Err.fault)) (ap carried c.deref.ensures.value ∙ sym (words_kept r.open_run c.args.open_run r.run.items c.requires.is)) c.in-Err.ensures.acts in
     rw c.refuse.ensures.answer (record {
       why = refusal (draw_fault c.in-Err.fault) c.args.open_run.place;
       latches = record {

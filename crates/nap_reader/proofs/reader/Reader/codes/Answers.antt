@@ -36,7 +36,7 @@ few : (g : Over) (c : After-whole_codes-whole g) → c.whole_codes-whole.result.
 few g c =
     let r = c.args.self.now in
     let whole = c.whole_codes-whole in
-    few_codes g.S.Sink r.sink r.work r.lexer whole.new.sink whole.new.work whole.new.lexer whole.new.run.items whole.result.clears c.coming-first.result.0.now whole.result.count whole.result.stop whole.ensures.taken
+    few_codes g.S.Sink r.sink r.work r.lexer whole.new.sink whole.new.work whole.new.lexer whole.result.clears c.coming-first.result.0.now whole.result.count whole.result.stop whole.ensures.taken
 
 framed : (g : Over) (c : After-pass g) → FramesIn (length c.args.self.now.store.bytes) c.pass.new.frames.stack.items
 framed g c = subst (λ (bytes : List ℕ). FramesIn (length bytes) c.pass.new.frames.stack.items) c.bytes-2.ensures c.pass.ensures.framed
@@ -87,7 +87,7 @@ returns-in-Some-stop-2 g c =
     rw c.refuse.ensures.answer
     (refuses_codes r _ c.args.piece.now c.args.at.now c.pass.new.at text c.coming-first.result.1 whole.result.count (record { live = c.requires.live; between = c.in_default.is; closed = c.in_default-open_run.is })
     (c.at_rest.ensures.rests.0 c.if-not-at_rest.false) c.requires.within (few g at.After-whole_codes-whole) (comes g at.After-coming-first) (moves g at.After-pass) refl refl refl c.pass.ensures.turns stop.field-0-1 c.match-whole.place stop.fault
-    (subst (λ (o : Option (Fault × ℕ)). MatchOption o (WholeCodes g.S.Sink r.sink r.work r.lexer whole.new.sink whole.new.work whole.new.lexer whole.new.run.items whole.result.clears text whole.result.count)
+    (subst (λ (o : Option (Fault × ℕ)). MatchOption o (WholeCodes g.S.Sink r.sink r.work r.lexer whole.new.sink whole.new.work whole.new.lexer whole.result.clears text whole.result.count)
     (λ s. CodesStop g.S.Sink r.sink r.work r.lexer whole.new.sink text whole.result.count s.1 s.0)) stop.is whole.ensures.taken)
     c.refuse.ensures.latched place.0 place.1 (subst (λ (o : Option (Fault × ℕ)). IfSome o (λ s. s.0 ≡ faults.Sink → g.S.Sink.failed whole.new.sink ≡ true)) stop.is whole.ensures.failed)
     (subst (λ (o : Option (Fault × ℕ)). IfSome o (λ s. g.S.Sink.failed r.sink ≡ false → g.S.Sink.failed whole.new.sink ≡ true → s.0 ≡ faults.Sink)) stop.is whole.ensures.kept))
@@ -101,12 +101,11 @@ returns-in-None-stop g c =
     let h = λ (store : StoreState). record (holding_of r) {
       machine = record (machine_of r) { work = whole.new.work; sets = whole.new.lexer.sets; names = store.names; stored = store.stored };
       half = whole.new.lexer.half;
-      run = whole.new.run.items;
       body = store.body;
     } in
     takes_codes r _ c.args.piece.now c.args.at.now c.pass.new.at text c.coming-first.result.1 whole.result.count (record { live = c.requires.live; between = c.in_default.is; closed = c.in_default-open_run.is })
     (c.at_rest.ensures.rests.0 c.if-not-at_rest.false) c.requires.within (few g at.After-whole_codes-whole) (comes g at.After-coming-first) (moves g at.After-pass) (ap (λ (store : StoreState). store.bytes) c.clear_if.ensures) refl
-    refl c.pass.ensures.turns whole.new.run.items whole.result.clears
-    (subst (λ (o : Option (Fault × ℕ)). MatchOption o (WholeCodes g.S.Sink r.sink r.work r.lexer whole.new.sink whole.new.work whole.new.lexer whole.new.run.items whole.result.clears text whole.result.count)
+    refl c.pass.ensures.turns whole.result.clears
+    (subst (λ (o : Option (Fault × ℕ)). MatchOption o (WholeCodes g.S.Sink r.sink r.work r.lexer whole.new.sink whole.new.work whole.new.lexer whole.result.clears text whole.result.count)
     (λ s. CodesStop g.S.Sink r.sink r.work r.lexer whole.new.sink text whole.result.count s.1 s.0)) c.in-None-stop.is whole.ensures.taken)
     (ap h c.clear_if.ensures) c.requires.live

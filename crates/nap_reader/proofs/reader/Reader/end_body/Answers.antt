@@ -22,6 +22,7 @@ returns g c =
       machine = record (machine_of r) { sets = lexer.sets; names = t.names; stored = t.stored; mode = between };
       half = lexer.half;
       open_run = None;
+      run = [];
       open_body = None;
       body = t.body;
     } in

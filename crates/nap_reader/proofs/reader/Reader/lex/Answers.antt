@@ -1,4 +1,5 @@
 use Rattle.std.proofs.Common.{◌∷◌, [], ℕ, List, Some, inl, inr, refl, sym, subst}
+use Rattle.nap_values.specs.Operands.{carried}
 use Rattle.nap_codes.specs.declared.code.Code.TheVariants as code
 use Rattle.nap_codes.specs.Lexer.{LexerState}
 use Rattle.nap_draw.specs.Codes.{code_rule}
@@ -40,7 +41,7 @@ returns-in-Some-opcode g c =
     let h = λ (half run : List ℕ). record (holding_of r) { half = half; open_run = Some (record { op = op; place = c.args.place }); run = run } in
     takes_alone r _ x (record { budget = refl; fed = refl; turns = refl }) refl c.requires.live refl (inl refl) (λ works. works)
     (λ s o pending k.
-    subst (λ (run : List ℕ). Continues g.S.Sink s o r.sink (h r.lexer.half run) pending) (sym c.clear.ensures.items)
+    subst (λ (bytes : List ℕ). Continues g.S.Sink s o r.sink (h r.lexer.half (carried bytes)) pending) (sym c.clear.ensures.items)
     (subst (λ (half : List ℕ). Continues g.S.Sink s o r.sink (h half []) pending) (sym is.0)
     (run_opens g.S.Sink s o r.sink (holding_of r) c.requires.between c.requires.closed x pending k (code.Op op) op 1 r.lexer.sets refl at.0 at.1)))
 

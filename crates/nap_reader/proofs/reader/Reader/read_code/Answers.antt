@@ -1,4 +1,5 @@
 use Rattle.std.proofs.Common.{[], ℕ, List, None, Some, inl, inr, refl, ap, sym, ◌∙◌, subst}
+use Rattle.nap_values.specs.Operands.{carried}
 use Rattle.nap_codes.specs.declared.code.Code.{Code}
 use Rattle.nap_codes.specs.Lexer.{LexerState}
 use Rattle.nap_draw.specs.Codes.{code_rule}
@@ -48,7 +49,7 @@ returns-in-Opens g c =
     } in
     takes_alone r _ x (record { budget = refl; fed = refl; turns = refl }) refl c.requires.live refl (inl refl) (λ works. works)
     (λ s o pending k.
-    subst (λ (run : List ℕ). Continues g.S.Sink s o r.sink (h c.step.new.self run) pending) (sym c.clear.ensures.items)
+    subst (λ (bytes : List ℕ). Continues g.S.Sink s o r.sink (h c.step.new.self (carried bytes)) pending) (sym c.clear.ensures.items)
     (subst (λ (lexer : LexerState). Continues g.S.Sink s o r.sink (h lexer []) pending) (sym step.4)
     (run_opens g.S.Sink s o r.sink (holding_of r) c.requires.between c.requires.closed x pending k c.in-Code.code c.in-Opens.op step.0 step.1 (sym c.in-Opens.ensures) step.2 step.3)))
 

@@ -96,7 +96,7 @@ returns g c =
     let few : length bytes ≤ r.budget - r.charged = omega (arith, many, c.open_len.ensures.count, c.left.ensures.left, c.if-count-left.false) in
     let few' : length r.store.body + 2 ≤ r.budget - r.charged = omega (arith, few, many) in
     let m : Machine = after_body h.machine c.args.body.name r.store.body in
-    let H = λ (t : StoreState) (n : ℕ). record h { machine = record h.machine { names = t.names; stored = t.stored; left = n; mode = between }; open_run = None; open_body = None; body = t.body } in
+    let H = λ (t : StoreState) (n : ℕ). record h { machine = record h.machine { names = t.names; stored = t.stored; left = n; mode = between }; open_run = None; run = []; open_body = None; body = t.body } in
     let same = unread-store r.store t (0x1B ∷ c.args.byte ∷ []) r.frames.stack.items (ap (λ (t : StoreState). t.bytes) c.in-Ok.ensures.ok) r.framed in
     match_map c.push_body.result
     (λ shown.
@@ -115,7 +115,7 @@ returns g c =
           (subst (λ (t' : StoreState). Continues g.S.Sink s o r.sink (H t' (r.budget - r.charged - length bytes)) (all_at c.args.place bytes ++ pending)) (sym c.in-Ok.ensures.ok)
           (leads_shown g.S.Sink s o r.sink h (x ∷ pending) k m c.args.place bytes pending
           (body_shows g.S.Sink s o r.sink h c.args.body c.requires.ends.is x pending k c.args.escape c.requires.ends.held c.requires.ends.ends c.requires.shows) few
-          (record h { machine = charged m (length bytes); open_run = None; open_body = None; body = [] }) refl
+          (record h { machine = charged m (length bytes); open_run = None; run = []; open_body = None; body = [] }) refl
           (body_over g.S.Sink s o r.sink h c.args.body c.requires.ends.is x pending k (charged m (length bytes)) refl)));
     })
     (λ lacks.

@@ -1,66 +1,57 @@
-use Rattle.std.proofs.Common.{suc, false, ◌≡◌, ◌+◌, ◌≤◌, ◌∷◌, ℕ, List, [], Ok, Err, length, take, drop, refl, ap, sym, ◌∙◌, subst, arith}
-use Rattle.std.proofs.lemmas.List.{drop-drop, length-take-le}
+use Rattle.std.proofs.Common.{suc, ◌≡◌, ◌+◌, ◌≤◌, ◌∷◌, ◌++◌, ℕ, List, [], Ok, Err, length, take, drop, refl, ap, sym, ◌∙◌, subst, arith, length-append}
+use Rattle.std.proofs.Math.Seq.{drop-append_seam, take-append_seam}
+use Rattle.std.proofs.lemmas.List.{drop-drop}
 use Rattle.nap_codes.specs.declared.code.Code.TheVariants as code
 use Rattle.nap_draw.specs.Acts.{Acts, told}
 use Rattle.nap_draw.specs.Rule.{Drawn, rule}
-use Rattle.nap_reader.specs.Steps.{CodesStop, WholeCodes}
-use Rattle.nap_reader.proofs.CodesLemmas.{codes_cleared, codes_run, codes_stop_run}
+use Rattle.nap_reader.specs.Steps.{CodesStop}
+use Rattle.nap_reader.proofs.CodesLemmas.{codes_run, codes_stop_run}
+use Rattle.nap_reader.proofs.OperandLemmas.{same_words}
 use Rattle.nap_reader.proofs.ReadingLemmas.{opens_drawn}
 use Rattle.nap_reader.proofs.reader.whole_codes.opcode.Goals as goal
 
-front_run : (at count : ℕ) (all : List ℕ) (byte : ℕ) (rest : List ℕ) → drop at all ≡ byte ∷ rest → take (count + 1) (drop at all) ≡ byte ∷ take count rest
-front_run at count all byte rest whole =
-    let same : count + 1 ≡ suc count = omega arith in
-    ap (λ (n : ℕ). take n (drop at all)) same ∙ ap (take (suc count)) whole
+-- the opcode with its run, and what is behind them
+parts_of : (at : ℕ) (all : List ℕ) (byte : ℕ) (run behind : List ℕ) → drop at all ≡ byte ∷ (run ++ behind) →
+    (take (length run + 1) (drop at all) ≡ byte ∷ run) × (drop (at + (length run + 1)) all ≡ behind)
+parts_of at all byte run behind whole =
+    let one : length run + 1 ≡ suc (length run) = omega arith in
+    let there : at + (length run + 1) ≡ at + suc (length run) = omega arith in (
+      ap (λ (n : ℕ). take n (drop at all)) one ∙ ap (take (suc (length run))) whole ∙ ap (λ (ws : List ℕ). byte ∷ ws) (take-append_seam run behind),
+      ap (λ (n : ℕ). drop n all) there ∙ sym (drop-drop (suc (length run)) at all) ∙ ap (drop (suc (length run))) whole ∙ drop-append_seam run behind,
+    )
 
--- what is behind the opcode and its run
-behind_run : (at count : ℕ) (all : List ℕ) (byte : ℕ) (rest : List ℕ) → drop at all ≡ byte ∷ rest → drop (at + (count + 1)) all ≡ drop count rest
-behind_run at count all byte rest whole =
-    let same : at + (count + 1) ≡ at + suc count = omega arith in
-    ap (λ (n : ℕ). drop n all) same ∙ sym (drop-drop (suc count) at all) ∙ ap (drop (suc count)) whole
-
-pub act-acted-requires-clause-drawn : goal.act-acted-requires-clause-drawn
-act-acted-requires-clause-drawn g c =
+pub act-requires-clause-drawn : goal.act-requires-clause-drawn
+act-requires-clause-drawn g c =
     opens_drawn c.args.lexer.now.sets (c.in-Some.byte.now ∷ []) (code.Op c.in-Some-opcode.op) 1 c.args.lexer.now.sets c.in-Some-opcode.op c.in-Some-opcode.ensures.front refl
-
-pub returns-in_default-whole_run-clause-one : goal.returns-in_default-whole_run-clause-one
-returns-in_default-whole_run-clause-one g c t w l all at behind before =
-    subst (λ (run : List ℕ). WholeCodes g.S.Sink t w l c.args.sink.now c.args.work.now c.args.lexer.now run false all at) (sym c.in_default-whole_run.ensures)
-    (codes_cleared g.S.Sink t w l c.args.sink.now c.args.work.now c.args.lexer.now c.args.run.now.items false all at before)
 
 pub returns-in-Ok-clause-one : goal.returns-in-Ok-clause-one
 returns-in-Ok-clause-one g c t w l all at behind before =
-    let count = c.in-Some-whole_run.count in
     let byte = c.in-Some.byte.now in
-    let rest = c.in-Some.rest.now in
     let op = c.in-Some-opcode.op in
-    let run = c.in-Some-whole_run.ensures in
-    let whole : drop at all ≡ byte ∷ rest = behind ∙ c.in-Some.ensures.cases.0 in
-    let unit : take (count + 1) (drop at all) ≡ byte ∷ take count rest = front_run at count all byte rest whole in
-    let few : count + 1 ≤ length (drop at all) = omega (arith, ap length whole, run.within) in
-    let acts = subst (λ (ws : List ℕ). Acts g.S.Sink told (rule c.args.work.now op ws) c.args.work.now c.act-acted.new.self c.args.sink.now c.act-acted.new.sink (Ok c.in-Ok.clears)) (c.deref.ensures.value ∙ run.words) c.in-Ok.ensures.acts in
-    let drawn : Drawn = record { entries = acts.0; work = c.act-acted.new.self; clears = c.in-Ok.clears } in (
+    let run : List ℕ = c.in-Some-whole_run.run'.now in
+    let is = c.in-Some-whole_run.ensures in
+    let whole : drop at all ≡ byte ∷ (run ++ is.next ∷ is.rest) = behind ∙ c.in-Some.ensures.cases.0 ∙ ap (λ (bs : List ℕ). byte ∷ bs) is.behind in
+    let parts = parts_of at all byte run (is.next ∷ is.rest) whole in
+    let few : length run + 1 ≤ length (drop at all) = omega (arith, ap length whole, length-append run (is.next ∷ is.rest)) in
+    let acts = subst (λ (ws : List ℕ). Acts g.S.Sink told (rule c.args.work.now op ws) c.args.work.now c.act.new.self c.args.sink.now c.act.new.sink (Ok c.in-Ok.clears)) (same_words run is.operands) c.in-Ok.ensures.acts in
+    let drawn : Drawn = record { entries = acts.0; work = c.act.new.self; clears = c.in-Ok.clears } in (
       omega arith,
-      subst (λ (run : List ℕ). WholeCodes g.S.Sink t w l c.act-acted.new.sink c.act-acted.new.self c.args.lexer.now run c.in-Ok.clears all (at + (count + 1))) (sym c.clear.ensures.items)
-          (codes_run g.S.Sink t w l c.args.sink.now c.args.work.now c.args.lexer.now c.args.run.now.items all at (count + 1) g.met.S.Sink.took_more (omega arith) few before op byte (take count rest) unit
-          c.in-Some-opcode.ensures.front run.operands (omega (arith, run.short, length-take-le count rest (omega (arith, run.within)))) c.act-acted.new.sink drawn run.next run.rest
-          (c.requires.graphic byte rest c.in-Some.ensures.cases.0) (behind_run at count all byte rest whole ∙ run.behind) run.other acts.1 acts.2 c.in-Ok.ensures.clear),
+      codes_run g.S.Sink t w l c.args.sink.now c.args.work.now c.args.lexer.now all at (length run + 1) g.met.S.Sink.took_more (omega arith) few before op byte run parts.0 c.in-Some-opcode.ensures.front is.operands is.short
+          c.act.new.sink drawn is.next is.rest (c.requires.graphic byte c.in-Some.rest.now c.in-Some.ensures.cases.0) parts.1 is.other acts.1 acts.2 c.in-Ok.ensures.clear,
     )
 
 pub returns-in-Err-clause-one : goal.returns-in-Err-clause-one
 returns-in-Err-clause-one g c t w l all at behind before =
-    let count = c.in-Some-whole_run.count in
     let byte = c.in-Some.byte.now in
-    let rest = c.in-Some.rest.now in
     let op = c.in-Some-opcode.op in
-    let run = c.in-Some-whole_run.ensures in
-    let whole : drop at all ≡ byte ∷ rest = behind ∙ c.in-Some.ensures.cases.0 in
-    let unit : take (count + 1) (drop at all) ≡ byte ∷ take count rest = front_run at count all byte rest whole in
-    let few : count + 1 ≤ length (drop at all) = omega (arith, ap length whole, run.within) in
-    let acts = subst (λ (ws : List ℕ). Acts g.S.Sink told (rule c.args.work.now op ws) c.args.work.now c.act-acted.new.self c.args.sink.now c.act-acted.new.sink (Err c.in-Err.fault)) (c.deref.ensures.value ∙ run.words) c.in-Err.ensures.acts in
-    subst (λ (k : ℕ). CodesStop g.S.Sink t w l c.act-acted.new.sink all k (at + 0) c.from.result) (omega arith)
-    (subst (λ (i : ℕ). CodesStop g.S.Sink t w l c.act-acted.new.sink all (at + (count + 1) + 1) i c.from.result) (omega arith)
-    (subst (CodesStop g.S.Sink t w l c.act-acted.new.sink all (at + (count + 1) + 1) at) (sym c.from.ensures)
-    (codes_stop_run g.S.Sink t w l c.args.sink.now c.args.work.now c.args.lexer.now c.args.run.now.items all at (count + 1) g.met.S.Sink.took_more (omega arith) few before op byte (take count rest) unit
-    c.in-Some-opcode.ensures.front run.operands (omega (arith, run.short, length-take-le count rest (omega (arith, run.within)))) c.act-acted.new.sink c.in-Err.fault run.next run.rest
-    (behind_run at count all byte rest whole ∙ run.behind) run.other acts.1)))
+    let run : List ℕ = c.in-Some-whole_run.run'.now in
+    let is = c.in-Some-whole_run.ensures in
+    let whole : drop at all ≡ byte ∷ (run ++ is.next ∷ is.rest) = behind ∙ c.in-Some.ensures.cases.0 ∙ ap (λ (bs : List ℕ). byte ∷ bs) is.behind in
+    let parts = parts_of at all byte run (is.next ∷ is.rest) whole in
+    let few : length run + 1 ≤ length (drop at all) = omega (arith, ap length whole, length-append run (is.next ∷ is.rest)) in
+    let acts = subst (λ (ws : List ℕ). Acts g.S.Sink told (rule c.args.work.now op ws) c.args.work.now c.act.new.self c.args.sink.now c.act.new.sink (Err c.in-Err.fault)) (same_words run is.operands) c.in-Err.ensures.acts in
+    subst (λ (k : ℕ). CodesStop g.S.Sink t w l c.act.new.sink all k (at + 0) c.from.result) (omega arith)
+    (subst (λ (i : ℕ). CodesStop g.S.Sink t w l c.act.new.sink all (at + (length run + 1) + 1) i c.from.result) (omega arith)
+    (subst (CodesStop g.S.Sink t w l c.act.new.sink all (at + (length run + 1) + 1) at) (sym c.from.ensures)
+    (codes_stop_run g.S.Sink t w l c.args.sink.now c.args.work.now c.args.lexer.now all at (length run + 1) g.met.S.Sink.took_more (omega arith) few before op byte run parts.0 c.in-Some-opcode.ensures.front is.operands is.short
+    c.act.new.sink c.in-Err.fault is.next is.rest parts.1 is.other acts.1)))

@@ -11,8 +11,7 @@ rest_of bytes count = sym (take_all (length bytes - count) (drop count bytes) (o
 pub loop-count-init : goal.loop-count-init
 loop-count-init g c = record {
   agrees = c.requires.agrees;
-  short = λ short. short;
-  taken = no_codes g.S.Sink c.args.sink.now c.args.work.now c.args.lexer.now c.args.run.now.items c.args.bytes.now c.requires.rested;
+  taken = no_codes g.S.Sink c.args.sink.now c.args.work.now c.args.lexer.now c.args.bytes.now c.requires.rested;
 }
 
 pub loop-count-preserved : goal.loop-count-preserved
@@ -20,8 +19,7 @@ loop-count-preserved g c =
     let one = c.in-Acted.ensures.one c.args.sink.now c.args.work.now c.args.lexer.now c.args.bytes.now c.loop-count.count (rest_of c.args.bytes.now c.loop-count.count) c.loop-count.invariant.taken in
     record {
       agrees = c.in-Acted.ensures.leaves;
-      short = λ short. c.whole_code.ensures.short (c.loop-count.invariant.short short);
-      taken = subst (λ (clears : Bool). WholeCodes g.S.Sink c.args.sink.now c.args.work.now c.args.lexer.now c.whole_code.new.sink c.whole_code.new.work c.whole_code.new.lexer c.whole_code.new.run.items clears c.args.bytes.now
+      taken = subst (λ (clears : Bool). WholeCodes g.S.Sink c.args.sink.now c.args.work.now c.args.lexer.now c.whole_code.new.sink c.whole_code.new.work c.whole_code.new.lexer clears c.args.bytes.now
           (c.loop-count.count + c.in-Acted.more)) c.if-clears.false one.1;
     }
 

@@ -1,15 +1,12 @@
-use Rattle.std.proofs.Common.{◌≤◌, ◌-◌, false, length}
-use Rattle.std.specs.Prelude.{vec_len}
+use Rattle.std.proofs.Common.{◌-◌, false, length}
 use Rattle.nap_list.specs.Agreement.{StatesAgree}
-use Rattle.nap_draw.specs.Limits.{run_limit}
 use Rattle.nap_reader.specs.Steps.{WholeCodes}
 use Rattle.nap_reader.proofs.reader.whole_codes.whole_codes.Given as goal
 
 abbrev pub invariant-loop-count : goal.invariant-loop-count
 invariant-loop-count g l = record {
   agrees : StatesAgree l.work.state (g.S.Sink.state l.sink);
-  short : vec_len l.fn.run ≤ run_limit → vec_len l.run ≤ run_limit;
-  taken : WholeCodes g.S.Sink l.fn.sink l.fn.work l.fn.lexer l.sink l.work l.lexer l.run.items false l.bytes l.count;
+  taken : WholeCodes g.S.Sink l.fn.sink l.fn.work l.fn.lexer l.sink l.work l.lexer false l.bytes l.count;
 }
 
 abbrev pub decreases-loop-count : goal.decreases-loop-count

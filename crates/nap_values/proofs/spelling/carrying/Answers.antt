@@ -2,7 +2,7 @@ use Rattle.std.proofs.Common.{rules, ◌∙◌, ap}
 use Rattle.std.specs.Int.{w64, to_le_bytes}
 use Rattle.nap_values.proofs.PackedLemmas.{holding_fits}
 use Rattle.nap_values.proofs.ByteLemmas.{bytes_of_words}
-use Rattle.nap_values.proofs.spelling.carried.Goals as goal
+use Rattle.nap_values.proofs.spelling.carrying.Goals as goal
 
 pub overflow_add-bytes : goal.overflow_add-bytes
 overflow_add-bytes c = let fits = holding_fits c.args.words c.requires in search rules

@@ -2,7 +2,7 @@ use Rattle.std.proofs.Common.{List, length, refl, ap, ◌∙◌, arith}
 use Rattle.nap_reader.specs.declared.frames.Frame.{Frame}
 use Rattle.nap_reader.specs.Framed.{unread}
 use Rattle.nap_reader.proofs.FrameLemmas.{length-unread-push, unread-push}
-use Rattle.nap_reader.proofs.reader.codes.push_body.Goals as goal
+use Rattle.nap_reader.proofs.reader.calls.push_body.Goals as goal
 
 pub returns-clause-shows : goal.returns-clause-shows
 returns-clause-shows c =

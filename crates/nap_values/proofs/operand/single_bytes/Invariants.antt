@@ -1,0 +1,6 @@
+use Rattle.std.proofs.Common.{◌%◌}
+use Rattle.nap_values.proofs.LoopLemmas.{IsSumSoFar}
+use Rattle.nap_values.proofs.operand.single_bytes.Given as goal
+
+abbrev pub invariant-loop-byte : goal.invariant-loop-byte
+invariant-loop-byte l = IsSumSoFar 64 4 (λ byte. byte % 64) l.operand l.byte-index l.unit l.number
