@@ -60,7 +60,7 @@ def parser() -> argparse.ArgumentParser:
         one = commands.add_parser(name, help=text, description=text[0].upper() + text[1:] + ".", epilog=EPILOG,
                                   allow_abbrev=False)
         one.add_argument("pages", metavar="PAGE", nargs=1 if name == "explain" else "+",
-                         help="a file, or - for standard input")
+                         help="a file, PACK!MEMBER for a member of a pack, or - for standard input")
         _add_options(one, name)
     collection_words.add(commands, _add_budget, _add_seconds)
     report_words.add(commands, _add_seconds)
@@ -70,10 +70,11 @@ def parser() -> argparse.ArgumentParser:
 def _add_options(one: argparse.ArgumentParser, name: str) -> None:
     if name in ("check", "list", "cures"):
         one.add_argument("--json", action="store_true", help="print JSON, an object on each line")
+    where: Any = one.add_mutually_exclusive_group() if name == "look" else one
     if name in ("canon", "look", "cures"):
-        one.add_argument("--into", metavar="FOLDER", help="make a file for each page in this folder")
+        where.add_argument("--into", metavar="FOLDER", help="make a file for each page in this folder")
     if name == "look":
-        one.add_argument("--svg", metavar="FILE", help="write the sketch of one page to this file")
+        where.add_argument("--svg", metavar="FILE", help="write the sketch of one page to this file")
     _add_budget(one)
     _add_seconds(one)
 
@@ -106,14 +107,11 @@ def _seconds(text: str) -> float:
 
 def _wrong(given: argparse.Namespace) -> str:
     """What is wrong with the words, beyond what argparse finds; nothing where they are right."""
-    into, svg = getattr(given, "into", None), getattr(given, "svg", None)
-    if into is not None and svg is not None:
-        return "--svg and --into exclude each other"
-    if len(given.pages) > 1 and into is None:
-        if given.command == "canon":
+    if len(given.pages) > 1 and getattr(given, "into", None) is None:
+        if given.command == "look" and given.svg:
+            return "several pages need --into FOLDER in place of --svg"
+        if given.command in ("canon", "look"):
             return "several pages need --into FOLDER"
-        if given.command == "look":
-            return "several pages need --into FOLDER, also with --svg" if svg else "several pages need --into FOLDER"
     if given.pages.count("-") > 1:
         return "- stands for standard input, and can be named once"
     return ""

@@ -31,7 +31,8 @@ def find(command: str) -> str:
         return os.path.abspath(found)
     launcher = os.path.join(top, "naplps")
     if _runs(launcher) and os.path.isdir(os.path.join(top, "crates")):
-        raise NoProgram("the program isn't built yet: `%s --help` does that, and takes some minutes" % launcher)
+        raise NoProgram("the program isn't built yet: `%s --help` proves and builds it, which may take half an hour or "
+                        "more" % launcher)
     raise NoProgram("there is no program naplps: put it beside this command or on PATH, or name it in NAPLPS")
 
 

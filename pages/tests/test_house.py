@@ -81,8 +81,8 @@ def script_without_tools(tmp_path, script):
     return os.path.join(binary, "script"), note
 
 
-LINE = ("install -y --no-install-recommends python3-pytest python3-hypothesis mypy chromium librsvg2-bin sqlite3 "
-        "parallel python3-distributed")
+LINE = ("install -y --no-install-recommends gcc libc6-dev binutils python3-pytest python3-hypothesis mypy chromium "
+        "librsvg2-bin sqlite3 parallel python3-distributed")
 
 
 @pytest.mark.parametrize("words", [[], ["--install"]])
