@@ -1,7 +1,8 @@
 """Wrong bodies: edits that break a promise, and what the prover said of each.
 
 Those in crates/NAME/must-fail/ are tried by each run of `rt ci`. Those in crates/NAME/wrong-bodies/ are tried by
-scripts/wrong-bodies, which keeps its verdicts in the file `refused` beside them, with a sum over all that decides them.
+scripts/wrong-bodies, which keeps its verdicts in the file `refused` beside them. With them it keeps a sum over all that
+can decide any of the crate's, and for each a sum over its text and one over what decides it: see deciding.py.
 """
 import csv
 import hashlib
@@ -18,17 +19,27 @@ PROMISES = "docs/PROMISES.md"
 TOLD = re.compile(r"\b(?P<place>gate|apart)(?:, within)?: (?P<names>`[^`]+`(?:, `[^`]+`)*)")
 PLACES = {"gate": "must-fail", "apart": "wrong-bodies"}
 REFUSED = "refused"
+SUM = re.compile(r"[0-9a-f]{16}")
+
+
+class Change(NamedTuple):
+    """A change that an edit makes: the file in its crate, the text that goes, and the one that comes."""
+
+    file: str
+    old: str
+    new: str
 
 
 class Verdict(NamedTuple):
-    """What an edit's try came to: the word `refused` or another, and a sum over the edit's text."""
+    """What an edit's try came to: a sum over its text, `refused` or other words, and a sum over what decides it."""
 
     edit: str
     said: str
+    decided_by: str = ""
 
 
 class Verdicts(NamedTuple):
-    """The verdicts on a crate's wrong bodies, by their names, and the sum over what decides them."""
+    """The verdicts on a crate's wrong bodies, by their names, and the sum over what can decide any of them."""
 
     decided_by: str
     of: Dict[str, Verdict]
@@ -55,37 +66,53 @@ def read_verdicts(crate: Path) -> Optional[Verdicts]:
         if words[:1] == ["clauses"]:
             decided_by = words[1]
         elif line and not line.startswith("#"):
-            verdicts[words[0]] = Verdict(words[1], " ".join(words[2:]))
+            said = 3 if SUM.fullmatch(words[2]) else 2
+            verdicts[words[0]] = Verdict(words[1], " ".join(words[said:]), words[2] if said == 3 else "")
     return Verdicts(decided_by, verdicts)
 
 
 def write_verdicts(crate: Path, verdicts: Verdicts) -> None:
     """Keeps the verdicts on a crate's wrong bodies."""
-    lines = [f"{name} {it.edit} {it.said}\n" for name, it in sorted(verdicts.of.items())]
-    text = f"{HEAD}clauses {verdicts.decided_by}\n{''.join(lines)}"
+    lines = [" ".join([name, it.edit, *it.decided_by.split(), it.said]) for name, it in sorted(verdicts.of.items())]
+    text = "".join(f"{line}\n" for line in [f"{HEAD}clauses {verdicts.decided_by}", *lines])
     (crate / "wrong-bodies" / REFUSED).write_text(text, "utf-8")
 
 
-def why_it_does_not_fit(edit: Path, crate: Path) -> Optional[str]:
-    """Why an edit can't be applied to its crate, or None: each `old:` text stands once in its file, one pair after another."""
+def standing(kept: Optional[Verdicts], texts: Dict[str, str], decided_by: Dict[str, str]) -> Dict[str, Verdict]:
+    """The verdicts that hold without a new try: those refused whose text and what decides them are as they were."""
+    return {
+        name: it
+        for name, it in (kept.of if kept else {}).items()
+        if it.said == REFUSED and it.edit == texts.get(name) and it.decided_by == decided_by.get(name)
+    }
+
+
+def changes_of(edit: str) -> Iterator[Change]:
+    """The changes that an edit's text makes, in its order."""
     path, old = "", ""
-    texts: Dict[str, str] = {}
-    for line in edit.read_text("utf-8").splitlines():
+    for line in edit.splitlines():
         word, _, rest = line.partition(":")
         rest = rest[1:] if rest.startswith(" ") else rest
         if word == "file":
             path = rest.strip()
-            if not (crate / path).is_file():
-                return f"there is no file {path}"
-            texts.setdefault(path, (crate / path).read_text("utf-8"))
         elif word == "old":
             old = rest
         elif word == "new":
-            times = texts[path].count(old) if path and old else 0
-            if times != 1:
-                return f"its old text stands {times} times in {path or 'no file'}"
-            texts[path] = texts[path].replace(old, rest)
-    return None if texts else "it names no file"
+            yield Change(path, old, rest)
+
+
+def why_it_does_not_fit(edit: Path, crate: Path) -> Optional[str]:
+    """Why an edit can't be applied to its crate, or None: each `old:` text stands once in its file, one after another."""
+    texts: Dict[str, str] = {}
+    for path, old, new in changes_of(edit.read_text("utf-8")):
+        if not (crate / path).is_file():
+            return f"there is no file {path}"
+        text = texts[path] if path in texts else (crate / path).read_text("utf-8")
+        times = text.count(old) if old else 0
+        if times != 1:
+            return f"its old text stands {times} times in {path}"
+        texts[path] = text.replace(old, new)
+    return None if texts else "it changes no file"
 
 
 def faults_of_edits(crate: Path) -> Iterator[Optional[str]]:
