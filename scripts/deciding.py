@@ -109,7 +109,7 @@ class Deciding:
         return [
             edit,
             *sorted(it.before for it in changed),
-            *sorted(f"{part.crate} {part.owner} | {part.text}" for part in reached),
+            *sorted(f"{part.crate} {part.owner} | {part.seen_from(crate)}" for part in reached),
             *sorted(all_of_it.outside),
         ]
 

@@ -24,7 +24,24 @@ LINKED = re.compile(r"(?:pub )?(?:use|mod) ")
 FIELDS = re.compile(r"^ *((?:[^\s:(){}.,=λ→×]+ )+):(?= )", re.MULTILINE)
 MEMBERS = re.compile(r"\b(\w+)\s*:(?!:)")
 WORDS = re.compile(r"\w+")
+STRUCT = re.compile(r"(?P<head>(?:#\[[^\]]*\] )*(?:pub(?:\(\w+\))? )?struct [^{;(]*\{)(?P<fields>.*)\}", re.DOTALL)
+PRIVATE = re.compile(r"(?:pub\(\w+\) )?[a-z_]\w*\s*:")
+OPENING, CLOSING = "([{<", ")]}>"
 NO_NAMES = frozenset({"_", "pub", "abbrev", "unfoldable", "record", "data", "module", "let"})
+
+
+def _between_commas(text: str) -> Iterator[str]:
+    """What stands between the commas of a text, but for those in brackets."""
+    depth, start = 0, 0
+    for at, sign in enumerate(text):
+        if sign in OPENING:
+            depth += 1
+        elif sign in CLOSING and text[at - 1 : at] != "-":
+            depth -= 1
+        elif sign == "," and depth <= 0:
+            yield text[start:at].strip()
+            start = at + 1
+    yield text[start:].strip()
 
 
 class Part(NamedTuple):
@@ -37,6 +54,14 @@ class Part(NamedTuple):
     members: FrozenSet[str]
     owner: str
     text: str
+
+    def seen_from(self, crate: str) -> str:
+        """What it says to a crate: a struct of a crate below has no private fields there, since nothing can name them."""
+        found = STRUCT.fullmatch(self.text) if self.kind == "type" and crate != self.crate else None
+        if not found:
+            return self.text
+        shown = (field for field in _between_commas(found["fields"]) if not PRIVATE.match(field))
+        return f"{found['head']} {', '.join(shown)} }}"
 
 
 class Body(NamedTuple):

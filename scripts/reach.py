@@ -245,7 +245,7 @@ class Reach:
     def __init__(self, sources: Sources) -> None:
         self.sources = sources
         self.names = Names(sources)
-        self._steps: Dict[int, Target] = {}
+        self._steps: Dict[Tuple[int, bool], Target] = {}
         self._impls: Dict[int, Set[int]] = defaultdict(set)
         for at, part in enumerate(sources.parts):
             place = (part.crate, part.file)
@@ -265,14 +265,15 @@ class Reach:
                 elif is_same and part.kind == "impl" and it.kind == "function" and OF_TRAIT.search(part.owner):
                     yield other
 
-    def step(self, at: int) -> Target:
-        """What a part reaches in one step."""
-        if at not in self._steps:
-            part = self.sources.parts[at]
-            text = f"{part.owner} {part.text}"
+    def step(self, at: int, crate: str) -> Target:
+        """What a part reaches in one step, as it is seen from a crate."""
+        part = self.sources.parts[at]
+        key = (at, part.crate == crate)
+        if key not in self._steps:
+            text = f"{part.owner} {part.seen_from(crate)}"
             named = self.names.reached(text, (part.crate, part.file), part.kind == "constant")
-            self._steps[at] = named._replace(parts=named.parts | set(self._beside(at)))
-        return self._steps[at]
+            self._steps[key] = named._replace(parts=named.parts | set(self._beside(at)))
+        return self._steps[key]
 
     def closure(self, first: Target, crate: str) -> Target:
         """All that some parts reach, in a crate and in those below it."""
@@ -283,7 +284,7 @@ class Reach:
             at = left.pop()
             if at not in found and self.sources.parts[at].crate in self.sources.seen[crate]:
                 found.add(at)
-                step = self.step(at)
+                step = self.step(at, crate)
                 outside |= step.outside
                 left.extend(step.parts - found)
         return Target(frozenset(found), frozenset(), frozenset(outside))

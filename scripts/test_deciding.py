@@ -175,6 +175,12 @@ class Sums(unittest.TestCase):
         self.assertTrue(self.changes(QUARTER, DEFINED, "n < 64", "n < 65"))
         self.assertTrue(self.changes(QUARTER, LOWEST, "#[derive(Clone, Drop)]", "#[derive(Drop)]"))
 
+    def test_a_private_field(self) -> None:
+        """It counts in its own crate; above that, nothing can name it."""
+        least = "file: src/lib.rt\nold: self.number == LEAST\nnew: true\n"
+        self.assertFalse(self.changes(QUARTER, LOWEST, "    number: u32,\n    ghost", "    number: u16,\n    ghost"))
+        self.assertTrue(self.changes(least, LOWEST, "    number: u32,\n    ghost", "    number: u16,\n    ghost", "low"))
+
     def test_the_new_text_of_the_edit(self) -> None:
         """The text itself, and what only it calls."""
         calls = QUARTER.replace("new: half", "new: Half::of(lonely(number))")
