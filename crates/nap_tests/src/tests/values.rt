@@ -1,6 +1,9 @@
 //! The ways between points, and the ends of the ranges of values.
-use nap_fixtures::samples::{middle, point, size};
-use nap_values::{Addr, Domain, Grb, Move, Point, Word};
+use nap_fixtures::samples::{middle, point, size, word};
+use nap_values::{
+    Addr, Domain, Grb, Move, Point, Word, colour, colour_bytes, multi, multi_bytes, single,
+    single_bytes,
+};
 
 #[test]
 fn ways_between_points(rt: HostRuntime) {
@@ -14,6 +17,24 @@ fn ways_between_points(rt: HostRuntime) {
         size(1, -1).point() == None,
     ];
     assert!(rt; found == [true; 6]);
+}
+
+#[test]
+fn bytes_carry_words(rt: HostRuntime) {
+    let words = [word(9), word(0), word(63), word(34)];
+    for bytes in [
+        b"\x49\x40\x7f\x62",
+        b"\x09\x00\x3f\x22",
+        b"\xc9\x80\xff\xe2",
+    ] {
+        let found = [
+            multi_bytes(bytes) == multi(&words, 4),
+            colour_bytes(bytes) == colour(&words, 4),
+            single_bytes(bytes) == single(&words, 4),
+            multi_bytes(&bytes[..3]) == multi(&words[..3], 3),
+        ];
+        assert!(rt; found == [true; 4]);
+    }
 }
 
 #[test]
