@@ -26,19 +26,20 @@ MEMBERS = re.compile(r"\b(\w+)\s*:(?!:)")
 WORDS = re.compile(r"\w+")
 STRUCT = re.compile(r"(?P<head>(?:#\[[^\]]*\] )*(?:pub(?:\(\w+\))? )?struct [^{;(]*\{)(?P<fields>.*)\}", re.DOTALL)
 PRIVATE = re.compile(r"(?:pub\(\w+\) )?[a-z_]\w*\s*:")
-OPENING, CLOSING = "([{<", ")]}>"
 NO_NAMES = frozenset({"_", "pub", "abbrev", "unfoldable", "record", "data", "module", "let"})
 
 
 def _between_commas(text: str) -> Iterator[str]:
-    """What stands between the commas of a text, but for those in brackets."""
-    depth, start = 0, 0
+    """What stands between the commas of a text, but for those in brackets; in these, < and > are no brackets."""
+    depth, angles, start = 0, 0, 0
     for at, sign in enumerate(text):
-        if sign in OPENING:
+        if sign in "([{":
             depth += 1
-        elif sign in CLOSING and text[at - 1 : at] != "-":
+        elif sign in ")]}":
             depth -= 1
-        elif sign == "," and depth <= 0:
+        elif sign in "<>" and depth == 0 and text[at - 1 : at] != "-":
+            angles += 1 if sign == "<" else -1
+        elif sign == "," and depth == 0 and angles == 0:
             yield text[start:at].strip()
             start = at + 1
     yield text[start:].strip()
@@ -56,7 +57,7 @@ class Part(NamedTuple):
     text: str
 
     def seen_from(self, crate: str) -> str:
-        """What it says to a crate: a struct of a crate below has no private fields there, since nothing can name them."""
+        """What it says to a crate: one above sees no private fields of a struct, since nothing there can name them."""
         found = STRUCT.fullmatch(self.text) if self.kind == "type" and crate != self.crate else None
         if not found:
             return self.text
