@@ -14,5 +14,6 @@ pub mod Batches
 pub mod BatchLaws
 pub mod Putting
 pub mod PuttingLaws
+pub mod Shapes
 pub mod Shown
 pub mod Walks

@@ -1,6 +1,7 @@
 use Rattle.std.proofs.Common.{◌≡◌, ℕ, ◌+◌, length, ◌⊎◌, List, [], ◌∷◌, ◌++◌, true, false, Result, Ok, Err, IsErrOf, OnOk, inl, inr, refl, sym, ◌∙◌, ap, subst, append-nil, append_assoc, length-append, length-drop, take, drop, ◌<◌, arith}
 use Rattle.std.proofs.lemmas.Bool.{false_from_ne_true, true_from_ne_false, cases_Bool}
 use Rattle.std.proofs.lemmas.List.{take-append-drop, length-take-le, take_all}
+use Rattle.std.specs.Result.{IsErrAnd}
 use Rattle.nap_list.specs.declared.entry.Entry.{Entry}
 use Rattle.nap_list.specs.declared.state.State.{State}
 use Rattle.nap_list.specs.declared.sink.SinkFault.{SinkFault}
@@ -216,6 +217,22 @@ module _ {S : Type 0} (g : SinkShows S) where
   one_put s t x (Err e) none took state memory wants refuses write only broke still =
       let put : NotTaken g s t x e = record { memory = memory; wants = wants; refuses = refuses; write = write; only_write = only; broke = broke; still = still } in
       some_put (Unit {0}) s t (x ∷ []) 0 e (stops_at_first s t x [] e none put)
+
+  -- memory was wanted for one entry, in a sink that works
+  pub wanting_put : (s : S) (x : Entry) (r : Result (Unit {0}) SinkFault) → IsErrAnd r (λ fault. fault ≡ Memory) → g.took s [] s → g.failed s ≡ false → g.wants s (x ∷ []) →
+      PutSome g (x ∷ []) s s r
+  wanting_put s x (Ok _) is none works wants = absurd is
+  wanting_put s x (Err fault) is none works wants =
+      let not : NotTaken g s s x Memory = record {
+        memory = λ _. refl;
+        wants = λ _. wants;
+        refuses = λ set. (let bad : ⊥ = cc in absurd bad);
+        write = λ e. (let bad : ⊥ = cc in absurd bad);
+        only_write = λ set. (let bad : ⊥ = cc in absurd bad);
+        broke = λ e. (let bad : ⊥ = cc in absurd bad);
+        still = λ _ _. refl;
+      } in
+      subst (λ (fault : SinkFault). PutSome {A = Unit {0}} g (x ∷ []) s s (Err fault)) (sym is) (some_put (Unit {0}) s s (x ∷ []) 0 Memory (stops_at_first s s x [] Memory none not))
 
   -- a list was put behind what was put
   pub rest_put : (A : Type 0) (s t : S) (whole list : List Entry) → Putting g s t whole list → TookMore g → TookBroke g → WantsMore g → (u : S) (r : Result A SinkFault) →

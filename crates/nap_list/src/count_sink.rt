@@ -5,8 +5,10 @@ ghost use Rattle.nap_list.specs.Counting.{Counts, Uncounted, counts_more, counts
 
 use crate::batch::Batch;
 use crate::entry::Entry;
+use crate::shape::Shape;
 use crate::sink::{BatchFault, Sink, SinkFault};
 use crate::state::State;
+use std::alloc::Global;
 
 /// Counts the entries that it takes, and keeps none. There is no memory for a count that a `u64` can't hold.
 #[derive(Drop)]
@@ -69,6 +71,16 @@ impl Sink for CountSink {
         self.count += taken as u64;
         self.state.step_front(batch, taken);
         BatchFault::unless_all(taken, batch)
+    }
+
+    #[inline(always)]
+    fn put_shape(&mut self, _: Global, shape: &Shape) -> Result<(), SinkFault> {
+        let Some(count) = self.count.checked_add(1) else {
+            return Err(SinkFault::Memory);
+        };
+        self.count = count;
+        self.state.step_shape(shape);
+        Ok(())
     }
 
     ghost took_none = { λ s. counts_none s };

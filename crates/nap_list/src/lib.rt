@@ -10,6 +10,7 @@ mod known;
 pub mod laws;
 mod legality;
 mod points;
+mod shape;
 mod sink;
 mod state;
 
@@ -23,5 +24,6 @@ pub use entry::Entry;
 pub use known::{KNOWN, Known, MapColour};
 pub use legality::legal;
 pub use points::{Points, SHAPE_POINTS};
+pub use shape::{Shape, ShapeKind};
 pub use sink::{BatchFault, ListSink, Sink, SinkFault};
 pub use state::{Definition, Drawing, LastChar, Opened, State, corner};

@@ -6,10 +6,12 @@ ghost use Rattle.nap_list.specs.declared.entry.Entry.{Entry};
 ghost use Rattle.nap_list.specs.declared.sink.SinkFault.TheVariants.{Memory};
 ghost use Rattle.nap_list.specs.State.{AllFit, Fits, after, start, walk};
 ghost use Rattle.nap_list.specs.Batches.{listed};
-ghost use Rattle.nap_list.specs.Putting.{Put, UnlessAll, shows};
+ghost use Rattle.nap_list.specs.Putting.{Put, PutSome, UnlessAll, shows};
+ghost use Rattle.nap_list.specs.Shapes.{drawn_shape};
 
 use crate::batch::Batch;
 use crate::entry::Entry;
+use crate::shape::Shape;
 use crate::state::State;
 use std::alloc::{AllocError, AllocFailed, Global};
 use std::marker::Model;
@@ -112,6 +114,11 @@ pub trait Sink {
         Ok(())
     }
 
+    /// Takes a shape whose points are lent, as `put` takes its entry. A sink that keeps the entry has points of its own for it.
+    fn put_shape(&mut self, alloc: Global, shape: &Shape) -> Result<(), SinkFault>
+        requires { Fits (state self.old) (drawn_shape shape.now) }
+        ensures { PutSome (shows state wants failed took broke) (drawn_shape shape.now ∷ []) self.old self.new result };
+
     /// Nothing was taken.
     ghost took_none: { (s : Self) → took s [] s };
 
@@ -181,6 +188,11 @@ impl Sink for ListSink {
     fn put(&mut self, entry: Entry) -> Result<(), SinkFault> {
         self.list.push(entry)?;
         Ok(())
+    }
+
+    fn put_shape(&mut self, alloc: Global, shape: &Shape) -> Result<(), SinkFault> {
+        let entry = shape.entry(alloc)?;
+        self.put(entry)
     }
 
     ghost took_none = { λ s. sym (append-nil s) };

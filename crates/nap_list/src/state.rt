@@ -259,7 +259,7 @@ impl Drawing {
     }
 
     #[inline(always)]
-    fn take_ink(&mut self, ink: &Ink)
+    pub(crate) fn take_ink(&mut self, ink: &Ink)
         ensures { self.new ≡ taking self.old (ink_values ink.now) }
     {
         self.pel = ink.pel;
