@@ -40,12 +40,13 @@ use Rattle.nap_draw.specs.Rule.{Drawn, and_then, some_of, first_of, few_of, move
 use Rattle.nap_list.specs.State.{hand_of}
 use Rattle.nap_draw.specs.Codes.{IsMade, copies, ended, ended_by, opened_by, opens, puts, with_last, code_rule}
 use Rattle.nap_draw.specs.Laws.{RuleFits, CodeFits}
-use Rattle.nap_draw.specs.Doing.{MayFollow, landed, shape_on, shape_points, start_of}
+use Rattle.nap_draw.specs.Doing.{MayFollow, landed, shape_points, start_of}
 use Rattle.nap_draw.proofs.Copies.{copies_fit, last_is_code}
 use Rattle.nap_draw.proofs.Endings.{ended_closed}
 use Rattle.nap_draw.proofs.Walks.{Lands, one, point_lands, line_lands, rect_lands}
-use Rattle.nap_draw.specs.declared.shapes.Shape.{Shape}
-use Rattle.nap_draw.specs.declared.shapes.Shape.TheVariants as outlines
+use Rattle.nap_list.specs.declared.shape.ShapeKind.{ShapeKind}
+use Rattle.nap_list.specs.declared.shape.ShapeKind.TheVariants as kinds
+use Rattle.nap_list.specs.Shapes.{shape_on}
 use Rattle.nap_draw.proofs.Outlines.{arc_made, poly_made, holds_shape, shape_comes}
 
 -- The entries that a rule gives fit.
@@ -159,34 +160,34 @@ unfolding IsFitting
 one_fits work entry None fits = tt
 one_fits work entry (Some x) fits = fits x refl
 
-shape_is_made : (shape : Shape) (filled : Bool) (d : Drawing) (p : Coordinates) (ms : List Displacement) (ps : List Coordinates) → 0 < length ms → length ms ≤ steps_limit →
-    shape_points shape p ms ≡ Some ps → WellMade (shape_on shape filled d ps)
-shape_is_made outlines.Arc filled d p ms ps some few is = arc_made p ms ps some few is
-shape_is_made outlines.Poly filled d p ms ps some few is = poly_made p ms ps some few is
+shape_is_made : (kind : ShapeKind) (filled : Bool) (d : Drawing) (p : Coordinates) (ms : List Displacement) (ps : List Coordinates) → 0 < length ms → length ms ≤ steps_limit →
+    shape_points kind p ms ≡ Some ps → WellMade (shape_on kind filled d ps)
+shape_is_made kinds.Arc filled d p ms ps some few is = arc_made p ms ps some few is
+shape_is_made kinds.Poly filled d p ms ps some few is = poly_made p ms ps some few is
 
-module _ (work : Work) (shape : Shape) (filled : Bool) where
-  shape_fits : (p : Coordinates) (ms : List Displacement) → 0 < length ms → length ms ≤ steps_limit → IsFitting work (draws_one work (shape_on shape filled) (shape_points shape p ms))
+module _ (work : Work) (kind : ShapeKind) (filled : Bool) where
+  shape_fits : (p : Coordinates) (ms : List Displacement) → 0 < length ms → length ms ≤ steps_limit → IsFitting work (draws_one work (shape_on kind filled) (shape_points kind p ms))
   shape_fits p ms some few =
       let d = work.state.drawing in
-      one_fits work (shape_on shape filled) (shape_points shape p ms) (λ ps is.
-      single_fits work (shape_on shape filled d ps) (holds_shape shape filled d ps) (shape_is_made shape filled d p ms ps some few is) (shape_comes shape filled d ps work.state))
+      one_fits work (shape_on kind filled) (shape_points kind p ms) (λ ps is.
+      single_fits work (shape_on kind filled d ps) (holds_shape kind filled d ps) (shape_is_made kind filled d p ms ps some few is) (shape_comes kind filled d ps work.state))
 
-  shape_pen_fits : (run : List ℕ) → IsFitting work (shape_from_pen work run (shape_on shape filled) (shape_points shape))
+  shape_pen_fits : (run : List ℕ) → IsFitting work (shape_from_pen work run (shape_on kind filled) (shape_points kind))
   shape_pen_fits run =
       some_fit work (moves_of work run) _ (λ ms some. few_fit work ms _ (λ few. each_fits work (pen_point work.state.drawing.pen) _ (λ p. shape_fits p ms some few)))
 
   point_fits : (o : Option Coordinates) (ms : List Displacement) → 0 < length ms → length ms ≤ steps_limit →
-      IsFitting work (draws_one work (shape_on shape filled) (option_and_then (λ p. shape_points shape p ms) o))
+      IsFitting work (draws_one work (shape_on kind filled) (option_and_then (λ p. shape_points kind p ms) o))
   point_fits None ms some few = fault_fits work faults.Outside
   point_fits (Some p) ms some few = shape_fits p ms some few
 
   first_fits : (xs : List Displacement) →
-      IsFitting work (and_then (first_of xs) (λ (m, ms). and_then (few_of ms) (λ ms. draws_one work (shape_on shape filled) (option_and_then (λ p. shape_points shape p ms) (point_at m)))))
+      IsFitting work (and_then (first_of xs) (λ (m, ms). and_then (few_of ms) (λ ms. draws_one work (shape_on kind filled) (option_and_then (λ p. shape_points kind p ms) (point_at m)))))
   first_fits [] = fault_fits work faults.Missing
   first_fits (m ∷ []) = fault_fits work faults.Missing
   first_fits (m ∷ n ∷ ms) = few_fit work (n ∷ ms) _ (λ few. point_fits (point_at m) (n ∷ ms) (omega arith) few)
 
-  shape_point_fits : (run : List ℕ) → IsFitting work (shape_from_point work run (shape_on shape filled) (shape_points shape))
+  shape_point_fits : (run : List ℕ) → IsFitting work (shape_from_point work run (shape_on kind filled) (shape_points kind))
   shape_point_fits run = first_fits (moves_of work run)
 
 field_fits : (work : Work) (ms : List Displacement) → IsFitting work (field_rule work ms)
@@ -309,18 +310,18 @@ rule_is_fitting work opcodes.LineAbs run = pen_fits work run _ (λ p ms. draws_f
 rule_is_fitting work opcodes.LineRel run = pen_fits work run _ (λ p ms. draws_fit line_on _ line_lands work (option_map (joined p) (reached p ms)))
 rule_is_fitting work opcodes.SetLineAbs run = each_fits work _ _ (λ ms. draws_fit line_on _ line_lands work (between ms))
 rule_is_fitting work opcodes.SetLineRel run = each_fits work _ _ (λ ms. draws_fit line_on _ line_lands work (away ms))
-rule_is_fitting work opcodes.ArcOutlined run = shape_pen_fits work outlines.Arc false run
-rule_is_fitting work opcodes.ArcFilled run = shape_pen_fits work outlines.Arc true run
-rule_is_fitting work opcodes.SetArcOutlined run = shape_point_fits work outlines.Arc false run
-rule_is_fitting work opcodes.SetArcFilled run = shape_point_fits work outlines.Arc true run
+rule_is_fitting work opcodes.ArcOutlined run = shape_pen_fits work kinds.Arc false run
+rule_is_fitting work opcodes.ArcFilled run = shape_pen_fits work kinds.Arc true run
+rule_is_fitting work opcodes.SetArcOutlined run = shape_point_fits work kinds.Arc false run
+rule_is_fitting work opcodes.SetArcFilled run = shape_point_fits work kinds.Arc true run
 rule_is_fitting work opcodes.RectOutlined run = pen_fits work run _ (λ p ms. draws_fit (rect_on false) _ (rect_lands false) work (across p ms))
 rule_is_fitting work opcodes.RectFilled run = pen_fits work run _ (λ p ms. draws_fit (rect_on true) _ (rect_lands true) work (across p ms))
 rule_is_fitting work opcodes.SetRectOutlined run = each_fits work _ _ (λ ms. draws_fit (rect_on false) _ (rect_lands false) work (away ms))
 rule_is_fitting work opcodes.SetRectFilled run = each_fits work _ _ (λ ms. draws_fit (rect_on true) _ (rect_lands true) work (away ms))
-rule_is_fitting work opcodes.PolyOutlined run = shape_pen_fits work outlines.Poly false run
-rule_is_fitting work opcodes.PolyFilled run = shape_pen_fits work outlines.Poly true run
-rule_is_fitting work opcodes.SetPolyOutlined run = shape_point_fits work outlines.Poly false run
-rule_is_fitting work opcodes.SetPolyFilled run = shape_point_fits work outlines.Poly true run
+rule_is_fitting work opcodes.PolyOutlined run = shape_pen_fits work kinds.Poly false run
+rule_is_fitting work opcodes.PolyFilled run = shape_pen_fits work kinds.Poly true run
+rule_is_fitting work opcodes.SetPolyOutlined run = shape_point_fits work kinds.Poly false run
+rule_is_fitting work opcodes.SetPolyFilled run = shape_point_fits work kinds.Poly true run
 rule_is_fitting work opcodes.Field run = field_fits work (moves_of work run)
 rule_is_fitting work opcodes.Reset run = reset_fits work _ _
 rule_is_fitting work opcodes.Text run = attribute_fits work _ (text_agrees work.state _)

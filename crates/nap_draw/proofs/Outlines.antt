@@ -12,14 +12,15 @@ use Rattle.nap_list.specs.declared.attribute.Pen.TheVariants as pens
 use Rattle.std.specs.List.{slice_get}
 use Rattle.nap_draw.proofs.Walks.{left_by}
 use Rattle.nap_draw.specs.declared.fault.DrawFault.TheVariants.{Missing, ManyPoints}
-use Rattle.nap_draw.specs.declared.shapes.Shape.{Shape}
-use Rattle.nap_draw.specs.declared.shapes.Shape.TheVariants as outlines
+use Rattle.nap_list.specs.declared.shape.ShapeKind.{ShapeKind}
+use Rattle.nap_list.specs.declared.shape.ShapeKind.TheVariants as kinds
+use Rattle.nap_list.specs.Shapes.{outline, round, shape_end, shape_on}
 use Rattle.nap_draw.specs.declared.work.Work.{Work}
 use Rattle.nap_draw.specs.Rule.{Drawn, moves_of, and_then, some_of, few_of, first_of, pen_point, draws_one}
 use Rattle.nap_draw.proofs.Cuts.{moves_turn, run_some, one_at_most}
-use Rattle.nap_draw.specs.Doing.{pen_moved, outline, shape_end, shape_on, shape_points}
+use Rattle.nap_draw.specs.Doing.{pen_moved, shape_points}
 use Rattle.nap_list.specs.Limits.{points_limit, steps_limit}
-use Rattle.nap_draw.specs.Geometry.{onward, reached, round, arc_points, poly_points}
+use Rattle.nap_draw.specs.Geometry.{onward, reached, arc_points, poly_points}
 use Rattle.nap_values.specs.Operands.{multi_of}
 use Rattle.nap_draw.specs.declared.fault.DrawFault.{DrawFault}
 
@@ -67,19 +68,19 @@ arc_made p ms ps some few is =
     let r = round_length p made.0 (omega arith) (omega arith) in
     (omega (arith, r.0, l), omega (arith, r.1, l))
 
-pub holds_shape : (shape : Shape) (filled : Bool) (d : Drawing) (ps : List Coordinates) → Holds (held (shape_on shape filled d ps)) d
-holds_shape outlines.Arc filled d ps = record { pen = tt; pel = refl; colour = refl; texture = refl; text = tt }
-holds_shape outlines.Poly filled d ps = record { pen = tt; pel = refl; colour = refl; texture = refl; text = tt }
+pub holds_shape : (kind : ShapeKind) (filled : Bool) (d : Drawing) (ps : List Coordinates) → Holds (held (shape_on kind filled d ps)) d
+holds_shape kinds.Arc filled d ps = record { pen = tt; pel = refl; colour = refl; texture = refl; text = tt }
+holds_shape kinds.Poly filled d ps = record { pen = tt; pel = refl; colour = refl; texture = refl; text = tt }
 
 -- a shape through these points is well made
-pub shape_made : (shape : Shape) (filled : Bool) (d : Drawing) (p : Coordinates) (ps : List Coordinates) → 0 < length ps → length ps ≤ steps_limit →
-    WellMade (shape_on shape filled d (outline shape (p ∷ ps)))
-shape_made outlines.Arc filled d p ps some few = round_length p ps some few
-shape_made outlines.Poly filled d p ps some few = (omega arith, omega arith)
+pub shape_made : (kind : ShapeKind) (filled : Bool) (d : Drawing) (p : Coordinates) (ps : List Coordinates) → 0 < length ps → length ps ≤ steps_limit →
+    WellMade (shape_on kind filled d (outline kind (p ∷ ps)))
+shape_made kinds.Arc filled d p ps some few = round_length p ps some few
+shape_made kinds.Poly filled d p ps some few = (omega arith, omega arith)
 
-pub shape_comes : (shape : Shape) (filled : Bool) (d : Drawing) (ps : List Coordinates) (t : State) → Comes t (shape_on shape filled d ps)
-shape_comes outlines.Arc filled d ps t = tt
-shape_comes outlines.Poly filled d ps t = tt
+pub shape_comes : (kind : ShapeKind) (filled : Bool) (d : Drawing) (ps : List Coordinates) (t : State) → Comes t (shape_on kind filled d ps)
+shape_comes kinds.Arc filled d ps t = tt
+shape_comes kinds.Poly filled d ps t = tt
 
 -- the last of some points is there
 last_is : (p : Coordinates) (ps : List Coordinates) → (q : Coordinates) × (slice_get (p ∷ ps) (length ps) ≡ Some q)
@@ -94,17 +95,17 @@ last_there p ps d q =
     rw is refl
 
 -- what a shape through these points leaves
-pub shape_leaves : (shape : Shape) (filled : Bool) (s : State) (p : Coordinates) (ps : List Coordinates) → InMode s.drawing.base s.drawing.colour →
-    after s (shape_on shape filled s.drawing (outline shape (p ∷ ps))) ≡ pen_moved s (pens.At (shape_end shape p (outline shape (p ∷ ps))))
-shape_leaves outlines.Arc filled s p ps mode =
-    left_by s (shape_on outlines.Arc filled s.drawing (round (p ∷ ps))) (holds_shape outlines.Arc filled s.drawing (round (p ∷ ps))) mode ∙ ap (λ (d : Drawing). record s { drawing = d; last = None }) (round_there p ps)
+pub shape_leaves : (kind : ShapeKind) (filled : Bool) (s : State) (p : Coordinates) (ps : List Coordinates) → InMode s.drawing.base s.drawing.colour →
+    after s (shape_on kind filled s.drawing (outline kind (p ∷ ps))) ≡ pen_moved s (pens.At (shape_end kind p (outline kind (p ∷ ps))))
+shape_leaves kinds.Arc filled s p ps mode =
+    left_by s (shape_on kinds.Arc filled s.drawing (round (p ∷ ps))) (holds_shape kinds.Arc filled s.drawing (round (p ∷ ps))) mode ∙ ap (λ (d : Drawing). record s { drawing = d; last = None }) (round_there p ps)
   where
     round_there : (p : Coordinates) (ps : List Coordinates) →
-        with_pen_at (slice_get (round (p ∷ ps)) (length (round (p ∷ ps)) - 1)) s.drawing ≡ with_pen (pens.At (shape_end outlines.Arc p (round (p ∷ ps)))) s.drawing
+        with_pen_at (slice_get (round (p ∷ ps)) (length (round (p ∷ ps)) - 1)) s.drawing ≡ with_pen (pens.At (shape_end kinds.Arc p (round (p ∷ ps)))) s.drawing
     round_there p [] = last_there p [] s.drawing p
     round_there p (q ∷ []) = last_there p (q ∷ p ∷ []) s.drawing p
     round_there p (q ∷ r ∷ rs) = last_there p (q ∷ r ∷ rs) s.drawing p
-shape_leaves outlines.Poly filled s p ps mode = left_by s (shape_on outlines.Poly filled s.drawing (p ∷ ps)) (holds_shape outlines.Poly filled s.drawing (p ∷ ps)) mode
+shape_leaves kinds.Poly filled s p ps mode = left_by s (shape_on kinds.Poly filled s.drawing (p ∷ ps)) (holds_shape kinds.Poly filled s.drawing (p ∷ ps)) mode
 
 few_ok : (ms : List Displacement) → length ms ≤ steps_limit → few_of ms ≡ Ok ms
 few_ok ms few = let test : ltb steps_limit (length ms) ≡ false = grind (arith, nat_tests) in rw test refl
@@ -114,22 +115,22 @@ few_not ms many = let test : ltb steps_limit (length ms) ≡ true = grind (arith
 
 -- the points of a shape, by those that follow the first
 
-pub outlined : (shape : Shape) (p : Coordinates) (ms : List Displacement) → shape_points shape p ms ≡ option_map (λ qs. outline shape (p ∷ qs)) (reached p ms)
-outlined outlines.Arc p ms = refl
-outlined outlines.Poly p ms = refl
+pub outlined : (kind : ShapeKind) (p : Coordinates) (ms : List Displacement) → shape_points kind p ms ≡ option_map (λ qs. outline kind (p ∷ qs)) (reached p ms)
+outlined kinds.Arc p ms = refl
+outlined kinds.Poly p ms = refl
 
 -- the rules of a shape, behind their checks
 
-module _ (work : Work) (shape : Shape) (filled : Bool) where
+module _ (work : Work) (kind : ShapeKind) (filled : Bool) where
   abbrev on : Drawing → List Coordinates → Entry
-  on = shape_on shape filled
+  on = shape_on kind filled
 
   -- a shape through this point and those that these lead to
   abbrev pub drawn_from : Coordinates → Option (List Coordinates) → Result Drawn DrawFault
-  drawn_from p o = draws_one work on (option_map (λ qs. outline shape (p ∷ qs)) o)
+  drawn_from p o = draws_one work on (option_map (λ qs. outline kind (p ∷ qs)) o)
 
   abbrev from_pen : List Displacement → Result Drawn DrawFault
-  from_pen ms = and_then (pen_point work.state.drawing.pen) (λ p. draws_one work on (shape_points shape p ms))
+  from_pen ms = and_then (pen_point work.state.drawing.pen) (λ p. draws_one work on (shape_points kind p ms))
 
   abbrev checked : List Displacement → Result Drawn DrawFault
   checked xs = and_then (some_of xs) (λ ms. and_then (few_of ms) from_pen)
@@ -147,16 +148,16 @@ module _ (work : Work) (shape : Shape) (filled : Bool) where
   pen_few (m ∷ ms) some few = ap (λ r. and_then r from_pen) (few_ok (m ∷ ms) few)
 
   pub pen_lost : (ms : List Displacement) (fault : DrawFault) → 0 < length ms → length ms ≤ steps_limit → Err fault ≡ pen_point work.state.drawing.pen → checked ms ≡ Err fault
-  pen_lost ms fault some few is = pen_few ms some few ∙ ap (λ r. and_then r (λ p. draws_one work on (shape_points shape p ms))) (sym is)
+  pen_lost ms fault some few is = pen_few ms some few ∙ ap (λ r. and_then r (λ p. draws_one work on (shape_points kind p ms))) (sym is)
 
   pub pen_goes : (ms : List Displacement) (p : Coordinates) → 0 < length ms → length ms ≤ steps_limit → Ok p ≡ pen_point work.state.drawing.pen → checked ms ≡ drawn_from p (reached p ms)
   pen_goes ms p some few is =
-      pen_few ms some few ∙ (ap (λ r. and_then r (λ p. draws_one work on (shape_points shape p ms))) (sym is) ∙ ap (draws_one work on) (outlined shape p ms))
+      pen_few ms some few ∙ (ap (λ r. and_then r (λ p. draws_one work on (shape_points kind p ms))) (sym is) ∙ ap (draws_one work on) (outlined kind p ms))
 
   -- the same from the point that the first operand is, where the run is cut behind it
 
   abbrev from_first : Displacement → List Displacement → Result Drawn DrawFault
-  from_first m ms = draws_one work on (option_and_then (λ p. shape_points shape p ms) (point_at m))
+  from_first m ms = draws_one work on (option_and_then (λ p. shape_points kind p ms) (point_at m))
 
   abbrev rest_checked : List Displacement → Result Drawn DrawFault
   rest_checked xs = and_then (first_of xs) (λ (m, ms). and_then (few_of ms) (from_first m))
@@ -184,11 +185,11 @@ module _ (work : Work) (shape : Shape) (filled : Bool) where
     point_many many = cut (omega arith) ∙ ap (λ r. and_then r (from_first (multi_of front))) (few_not (moves_of work after) many)
 
     pub point_few : (o : Option Coordinates) → 0 < length (moves_of work after) → length (moves_of work after) ≤ steps_limit → point_at (multi_of front) ≡ o →
-        rest_checked (moves_of work run) ≡ draws_one work on (option_and_then (λ p. shape_points shape p (moves_of work after)) o)
+        rest_checked (moves_of work run) ≡ draws_one work on (option_and_then (λ p. shape_points kind p (moves_of work after)) o)
     point_few o some few at =
         cut some ∙ (ap (λ r. and_then r (from_first (multi_of front))) (few_ok (moves_of work after) few)
-        ∙ ap (λ o. draws_one work on (option_and_then (λ p. shape_points shape p (moves_of work after)) o)) at)
+        ∙ ap (λ o. draws_one work on (option_and_then (λ p. shape_points kind p (moves_of work after)) o)) at)
 
     pub point_goes : (p : Coordinates) → 0 < length (moves_of work after) → length (moves_of work after) ≤ steps_limit → point_at (multi_of front) ≡ Some p →
         rest_checked (moves_of work run) ≡ drawn_from p (reached p (moves_of work after))
-    point_goes p some few at = point_few (Some p) some few at ∙ ap (draws_one work on) (outlined shape p (moves_of work after))
+    point_goes p some few at = point_few (Some p) some few at ∙ ap (draws_one work on) (outlined kind p (moves_of work after))

@@ -30,7 +30,8 @@ use Rattle.nap_draw.specs.declared.work.Work.{Work}
 use Rattle.nap_draw.specs.declared.fault.DrawFault.{DrawFault}
 use Rattle.nap_draw.specs.declared.fault.DrawFault.TheVariants as faults
 use Rattle.nap_draw.specs.Operands.{cut, operands, moves, addresses}
-use Rattle.nap_draw.specs.Geometry.{onward, end_of, points_at, reached, joined, span, span_by, between, away, across, round, arc_points, poly_points}
+use Rattle.nap_draw.specs.Geometry.{onward, end_of, points_at, reached, joined, span, span_by, between, away, across, arc_points, poly_points}
+use Rattle.nap_list.specs.Shapes.{round}
 use Rattle.nap_list.specs.State.{ink_of}
 use Rattle.nap_list.specs.Batches.{point_on}
 use Rattle.nap_draw.specs.Rule.{Drawn, rule, drawn, with_drawing, draws, draws_one, goes, and_then, some_of, moves_of, first_move, pen_point, first_of, few_of, from_pen, shape_from_pen, shape_from_point, domain_in, domain_rule, part, area_of, field_rule, text_rule, texture_rule, colour_of_base, selected, select_rule, maps, colours_as, set_color_rule, blink, blinks, blink_rule, line_on, rect_on, arc_on, poly_on, field_on}

@@ -1,4 +1,4 @@
-use Rattle.std.specs.Prelude.{ℕ, zero, suc, ◌-◌, ◌≡◌, ◌++◌, length, slice_get, unwrap_or, IsErrOf, Bool, true, false, List, [], ◌∷◌, Option, Some, None, option_map, Result, Ok, Err}
+use Rattle.std.specs.Prelude.{ℕ, zero, suc, ◌≡◌, ◌++◌, IsErrOf, Bool, true, false, List, [], ◌∷◌, Option, Some, None, option_map, Result, Ok, Err}
 use Rattle.nap_values.specs.Coordinates.{Coordinates, Displacement}
 use Rattle.nap_list.specs.declared.attribute.Hand.{Hand}
 use Rattle.nap_list.specs.declared.attribute.Ink.{Ink}
@@ -6,6 +6,8 @@ use Rattle.nap_list.specs.declared.attribute.Pen.{Pen}
 use Rattle.nap_list.specs.declared.attribute.Pen.TheVariants as pens
 use Rattle.nap_list.specs.declared.entry.Entry.{Entry}
 use Rattle.nap_list.specs.declared.entry.Entry.TheVariants as shapes
+use Rattle.nap_list.specs.declared.shape.ShapeKind.{ShapeKind}
+use Rattle.nap_list.specs.declared.shape.ShapeKind.TheVariants as kinds
 use Rattle.nap_list.specs.declared.state.Definition.{Definition}
 use Rattle.nap_list.specs.declared.state.Definition.TheVariants as definitions
 use Rattle.nap_list.specs.declared.state.Drawing.{Drawing}
@@ -20,14 +22,12 @@ use Rattle.nap_list.specs.State.{Comes, walk, with_pen, corner, ink_of}
 use Rattle.nap_list.specs.Agreement.{Holds}
 use Rattle.nap_draw.specs.declared.fault.DrawFault.{DrawFault}
 use Rattle.nap_draw.specs.declared.fault.DrawFault.TheVariants as faults
-use Rattle.nap_draw.specs.declared.shapes.Shape.{Shape}
-use Rattle.nap_draw.specs.declared.shapes.Shape.TheVariants as outlines
 use Rattle.nap_draw.specs.declared.spans.Span.{Span}
 use Rattle.nap_draw.specs.declared.spans.Figure.{Figure}
 use Rattle.nap_draw.specs.declared.spans.Figure.TheVariants as figures
 use Rattle.nap_draw.specs.declared.work.Work.{Work}
 use Rattle.nap_draw.specs.Rule.{Drawn}
-use Rattle.nap_draw.specs.Geometry.{joined, round, arc_points, poly_points}
+use Rattle.nap_draw.specs.Geometry.{joined, arc_points, poly_points}
 use Rattle.nap_draw.specs.Draws.{Cause, stream, memory, device, DrawsBy, cause_of}
 use Rattle.nap_draw.specs.Acts.{WantsBy, GivesSome}
 
@@ -59,28 +59,10 @@ stroke_end (figures.Rect filled) s = corner s.from s.to
 abbrev pub stroke_on : Figure → Drawing → Span → Entry
 stroke_on figure d s = stroke figure (ink_of d) s
 
--- an arc or a polygon of these points
-abbrev pub shape_entry : Shape → Bool → List Coordinates → Ink → Entry
-shape_entry outlines.Arc filled points ink = shapes.Arc filled points ink
-shape_entry outlines.Poly filled points ink = shapes.Poly filled points ink
-
-abbrev pub shape_on : Shape → Bool → Drawing → List Coordinates → Entry
-shape_on shape filled d points = shape_entry shape filled points (ink_of d)
-
 -- the points of an arc or a polygon from this one on
-abbrev pub shape_points : Shape → Coordinates → List Displacement → Option (List Coordinates)
-shape_points outlines.Arc p ms = arc_points p ms
-shape_points outlines.Poly p ms = poly_points p ms
-
--- the points of an arc or a polygon that goes through these
-abbrev pub outline : Shape → List Coordinates → List Coordinates
-outline outlines.Arc points = round points
-outline outlines.Poly points = points
-
--- where the pen is once an arc or a polygon of these points is drawn, the first of which is this one
-abbrev pub shape_end : Shape → Coordinates → List Coordinates → Coordinates
-shape_end outlines.Arc p points = unwrap_or (slice_get points (length points - 1)) p
-shape_end outlines.Poly p points = p
+abbrev pub shape_points : ShapeKind → Coordinates → List Displacement → Option (List Coordinates)
+shape_points kinds.Arc p ms = arc_points p ms
+shape_points kinds.Poly p ms = poly_points p ms
 
 -- the state after an entry that only moves the pen, and is no character
 abbrev pub pen_moved : State → Pen → State

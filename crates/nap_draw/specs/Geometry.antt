@@ -1,5 +1,6 @@
 use Rattle.std.specs.Prelude.{List, [], ◌∷◌, Option, Some, None, option_map}
 use Rattle.nap_values.specs.Coordinates.{Coordinates, Displacement, point_at, moved}
+use Rattle.nap_list.specs.Shapes.{round}
 use Rattle.nap_list.specs.State.{corner}
 use Rattle.nap_draw.specs.declared.spans.Span.{Span}
 
@@ -56,11 +57,6 @@ away (m ∷ n ∷ ms) = onward (span_by (point_at m) n) (λ _. away ms)
 unfoldable pub across : Coordinates → List Displacement → Option (List Span)
 across p [] = Some []
 across p (m ∷ ms) = onward (span_by (Some p) m) (λ s. across (corner s.from s.to) ms)
-
--- a way of one step, there and back: a circle
-abbrev pub round : List Coordinates → List Coordinates
-round (p ∷ q ∷ []) = p ∷ q ∷ p ∷ []
-round points = points
 
 -- the points of a polygon: this one, and those reached from it
 abbrev pub poly_points : Coordinates → List Displacement → Option (List Coordinates)

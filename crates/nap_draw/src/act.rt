@@ -9,9 +9,9 @@ ghost use Rattle.nap_draw.specs.Acts.{Acts, told};
 ghost use Rattle.nap_draw.specs.Doing.{Does, quiet};
 
 use crate::fault::DrawFault;
-use crate::shapes::Shape;
 use crate::work::{Effects, Work};
 use nap_codes::Opcode;
+use nap_list::ShapeKind::{Arc, Poly};
 use nap_list::Sink;
 use nap_values::{Point, Word};
 use std::alloc::Global;
@@ -117,35 +117,14 @@ impl Work {
             Opcode::RectFilled => self.rect(room, true, run, sink),
             Opcode::SetRectOutlined => self.set_rect(room, false, run, sink),
             Opcode::SetRectFilled => self.set_rect(room, true, run, sink),
-            Opcode::ArcOutlined => self.shape_from_pen(alloc, room, Shape::Arc, false, run, sink),
-            Opcode::ArcFilled => self.shape_from_pen(alloc, room, Shape::Arc, true, run, sink),
-            Opcode::SetArcOutlined => self.shape_from_point(
-                alloc,
-                room,
-                Shape::Arc,
-                false,
-                run,
-                sink,
-            ),
-            Opcode::SetArcFilled => self.shape_from_point(alloc, room, Shape::Arc, true, run, sink),
-            Opcode::PolyOutlined => self.shape_from_pen(alloc, room, Shape::Poly, false, run, sink),
-            Opcode::PolyFilled => self.shape_from_pen(alloc, room, Shape::Poly, true, run, sink),
-            Opcode::SetPolyOutlined => self.shape_from_point(
-                alloc,
-                room,
-                Shape::Poly,
-                false,
-                run,
-                sink,
-            ),
-            Opcode::SetPolyFilled => self.shape_from_point(
-                alloc,
-                room,
-                Shape::Poly,
-                true,
-                run,
-                sink,
-            ),
+            Opcode::ArcOutlined => self.shape_from_pen(alloc, room, Arc, false, run, sink),
+            Opcode::ArcFilled => self.shape_from_pen(alloc, room, Arc, true, run, sink),
+            Opcode::SetArcOutlined => self.shape_from_point(alloc, room, Arc, false, run, sink),
+            Opcode::SetArcFilled => self.shape_from_point(alloc, room, Arc, true, run, sink),
+            Opcode::PolyOutlined => self.shape_from_pen(alloc, room, Poly, false, run, sink),
+            Opcode::PolyFilled => self.shape_from_pen(alloc, room, Poly, true, run, sink),
+            Opcode::SetPolyOutlined => self.shape_from_point(alloc, room, Poly, false, run, sink),
+            Opcode::SetPolyFilled => self.shape_from_point(alloc, room, Poly, true, run, sink),
             Opcode::Field => self.field(run, sink),
             Opcode::SetColor => self.set_color(run, sink),
             Opcode::SelectColor => self.select_color(run),
