@@ -1,16 +1,18 @@
-use Rattle.std.proofs.Common.{ℕ, ◌≡◌, ◌≢◌, [], ◌∷◌, Some, refl, ◌⊎◌, inl, inr}
+use Rattle.std.proofs.Common.{ℕ, ◌≡◌, ◌≢◌, [], ◌∷◌, Option, Some, None, refl, ◌⊎◌, inl, inr}
 use Rattle.std.proofs.lemmas.Bool.{ne_eqb}
 use Rattle.nap_codes.specs.declared.code.Code.{Code}
 use Rattle.nap_codes.specs.declared.code.Code.TheVariants as codes
 use Rattle.nap_codes.specs.declared.code.Step.TheVariants as steps
 use Rattle.nap_codes.specs.declared.code_set.CodeSets.{CodeSets}
+use Rattle.nap_codes.specs.declared.control.Row.{Row}
 use Rattle.nap_codes.specs.declared.control.Row.TheVariants.{Whole}
 use Rattle.nap_codes.specs.declared.control.TextStep.{TextStep}
 use Rattle.nap_codes.specs.CodeSets.{after_control0}
 use Rattle.nap_codes.specs.Front.{whole, control0_front, front}
 use Rattle.nap_codes.specs.Lexer.{LexerState, Steps}
-use Rattle.nap_codes.specs.Tables.{row_of, control0_rows}
-use Rattle.nap_codes.proofs.TableLemmas.{shift_out_row, shift_in_row}
+use Rattle.nap_codes.specs.Tables.{row_of, control0_rows, step_in}
+use Rattle.nap_codes.specs.Laws.{FormatEffectorFront}
+use Rattle.nap_codes.proofs.TableLemmas.{control0_below, shift_out_row, shift_in_row}
 
 -- Controls of the C0 set that are whole codes by themselves.
 
@@ -31,6 +33,17 @@ pub format_effector_alone : (sets : CodeSets) (byte : ℕ) (step : TextStep) →
     front sets (byte ∷ []) ≡ whole (codes.Step step) 1 sets
 unfolding front control0_front
 format_effector_alone sets byte step row = rw (row, no_shift_after sets byte (codes.Step step) row (λ is. cc)) refl
+
+-- the row of a format effector
+effector_row : (row : Option Row) (step : TextStep) → step_in row ≡ Some step → row ≡ Some (Whole (codes.Step step))
+effector_row (Some (Whole (codes.Step move))) step is = let same : move ≡ step = cc in rw same refl
+effector_row None step is = let bad : ⊥ = cc in absurd bad
+effector_row _ step is = let bad : ⊥ = cc in absurd bad
+
+pub format_effector_front : FormatEffectorFront
+format_effector_front byte step is =
+    let row = effector_row (row_of control0_rows byte) step is in
+    (control0_below byte (Whole (codes.Step step)) row, λ sets. format_effector_alone sets byte step row)
 
 -- SO or SI stands at the front as a shift
 shift_front : (sets : CodeSets) (byte : ℕ) → (byte ≡ 0x0E) ⊎ (byte ≡ 0x0F) → front sets (byte ∷ []) ≡ whole codes.Shifted 1 (after_control0 sets byte)

@@ -1,10 +1,11 @@
-use Rattle.nap_codes.specs.Laws.{WholeStays, RefusedStays, WholeLength, RefusedIndex, WholeTaken, RefusedTaken, EarlierUnfinished, UnfinishedBefore, CodeRanges, OneByteOpcode, OneByteOperand}
+use Rattle.nap_codes.specs.Laws.{WholeStays, RefusedStays, WholeLength, RefusedIndex, WholeTaken, RefusedTaken, EarlierUnfinished, UnfinishedBefore, CodeRanges, OneByteOpcode, OneByteOperand, FormatEffectorFront}
 use Rattle.nap_codes.specs.SpellingLaws.{WholeIsSpelled, RefusedIsSpelled, UnfinishedIsPrefix}
 use Rattle.nap_codes.specs.Lexed.{StepsAreLexed}
 use Rattle.nap_codes.proofs.FrontLaws as fronts
 use Rattle.nap_codes.proofs.SpellingLaws as spellings
 use Rattle.nap_codes.proofs.CodeRanges as ranges
 use Rattle.nap_codes.proofs.LexedLemmas as steps
+use Rattle.nap_codes.proofs.ControlLemmas as controls
 
 -- The laws that crates above cite.
 
@@ -52,3 +53,6 @@ one_byte_operand = ranges.one_byte_operand
 
 pub steps_are_lexed : StepsAreLexed
 steps_are_lexed = steps.steps_are_lexed
+
+pub format_effector_front : FormatEffectorFront
+format_effector_front = controls.format_effector_front

@@ -40,6 +40,11 @@ pub no_control0 : (byte : ℕ) → 0x20 ≤ byte → row_of control0_rows byte �
 unfolding control0_rows
 no_control0 byte least = no_row (λ key. key < 0x20) control0_rows byte (omega arith) (λ below. omega arith)
 
+-- A control of the C0 set is below 20.
+pub control0_below : (byte : ℕ) (row : Row) → row_of control0_rows byte ≡ Some row → byte < 0x20
+unfolding control0_rows
+control0_below byte row is = row_found (λ key _. key < 0x20) control0_rows byte row (omega arith) is
+
 -- No control of the C1 set stands below 40.
 pub no_control1 : (byte : ℕ) → byte < 0x40 → row_of control1_rows byte ≡ None
 unfolding control1_rows

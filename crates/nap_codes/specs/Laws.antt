@@ -1,11 +1,12 @@
-use Rattle.std.specs.Prelude.{ℕ, suc, ◌≡◌, ◌<◌, ◌≤◌, List, ◌++◌, length, take, None}
+use Rattle.std.specs.Prelude.{ℕ, suc, ◌≡◌, ◌<◌, ◌≤◌, List, [], ◌∷◌, ◌++◌, length, take, Some, None}
 use Rattle.nap_codes.specs.declared.code.Code.{Code}
 use Rattle.nap_codes.specs.declared.code.Code.TheVariants as codes
 use Rattle.nap_codes.specs.declared.code.CodeFault.{CodeFault}
 use Rattle.nap_codes.specs.declared.code_set.CodeSets.{CodeSets}
+use Rattle.nap_codes.specs.declared.control.TextStep.{TextStep}
 use Rattle.nap_codes.specs.declared.control.TextStep.TheVariants.{Aps}
 use Rattle.nap_codes.specs.declared.opcode.Opcode.{Opcode}
-use Rattle.nap_codes.specs.Tables.{left_out_opcode}
+use Rattle.nap_codes.specs.Tables.{left_out_opcode, format_effector}
 use Rattle.nap_codes.specs.Front.{unfinished, whole, refused, front}
 
 -- A code stays at the front where more bytes come.
@@ -79,3 +80,8 @@ OneByteOpcode = (sets : CodeSets) (xs : List ℕ) (op : Opcode) (n : ℕ) (after
 abbrev pub OneByteOperand : Type 0
 OneByteOperand = (sets : CodeSets) (xs : List ℕ) (word : ℕ) (n : ℕ) (after : CodeSets) →
     front sets xs ≡ whole (codes.Operand word) n after → (n ≡ 1) × (after ≡ sets)
+
+-- A format effector is below the codes of the G sets. By itself it stands at the front as that move, and leaves the code sets.
+abbrev pub FormatEffectorFront : Type 0
+FormatEffectorFront = (byte : ℕ) (step : TextStep) → format_effector byte ≡ Some step →
+    (byte < 0x20) × ((sets : CodeSets) → front sets (byte ∷ []) ≡ whole (codes.Step step) 1 sets)

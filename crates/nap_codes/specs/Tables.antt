@@ -8,6 +8,7 @@ use Rattle.nap_codes.specs.declared.control.Mask.TheVariants as masks
 use Rattle.nap_codes.specs.declared.control.Row.{Row}
 use Rattle.nap_codes.specs.declared.control.Row.TheVariants.{Whole, More, Out}
 use Rattle.nap_codes.specs.declared.control.Size.TheVariants as sizes
+use Rattle.nap_codes.specs.declared.control.TextStep.{TextStep}
 use Rattle.nap_codes.specs.declared.control.TextStep.TheVariants as steps
 use Rattle.nap_codes.specs.declared.opcode.Left.{Left}
 use Rattle.nap_codes.specs.declared.opcode.Left.TheVariants as lefts
@@ -82,6 +83,15 @@ control0_rows =
     ∷ (0x1E, Whole (codes.Step steps.Aph))
     ∷ (0x1F, Out lefts.Nsr)
     ∷ []
+
+-- the move of the active position that a row is
+abbrev pub step_in : Option Row → Option TextStep
+step_in (Some (Whole (codes.Step step))) = Some step
+step_in _ = None
+
+-- the move of the active position that a byte is by itself (format effectors of the C0 set); APS, which has two further bytes, is none
+abbrev pub format_effector : ℕ → Option TextStep
+format_effector byte = step_in (row_of control0_rows byte)
 
 -- the C1 set, by the byte after ESC
 unfoldable pub control1_rows : List (ℕ × Row)

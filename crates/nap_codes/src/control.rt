@@ -2,7 +2,7 @@
 
 ghost use Rattle.std.specs.Prelude.{◌≡◌};
 ghost use Rattle.nap_codes.specs.Front.{argument_of, with_argument};
-ghost use Rattle.nap_codes.specs.Tables.{control0_rows, control1_rows, row_of};
+ghost use Rattle.nap_codes.specs.Tables.{control0_rows, control1_rows, format_effector, row_of};
 
 use crate::code::Code;
 use crate::opcode::Left;
@@ -155,6 +155,18 @@ pub fn control0(byte: u8) -> Option<Row>
         _ => return None,
     };
     Some(row)
+}
+
+/// The move of the active position that the byte is by itself, where it is one (format effectors of the C0 set). APS, which
+/// has two further bytes, is none.
+#[inline]
+pub fn format_effector(byte: u8) -> Option<TextStep>
+    ensures { result ≡ format_effector byte }
+{
+    match control0(byte) {
+        Some(Row::Whole(Code::Step(step))) => Some(step),
+        _ => None,
+    }
 }
 
 /// The row of the C1 set at this byte behind ESC, None outside `40` to `5F`.

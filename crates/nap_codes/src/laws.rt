@@ -1,6 +1,6 @@
 //! What holds of the definitions. Each function's contract is a law; the functions do nothing.
 
-ghost use Rattle.nap_codes.specs.Laws.{CodeRanges, EarlierUnfinished, OneByteOpcode, OneByteOperand, RefusedIndex, RefusedStays, RefusedTaken, UnfinishedBefore, WholeLength, WholeStays, WholeTaken};
+ghost use Rattle.nap_codes.specs.Laws.{CodeRanges, EarlierUnfinished, FormatEffectorFront, OneByteOpcode, OneByteOperand, RefusedIndex, RefusedStays, RefusedTaken, UnfinishedBefore, WholeLength, WholeStays, WholeTaken};
 ghost use Rattle.nap_codes.specs.Lexed.{StepsAreLexed};
 ghost use Rattle.nap_codes.specs.SpellingLaws.{RefusedIsSpelled, UnfinishedIsPrefix, WholeIsSpelled};
 
@@ -45,4 +45,9 @@ pub fn one_byte_of_pdi()
 /// The steps of a lexer at rest give the codes of the bytes, one after another, whatever pieces they come in.
 pub fn steps_are_lexed()
     ensures { StepsAreLexed }
+{}
+
+/// A format effector is below the codes of the G sets, and a code by itself.
+pub fn format_effector_alone()
+    ensures { FormatEffectorFront }
 {}

@@ -1,9 +1,16 @@
-use Rattle.std.proofs.Common.{ℕ, zero, suc, ◌≡◌, ◌+◌, ◌-◌, ◌<◌, ◌≤◌, List, [], ◌∷◌, ◌++◌, Some, map, take, drop, length, get_or, refl, sym, ◌∙◌, ap, subst, length-drop, arith}
+use Rattle.std.proofs.Common.{ℕ, zero, suc, ◌≡◌, ◌+◌, ◌-◌, ◌<◌, ◌≤◌, List, [], ◌∷◌, ◌++◌, Option, Some, None, map, take, drop, length, get_or, refl, sym, ◌∙◌, ap, subst, length-drop, arith}
 use Rattle.std.specs.Prelude.{⊤}
 use Rattle.std.proofs.Math.Seq.{drop-nil}
 use Rattle.std.proofs.lemmas.List.{drop-drop}
 use Rattle.nap_values.specs.Coordinates.{Coordinates}
 use Rattle.nap_codes.specs.declared.code_set.CharSet.{CharSet}
+use Rattle.nap_codes.specs.declared.control.TextStep.{TextStep}
+use Rattle.nap_codes.specs.declared.control.TextStep.TheVariants as steps
+use Rattle.nap_codes.specs.declared.code.Code.TheVariants as codes
+use Rattle.nap_codes.specs.CodeSets.{start_sets}
+use Rattle.nap_codes.specs.Laws.{IsInRange}
+use Rattle.nap_codes.specs.Tables.{format_effector}
+use Rattle.nap_codes.proofs.PublicLaws.{code_ranges, format_effector_front}
 use Rattle.nap_list.specs.declared.attribute.Base.{Base}
 use Rattle.nap_list.specs.declared.attribute.Colour.{Colour}
 use Rattle.nap_list.specs.declared.attribute.Colour.TheVariants as colours
@@ -17,10 +24,10 @@ use Rattle.nap_list.specs.declared.entry.Entry.TheVariants as entries
 use Rattle.nap_list.specs.declared.state.Drawing.{Drawing}
 use Rattle.nap_list.specs.declared.state.State.{State}
 use Rattle.nap_list.specs.Agreement.{Stands}
-use Rattle.nap_list.specs.Entry.{held}
-use Rattle.nap_list.specs.Laws.{BatchStands, TextLeaves}
-use Rattle.nap_list.specs.State.{after, walk, taking, hand_of, base_shown}
-use Rattle.nap_list.specs.Batches.{EachStands, marked, point_on, line_on, char_on, lines_on, text_in, listed, last_of}
+use Rattle.nap_list.specs.Entry.{held, StepMade, WellMade}
+use Rattle.nap_list.specs.Laws.{BatchStands, TextLeaves, TypedMade}
+use Rattle.nap_list.specs.State.{after, start_drawing, walk, taking, last_after, hand_of, with_pen, base_shown}
+use Rattle.nap_list.specs.Batches.{EachStands, marked, point_on, line_on, typed_on, lines_on, text_in, typed, typed_as, last_typed, listed, last_of}
 use Rattle.nap_list.specs.BatchLaws.{points_rest, lines_rest}
 use Rattle.nap_list.proofs.Agreement.{taking_stands}
 
@@ -54,14 +61,48 @@ lines_chain First d from first (p ∷ ps) =
     let next : (q : Coordinates) → Next (line_on d from p) (line_on d p q) = λ q s. record { holds = record { pen = tt; pel = refl; colour = refl; texture = refl; text = tt }; base = colour_stays s.drawing.base d.colour } in
     (first p, λ s. refl, lines_chain (Next (line_on d from p)) d p next ps)
 
--- a character behind another
-next_char : (set : CharSet) (hand : Hand) (a b : ℕ) → Next (entries.Char set a hand) (entries.Char set b (record hand { pen = After }))
-next_char set hand a b s = record { holds = record { pen = refl; pel = tt; colour = refl; texture = tt; text = refl }; base = colour_stays s.drawing.base hand.colour }
+-- a character or a move behind another
+next_typed : (set : CharSet) (hand : Hand) (a b : ℕ) → Next (typed set hand a) (typed set (record hand { pen = After }) b)
+next_typed set hand a b s = by (format_effector a) (format_effector b)
+  where
+    by : (first second : Option TextStep) → Stands (held (typed_as second set (record hand { pen = After }) b)) (after s (typed_as first set hand a)).drawing
+    by (Some step) (Some move) = record { holds = record { pen = refl; pel = tt; colour = refl; texture = tt; text = refl }; base = colour_stays s.drawing.base hand.colour }
+    by (Some step) None = record { holds = record { pen = refl; pel = tt; colour = refl; texture = tt; text = refl }; base = colour_stays s.drawing.base hand.colour }
+    by None (Some move) = record { holds = record { pen = refl; pel = tt; colour = refl; texture = tt; text = refl }; base = colour_stays s.drawing.base hand.colour }
+    by None None = record { holds = record { pen = refl; pel = tt; colour = refl; texture = tt; text = refl }; base = colour_stays s.drawing.base hand.colour }
 
-text_chain : (First : Entry → Type 0) (set : CharSet) (hand : Hand) → ((code : ℕ) → First (entries.Char set code hand)) → (codes : List ℕ) → Chain First (text_in set hand codes)
+-- what one leaves
+typed_marks : (set : CharSet) (hand : Hand) (code : ℕ) (s : State) → after s (typed set hand code) ≡ marked s (typed set hand code) (taking s.drawing (held (typed set hand code)))
+typed_marks set hand code s = by (format_effector code)
+  where
+    by : (step : Option TextStep) → after s (typed_as step set hand code) ≡ marked s (typed_as step set hand code) (taking s.drawing (held (typed_as step set hand code)))
+    by (Some step) = refl
+    by None = refl
+
+-- it leaves the pen as text does, and the last character where it is one
+pub typed_mark : (set : CharSet) (hand : Hand) (code : ℕ) (s : State) → record s { drawing = with_pen After s.drawing; last = last_typed set code } ≡ marked s (typed set hand code) s.drawing
+typed_mark set hand code s = by (format_effector code)
+  where
+    by : (step : Option TextStep) → record s { drawing = with_pen After s.drawing; last = last_after (typed_as step set (hand_of start_drawing) code) } ≡ marked s (typed_as step set hand code) s.drawing
+    by (Some step) = refl
+    by None = refl
+
+-- what a byte draws is well made: a move of one byte has no bytes of its own
+step_made : (step : TextStep) → IsInRange (codes.Step step) → StepMade step
+step_made (steps.Aps a b) range = ((range.0.0, omega (arith, range.0.1)), (range.1.0, omega (arith, range.1.1)))
+step_made _ range = tt
+
+pub typed_made : TypedMade
+typed_made set hand code typed = by (format_effector code) refl
+  where
+    by : (step : Option TextStep) → format_effector code ≡ step → WellMade (typed_as step set hand code)
+    by (Some step) is = step_made step (code_ranges start_sets (code ∷ []) (codes.Step step) 1 start_sets ((format_effector_front code step is).1 start_sets))
+    by None is = typed is
+
+text_chain : (First : Entry → Type 0) (set : CharSet) (hand : Hand) → ((code : ℕ) → First (typed set hand code)) → (codes : List ℕ) → Chain First (text_in set hand codes)
 unfolding Chain text_in
 text_chain First set hand first [] = tt
-text_chain First set hand first (c ∷ cs) = (first c, λ s. refl, text_chain (Next (entries.Char set c hand)) set (record hand { pen = After }) (next_char set hand c) cs)
+text_chain First set hand first (c ∷ cs) = (first c, typed_marks set hand c, text_chain (Next (typed set hand c)) set (record hand { pen = After }) (next_typed set hand c) cs)
 
 batch_chain : (b : Batch) → Chain (λ e. ⊤) (listed b)
 batch_chain (batches.Points points d) = points_chain (λ e. ⊤) d.now (λ p. tt) points.now
@@ -121,16 +162,26 @@ front_passes s t b n count e es less further all leaves =
             leaves x xs is
             ∙ sym (chain_passes (after s e) (Next e) es zero n x xs chain.2 (batch_stands b s e es all) is ∙ ap (λ (t : State). marked t x t.drawing) (chain.1 s))
 
+-- the last is drawn behind another as in the first hand
+abbrev Again : CharSet → ℕ → State → Hand → ℕ → Option TextStep → Option TextStep → Type 0
+Again set last s hand c first second =
+    Stands (held (typed_as second set (record hand { pen = After }) last)) (after s (typed_as first set hand c)).drawing →
+    after (after s (typed_as first set hand c)) (typed_as second set (record hand { pen = After }) last) ≡ after s (typed_as second set hand last)
+
 pub text_leaves : TextLeaves
 unfolding walk text_in
 text_leaves s set hand codes front last is = ap (λ (cs : List ℕ). walk s (text_in set hand cs)) is ∙ along s hand front
   where
-    along : (s : State) (hand : Hand) (front : List ℕ) → walk s (text_in set hand (front ++ last ∷ [])) ≡ after s (entries.Char set last hand)
+    again : (s : State) (hand : Hand) (c : ℕ) (first second : Option TextStep) → Again set last s hand c first second
+    again s hand c (Some step) (Some move) stands = ap (marked (after s (entries.TextMove step hand)) (entries.TextMove move (record hand { pen = After }))) (taking_stands _ _ stands)
+    again s hand c (Some step) None stands = ap (marked (after s (entries.TextMove step hand)) (entries.Char set last (record hand { pen = After }))) (taking_stands _ _ stands)
+    again s hand c None (Some move) stands = ap (marked (after s (entries.Char set c hand)) (entries.TextMove move (record hand { pen = After }))) (taking_stands _ _ stands)
+    again s hand c None None stands = ap (marked (after s (entries.Char set c hand)) (entries.Char set last (record hand { pen = After }))) (taking_stands _ _ stands)
+
+    along : (s : State) (hand : Hand) (front : List ℕ) → walk s (text_in set hand (front ++ last ∷ [])) ≡ after s (typed set hand last)
     along s hand [] = refl
     along s hand (c ∷ cs) =
-        let t = after s (entries.Char set c hand) in
-        let x = entries.Char set last (record hand { pen = After }) in
-        along t (record hand { pen = After }) cs ∙ ap (marked t x) (taking_stands (held x) t.drawing (next_char set hand c last s))
+        along (after s (typed set hand c)) (record hand { pen = After }) cs ∙ again s hand c (format_effector c) (format_effector last) (next_typed set hand c last s)
 
 -- the one at an index, with those behind it
 
@@ -150,14 +201,14 @@ lines_at b from points d n p ps is cut =
     behind (listed b) n (line_on d.now start p) (lines_on d.now p ps) (rw is (sym (lines_rest d.now from points.now n) ∙ ap (lines_on d.now start) cut))
 
 pub text_at : (b : Batch) (set : _) (codes : _) (first : Pen) (d : _) (n : ℕ) (pen : Pen) (c : ℕ) (cs : List ℕ) → b ≡ batches.Text set codes first d →
-    (n ≡ 0 → pen ≡ first) → (0 < n → pen ≡ After) → drop n codes.now ≡ c ∷ cs → drop n (listed b) ≡ char_on d.now pen set c ∷ drop (n + 1) (listed b)
+    (n ≡ 0 → pen ≡ first) → (0 < n → pen ≡ After) → drop n codes.now ≡ c ∷ cs → drop n (listed b) ≡ typed_on d.now pen set c ∷ drop (n + 1) (listed b)
 unfolding text_in
 text_at b set codes first d n pen c cs is front later cut =
     let hand : Hand = hand_of d.now in
-    behind (listed b) n (char_on d.now pen set c) (text_in set (record hand { pen = After }) cs) (rw is (at (record hand { pen = first }) codes.now n front later cut))
+    behind (listed b) n (typed_on d.now pen set c) (text_in set (record hand { pen = After }) cs) (rw is (at (record hand { pen = first }) codes.now n front later cut))
   where
     at : (hand : Hand) (codes : List ℕ) (n : ℕ) → (n ≡ 0 → pen ≡ hand.pen) → (0 < n → pen ≡ After) → drop n codes ≡ c ∷ cs →
-        drop n (text_in set hand codes) ≡ entries.Char set c (record hand { pen = pen }) ∷ text_in set (record hand { pen = After }) cs
+        drop n (text_in set hand codes) ≡ typed set (record hand { pen = pen }) c ∷ text_in set (record hand { pen = After }) cs
     at hand codes zero front later cut = rw (cut, front refl) refl
     at hand [] (suc n) front later cut = let bad : ⊥ = cc in absurd bad
     at hand (a ∷ rest) (suc n) front later cut = let on = later (omega arith) in at (record hand { pen = After }) rest n (λ _. on) (λ _. on) cut

@@ -1,5 +1,5 @@
 use Rattle.nap_list.specs.Agreement.{AgreeingFits}
-use Rattle.nap_list.specs.Laws.{WalksJoin, FitsJoin, StartAgrees, TakingNothing, LegalNeverBreaks, BatchStands, TextLeaves}
+use Rattle.nap_list.specs.Laws.{WalksJoin, FitsJoin, StartAgrees, TakingNothing, LegalNeverBreaks, BatchStands, TextLeaves, TypedMade}
 use Rattle.nap_list.specs.Walks as walks
 use Rattle.nap_list.proofs.Agreement as agreement
 use Rattle.nap_list.proofs.Breaks as breaks
@@ -30,3 +30,6 @@ batch_stands = batches.batch_stands
 
 pub text_leaves : TextLeaves
 text_leaves = batches.text_leaves
+
+pub typed_made : TypedMade
+typed_made = batches.typed_made

@@ -10,7 +10,7 @@ use Rattle.nap_list.specs.declared.batch.Batch.TheVariants as batches
 use Rattle.nap_list.specs.declared.entry.Entry.TheVariants as entries
 use Rattle.nap_list.specs.declared.state.Drawing.{Drawing}
 use Rattle.nap_list.specs.State.{hand_of}
-use Rattle.nap_list.specs.Batches.{point_on, line_on, lines_on, text_in, listed, last_of}
+use Rattle.nap_list.specs.Batches.{point_on, line_on, lines_on, text_in, typed, listed, last_of}
 
 -- Laws of the entries of a batch: how many they are, and their parts.
 
@@ -50,7 +50,7 @@ pub text_front : (set : CharSet) (hand : Hand) (codes : List ℕ) (n : ℕ) → 
 unfolding text_in
 text_front set hand codes zero = refl
 text_front set hand [] (suc n) = refl
-text_front set hand (c ∷ cs) (suc n) = ap (λ list. entries.Char set c hand ∷ list) (text_front set (record hand { pen = After }) cs n)
+text_front set hand (c ∷ cs) (suc n) = ap (λ list. typed set hand c ∷ list) (text_front set (record hand { pen = After }) cs n)
 
 pub points_rest : (d : Drawing) (points : List Coordinates) (n : ℕ) → map (point_on d) (drop n points) ≡ drop n (map (point_on d) points)
 points_rest d points n = sym (drop-map (point_on d) n points)

@@ -1,6 +1,8 @@
-use Rattle.std.specs.Prelude.{ℕ, List, [], ◌∷◌, map, ⊤}
+use Rattle.std.specs.Prelude.{ℕ, List, [], ◌∷◌, map, Option, Some, None, ◌≡◌, ⊤}
 use Rattle.nap_values.specs.Coordinates.{Coordinates}
 use Rattle.nap_codes.specs.declared.code_set.CharSet.{CharSet}
+use Rattle.nap_codes.specs.declared.control.TextStep.{TextStep}
+use Rattle.nap_codes.specs.Tables.{format_effector}
 use Rattle.nap_list.specs.declared.attribute.Hand.{Hand}
 use Rattle.nap_list.specs.declared.attribute.Pen.{Pen}
 use Rattle.nap_list.specs.declared.attribute.Pen.TheVariants.{After}
@@ -9,10 +11,11 @@ use Rattle.nap_list.specs.declared.batch.Batch.TheVariants as batches
 use Rattle.nap_list.specs.declared.entry.Entry.{Entry}
 use Rattle.nap_list.specs.declared.entry.Entry.TheVariants as entries
 use Rattle.nap_list.specs.declared.state.Drawing.{Drawing}
+use Rattle.nap_list.specs.declared.state.LastChar.{LastChar}
 use Rattle.nap_list.specs.declared.state.State.{State}
 use Rattle.nap_list.specs.Agreement.{Stands}
-use Rattle.nap_list.specs.Entry.{held, point_values, ink_values, hand_values}
-use Rattle.nap_list.specs.State.{after, start, last_after, with_pen, ink_of, hand_of}
+use Rattle.nap_list.specs.Entry.{IsCode, held, point_values, ink_values, hand_values}
+use Rattle.nap_list.specs.State.{after, start, start_drawing, last_after, with_pen, ink_of, hand_of}
 
 -- The entries of a batch.
 
@@ -24,21 +27,37 @@ point_on d at = entries.Point at d.pel d.colour
 abbrev pub line_on : Drawing → Coordinates → Coordinates → Entry
 line_on d from to = entries.Line from to (ink_of d)
 
--- a character at this pen, with the values that stand
-abbrev pub char_on : Drawing → Pen → CharSet → ℕ → Entry
-char_on d pen set code = entries.Char set code (record (hand_of d) { pen = pen })
+-- what a byte of a text draws in this hand: the move that it is by itself, or else the character of the set
+abbrev pub typed_as : Option TextStep → CharSet → Hand → ℕ → Entry
+typed_as (Some step) set hand code = entries.TextMove step hand
+typed_as None set hand code = entries.Char set code hand
+
+abbrev pub typed : CharSet → Hand → ℕ → Entry
+typed set hand code = typed_as (format_effector code) set hand code
+
+-- the same at this pen, with the values that stand
+abbrev pub typed_on : Drawing → Pen → CharSet → ℕ → Entry
+typed_on d pen set code = typed set (record (hand_of d) { pen = pen }) code
+
+-- a byte of a text: a move by itself, or a code of a set
+abbrev pub IsTyped : ℕ → Type 0
+IsTyped code = format_effector code ≡ None → IsCode code
+
+-- the character that a byte of a text leaves as the last: none behind a move
+abbrev pub last_typed : CharSet → ℕ → Option LastChar
+last_typed set code = last_after (typed set (hand_of start_drawing) code)
 
 -- lines with the values that stand, from this point to the first, and on from each to the next
 unfoldable pub lines_on : Drawing → Coordinates → List Coordinates → List Entry
 lines_on d p [] = []
 lines_on d p (q ∷ qs) = entries.Line p q (ink_of d) ∷ lines_on d q qs
 
--- the characters of a text: the first in this hand, each further one with the pen as the one before leaves it
+-- the characters of a text and the moves among them: the first in this hand, each further one with the pen as the one before leaves it
 unfoldable pub text_in : CharSet → Hand → List ℕ → List Entry
 text_in set hand [] = []
-text_in set hand (code ∷ codes) = entries.Char set code hand ∷ text_in set (record hand { pen = After }) codes
+text_in set hand (code ∷ codes) = typed set hand code ∷ text_in set (record hand { pen = After }) codes
 
--- the characters of a text that begins at this pen, with the values that stand
+-- a text that begins at this pen, with the values that stand
 abbrev pub text_on : Drawing → Pen → CharSet → List ℕ → List Entry
 text_on d pen set codes = text_in set (record (hand_of d) { pen = pen }) codes
 

@@ -2,12 +2,12 @@ use Rattle.std.specs.Prelude.{ℕ, ◌≡◌, ◌↔◌, List, [], ◌∷◌, �
 use Rattle.nap_codes.specs.declared.code_set.CharSet.{CharSet}
 use Rattle.nap_list.specs.declared.attribute.Hand.{Hand}
 use Rattle.nap_list.specs.declared.entry.Entry.{Entry}
-use Rattle.nap_list.specs.declared.entry.Entry.TheVariants.{Char}
 use Rattle.nap_list.specs.declared.state.State.{State}
 use Rattle.nap_list.specs.declared.attribute.Held.{Held}
 use Rattle.nap_list.specs.declared.state.Drawing.{Drawing}
 use Rattle.nap_list.specs.declared.batch.Batch.{Batch}
-use Rattle.nap_list.specs.Batches.{EachStands, listed, text_in}
+use Rattle.nap_list.specs.Entry.{WellMade}
+use Rattle.nap_list.specs.Batches.{EachStands, IsTyped, listed, text_in, typed}
 use Rattle.nap_list.specs.State.{start, taking, after, walk, AllFit, Legal, BreaksAt}
 use Rattle.nap_list.specs.Agreement.{InMode, StatesAgree, Holds}
 
@@ -35,7 +35,11 @@ LegalNeverBreaks = (es : List Entry) (index : ℕ) → Legal es → BreaksAt ind
 abbrev pub BatchStands : Type 0
 BatchStands = (batch : Batch) (s : State) (e : Entry) (es : List Entry) → listed batch ≡ e ∷ es → EachStands (after s e) es
 
--- a text leaves what its last character leaves in the hand of the first
+-- a text leaves what its last byte leaves in the hand of the first
 abbrev pub TextLeaves : Type 0
 TextLeaves = (s : State) (set : CharSet) (hand : Hand) (codes front : List ℕ) (last : ℕ) → codes ≡ front ++ last ∷ [] →
-    walk s (text_in set hand codes) ≡ after s (Char set last hand)
+    walk s (text_in set hand codes) ≡ after s (typed set hand last)
+
+-- what a byte of a text draws is well made
+abbrev pub TypedMade : Type 0
+TypedMade = (set : CharSet) (hand : Hand) (code : ℕ) → IsTyped code → WellMade (typed set hand code)

@@ -3,13 +3,13 @@
 
 ghost use Rattle.std.specs.Prelude.{◌≡◌, ◌↔◌, ◌<◌, ◌≤◌, ◌+◌, List, [], ◌∷◌, IsTrue, length, take, drop};
 ghost use Rattle.nap_list.specs.declared.entry.Entry.{Entry};
-ghost use Rattle.nap_list.specs.Batches.{EachStands, FirstStands, last_of, listed, marked};
+ghost use Rattle.nap_list.specs.Batches.{EachStands, FirstStands, last_of, last_typed, listed, marked, typed};
 ghost use Rattle.nap_list.specs.State.{walk};
 
 use crate::attribute::{Hand, Pen};
 use crate::entry::Entry;
 use crate::state::{Drawing, LastChar, State};
-use nap_codes::CharSet;
+use nap_codes::{CharSet, format_effector};
 use nap_values::Point;
 
 /// Entries of one kind, one behind another, that are drawn with the same values.
@@ -26,7 +26,8 @@ pub enum Batch<'a> {
         points: &'a [Point],
         drawing: &'a Drawing,
     },
-    /// The characters of a text: the first at this pen, each further one with the pen as text leaves it.
+    /// The characters of a text, and the format effectors of one byte among them: the first at this pen, each further one
+    /// with the pen as text leaves it.
     Text {
         set: CharSet,
         codes: &'a [u8],
@@ -107,16 +108,38 @@ impl<'a> Batch<'a> {
                 codes,
                 pen,
                 drawing,
-            } => Entry::Char {
-                set: *set,
-                code: item(codes, index),
-                hand: Hand {
-                    pen: if index == 0 { *pen } else { Pen::After },
+            } => {
+                let pen = if index == 0 { *pen } else { Pen::After };
+                let hand = Hand {
+                    pen,
                     colour: drawing.colour,
                     text: drawing.text,
-                },
-            },
+                };
+                typed(*set, hand, item(codes, index))
+            }
         }
+    }
+}
+
+/// What a byte of a text draws in a hand: the move that it is by itself, or else the character of the set.
+#[inline(always)]
+fn typed(set: CharSet, hand: Hand, code: u8) -> Entry
+    ensures { result ≡ typed set hand code }
+{
+    match format_effector(code) {
+        Some(step) => Entry::TextMove { step, hand },
+        None => Entry::Char { set, code, hand },
+    }
+}
+
+/// The character that a byte of a text leaves as the last: none behind a move.
+#[inline(always)]
+pub fn last_typed(set: CharSet, code: u8) -> Option<LastChar>
+    ensures { result ≡ last_typed set code }
+{
+    match format_effector(code) {
+        Some(_) => None,
+        None => Some(LastChar { set, code }),
     }
 }
 
@@ -157,7 +180,7 @@ impl State {
             Batch::Text { set, codes, .. } => {
                 let code = item(codes, index);
                 self.drawing.pen = Pen::After;
-                self.last = Some(LastChar { set: *set, code });
+                self.last = last_typed(*set, code);
             }
         }
     }

@@ -1,6 +1,6 @@
 //! Laws of states, walks and legal lists, as contracts of functions that do nothing.
 ghost use Rattle.std.specs.Prelude.{◌≡◌};
-ghost use Rattle.nap_list.specs.Laws.{WalksJoin, FitsJoin, StartAgrees, TakingNothing, LegalNeverBreaks, BatchStands, TextLeaves};
+ghost use Rattle.nap_list.specs.Laws.{WalksJoin, FitsJoin, StartAgrees, TakingNothing, LegalNeverBreaks, BatchStands, TextLeaves, TypedMade};
 ghost use Rattle.nap_list.specs.Agreement.{AgreeingFits};
 ghost use Rattle.nap_list.specs.Limits.{points_limit, reads_limit, known_limit};
 ghost use Rattle.nap_list.specs.declared.device.TheConstants.{READS};
@@ -47,7 +47,7 @@ pub fn batch_stands()
     ensures { BatchStands }
 {}
 
-/// A text leaves what its last character leaves in the hand of the first.
+/// A text leaves what its last byte leaves in the hand of the first.
 #[tactic(auto, using(crate::proofs::PublicLaws::text_leaves))]
 pub fn text_leaves()
     ensures { TextLeaves }
@@ -58,4 +58,9 @@ pub fn limits()
     ensures points { SHAPE_POINTS ≡ points_limit }
     ensures reads { READS ≡ reads_limit }
     ensures known { KNOWN ≡ known_limit }
+{}
+
+/// What a byte of a text draws is well made.
+pub fn typed_is_made()
+    ensures { TypedMade }
 {}

@@ -17,7 +17,7 @@ mod state;
 pub use attribute::{
     Area, Base, CharSize, Colour, Hand, Held, Ink, Origin, Pen, Preset, TextLook, Texture,
 };
-pub use batch::{Batch, start_at};
+pub use batch::{Batch, last_typed, start_at};
 pub use count_sink::CountSink;
 pub use device::{DeviceFault, Inlet, Outlet, READS, Source, Target};
 pub use entry::Entry;

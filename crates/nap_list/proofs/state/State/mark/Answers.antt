@@ -1,8 +1,9 @@
-use Rattle.std.proofs.Common.{ℕ, zero, suc, ◌≡◌, ◌<◌, refl, inl, inr, arith}
+use Rattle.std.proofs.Common.{ℕ, zero, suc, ◌≡◌, ◌∙◌, ◌<◌, refl, inl, inr, arith}
 use Rattle.nap_list.specs.declared.attribute.Pen.{Pen}
 use Rattle.nap_list.specs.declared.attribute.Pen.TheVariants.{After}
+use Rattle.nap_list.specs.State.{hand_of}
 use Rattle.nap_list.specs.BatchLaws.{sized_points, sized_lines}
-use Rattle.nap_list.proofs.Batches.{points_at, lines_at, text_at, same_mark}
+use Rattle.nap_list.proofs.Batches.{points_at, lines_at, text_at, typed_mark, same_mark}
 use Rattle.nap_list.proofs.state.State.mark.Goals as goal
 
 pub item-requires : goal.item-requires
@@ -27,4 +28,5 @@ pen_at first (suc n) = (After, λ none. absurd (omega arith), λ some. refl)
 pub returns-in-Text : goal.returns-in-Text
 returns-in-Text c e es is =
     let pen = pen_at c.in-Text.pen c.args.index in
-    same_mark c.args.self.now _ _ e _ es (text_at _ _ _ _ _ _ pen.0 _ _ c.in-Text.is pen.1 pen.2 c.item-code.ensures) is
+    rw (c.last_typed-self.ensures) (typed_mark c.in-Text.set (record (hand_of c.in-Text.drawing.now) { pen = pen.0 }) c.item-code.result c.args.self.now
+    ∙ same_mark c.args.self.now _ _ e _ es (text_at _ _ _ _ _ _ pen.0 _ _ c.in-Text.is pen.1 pen.2 c.item-code.ensures) is)
