@@ -8,6 +8,7 @@ pub mod PublicLaws
 mod MaskLemmas
 mod SumLemmas
 mod PackedLemmas
+mod PackedColourLemmas
 mod MotionLemmas
 mod SignLemmas
 mod GatherLemmas
