@@ -11,8 +11,8 @@ use Rattle.nap_codes.specs.CodeSets.{after_control0}
 use Rattle.nap_codes.specs.Front.{whole, control0_front, front}
 use Rattle.nap_codes.specs.Lexer.{LexerState, Steps}
 use Rattle.nap_codes.specs.Tables.{row_of, control0_rows, step_in}
-use Rattle.nap_codes.specs.Laws.{FormatEffectorFront}
-use Rattle.nap_codes.proofs.TableLemmas.{control0_below, shift_out_row, shift_in_row}
+use Rattle.nap_codes.specs.Laws.{FormatEffectorFront, FormatEffectorKnown}
+use Rattle.nap_codes.proofs.TableLemmas.{control0_below, effector_known, shift_out_row, shift_in_row}
 
 -- Controls of the C0 set that are whole codes by themselves.
 
@@ -44,6 +44,9 @@ pub format_effector_front : FormatEffectorFront
 format_effector_front byte step is =
     let row = effector_row (row_of control0_rows byte) step is in
     (control0_below byte (Whole (codes.Step step)) row, λ sets. format_effector_alone sets byte step row)
+
+pub format_effector_known : FormatEffectorKnown
+format_effector_known byte step is = effector_known byte step (effector_row (row_of control0_rows byte) step is)
 
 -- SO or SI stands at the front as a shift
 shift_front : (sets : CodeSets) (byte : ℕ) → (byte ≡ 0x0E) ⊎ (byte ≡ 0x0F) → front sets (byte ∷ []) ≡ whole codes.Shifted 1 (after_control0 sets byte)

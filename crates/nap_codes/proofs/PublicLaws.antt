@@ -1,4 +1,4 @@
-use Rattle.nap_codes.specs.Laws.{WholeStays, RefusedStays, WholeLength, RefusedIndex, WholeTaken, RefusedTaken, EarlierUnfinished, UnfinishedBefore, CodeRanges, OneByteOpcode, OneByteOperand, FormatEffectorFront}
+use Rattle.nap_codes.specs.Laws.{WholeStays, RefusedStays, WholeLength, RefusedIndex, WholeTaken, RefusedTaken, EarlierUnfinished, UnfinishedBefore, CodeRanges, OneByteOpcode, OneByteOperand, FormatEffectorFront, FormatEffectorKnown}
 use Rattle.nap_codes.specs.SpellingLaws.{WholeIsSpelled, RefusedIsSpelled, UnfinishedIsPrefix}
 use Rattle.nap_codes.specs.Lexed.{StepsAreLexed}
 use Rattle.nap_codes.proofs.FrontLaws as fronts
@@ -56,3 +56,6 @@ steps_are_lexed = steps.steps_are_lexed
 
 pub format_effector_front : FormatEffectorFront
 format_effector_front = controls.format_effector_front
+
+pub format_effector_known : FormatEffectorKnown
+format_effector_known = controls.format_effector_known

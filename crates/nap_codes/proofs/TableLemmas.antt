@@ -10,7 +10,8 @@ use Rattle.nap_codes.specs.declared.opcode.Opcode.{Opcode}
 use Rattle.nap_codes.specs.Tables.{row_of, number_rows, set_rows, paired, control0_rows, control1_rows, opcode_rows}
 use Rattle.nap_codes.specs.Front.{is_graphic, plain_code, argument_of}
 use Rattle.nap_codes.specs.Half.{control_of}
-use Rattle.nap_codes.specs.Laws.{IsGraphic}
+use Rattle.nap_codes.specs.declared.control.TextStep.{TextStep}
+use Rattle.nap_codes.specs.Laws.{IsGraphic, FormatEffector, backward, forward, down, up, return, home}
 use Rattle.nap_codes.proofs.RowLemmas.{row_found, no_row, row_missing}
 
 -- Which bytes the tables of codes have, and what their rows say.
@@ -83,6 +84,15 @@ LeadsMore byte _ = Unit {0}
 pub leads : (byte : ℕ) → row_of control0_rows byte ≡ Some More → Leads byte
 unfolding control0_rows
 leads byte e = row_found LeadsMore control0_rows byte More (assumption (shift2, escape, position, shift3)) e
+
+-- the controls of the C0 set that move the active position
+abbrev MovesAlone : ℕ → Row → Type 0
+MovesAlone byte (Whole (codes.Step step)) = FormatEffector byte step
+MovesAlone byte _ = Unit {0}
+
+pub effector_known : (byte : ℕ) (step : TextStep) → row_of control0_rows byte ≡ Some (Whole (codes.Step step)) → FormatEffector byte step
+unfolding control0_rows
+effector_known byte step e = row_found MovesAlone control0_rows byte (Whole (codes.Step step)) (assumption (backward, forward, down, up, return, home)) e
 
 -- the controls of the C0 set that shift: SO and SI
 abbrev ShiftsAlone : ℕ → Row → Type 0

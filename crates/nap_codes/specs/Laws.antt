@@ -4,7 +4,7 @@ use Rattle.nap_codes.specs.declared.code.Code.TheVariants as codes
 use Rattle.nap_codes.specs.declared.code.CodeFault.{CodeFault}
 use Rattle.nap_codes.specs.declared.code_set.CodeSets.{CodeSets}
 use Rattle.nap_codes.specs.declared.control.TextStep.{TextStep}
-use Rattle.nap_codes.specs.declared.control.TextStep.TheVariants.{Aps}
+use Rattle.nap_codes.specs.declared.control.TextStep.TheVariants as steps
 use Rattle.nap_codes.specs.declared.opcode.Opcode.{Opcode}
 use Rattle.nap_codes.specs.Tables.{left_out_opcode, format_effector}
 use Rattle.nap_codes.specs.Front.{unfinished, whole, refused, front}
@@ -55,7 +55,7 @@ IsGraphic byte = (0x20 ≤ byte) × (byte < 0x80)
 
 -- what is known of a code by itself: the ranges of its numbers, and that an opcode is none of those left out
 abbrev pub IsInRange : Code → Type 0
-IsInRange (codes.Step (Aps row column)) = IsGraphic row × IsGraphic column
+IsInRange (codes.Step (steps.Aps row column)) = IsGraphic row × IsGraphic column
 IsInRange (codes.Designated number set) = number < 4
 IsInRange (codes.Char set byte) = IsGraphic byte
 IsInRange (codes.Call byte) = IsGraphic byte
@@ -85,3 +85,16 @@ OneByteOperand = (sets : CodeSets) (xs : List ℕ) (word : ℕ) (n : ℕ) (after
 abbrev pub FormatEffectorFront : Type 0
 FormatEffectorFront = (byte : ℕ) (step : TextStep) → format_effector byte ≡ Some step →
     (byte < 0x20) × ((sets : CodeSets) → front sets (byte ∷ []) ≡ whole (codes.Step step) 1 sets)
+
+-- the format effectors of one byte
+pub data FormatEffector : ℕ → TextStep → Type 0 where
+  backward : FormatEffector 0x08 steps.Apb
+  forward : FormatEffector 0x09 steps.Apf
+  down : FormatEffector 0x0A steps.Apd
+  up : FormatEffector 0x0B steps.Apu
+  return : FormatEffector 0x0D steps.Apr
+  home : FormatEffector 0x1E steps.Aph
+
+-- There are no others.
+abbrev pub FormatEffectorKnown : Type 0
+FormatEffectorKnown = (byte : ℕ) (step : TextStep) → format_effector byte ≡ Some step → FormatEffector byte step

@@ -1,6 +1,6 @@
 //! What holds of the definitions. Each function's contract is a law; the functions do nothing.
 
-ghost use Rattle.nap_codes.specs.Laws.{CodeRanges, EarlierUnfinished, FormatEffectorFront, OneByteOpcode, OneByteOperand, RefusedIndex, RefusedStays, RefusedTaken, UnfinishedBefore, WholeLength, WholeStays, WholeTaken};
+ghost use Rattle.nap_codes.specs.Laws.{CodeRanges, EarlierUnfinished, FormatEffectorFront, FormatEffectorKnown, OneByteOpcode, OneByteOperand, RefusedIndex, RefusedStays, RefusedTaken, UnfinishedBefore, WholeLength, WholeStays, WholeTaken};
 ghost use Rattle.nap_codes.specs.Lexed.{StepsAreLexed};
 ghost use Rattle.nap_codes.specs.SpellingLaws.{RefusedIsSpelled, UnfinishedIsPrefix, WholeIsSpelled};
 
@@ -47,7 +47,8 @@ pub fn steps_are_lexed()
     ensures { StepsAreLexed }
 {}
 
-/// A format effector is below the codes of the G sets, and a code by itself.
+/// A format effector is below the codes of the G sets, and a code by itself; there are six.
 pub fn format_effector_alone()
-    ensures { FormatEffectorFront }
+    ensures front { FormatEffectorFront }
+    ensures known { FormatEffectorKnown }
 {}
