@@ -8,9 +8,9 @@ use Rattle.nap_values.specs.Laws.{IsWord}
 use Rattle.nap_values.specs.TwosComplement.{signed_of, bits_of}
 use Rattle.nap_values.specs.Packed.{words_in, HoldsWords, x_in, y_in}
 use Rattle.nap_values.specs.Spellings.{words_of_pairs, bytes_of}
-use Rattle.nap_values.proofs.DigitLemmas.{value_of-below}
+use Rattle.nap_values.proofs.DigitLemmas.{value_of-below, value_of-digits_of}
 use Rattle.nap_values.proofs.CoordinateLemmas.{bits_of-signed_of}
-use Rattle.nap_values.proofs.PackedLemmas.{length-words_in, value-words_in, pair_words-values, x_in-below, y_in-below}
+use Rattle.nap_values.proofs.PackedLemmas.{length-words_in, holding_fits, pair_words-values, x_in-below, y_in-below}
 
 -- The bytes that carry words, from a number of 64 bits.
 
@@ -62,21 +62,14 @@ each_below (byte ∷ bytes) all (suc i) = each_below bytes (All-tail (λ b. b < 
 swapped : (n : ℕ) → swap_bytes w64 n ≡ from_le_bytes w64 (to_be_bytes w64 n)
 swapped n = omega arith
 
--- the bytes of a number that holds words are the words
-pub bytes_are_words : (n : ℕ) → HoldsWords n → to_be_bytes w64 n ≡ words_in n
-bytes_are_words n words =
-    let ws = words_in n in
-    let below : All (λ b. b < 256) ws = All-weaker IsWord (λ word. word < 256) (λ word fits. omega arith) ws words in
-    let number : n ≡ 0 * 256 ^ 8 + value_of 256 8 ws = omega (arith, value-words_in n words) in
-    ap (bytes_high_first 8) number ∙ bytes_of_value 8 0 ws below (length-words_in n words)
-
 pub bytes_of_words : (n : ℕ) → HoldsWords n → to_le_bytes w64 (swap_bytes w64 (0x4040_4040_4040_4040 + n)) ≡ bytes_of (words_in n)
+unfolding words_in
 bytes_of_words n words =
     let ws = words_in n in
     let below : All (λ b. b < 256) (bytes_of ws) =
     All-map (λ b. b < 256) (λ word. 64 + word) ws (All-weaker IsWord (λ word. 64 + word < 256) (λ word fits. omega arith) ws words) in
     let len : length (bytes_of ws) ≡ 8 = length-map ws (λ word. 64 + word) ∙ length-words_in n words in
-    let is = value-words_in n words in
+    let is : value_of 256 8 ws ≡ n = value_of-digits_of 256 8 n (omega arith) (omega (arith, holding_fits n words)) in
     let value = value_of-bytes_of 8 ws (length-words_in n words) in
     let number : 0x4040_4040_4040_4040 + n ≡ 0 * 256 ^ 8 + value_of 256 8 (bytes_of ws) = omega (arith, is, value, marks) in
     let high_first : to_be_bytes w64 (0x4040_4040_4040_4040 + n) ≡ bytes_of ws =

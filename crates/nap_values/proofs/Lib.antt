@@ -8,7 +8,6 @@ pub mod PublicLaws
 mod MaskLemmas
 mod SumLemmas
 mod PackedLemmas
-mod PackedColourLemmas
 mod MotionLemmas
 mod SignLemmas
 mod GatherLemmas

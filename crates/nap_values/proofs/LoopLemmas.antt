@@ -1,6 +1,6 @@
 use Rattle.std.proofs.Common.{◌≡◌, ℕ, suc, zero, ◌+◌, ◌-◌, ◌*◌, ◌/◌, ◌%◌, ◌^◌, ◌<◌, ◌≤◌, List, ◌∷◌, map, length, get_or, drop, refl, ap, sym, ◌∙◌, arith, add-one, drop-cons}
-use Rattle.std.proofs.Math.Nat.{pow-suc, mul-div_cancel, one-le-pow, mul-le-mul_right, mod-lt, pow-le-pow_right}
-use Rattle.std.proofs.lemmas.Nat.{div_below, mul-add-lt}
+use Rattle.std.proofs.Math.Nat.{pow-suc, mul-div_cancel, one-le-pow, mul-le-mul_right, mod-lt}
+use Rattle.std.proofs.lemmas.Nat.{div_below}
 use Rattle.std.proofs.Math.ListN.{drop_of_length-le}
 use Rattle.nap_values.specs.Digits.{value_of, digits_of}
 
@@ -97,22 +97,3 @@ module _ (base places i unit rest : ℕ) (at : IsRestAt base places i unit rest)
   digits_of-more =
       let e : places - i ≡ suc (places - (i + 1)) = omega arith in
       rw (e, next_unit base places i unit pos within at.unit_is) refl
-
--- A loop that puts words behind one another, a byte for each, before the word at an index.
-module _ (i front word : ℕ) (within : i < 8) (below : front < 256 ^ i) (fits : word < 256) where
-  pub front_room : front * 256 + word < 18446744073709551616
-  front_room =
-      let steps : i ≤ 7 = omega arith in
-      let most : 256 ^ i ≤ 256 ^ 7 = pow-le-pow_right (omega arith) steps in
-      omega (arith, most)
-
-  pub front_below : front * 256 + word < 256 ^ (i + 1)
-  front_below = rw (add-one, pow-suc) (omega (arith, mul-add-lt front 256 word (256 ^ i) below fits))
-
-  pub front_more : (words : List ℕ) →
-      front * 256 ^ (8 - i) + value_of 256 (8 - i) (word ∷ words)
-      ≡ (front * 256 + word) * 256 ^ (8 - (i + 1)) + value_of 256 (8 - (i + 1)) words
-  unfolding value_of
-  front_more words =
-      let e : 8 - i ≡ suc (8 - (i + 1)) = omega arith in
-      rw (e, pow-suc) (omega arith)

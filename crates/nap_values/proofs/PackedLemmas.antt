@@ -13,13 +13,7 @@ use Rattle.nap_values.proofs.SpellingLemmas.{length-words_of_pairs, words_of_pai
 use Rattle.nap_values.proofs.CoordinateLemmas.{bits_of-signed_of}
 use Rattle.nap_values.proofs.MaskLemmas.{masked, value_of-scaled}
 
--- The eight words that a number holds, and the two numbers of 24 bits that they hold.
-
--- eight words are those of their value
-pub words_in-value : (words : List ℕ) → All IsWord words → length words ≡ 8 → words_in (value_of 256 8 words) ≡ words
-unfolding words_in
-words_in-value words all size =
-    digits_of-value_of 256 8 words (omega arith) (All-weaker IsWord (λ word. word < 256) (λ word fits. omega arith) words all) size
+-- The two numbers of 24 bits that eight words hold.
 
 -- the words that hold two numbers of 24 bits
 abbrev pub pair_words : ℕ → ℕ → List ℕ
@@ -47,8 +41,10 @@ module _ (x y : ℕ) (x_fits : x < 16777216) (y_fits : y < 16777216) where
       ∙ value_of-digits_of 8 8 y (omega arith) y_fits
 
   pub words_in-packed : words_in (packed x y) ≡ pair_words x y
-  unfolding packed
-  words_in-packed = words_in-value (pair_words x y) pair_words-words length-pair_words
+  unfolding words_in packed
+  words_in-packed =
+      digits_of-value_of 256 8 (pair_words x y) (omega arith)
+      (All-weaker IsWord (λ word. word < 256) (λ word fits. omega arith) (pair_words x y) pair_words-words) length-pair_words
 
   pub packed-words : HoldsWords (packed x y)
   packed-words = rw words_in-packed pair_words-words
@@ -102,10 +98,6 @@ module _ (n : ℕ) (words : HoldsWords n) where
       let top : n / 256 ^ 7 < 64 = All-head IsWord (n / 256 ^ 7) (digits_of 256 7 (n % 256 ^ 7)) words in
       omega (arith, top)
 
-  pub value-words_in : value_of 256 8 (words_in n) ≡ n
-  unfolding words_in
-  value-words_in = value_of-digits_of 256 8 n (omega arith) (omega (arith, holding_fits))
-
   pub x_in-below : x_in n < 16777216
   unfolding x_in
   x_in-below = x_value-below (words_in n) words
@@ -115,8 +107,10 @@ module _ (n : ℕ) (words : HoldsWords n) where
   y_in-below = y_value-below (words_in n) words
 
   pub packed-in : packed (x_in n) (y_in n) ≡ n
-  unfolding packed x_in y_in
-  packed-in = ap (value_of 256 8) (sym (pair_words-values (words_in n) words length-words_in)) ∙ value-words_in
+  unfolding packed x_in y_in words_in
+  packed-in =
+      ap (value_of 256 8) (sym (pair_words-values (words_in n) words length-words_in))
+      ∙ value_of-digits_of 256 8 n (omega arith) (omega (arith, holding_fits))
 
   -- the digits of x, and those of y, by themselves
   pub x_masked : bit_and n 0x3838_3838_3838_3838 ≡ value_of 256 8 (map x_digit (words_in n)) * 8

@@ -7,4 +7,3 @@ pub mod Operands
 pub mod Spellings
 pub mod Laws
 pub mod Packed
-pub mod PackedColours

@@ -2,8 +2,6 @@
 
 ghost use Rattle.std.specs.Prelude.{◌≡◌, ◌<◌, ◌↔◌, IsSome, IfSome};
 
-use crate::packed_colours::{b_bits, g_bits, pack_colour, r_bits};
-use std::fmt;
 use std::marker::Model;
 
 /// The address of an entry of the colour map, from 0 to 16,777,215 (single-value operands).
@@ -56,68 +54,24 @@ impl Addr {
 }
 
 /// A colour by its parts, green, red and blue in the order of the standard, each of 16 bits.
-///
-/// It is kept as it is spelled, as eight words.
-#[derive(Clone, Copy, Drop)]
+#[derive(Clone, Copy, PartialEq, Eq, Debug, Drop)]
 pub struct Grb {
-    words: u64,
+    g: u16,
+    r: u16,
+    b: u16,
 }
 
 impl Model for Grb {
-    ghost use Rattle.std.specs.Prelude.{◌≡◌};
     ghost use Rattle.nap_values.specs.Colours.{Components};
-    ghost use Rattle.nap_values.specs.Packed.{HoldsWords};
-    ghost use Rattle.nap_values.specs.PackedColours.{g_in, r_in, b_in, packed_colour};
 
     ghost Value = { Components };
 
-    ghost view = { λ c. record { g = g_in c.words; r = r_in c.words; b = b_in c.words } };
+    ghost view = { λ c. record { g = c.g; r = c.r; b = c.b } };
 
-    ghost invariant = { λ c. HoldsWords c.words × (packed_colour (g_in c.words) (r_in c.words) (b_in c.words) ≡ c.words) };
-
-    ghost inverse = { λ v. record { words = packed_colour v.g v.r v.b } };
-
-    ghost inverse_ok = { λ c kept i. record { words = kept.1 i } };
-}
-
-impl PartialEq for Grb {
-    ghost use Rattle.std.specs.Prelude.{◌==◌};
-    ghost use Rattle.std.specs.Ordering.{on, eq_of_both};
-    ghost use Rattle.std.proofs.Common.{rules};
-    ghost use Rattle.std.specs.Cmp.Rules.{comparing};
-
-    ghost eq = { eq_of_both (on (λ c. c.g) ◌==◌) (eq_of_both (on (λ c. c.r) ◌==◌) (on (λ c. c.b) ◌==◌)) };
-
-    ghost laws = { Prim.search (comparing, rules) };
-
-    #[inline]
-    fn eq(&self, other: &Grb) -> bool {
-        self.words == other.words
-    }
-}
-
-impl Eq for Grb {
-    ghost use Rattle.std.proofs.Common.{rules};
-    ghost use Rattle.std.specs.Cmp.Rules.{comparing};
-
-    ghost laws = { Prim.search (comparing, rules) };
-}
-
-impl fmt::Debug for Grb {
-    fn fmt<W: fmt::Write>(&self, f: &mut fmt::Formatter<W>) -> fmt::Result {
-        f.debug_struct("Grb")
-            .field("g", &self.g())
-            .field("r", &self.r())
-            .field("b", &self.b())
-            .finish()
-    }
+    ghost inverse = { λ v. record { g = v.g; r = v.r; b = v.b } };
 }
 
 impl Grb {
-    ghost use Rattle.nap_values.specs.Operands.{colour_of};
-    ghost use Rattle.nap_values.specs.Packed.{HoldsWords, words_in};
-    ghost use Rattle.nap_values.specs.PackedColours.{g_in, r_in, b_in};
-
     /// Each part is below this.
     pub const LIMIT: u32 = 65_536;
 
@@ -125,9 +79,7 @@ impl Grb {
     pub fn new(g: u16, r: u16, b: u16) -> Grb
         ensures { result ≡ record { g = g; r = r; b = b } }
     {
-        Grb {
-            words: pack_colour(g, r, b),
-        }
+        Grb { g, r, b }
     }
 
     /// The colour with these parts, None where one is above 65,535.
@@ -141,44 +93,24 @@ impl Grb {
         Some(Grb::new(g, r, b))
     }
 
-    /// The colour that these eight words spell.
-    #[inline]
-    pub(crate) fn spelled(words: u64) -> Grb
-        requires { HoldsWords words }
-        ensures { result ≡ colour_of (words_in words) }
-    {
-        Grb { words }
-    }
-
-    /// The eight words that spell it.
-    #[inline]
-    pub(crate) fn words(self) -> u64
-        ensures words { HoldsWords result }
-        ensures g { g_in result ≡ self.g }
-        ensures r { r_in result ≡ self.r }
-        ensures b { b_in result ≡ self.b }
-    {
-        self.words
-    }
-
     /// The green part.
     pub fn g(self) -> u16
         ensures { result ≡ self.g }
     {
-        g_bits(self.words)
+        self.g
     }
 
     /// The red part.
     pub fn r(self) -> u16
         ensures { result ≡ self.r }
     {
-        r_bits(self.words)
+        self.r
     }
 
     /// The blue part.
     pub fn b(self) -> u16
         ensures { result ≡ self.b }
     {
-        b_bits(self.words)
+        self.b
     }
 }

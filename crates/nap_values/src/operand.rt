@@ -1,8 +1,7 @@
 //! Reading of operands: the values that words spell. A byte carries a word in its low six bits, whatever its others are.
 
-ghost use Rattle.std.specs.Prelude.{◌≡◌, ◌<◌, ◌≤◌, ◌-◌, ◌++◌, length, take, replicate};
+ghost use Rattle.std.specs.Prelude.{◌≡◌, ◌<◌, ◌≤◌, length, take};
 ghost use Rattle.nap_values.specs.Operands.{carried, multi_of, single_of, colour_of};
-ghost use Rattle.nap_values.specs.Packed.{HoldsWords, words_in};
 
 use crate::colours::{Addr, Grb};
 use crate::displacement::Move;
@@ -34,9 +33,9 @@ pub fn multi_bytes(operand: &[u8]) -> Move
     ensures { result ≡ multi_of (carried operand.now) }
 {
     if let [first, second, third] = operand {
-        return Move::spelled(eight([*first, *second, *third, 0, 0, 0, 0, 0]));
+        return eight([*first, *second, *third, 0, 0, 0, 0, 0]);
     }
-    Move::spelled(several(operand))
+    several(operand)
 }
 
 /// The displacement that the first three of eight bytes spell.
@@ -47,25 +46,23 @@ pub fn multi_of_three(block: &[u8; 8]) -> Move
     Move::spelled(u64::from_be_bytes(*block) & LOW_OF_THREE)
 }
 
-/// The words that any number of bytes carry, and zero behind them. It is a call of its own, so that loops over three have room for theirs.
+/// The displacement that any number of bytes spell. It is a call of its own, so that loops over three have room for theirs.
 #[inline(never)]
-fn several(run: &[u8]) -> u64
+fn several(run: &[u8]) -> Move
     requires { length run.now ≤ 8 }
-    ensures holds { HoldsWords result }
-    ensures words { words_in result ≡ carried run.now ++ replicate (8 - length run.now) 0 }
+    ensures { result ≡ multi_of (carried run.now) }
 {
     let mut bytes = [0; MOST];
     bytes[..run.len()].copy_from_slice(run);
     eight(bytes)
 }
 
-/// The words that eight bytes carry.
+/// The displacement that eight bytes spell.
 #[inline]
-fn eight(bytes: [u8; MOST]) -> u64
-    ensures holds { HoldsWords result }
-    ensures words { words_in result ≡ carried bytes }
+fn eight(bytes: [u8; MOST]) -> Move
+    ensures { result ≡ multi_of (carried bytes) }
 {
-    u64::from_be_bytes(bytes) & LOW
+    Move::spelled(u64::from_be_bytes(bytes) & LOW)
 }
 
 /// The words of an operand, a byte for each, and zero behind them.
@@ -115,13 +112,20 @@ pub fn colour(run: &[Word], size: u8) -> Grb
 }
 
 /// The colour that the bytes of a multi-value operand spell, eight at most. Words that it lacks are zero (SET COLOR).
-#[inline]
 pub fn colour_bytes(operand: &[u8]) -> Grb
     requires { length operand.now ≤ 8 }
     ensures { result ≡ colour_of (carried operand.now) }
 {
-    if let Some((block, _)) = operand.split_first_chunk::<MOST>() {
-        return Grb::spelled(eight(*block));
+    let mut g: u32 = 0;
+    let mut r: u32 = 0;
+    let mut b: u32 = 0;
+    let mut unit = Grb::LIMIT;
+    for byte in operand {
+        unit /= 4;
+        let bits = u32::from(*byte);
+        g += (bits / 32 % 2 * 2 + bits / 4 % 2) * unit;
+        r += (bits / 16 % 2 * 2 + bits / 2 % 2) * unit;
+        b += (bits / 8 % 2 * 2 + bits % 2) * unit;
     }
-    Grb::spelled(several(operand))
+    Grb::new(g as u16, r as u16, b as u16)
 }
