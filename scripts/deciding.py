@@ -109,7 +109,7 @@ class Deciding:
         return [
             edit,
             *sorted(it.before for it in changed),
-            *sorted(f"{part.crate} {part.owner} | {part.seen_from(crate)}" for part in reached),
+            *sorted({f"{part.owner} | {part.seen_from(crate)}" for part in reached if part.says_something}),
             *sorted(all_of_it.outside),
         ]
 

@@ -6,6 +6,7 @@ HEAD = re.compile(r"(?:pub(?:\([^)]*\))?\s+)?(?:ghost\s+)?(?:use|mod)\s+")
 WORD = re.compile(r"(?P<sign>(?:\s*(?<!\.)\.(?!\.)|\s*::\s*)?)(?P<word>\w+)(?:(?=\(|::\s*<)(?P<call>))?")
 TOKEN = re.compile(r"[^\s(){};,«»]+")
 SEPARATOR = re.compile(r"\s*(?:\.|::)\s*")
+LABEL = re.compile(r"(?<![\w.:◌-])[^\W\d][\w-]* +(?==[ \n])")
 HOLE = "◌"
 
 
@@ -75,7 +76,11 @@ def _words(text: str) -> Iterator[Use]:
 
 
 def uses(text: str) -> Iterator[Use]:
-    """The names that a text uses, cut both as a source's words and as the words and signs of definitions."""
+    """The names that a text uses, cut both as a source's words and as the words and signs of definitions.
+
+    What stands before an equals sign is the label of a field or a name that is given here, and uses nothing.
+    """
+    text = LABEL.sub(" ", text)
     yield from _words(text)
     for token in TOKEN.findall(text):
         first, *members = token.split(".")

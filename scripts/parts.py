@@ -26,6 +26,9 @@ MEMBERS = re.compile(r"\b(\w+)\s*:(?!:)")
 WORDS = re.compile(r"\w+")
 STRUCT = re.compile(r"(?P<head>(?:#\[[^\]]*\] )*(?:pub(?:\(\w+\))? )?struct [^{;(]*\{)(?P<fields>.*)\}", re.DOTALL)
 PRIVATE = re.compile(r"(?:pub\(\w+\) )?[a-z_]\w*\s*:")
+OF_TRAIT = re.compile(r"impl\b.*\bfor\b(?P<type>.*)", re.DOTALL)
+CLAUSE = re.compile(r"\b(?:requires|ensures)\b")
+SHOWN = re.compile(r"(?<=\b)pub (?=\S)")
 NO_NAMES = frozenset({"_", "pub", "abbrev", "unfoldable", "record", "data", "module", "let"})
 
 
@@ -56,8 +59,18 @@ class Part(NamedTuple):
     owner: str
     text: str
 
+    @property
+    def says_something(self) -> bool:
+        """Whether it decides anything: a function of a trait's impl without clauses has those of the trait."""
+        return self.kind != "function" or not OF_TRAIT.search(self.owner) or bool(CLAUSE.search(self.text))
+
     def seen_from(self, crate: str) -> str:
-        """What it says to a crate: one above sees no private fields of a struct, since nothing there can name them."""
+        """What it says to a crate: one above sees no private fields of a struct, since nothing there can name them.
+
+        Whether a definition is public says nothing.
+        """
+        if self.kind == "definition":
+            return SHOWN.sub("", self.text, count=1)
         found = STRUCT.fullmatch(self.text) if self.kind == "type" and crate != self.crate else None
         if not found:
             return self.text

@@ -11,13 +11,12 @@ from typing import Dict, FrozenSet, Iterable, Iterator, List, NamedTuple, Set, T
 
 from clauses import below, crates_in
 from naming import Use, pieces, uses
-from parts import File, Part, cut
+from parts import OF_TRAIT, File, Part, cut
 
 GENERATED = ("TheVariants", "TheConstants", "TheImpl", "Ghosts")
 TYPES = ("type", "trait")
 ITEMS = (*TYPES, "constant")
 ALIAS = re.compile(r"^(?:pub(?:\([^)]*\))? )?type\b")
-OF_TRAIT = re.compile(r"impl\b.*\bfor\b(?P<type>.*)", re.DOTALL)
 OF_ANY = re.compile(r"(?:pub(?:\([^)]*\))? )?(?:unsafe )?trait\b")
 OPENED = re.compile(r"\bopen\b")
 WHOLE_PATH = re.compile(r"\b\w+::(?:specs|proofs)(?:::\w+)+")
@@ -217,7 +216,8 @@ class Names:
             for module in target.modules:
                 yield from sources.modules[module].get(use.name, ())
         yield from sources.items(use.name, crate, (*ITEMS, "definition") if is_opened else ITEMS)
-        yield from (at for at in sources.owners(use.name, crate) if is_opened or sources.parts[at].kind != "definition")
+        kinds = ("type", "trait", "definition") if is_opened else ("trait",)
+        yield from (at for at in sources.owners(use.name, crate) if sources.parts[at].kind in kinds)
         if may_call:
             yield from self._functions(use, place)
 
@@ -270,7 +270,7 @@ class Reach:
         part = self.sources.parts[at]
         key = (at, part.crate == crate)
         if key not in self._steps:
-            text = f"{part.owner} {part.seen_from(crate)}"
+            text = f"{part.owner} {part.seen_from(crate)}" if part.says_something else part.owner
             named = self.names.reached(text, (part.crate, part.file), part.kind == "constant")
             self._steps[key] = named._replace(parts=named.parts | set(self._beside(at)))
         return self._steps[key]
