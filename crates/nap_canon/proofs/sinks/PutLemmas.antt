@@ -1,10 +1,15 @@
 -- What a canonical sink that works takes of a batch.
 
-use Rattle.std.proofs.Common.{ℕ, zero, suc, ◌≡◌, ◌+◌, ◌*◌, ◌/◌, ◌%◌, ◌<◌, ◌≤◌, inl, inr, Bool, true, false, List, [], ◌∷◌, ◌++◌, Result, Ok, Err, OnOk, OnErr, IsErrOf, is_err, length, map, take, drop, refl, ap, sym, subst, ◌∙◌, append-nil, append_assoc, length-append, length-drop, arith}
+use Rattle.std.proofs.Common.{ℕ, zero, suc, ◌≡◌, ◌+◌, ◌*◌, ◌/◌, ◌%◌, ◌<◌, ◌≤◌, inl, inr, Bool, true, false, List, [], ◌∷◌, ◌++◌, Option, Some, None, Result, Ok, Err, OnOk, OnErr, IsErrOf, is_err, length, map, take, drop, refl, ap, sym, subst, ◌∙◌, append-nil, append_assoc, length-append, length-drop, arith}
 use Rattle.std.specs.Prelude.{slice_index}
 use Rattle.std.proofs.lemmas.Bool.{true≢false, false≢true}
 use Rattle.std.proofs.lemmas.List.{take-append-drop, take-take, length-take-le, drop-drop}
 use Rattle.nap_values.specs.Coordinates.{Coordinates}
+use Rattle.nap_codes.specs.declared.code_set.CharSet.{CharSet}
+use Rattle.nap_codes.specs.declared.control.TextStep.{TextStep}
+use Rattle.nap_codes.specs.Tables.{format_effector}
+use Rattle.nap_list.specs.declared.attribute.Hand.{Hand}
+use Rattle.nap_list.specs.declared.attribute.Held.{Held}
 use Rattle.nap_list.specs.declared.batch.Batch.{Batch}
 use Rattle.nap_list.specs.declared.batch.Batch.TheVariants as batches
 use Rattle.nap_list.specs.declared.device.Outlet as outlet
@@ -15,11 +20,11 @@ use Rattle.nap_list.specs.declared.sink.SinkFault.TheVariants as faults
 use Rattle.nap_list.specs.declared.state.Drawing.{Drawing}
 use Rattle.nap_list.specs.declared.state.State.{State}
 use Rattle.nap_list.specs.Agreement.{Stands}
-use Rattle.nap_list.specs.Batches.{EachStands, FirstStands, listed, point_on, line_on, char_on, lines_on, text_in, text_on}
-use Rattle.nap_list.specs.Entry.{held}
+use Rattle.nap_list.specs.Batches.{EachStands, FirstStands, listed, point_on, line_on, typed, typed_as, typed_on, lines_on, text_in, text_on}
+use Rattle.nap_list.specs.Entry.{held, hand_values}
 use Rattle.nap_list.specs.Putting.{HaltsAfter, NotTaken, Put, Putting, TakesAll, WantsMore}
 use Rattle.nap_list.specs.PuttingLaws.{put_begins, put_goes, put_halts, put_ends, stops_at_first, takes_one}
-use Rattle.nap_list.specs.State.{after, walk}
+use Rattle.nap_list.specs.State.{after, walk, hand_of}
 use Rattle.nap_list.proofs.PublicLaws.{batch_stands}
 use Rattle.nap_canon.specs.Batches.{canon_shows, CutAfter, SentUpTo, Joins, WritesNext, PutsFirst, PutsSome, PutsBehind, entry_size, joined_bytes, joined_tail, whole_entries}
 use Rattle.nap_canon.specs.Sinking.{Sending, Sends, Grows, Canonical, shown, bytes_of, bytes_behind, Took, Broke}
@@ -164,6 +169,14 @@ module _ {O S : Type 0} (o : outlet.Ghosts O) (view : S → Sending) (a b : S) (
 
 -- a list that is put part by part
 
+-- a byte of a text holds its hand
+typed_held : (set : CharSet) (hand : Hand) (code : ℕ) → held (typed set hand code) ≡ hand_values hand
+typed_held set hand code = by (format_effector code)
+  where
+    by : (step : Option TextStep) → held (typed_as step set hand code) ≡ hand_values hand
+    by (Some step) = refl
+    by None = refl
+
 -- the values of the first entry stand
 first_stands : (batch : Batch) (d : Drawing) (e : Entry) (es : List Entry) → listed batch ≡ e ∷ es → FirstStands batch d → Stands (held e) d
 unfolding lines_on text_in
@@ -181,7 +194,9 @@ first_stands (batches.Text set codes pen drawing) d e es all stands = by codes.n
   where
     by : (cs : List ℕ) → text_on drawing.now pen set cs ≡ e ∷ es → Stands (held e) d
     by [] all = let bad : ⊥ = cc in absurd bad
-    by (c ∷ cs) all = let same : char_on drawing.now pen set c ≡ e = cc in subst (λ (e : Entry). Stands (held e) d) same stands
+    by (c ∷ cs) all =
+        let same : typed_on drawing.now pen set c ≡ e = cc in
+        subst (λ (e : Entry). Stands (held e) d) same (subst (λ (h : Held). Stands h d) (sym (typed_held set (record (hand_of drawing.now) { pen = pen }) c)) stands)
 
 -- then those of each entry do when it comes
 pub each_stands : (batch : Batch) (s : State) → FirstStands batch s.drawing → EachStands s (listed batch)

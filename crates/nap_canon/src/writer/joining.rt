@@ -90,7 +90,7 @@ impl<T: ByteSink + Drop> Writer<T> {
                 start_at(*from, points, index),
                 item(points, index),
             ),
-            Batch::Text { set, codes, .. } => self.character(*set, item(codes, index)),
+            Batch::Text { set, codes, .. } => self.typed(*set, item(codes, index)),
         }
     }
 

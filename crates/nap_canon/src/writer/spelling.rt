@@ -4,7 +4,7 @@ ghost use Rattle.nap_codes.specs.declared.code_set.GSet.TheVariants.{G0, G1};
 ghost use Rattle.nap_canon.specs.declared.tail.Tail.TheVariants.{Apart};
 ghost use Rattle.nap_list.specs.Entry.{held};
 ghost use Rattle.nap_list.specs.State.{taking};
-ghost use Rattle.nap_canon.specs.Spelling.{word_byte, mask_byte, cursor_byte, step_bytes, area_bytes, onward_bytes, shape, char_piece, domain_again, opcode, group, primary, stroke, line_piece, rect_piece, map_pieces, spelled};
+ghost use Rattle.nap_canon.specs.Spelling.{word_byte, mask_byte, cursor_byte, step_bytes, area_bytes, onward_bytes, shape, char_piece, typed_piece, domain_again, opcode, group, primary, stroke, line_piece, rect_piece, map_pieces, spelled};
 ghost use Rattle.nap_canon.specs.Text.{gl_of, piece_bytes, written, tail_behind, tail_after};
 
 use crate::byte_sink::ByteSink;
@@ -13,7 +13,7 @@ use crate::gathered::{MOST, NEAR, gather_onward, gather_shape};
 use crate::piece::Piece;
 use crate::tail::Tail;
 use crate::writer::{LENGTHS, Writer, opcodes};
-use nap_codes::{CharSet, CursorKind, GSet, Mask, TextStep};
+use nap_codes::{CharSet, CursorKind, GSet, Mask, TextStep, format_effector};
 use nap_list::{Area, Colour, Entry, Pen, start_at};
 use nap_values::{Addr, Grb, Point, Word, put_addr, put_grb, put_move, put_point};
 
@@ -175,6 +175,19 @@ impl<T: ByteSink + Drop> Writer<T> {
             TextStep::Apr => self.control(&[0x0D]),
             TextStep::Aph => self.control(&[0x1E]),
             TextStep::Aps(a, b) => self.control(&[0x1C, a, b]),
+        }
+    }
+
+    /// A byte of a text: the move that it is by itself, or else a character of the set.
+    #[inline]
+    pub(super) fn typed(&mut self, set: CharSet, code: u8) -> Result<(), T::Fault>
+        ensures sent { T.sent self.old.to (piece_bytes self.old.tail (typed_piece set code)) (is_err result) self.new.to }
+        ensures tail { self.new.tail ≡ tail_behind self.old.tail (typed_piece set code) }
+        ensures kept { (self.new.form ≡ self.old.form) × (self.new.state ≡ self.old.state) }
+    {
+        match format_effector(code) {
+            Some(step) => self.text_move(step),
+            None => self.character(set, code),
         }
     }
 
