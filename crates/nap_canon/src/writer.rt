@@ -4,10 +4,12 @@ ghost use Rattle.nap_codes.specs.declared.code_set.GSet.TheVariants.{G1};
 ghost use Rattle.nap_canon.specs.declared.tail.Tail.TheVariants.{Apart};
 ghost use Rattle.nap_list.specs.Entry.{held};
 ghost use Rattle.nap_list.specs.Agreement.{Stands};
+ghost use Rattle.nap_list.specs.Shapes.{drawn_shape};
 ghost use Rattle.nap_list.specs.State.{start, after, with_pen, Fits};
 ghost use Rattle.nap_canon.specs.Bring.{told, bring_pel, bring_colour, bring_texture, bring_text, bring};
 ghost use Rattle.nap_canon.specs.Spelling.{size_byte, flag_byte, escape, command_piece, step_bytes};
-ghost use Rattle.nap_canon.specs.Text.{header, gl_of, begun_tail, piece_bytes, written, tail_behind, tail_after, entry_pieces};
+ghost use Rattle.nap_canon.specs.Text.{header, gl_of, begun_tail, piece_bytes, written, tail_behind, tail_after};
+ghost use Rattle.nap_canon.specs.Writing.{Puts};
 
 use crate::byte_sink::ByteSink;
 use crate::command::{Command, Commands, Flag, bring_colour, bring_pel, bring_pen, bring_texture};
@@ -17,7 +19,7 @@ use crate::piece::Piece;
 use crate::tail::Tail;
 use arrayvec::ArrayVec;
 use nap_codes::{GSet, Size, TextStep};
-use nap_list::{Base, Colour, Drawing, Entry, Held, Pen, State, TextLook, corner};
+use nap_list::{Base, Colour, Drawing, Entry, Held, Pen, Shape, State, TextLook, corner};
 use nap_values::{put_addr, put_grb, put_move, put_point};
 
 mod joining;
@@ -302,29 +304,24 @@ impl<T: ByteSink + Drop> Writer<T> {
         self.lead_colours(old, held)
     }
 
-    /// Writes the bring of an entry.
-    fn lead(&mut self, entry: &Entry) -> Result<(), T::Fault>
-        ensures sent { T.sent self.old.to (written self.old.tail (map command_piece (bring self.old.state.drawing (held entry.now)))) (is_err result) self.new.to }
-        ensures tail { OnOk result (self.new.tail ≡ tail_after self.old.tail (map command_piece (bring self.old.state.drawing (held entry.now)))) }
+    /// Writes the bring of the values that an entry holds.
+    fn lead(&mut self, held: &Held) -> Result<(), T::Fault>
+        ensures sent { T.sent self.old.to (written self.old.tail (map command_piece (bring self.old.state.drawing held.now))) (is_err result) self.new.to }
+        ensures tail { OnOk result (self.new.tail ≡ tail_after self.old.tail (map command_piece (bring self.old.state.drawing held.now))) }
         ensures kept { (self.new.form ≡ self.old.form) × (self.new.state ≡ self.old.state) }
     {
-        let held = entry.held();
         let old = self.state.drawing;
         self.tell(bring_pen(old.pen, held.pen))?;
-        self.lead_pel(&old, &held)
+        self.lead_pel(&old, held)
     }
 
     /// Writes an entry that may come next: its bring, and its spelling.
     #[inline(never)]
     fn put_led(&mut self, entry: &Entry) -> Result<(), T::Fault>
         requires { Fits self.old.state entry.now }
-        ensures sent { T.sent self.old.to (written self.old.tail (entry_pieces self.old.form self.old.state entry.now)) (is_err result) self.new.to }
-        ensures tail { OnOk result (self.new.tail ≡ tail_after self.old.tail (entry_pieces self.old.form self.old.state entry.now)) }
-        ensures form { self.new.form ≡ self.old.form }
-        ensures state { OnOk result (self.new.state ≡ after self.old.state entry.now) }
-        ensures still { OnErr result (self.new.state ≡ self.old.state) }
+        ensures { Puts T.sent entry.now self.old self.new result }
     {
-        self.lead(entry)?;
+        self.lead(&entry.held())?;
         self.spelling(entry)?;
         self.state.step(entry);
         Ok(())
@@ -350,11 +347,7 @@ impl<T: ByteSink + Drop> Writer<T> {
     fn put_current(&mut self, entry: &Entry) -> Result<(), T::Fault>
         requires fits { Fits self.old.state entry.now }
         requires stand { Stands (held entry.now) self.old.state.drawing }
-        ensures sent { T.sent self.old.to (written self.old.tail (entry_pieces self.old.form self.old.state entry.now)) (is_err result) self.new.to }
-        ensures tail { OnOk result (self.new.tail ≡ tail_after self.old.tail (entry_pieces self.old.form self.old.state entry.now)) }
-        ensures form { self.new.form ≡ self.old.form }
-        ensures state { OnOk result (self.new.state ≡ after self.old.state entry.now) }
-        ensures still { OnErr result (self.new.state ≡ self.old.state) }
+        ensures { Puts T.sent entry.now self.old self.new result }
     {
         if let Entry::TextMove { step, .. } = entry {
             return self.put_move(*step);
@@ -368,16 +361,50 @@ impl<T: ByteSink + Drop> Writer<T> {
     /// state stays where this fails.
     pub(crate) fn put_ref(&mut self, entry: &Entry) -> Result<(), T::Fault>
         requires { Fits self.old.state entry.now }
-        ensures sent { T.sent self.old.to (written self.old.tail (entry_pieces self.old.form self.old.state entry.now)) (is_err result) self.new.to }
-        ensures tail { OnOk result (self.new.tail ≡ tail_after self.old.tail (entry_pieces self.old.form self.old.state entry.now)) }
-        ensures form { self.new.form ≡ self.old.form }
-        ensures state { OnOk result (self.new.state ≡ after self.old.state entry.now) }
-        ensures still { OnErr result (self.new.state ≡ self.old.state) }
+        ensures { Puts T.sent entry.now self.old self.new result }
     {
         if self.state.drawing.stands(entry) {
             return self.put_current(entry);
         }
         self.put_led(entry)
+    }
+
+    /// Writes a shape that may come next: its bring, and its spelling.
+    #[inline(never)]
+    fn put_led_shape(&mut self, shape: &Shape) -> Result<(), T::Fault>
+        requires { Fits self.old.state (drawn_shape shape.now) }
+        ensures { Puts T.sent (drawn_shape shape.now) self.old self.new result }
+    {
+        self.lead(&held(shape))?;
+        self.lent_shape(shape)?;
+        self.state.step_shape(shape);
+        Ok(())
+    }
+
+    /// Writes a shape that may come next, as `put_ref` writes its entry. Its points are written from where they are.
+    pub(crate) fn put_shape(&mut self, shape: &Shape) -> Result<(), T::Fault>
+        requires { Fits self.old.state (drawn_shape shape.now) }
+        ensures { Puts T.sent (drawn_shape shape.now) self.old self.new result }
+    {
+        if !self.state.drawing.stands_shape(shape) {
+            return self.put_led_shape(shape);
+        }
+        self.lent_shape(shape)?;
+        self.state.pass_shape(shape);
+        Ok(())
+    }
+}
+
+/// The values that the entry of a shape holds.
+fn held(shape: &Shape) -> Held
+    ensures { result ≡ held (drawn_shape shape.now) }
+{
+    Held {
+        pen: None,
+        pel: Some(shape.drawing.pel),
+        colour: Some(shape.drawing.colour),
+        texture: Some(shape.drawing.texture),
+        text: None,
     }
 }
 

@@ -22,13 +22,14 @@ use Rattle.nap_list.specs.declared.state.State.{State}
 use Rattle.nap_list.specs.Agreement.{Stands}
 use Rattle.nap_list.specs.Batches.{EachStands, FirstStands, listed, point_on, line_on, typed, typed_as, typed_on, lines_on, text_in, text_on}
 use Rattle.nap_list.specs.Entry.{held, hand_values}
-use Rattle.nap_list.specs.Putting.{HaltsAfter, NotTaken, Put, Putting, TakesAll, WantsMore}
-use Rattle.nap_list.specs.PuttingLaws.{put_begins, put_goes, put_halts, put_ends, stops_at_first, takes_one}
+use Rattle.nap_list.specs.Putting.{HaltsAfter, NotTaken, Put, PutSome, Putting, TakesAll, WantsMore}
+use Rattle.nap_list.specs.PuttingLaws.{put_begins, put_goes, put_halts, put_ends, some_put, stops_at_first, takes_one}
 use Rattle.nap_list.specs.State.{after, walk, hand_of}
 use Rattle.nap_list.proofs.PublicLaws.{batch_stands}
 use Rattle.nap_canon.specs.Batches.{canon_shows, CutAfter, SentUpTo, Joins, WritesNext, PutsFirst, PutsSome, PutsBehind, entry_size, joined_bytes, joined_tail, whole_entries}
 use Rattle.nap_canon.specs.Sinking.{Sending, Sends, Grows, Canonical, shown, bytes_of, bytes_behind, Took, Broke}
 use Rattle.nap_canon.specs.Sinking as sinking
+use Rattle.nap_canon.specs.Text.{written, entry_pieces}
 use Rattle.nap_canon.specs.SinkLaws.{grows_more, took_none, took_more, took_broke}
 use Rattle.nap_canon.proofs.sinks.JoinLemmas.{Joined, batch_joins, stands_rest, each_front, whole_of}
 use Rattle.nap_canon.proofs.sinks.SinkingLemmas.{took_answered, broke_answered}
@@ -55,6 +56,12 @@ module _ {O : Type 0} (o : outlet.Ghosts O) (s t : Canonical O) (works : o.faile
     },
   )
 
+  -- an entry that broke
+  pub one_breaks : {E : Type 0} (e : Entry) (r : Result (Unit {0}) E) → is_err r ≡ true → Sends (shown o s) (written s.tail (entry_pieces s.form s.state e)) (is_err r) (shown o t) →
+      OnErr r (t.state ≡ s.state) → PutSome {A = Unit {0}} (canon_shows o) (e ∷ []) s t (Err Write)
+  one_breaks e r failed bytes still =
+      some_put (canon_shows o) (Unit {0}) s t (e ∷ []) 0 Write (breaks_at (e ∷ []) [] [] e 0 refl refl (broke_answered o s t e r failed bytes still))
+
   -- the first entry of a list was written, whose values stand
   pub next_put : {E : Type 0} (list : List Entry) (r : Result (Unit {0}) E) → 0 < length list → WritesNext Sends s.form s.tail s.state list (shown o s) t.tail (shown o t) (is_err r) →
       t.form ≡ s.form → OnOk r (t.state ≡ walk s.state (take 1 list)) → OnErr r (t.state ≡ s.state) → PutsFirst o list s t r
@@ -62,6 +69,14 @@ module _ {O : Type 0} (o : outlet.Ghosts O) (s t : Canonical O) (works : o.faile
   next_put [] r some wrote form state still = absurd (omega (arith, some))
   next_put {E = E} (e ∷ es) (Ok x) some wrote form state still = (omega arith, omega arith, takes_all (e ∷ []) (took_answered {E = E} o s t e (Ok x) refl (wrote e es refl).0 form (wrote e es refl).1 state))
   next_put {E = E} (e ∷ es) (Err x) some wrote form state still = breaks_at (e ∷ es) [] es e 0 refl refl (broke_answered {T = Unit {0}} o s t e (Err x) refl (wrote e es refl).0 still)
+
+-- a sink that has failed takes nothing
+pub still_put : {O : Type 0} (o : outlet.Ghosts O) (s : Canonical O) (list : List Entry) → o.failed s.outlet ≡ true → PutSome {A = Unit {0}} (canon_shows o) list s s (Err Write)
+still_put o s list failed = (
+  0,
+  inl (failed, refl, refl),
+  record { write = λ _. failed; memory = λ e. (let bad : ⊥ = cc in absurd bad); none = λ _. (refl, refl, refl) },
+)
 
 -- the first entry of a list was put
 

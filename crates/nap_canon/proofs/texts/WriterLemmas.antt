@@ -61,17 +61,16 @@ onward_part now piece whole from to left part rest parts spelled last so_far =
     ∙ so_far
 
 -- a shape: its opcode with the first point and some displacements, and those to the other points
-pub shape_joined : (tail : Tail) (outlined code : ℕ) (filled : Bool) (first last : Coordinates) (near far others points : List Coordinates) (bytes : List ℕ) →
+pub shape_joined : (tail : Tail) (outlined code : ℕ) (filled : Bool) (first last : Coordinates) (near far others : List Coordinates) (bytes : List ℕ) →
     code ≡ (if filled then (outlined + 1) else outlined) → bytes ≡ (to_opcodes (gl_of tail) ++ code ∷ point_bytes first) ++ onward_bytes first near →
-    others ≡ near ++ far → last ≡ last_of first near → points ≡ first ∷ others → bytes ++ onward_bytes last far ≡ piece_bytes tail (shape outlined filled points)
-shape_joined tail outlined code filled first last near far others points bytes opcode begun parts ends all =
+    others ≡ near ++ far → last ≡ last_of first near → bytes ++ onward_bytes last far ≡ piece_bytes tail (shape outlined filled (first ∷ others))
+shape_joined tail outlined code filled first last near far others bytes opcode begun parts ends =
     let head : List ℕ = to_opcodes (gl_of tail) ++ code ∷ point_bytes first in
-    let whole : head ++ onward_bytes first others ≡ piece_bytes tail (shape outlined filled points) =
+    let whole : head ++ onward_bytes first others ≡ piece_bytes tail (shape outlined filled (first ∷ others)) =
     append_assoc (to_opcodes (gl_of tail)) (code ∷ point_bytes first) (onward_bytes first others)
-    ∙ ap (λ (byte : ℕ). to_opcodes (gl_of tail) ++ byte ∷ shape_bytes (first ∷ others)) opcode
-    ∙ ap (λ (ps : List Coordinates). piece_bytes tail (shape outlined filled ps)) (sym all) in
+    ∙ ap (λ (byte : ℕ). to_opcodes (gl_of tail) ++ byte ∷ shape_bytes (first ∷ others)) opcode in
     ap (λ (bs : List ℕ). bs ++ onward_bytes last far) begun
-    ∙ onward_part head (onward_bytes first near) (piece_bytes tail (shape outlined filled points)) first last others near far parts refl ends whole
+    ∙ onward_part head (onward_bytes first near) (piece_bytes tail (shape outlined filled (first ∷ others))) first last others near far parts refl ends whole
 
 -- pieces behind others
 

@@ -3,6 +3,7 @@ ghost use Rattle.std.specs.Prelude.{◌≡◌, ◌<◌, ◌≤◌, ◌+◌, [], 
 ghost use Rattle.nap_codes.specs.declared.code_set.GSet.TheVariants.{G0, G1};
 ghost use Rattle.nap_canon.specs.declared.tail.Tail.TheVariants.{Apart};
 ghost use Rattle.nap_list.specs.Entry.{held};
+ghost use Rattle.nap_list.specs.Shapes.{drawn_shape, round};
 ghost use Rattle.nap_list.specs.State.{taking};
 ghost use Rattle.nap_canon.specs.Spelling.{word_byte, mask_byte, cursor_byte, step_bytes, area_bytes, onward_bytes, shape, char_piece, typed_piece, domain_again, opcode, group, primary, stroke, line_piece, rect_piece, map_pieces, spelled};
 ghost use Rattle.nap_canon.specs.Text.{gl_of, piece_bytes, written, tail_behind, tail_after};
@@ -14,7 +15,7 @@ use crate::piece::Piece;
 use crate::tail::Tail;
 use crate::writer::{LENGTHS, Writer, opcodes};
 use nap_codes::{CharSet, CursorKind, GSet, Mask, TextStep, format_effector};
-use nap_list::{Area, Colour, Entry, Pen, start_at};
+use nap_list::{Area, Colour, Entry, Pen, Shape, ShapeKind, start_at};
 use nap_values::{Addr, Grb, Point, Word, put_addr, put_grb, put_move, put_point};
 
 /// The argument of DEF TEXTURE.
@@ -63,6 +64,27 @@ impl<T: ByteSink + Drop> Writer<T> {
         Ok(())
     }
 
+    /// A shape through a point and the others in turn, by the opcode of the outlined one.
+    fn path(
+        &mut self,
+        outlined: u8,
+        filled: bool,
+        first: Point,
+        others: &[Point],
+    ) -> Result<(), T::Fault>
+        requires { outlined < 255 }
+        ensures sent { T.sent self.old.to (piece_bytes self.old.tail (shape outlined filled (first ∷ others.now))) (is_err result) self.new.to }
+        ensures tail { self.new.tail ≡ Apart G1 }
+        ensures kept { (self.new.form ≡ self.old.form) × (self.new.state ≡ self.old.state) }
+    {
+        let opcode = shape_opcode(outlined, filled);
+        let (near, far) = others.split_at(others.len().min(NEAR));
+        gather_shape(&mut self.room, self.tail.gl(), opcode, first, near);
+        self.tail = Tail::Apart(GSet::G1);
+        self.to.take(self.room.as_slice())?;
+        self.onward(start_at(first, near, near.len()), far)
+    }
+
     /// A shape through its points, by the opcode of the outlined one.
     fn shape(&mut self, outlined: u8, filled: bool, points: &[Point]) -> Result<(), T::Fault>
         requires { outlined < 255 }
@@ -70,17 +92,36 @@ impl<T: ByteSink + Drop> Writer<T> {
         ensures tail { self.new.tail ≡ Apart G1 }
         ensures kept { (self.new.form ≡ self.old.form) × (self.new.state ≡ self.old.state) }
     {
-        let opcode = shape_opcode(outlined, filled);
-        let gl = self.tail.gl();
-        match points.split_first() {
-            Some((first, others)) => {
-                let (near, far) = others.split_at(others.len().min(NEAR));
-                gather_shape(&mut self.room, gl, opcode, *first, near);
-                self.tail = Tail::Apart(GSet::G1);
-                self.to.take(self.room.as_slice())?;
-                self.onward(start_at(*first, near, near.len()), far)
-            }
-            None => self.drawn(Piece::opcode(gl, opcode)),
+        let Some((first, others)) = points.split_first() else {
+            let opcode = shape_opcode(outlined, filled);
+            return self.drawn(Piece::opcode(self.tail.gl(), opcode));
+        };
+        self.path(outlined, filled, *first, others)
+    }
+
+    /// An arc through a point and the others in turn. One of a single step goes back to its start.
+    fn arc(&mut self, filled: bool, first: Point, others: &[Point]) -> Result<(), T::Fault>
+        ensures sent { T.sent self.old.to (piece_bytes self.old.tail (shape 0x2E filled (round (first ∷ others.now)))) (is_err result) self.new.to }
+        ensures tail { self.new.tail ≡ Apart G1 }
+        ensures kept { (self.new.form ≡ self.old.form) × (self.new.state ≡ self.old.state) }
+    {
+        if let [point] = others {
+            return self.path(opcodes::SET_ARC, filled, first, &[*point, first]);
+        }
+        self.path(opcodes::SET_ARC, filled, first, others)
+    }
+
+    /// How the entry of a shape is spelled where the values that it holds stand.
+    #[tactic(auto, unfolding(crate::specs::Text::written, crate::specs::Text::tail_after))]
+    pub(super) fn lent_shape(&mut self, shape: &Shape) -> Result<(), T::Fault>
+        ensures sent { T.sent self.old.to (written self.old.tail (spelled self.old.form (taking self.old.state.drawing (held (drawn_shape shape.now))) (drawn_shape shape.now))) (is_err result) self.new.to }
+        ensures tail { OnOk result (self.new.tail ≡ tail_after self.old.tail (spelled self.old.form (taking self.old.state.drawing (held (drawn_shape shape.now))) (drawn_shape shape.now))) }
+        ensures kept { (self.new.form ≡ self.old.form) × (self.new.state ≡ self.old.state) }
+    {
+        let (from, others) = (shape.from, shape.others);
+        match shape.kind {
+            ShapeKind::Arc => self.arc(shape.filled, from, others),
+            ShapeKind::Poly => self.path(opcodes::SET_POLY, shape.filled, from, others),
         }
     }
 
