@@ -1,6 +1,6 @@
 -- The bytes that a writer sends, part by part.
 
-use Rattle.std.proofs.Common.{if◌then◌else◌, Result, Ok, Err, OnOk, Bool, true, false, refl, subst, ℕ, suc, ◌+◌, ◌≡◌, ◌<◌, List, [], ◌∷◌, ◌++◌, length, map, take, drop, get_or, ap, sym, ◌∙◌, append_assoc, append-nil, arith}
+use Rattle.std.proofs.Common.{Result, Ok, Err, OnOk, Bool, true, false, refl, subst, ℕ, suc, ◌+◌, ◌≡◌, ◌<◌, List, [], ◌∷◌, ◌++◌, length, map, take, drop, get_or, ap, sym, ◌∙◌, append_assoc, append-nil, arith}
 use Rattle.std.proofs.lemmas.List.{take_more, map-append, take-append-drop}
 use Rattle.std.proofs.Math.Seq.{drop-cons}
 use Rattle.nap_values.specs.Coordinates.{Coordinates, Displacement, displacement_to}
@@ -9,7 +9,7 @@ use Rattle.nap_values.specs.Spellings.{move_bytes, point_bytes, words_of_pairs}
 use Rattle.nap_canon.specs.declared.tail.Tail.{Tail}
 use Rattle.nap_canon.specs.declared.command.Command.{Command}
 use Rattle.nap_list.specs.Batches.{last_of}
-use Rattle.nap_canon.specs.Spelling.{Piece, command_piece, onward_bytes, shape, shape_bytes, spelled}
+use Rattle.nap_canon.specs.Spelling.{Piece, command_piece, onward_bytes, opcode, shape_bytes, spelled}
 use Rattle.nap_canon.specs.Text.{gl_of, to_opcodes, piece_bytes, tail_behind, written, tail_after}
 use Rattle.nap_canon.specs.TextParts.{written-append, tail_after-append}
 
@@ -55,16 +55,14 @@ onward_part now piece whole from to left part rest parts spelled last so_far =
     ∙ so_far
 
 -- a shape: its opcode with the first point and some displacements, and those to the other points
-pub shape_joined : (tail : Tail) (outlined code : ℕ) (filled : Bool) (first last : Coordinates) (near far others : List Coordinates) (bytes : List ℕ) →
-    code ≡ (if filled then (outlined + 1) else outlined) → bytes ≡ (to_opcodes (gl_of tail) ++ code ∷ point_bytes first) ++ onward_bytes first near →
-    others ≡ near ++ far → last ≡ last_of first near → bytes ++ onward_bytes last far ≡ piece_bytes tail (shape outlined filled (first ∷ others))
-shape_joined tail outlined code filled first last near far others bytes opcode begun parts ends =
+pub shape_joined : (tail : Tail) (code : ℕ) (first last : Coordinates) (near far others : List Coordinates) (bytes : List ℕ) →
+    bytes ≡ (to_opcodes (gl_of tail) ++ code ∷ point_bytes first) ++ onward_bytes first near → others ≡ near ++ far → last ≡ last_of first near →
+    bytes ++ onward_bytes last far ≡ piece_bytes tail (opcode code (shape_bytes (first ∷ others)))
+shape_joined tail code first last near far others bytes begun parts ends =
     let head : List ℕ = to_opcodes (gl_of tail) ++ code ∷ point_bytes first in
-    let whole : head ++ onward_bytes first others ≡ piece_bytes tail (shape outlined filled (first ∷ others)) =
-    append_assoc (to_opcodes (gl_of tail)) (code ∷ point_bytes first) (onward_bytes first others)
-    ∙ ap (λ (byte : ℕ). to_opcodes (gl_of tail) ++ byte ∷ shape_bytes (first ∷ others)) opcode in
     ap (λ (bs : List ℕ). bs ++ onward_bytes last far) begun
-    ∙ onward_part head (onward_bytes first near) (piece_bytes tail (shape outlined filled (first ∷ others))) first last others near far parts refl ends whole
+    ∙ onward_part head (onward_bytes first near) (piece_bytes tail (opcode code (shape_bytes (first ∷ others)))) first last others near far parts refl ends
+    (append_assoc (to_opcodes (gl_of tail)) (code ∷ point_bytes first) (onward_bytes first others))
 
 -- pieces behind others
 

@@ -5,7 +5,7 @@ ghost use Rattle.nap_canon.specs.declared.tail.Tail.TheVariants.{Apart};
 ghost use Rattle.nap_list.specs.Entry.{held};
 ghost use Rattle.nap_list.specs.Shapes.{drawn_shape, round};
 ghost use Rattle.nap_list.specs.State.{taking};
-ghost use Rattle.nap_canon.specs.Spelling.{word_byte, mask_byte, cursor_byte, step_bytes, area_bytes, onward_bytes, shape, char_piece, domain_again, opcode, group, primary, stroke, line_piece, rect_piece, map_pieces, spelled};
+ghost use Rattle.nap_canon.specs.Spelling.{word_byte, mask_byte, cursor_byte, step_bytes, area_bytes, onward_bytes, shape_bytes, shape, char_piece, domain_again, opcode, group, primary, stroke, line_piece, rect_piece, map_pieces, spelled};
 ghost use Rattle.nap_canon.specs.Text.{gl_of, written};
 ghost use Rattle.nap_canon.specs.Writing.{WritesBytes, WritesPiece, WritesPieces};
 
@@ -63,20 +63,12 @@ impl<T: ByteSink + Drop> Writer<T> {
         Ok(())
     }
 
-    /// A shape through a point and the others in turn, by the opcode of the outlined one.
-    fn path(
-        &mut self,
-        outlined: u8,
-        filled: bool,
-        first: Point,
-        others: &[Point],
-    ) -> Result<(), T::Fault>
-        requires { outlined < 255 }
-        ensures { WritesPiece T.sent (shape outlined filled (first ∷ others.now)) self.old self.new result }
+    /// The opcode of a shape with a point, and the displacements to the others in turn.
+    fn path(&mut self, code: u8, first: Point, others: &[Point]) -> Result<(), T::Fault>
+        ensures { WritesPiece T.sent (opcode code (shape_bytes (first ∷ others.now))) self.old self.new result }
     {
-        let opcode = shape_opcode(outlined, filled);
         let (near, far) = others.split_at(others.len().min(NEAR));
-        gather_shape(&mut self.room, self.tail.gl(), opcode, first, near);
+        gather_shape(&mut self.room, self.tail.gl(), code, first, near);
         self.tail = Tail::Apart(GSet::G1);
         self.to.take(self.room.as_slice())?;
         self.onward(start_at(first, near, near.len()), far)
@@ -87,21 +79,22 @@ impl<T: ByteSink + Drop> Writer<T> {
         requires { outlined < 255 }
         ensures { WritesPiece T.sent (shape outlined filled points.now) self.old self.new result }
     {
+        let code = shape_opcode(outlined, filled);
         let Some((first, others)) = points.split_first() else {
-            let opcode = shape_opcode(outlined, filled);
-            return self.drawn(Piece::opcode(self.tail.gl(), opcode));
+            return self.drawn(Piece::opcode(self.tail.gl(), code));
         };
-        self.path(outlined, filled, *first, others)
+        self.path(code, *first, others)
     }
 
     /// An arc through a point and the others in turn. One of a single step goes back to its start.
     fn arc(&mut self, filled: bool, first: Point, others: &[Point]) -> Result<(), T::Fault>
         ensures { WritesPiece T.sent (shape 0x2E filled (round (first ∷ others.now))) self.old self.new result }
     {
+        let code = shape_opcode(opcodes::SET_ARC, filled);
         if let [point] = others {
-            return self.path(opcodes::SET_ARC, filled, first, &[*point, first]);
+            return self.path(code, first, &[*point, first]);
         }
-        self.path(opcodes::SET_ARC, filled, first, others)
+        self.path(code, first, others)
     }
 
     /// How the entry of a shape is spelled where the values that it holds stand.
@@ -112,7 +105,9 @@ impl<T: ByteSink + Drop> Writer<T> {
         let (from, others) = (shape.from, shape.others);
         match shape.kind {
             ShapeKind::Arc => self.arc(shape.filled, from, others),
-            ShapeKind::Poly => self.path(opcodes::SET_POLY, shape.filled, from, others),
+            ShapeKind::Poly => {
+                self.path(shape_opcode(opcodes::SET_POLY, shape.filled), from, others)
+            }
         }
     }
 
