@@ -6,4 +6,4 @@ pub mod WriterLemmas
 pub mod GatheredLemmas
 pub mod FaultLemmas
 pub mod Rows
-pub mod EntryLemmas
+pub mod WritingLemmas

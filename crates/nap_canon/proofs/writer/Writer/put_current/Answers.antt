@@ -7,19 +7,17 @@ use Rattle.nap_canon.specs.Text.{entry_pieces}
 use Rattle.nap_canon.proofs.sinks.JoinLemmas.{alone, writes_one}
 use Rattle.nap_canon.proofs.texts.WriterLemmas.{on_ok_from}
 use Rattle.std.proofs.lemmas.Result.{err_from_is_err_and}
-use Rattle.nap_canon.proofs.texts.EntryLemmas.{alone_fails, alone_put}
+use Rattle.nap_canon.proofs.texts.WritingLemmas.{alone_fails, alone_put}
 use Rattle.nap_canon.proofs.writer.Writer.put_current.Goals as goal
 
 pub returns-in_err-spelling : goal.returns-in_err-spelling
 returns-in_err-spelling g c =
-    let put = c.in_err-spelling.ensures in
     let failure = err_from_is_err_and c.from_residual.result c.from_residual.ensures.1 in
-    rw failure.1 (alone_fails g.T.ByteSink.sent c.args.self.now c.args.entry.now c.requires.stand c.spelling.new.self failure.0 put.sent put.kept.0 put.kept.1)
+    rw failure.1 (alone_fails g.T.ByteSink.sent c.args.self.now c.args.entry.now c.requires.stand c.spelling.new.self failure.0 c.in_err-spelling.ensures)
 
 pub returns : goal.returns
 returns g c =
-    let put = c.in_ok-spelling.ensures in
-    alone_put g.T.ByteSink.sent c.args.self.now c.args.entry.now c.requires.stand c.spelling.new.self put.sent put.tail put.kept.0 put.kept.1 _ c.pass.ensures
+    alone_put g.T.ByteSink.sent c.args.self.now c.args.entry.now c.requires.stand c.spelling.new.self c.in_ok-spelling.ensures _ c.pass.ensures
 
 pub returns-in-TextMove : goal.returns-in-TextMove
 returns-in-TextMove g c =
