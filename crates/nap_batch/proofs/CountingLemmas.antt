@@ -1,10 +1,11 @@
-use Rattle.std.proofs.Common.{ℕ, ◌≡◌, true, List, length, Option, None, Some, Result, Ok, Err, ap, sym, subst, ◌∙◌, inl, inr, arith}
+use Rattle.std.proofs.Common.{ℕ, ◌≡◌, true, List, [], ◌∷◌, ◌++◌, length, length-append, Option, None, Some, Result, Ok, Err, refl, ap, sym, subst, ◌∙◌, inl, inr, arith}
+use Rattle.std.specs.Result.{IsErrAnd}
 use Rattle.nap_list.specs.declared.entry.Entry.{Entry}
 use Rattle.nap_list.specs.declared.sink.BatchFault.{BatchFault}
 use Rattle.nap_list.specs.declared.sink.Sink.{Ghosts}
 use Rattle.nap_list.specs.declared.sink.SinkFault.{SinkFault}
 use Rattle.nap_list.specs.declared.sink.SinkFault.TheVariants as faults
-use Rattle.nap_list.specs.Putting.{HaltsAfter, Put, Tells}
+use Rattle.nap_list.specs.Putting.{HaltsAfter, Put, PutSome, SinkShows, Tells}
 use Rattle.nap_list.specs.Shown.{shows_of}
 use Rattle.nap_draw.specs.Draws.{Cause, stream, memory, device}
 use Rattle.nap_reader.specs.declared.fault.Refusal.{Refusal}
@@ -12,7 +13,7 @@ use Rattle.nap_reader.specs.Breaking.{cause_of}
 use Rattle.nap_canon.specs.Streams.{list_of}
 use Rattle.nap_command.specs.Collecting.{Collects, RefusedBy}
 use Rattle.nap_batch.specs.Answers.{CountsAll, IsCount}
-use Rattle.nap_batch.specs.Counting.{Counting, GrowsBy, Took, counting}
+use Rattle.nap_batch.specs.Counting.{Counting, GrowsBy, Took, counting, grows_none}
 
 -- A sink that counts what another one takes.
 
@@ -26,6 +27,16 @@ same {S = S} s t sink count = ap (λ (x : S). made x t.count) sink ∙ ap (made 
 abbrev pub taken_of : ℕ → Result (Unit {0}) BatchFault → ℕ
 taken_of all (Ok x) = all
 taken_of all (Err stop) = stop.taken
+
+-- where one entry wasn't taken, none was
+module _ {S : Type 0} (h : SinkShows S) (x : Entry) (s t : S) where
+  only_one : (front rest : List Entry) (next : Entry) (n : ℕ) → x ∷ [] ≡ front ++ next ∷ rest → length front ≡ n → n ≡ 0
+  only_one front rest next n parts count = omega (arith, count, ap length parts, length-append front (next ∷ rest))
+
+  none_first : (n : ℕ) (f : SinkFault) → HaltsAfter h (x ∷ []) s t n f → n ≡ 0
+  none_first n faults.Memory stops = only_one stops.front stops.rest stops.next n stops.parts stops.count
+  none_first n faults.Write (inl (set, same, zero)) = zero
+  none_first n faults.Write (inr breaks) = only_one breaks.front breaks.rest breaks.next n breaks.parts breaks.count
 
 -- What another sink took is counted.
 module _ {S : Type 0} (g : Ghosts S) (list : List Entry) (s t : Counting S) where
@@ -57,6 +68,18 @@ module _ {S : Type 0} (g : Ghosts S) (list : List Entry) (s t : Counting S) wher
       let more = subst (λ (k : ℕ). GrowsBy k s.count t.count) is grows in
       let stays : stop.taken ≡ 0 → t.count ≡ s.count = λ zero. still (is ∙ zero) in
       (halts stop.taken stop.fault more stays h.0, tells stop.taken stop.fault stays h.1)
+
+-- An entry that another sink didn't take isn't counted.
+module _ {S : Type 0} (g : Ghosts S) (x : Entry) (s : Counting S) (t : S) (f : SinkFault) (h : PutSome {A = Unit {0}} (shows_of g) (x ∷ []) s.sink t (Err f)) where
+  none_counted : PutSome {A = Unit {0}} (counting g) (x ∷ []) s (made t s.count) (Err f)
+  none_counted =
+      let none = none_first (shows_of g) x s.sink t h.0 f h.1 in
+      let grows : GrowsBy h.0 s.count s.count = subst (λ (k : ℕ). GrowsBy k s.count s.count) (sym none) (grows_none s.count) in
+      (h.0, halts g (x ∷ []) s (made t s.count) h.0 f grows (λ zero. refl) h.1, tells g (x ∷ []) s (made t s.count) h.0 f (λ zero. refl) h.2)
+
+  pub puts_none : (r : Result (Unit {0}) SinkFault) → IsErrAnd r (λ fault. fault ≡ f) → PutSome (counting g) (x ∷ []) s (made t s.count) r
+  puts_none (Ok _) is = absurd is
+  puts_none (Err fault) is = subst (λ (fault : SinkFault). PutSome {A = Unit {0}} (counting g) (x ∷ []) s (made t s.count) (Err fault)) (sym is) none_counted
 
 -- A page was read into a sink that counts, over another one.
 module _ {S : Type 0} (g : Ghosts S) (h : Ghosts (Counting S)) (took_is : (s t : Counting S) (d : List Entry) → h.took s d t → Took g s d t)

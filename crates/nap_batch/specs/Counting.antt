@@ -31,7 +31,7 @@ counting g = record {
 
 -- What the trait asks of it.
 
-grows_none : (c : Option ℕ) → GrowsBy 0 c c
+pub grows_none : (c : Option ℕ) → GrowsBy 0 c c
 grows_none None = tt
 grows_none (Some k) = (k, refl, same k)
   where

@@ -2,7 +2,8 @@
 ghost use Rattle.std.specs.Prelude.{◌≡◌, Some, Option};
 ghost use Rattle.nap_batch.specs.Counting.{GrowsBy, Took, took_more, took_none};
 
-use nap_list::{Batch, BatchFault, Entry, Sink, SinkFault};
+use nap_list::{Batch, BatchFault, Entry, Shape, Sink, SinkFault};
+use std::alloc::Global;
 use std::marker::Model;
 
 /// Counts the entries that another sink takes, as long as a `u64` holds their number.
@@ -80,6 +81,12 @@ impl<S: Sink + Drop> Sink for CountingSink<S> {
         };
         self.count = counted(self.count, taken);
         put
+    }
+
+    fn put_shape(&mut self, alloc: Global, shape: &Shape) -> Result<(), SinkFault> {
+        self.sink.put_shape(alloc, shape)?;
+        self.count = counted(self.count, 1);
+        Ok(())
     }
 
     ghost took_none = { λ s. took_none _ s (S.took_none s.sink) };

@@ -2,13 +2,14 @@ use Rattle.std.proofs.Common.{◌++◌, refl, arith, length-append}
 use Rattle.nap_codes.specs.declared.opcode.Opcode.TheVariants as opcodes
 use Rattle.nap_codes.specs.Tables.{left_out_opcode}
 use Rattle.nap_draw.specs.Operands.{operands}
-use Rattle.nap_draw.specs.Laws.{RuleFits, CodeFits, CodeValuesAreInRange, DrawnValuesAreInRange, OpcodesAreDrawn, WholeOperandFirst, NoOperands}
+use Rattle.nap_draw.specs.Laws.{RuleFits, CodeFits, CodeValuesAreInRange, DrawnValuesAreInRange, OpcodesAreDrawn, WholeOperandFirst, NoOperands, TypedRule}
 use Rattle.nap_draw.specs.Joining.{RunsJoin}
 use Rattle.nap_draw.proofs.Cuts.{operands_chunk}
 use Rattle.nap_draw.proofs.Fits as fits
 use Rattle.nap_draw.proofs.RangeLemmas as ranges
 use Rattle.nap_draw.proofs.CodeRanges as code_ranges
 use Rattle.nap_draw.proofs.JoinedRuns as joined_runs
+use Rattle.nap_draw.proofs.Texts as texts
 
 -- The proofs of the laws.
 
@@ -41,3 +42,6 @@ no_operands k = refl
 
 pub runs_join : RunsJoin
 runs_join = joined_runs.runs_join
+
+pub typed_rule : TypedRule
+typed_rule = texts.typed_rule

@@ -2,6 +2,8 @@ use Rattle.std.specs.Prelude.{ℕ, zero, suc, List, [], ◌∷◌, ◌++◌, fal
 use Rattle.nap_codes.specs.declared.code.Code.{Code}
 use Rattle.nap_codes.specs.declared.code.Code.TheVariants as codes
 use Rattle.nap_codes.specs.declared.code_set.CharSet.{CharSet}
+use Rattle.nap_codes.specs.declared.control.TextStep.{TextStep}
+use Rattle.nap_codes.specs.Tables.{format_effector}
 use Rattle.nap_list.specs.declared.attribute.CharSize.TheVariants as sizes
 use Rattle.nap_list.specs.declared.attribute.TextLook.{TextLook}
 use Rattle.nap_list.specs.declared.entry.Entry.{Entry}
@@ -10,6 +12,7 @@ use Rattle.nap_list.specs.declared.state.Drawing.{Drawing}
 use Rattle.nap_list.specs.declared.state.LastChar.{LastChar}
 use Rattle.nap_list.specs.declared.state.Opened.{Opened}
 use Rattle.nap_list.specs.declared.state.State.{State}
+use Rattle.nap_list.specs.Batches.{typed}
 use Rattle.nap_list.specs.Entry.{IsCode, StepMade}
 use Rattle.nap_list.specs.State.{after, walk, hand_of}
 use Rattle.nap_draw.specs.declared.work.Work.{Work}
@@ -28,10 +31,19 @@ unfoldable pub copies : State → LastChar → ℕ → List Entry
 copies s last zero = []
 copies s last (suc n) = char_on s.drawing last ∷ copies (after s (char_on s.drawing last)) last n
 
--- characters of a set: the first in this state, each further one in the state that the one before it left
+-- characters of a set and the moves that stand among them, a byte each: the first in this state, each further one in the state that
+-- the one before it left
 unfoldable pub text : State → CharSet → List ℕ → List Entry
 text s set [] = []
-text s set (code ∷ codes) = char_on s.drawing (record { set = set; code = code }) ∷ text (after s (char_on s.drawing (record { set = set; code = code }))) set codes
+text s set (code ∷ codes) = typed set (hand_of s.drawing) code ∷ text (after s (typed set (hand_of s.drawing) code)) set codes
+
+-- the code that a byte of a text is: the move that it is by itself, or else the character of the set
+abbrev pub code_as : Option TextStep → CharSet → ℕ → Code
+code_as (Some step) set code = codes.Step step
+code_as None set code = codes.Char set code
+
+abbrev pub typed_code : CharSet → ℕ → Code
+typed_code set code = code_as (format_effector code) set code
 
 -- one entry
 abbrev pub puts : Work → Entry → Result Drawn DrawFault

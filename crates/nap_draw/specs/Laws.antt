@@ -1,16 +1,18 @@
 use Rattle.std.specs.Prelude.{ℕ, ◌≡◌, ◌≤◌, List, [], ◌∷◌, ◌++◌, None, Ok, All, length}
 use Rattle.nap_values.specs.Laws.{IsWord}
 use Rattle.nap_codes.specs.declared.code.Code.{Code}
+use Rattle.nap_codes.specs.declared.code_set.CharSet.{CharSet}
 use Rattle.nap_codes.specs.declared.opcode.Opcode.{Opcode}
 use Rattle.nap_codes.specs.Tables.{left_out_opcode}
 use Rattle.nap_list.specs.declared.state.State.{State}
-use Rattle.nap_list.specs.State.{AllFit, walk}
+use Rattle.nap_list.specs.Batches.{typed}
+use Rattle.nap_list.specs.State.{AllFit, walk, hand_of}
 use Rattle.nap_list.specs.Agreement.{StatesAgree}
 use Rattle.nap_list.specs.Range.{AllInRange, StateInRange}
 use Rattle.nap_draw.specs.declared.work.Work.{Work}
-use Rattle.nap_draw.specs.Codes.{code_rule, IsMade}
+use Rattle.nap_draw.specs.Codes.{code_rule, typed_code, IsMade}
 use Rattle.nap_draw.specs.Operands.{operands}
-use Rattle.nap_draw.specs.Rule.{Drawn, IsDrawn, rule}
+use Rattle.nap_draw.specs.Rule.{Drawn, IsDrawn, drawn, rule}
 
 -- where the work's state agrees with the one shown, the entries of an opcode fit one after another, and the states agree again
 abbrev pub RuleFits : Type 0
@@ -44,3 +46,8 @@ CodeFits = (work : Work) (code : Code) (shown : State) (d : Drawn) → code_rule
 abbrev pub CodeValuesAreInRange : Type 0
 CodeValuesAreInRange = (work : Work) (code : Code) (d : Drawn) → code_rule work code ≡ Ok d → IsMade code → StateInRange work.state →
     AllInRange d.entries × StateInRange d.work.state
+
+-- the code that a byte of a text is puts the character or the move that the byte draws in the text
+abbrev pub TypedRule : Type 0
+TypedRule = (work : Work) (set : CharSet) (code : ℕ) →
+    code_rule work (typed_code set code) ≡ Ok (drawn work (typed set (hand_of work.state.drawing) code ∷ []))

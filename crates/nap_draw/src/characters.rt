@@ -2,6 +2,7 @@
 ghost use Rattle.std.specs.Prelude.{◌≡◌, All, OnOk, MatchResult};
 ghost use Rattle.nap_codes.specs.declared.code.Code.TheVariants as codes;
 ghost use Rattle.nap_list.specs.Entry.{IsCode};
+ghost use Rattle.nap_list.specs.Batches.{IsTyped};
 ghost use Rattle.nap_list.specs.Agreement.{StatesAgree};
 ghost use Rattle.nap_list.specs.Putting.{Put};
 ghost use Rattle.nap_list.specs.Shown.{shows_of};
@@ -13,12 +14,12 @@ use crate::fault::DrawFault;
 use crate::putting::put_copies;
 use crate::work::Work;
 use nap_codes::CharSet;
-use nap_list::{Batch, BatchFault, Entry, LastChar, Pen, Sink};
+use nap_list::{Batch, BatchFault, Entry, LastChar, Pen, Sink, last_typed};
 use nap_values::Word;
 
 impl Work {
-    /// Puts characters of a set in turn, as `text` does each. An error tells how many of them were put, and leaves the
-    /// work as it was.
+    /// Puts characters of a set and the format effectors of one byte among them in turn, as `text` and `control` do each.
+    /// An error tells how many of them were put, and leaves the work as it was.
     #[inline]
     pub fn characters<S: Sink>(
         &mut self,
@@ -27,7 +28,7 @@ impl Work {
         sink: &mut S,
     ) -> Result<(), BatchFault>
         requires agrees { StatesAgree self.old.state (S.state sink.old) }
-        requires made { All IsCode codes.now }
+        requires made { All IsTyped codes.now }
         ensures put { Put (shows_of S.Sink) (text self.old.state set codes.now) sink.old sink.new result }
         ensures work { MatchResult result (λ _. self.new ≡ (drawn self.old (text self.old.state set codes.now)).work) (λ _. self.new ≡ self.old) }
         ensures agree { OnOk result (StatesAgree self.new.state (S.state sink.new)) }
@@ -44,7 +45,7 @@ impl Work {
             return Ok(());
         };
         self.state.drawing.pen = Pen::After;
-        self.state.last = Some(LastChar { set, code: *code });
+        self.state.last = last_typed(set, *code);
         Ok(())
     }
 

@@ -1,6 +1,6 @@
 //! Laws of the rules, over their definitions alone.
 ghost use Rattle.std.specs.Prelude.{◌≡◌};
-ghost use Rattle.nap_draw.specs.Laws.{RuleFits, CodeFits, DrawnValuesAreInRange, CodeValuesAreInRange, OpcodesAreDrawn, WholeOperandFirst, NoOperands};
+ghost use Rattle.nap_draw.specs.Laws.{RuleFits, CodeFits, DrawnValuesAreInRange, CodeValuesAreInRange, OpcodesAreDrawn, WholeOperandFirst, NoOperands, TypedRule};
 ghost use Rattle.nap_draw.specs.Joining.{RunsJoin};
 ghost use Rattle.nap_draw.specs.Limits.{run_limit};
 ghost use Rattle.nap_draw.specs.declared.act.TheConstants.{RUN_LIMIT};
@@ -47,6 +47,12 @@ pub fn no_operands()
 #[tactic(auto, using(crate::proofs::PublicLaws::runs_join))]
 pub fn runs_join()
     ensures { RunsJoin }
+{}
+
+/// The code that a byte of a text is puts the character or the move that the byte draws in the text.
+#[tactic(auto, using(crate::proofs::PublicLaws::typed_rule))]
+pub fn typed_rule()
+    ensures { TypedRule }
 {}
 
 /// The limit is that of our profile: 16,384 operand bytes of one opcode.

@@ -4,7 +4,7 @@ ghost use Rattle.std.proofs.Common.{sym, ap, ◌∙◌, append-nil, append_assoc
 ghost use Rattle.nap_list.specs.State.{start, walk};
 ghost use Rattle.nap_list.specs.declared.entry.Entry.{Entry};
 
-use nap_list::{Entry, ListSink, Sink, SinkFault};
+use nap_list::{Entry, ListSink, Shape, Sink, SinkFault};
 use std::alloc::Global;
 
 /// Keeps this many entries more, and then fails by the fault at each put.
@@ -61,6 +61,14 @@ impl Sink for Faltering {
         self.list.put(entry)?;
         self.left -= 1;
         Ok(())
+    }
+
+    fn put_shape(&mut self, alloc: Global, shape: &Shape) -> Result<(), SinkFault> {
+        if self.failed {
+            return Err(SinkFault::Write);
+        }
+        let entry = shape.entry(alloc)?;
+        self.put(entry)
     }
 
     ghost took_none = { λ s. sym (append-nil s.list) };

@@ -1,4 +1,4 @@
-use Rattle.std.proofs.Common.{rules, ℕ, ◌≡◌, if◌then◌else◌, is_ok, is_err, ◌-◌, ◌+◌, ◌<◌, List, [], ◌∷◌, ◌++◌, Bool, false, Result, Ok, Err, codes, flat_map, map, length, take, drop, get_or, add-one, refl, ap, sym, ◌∙◌, append-nil, append_assoc, length-append, arith}
+use Rattle.std.proofs.Common.{rules, ℕ, ◌≡◌, if◌then◌else◌, is_ok, is_err, ◌-◌, ◌+◌, ◌<◌, ◌≤◌, List, [], ◌∷◌, ◌++◌, Bool, false, Result, Ok, Err, OnOk, Option, Some, None, codes, flat_map, map, length, take, drop, get_or, add-one, refl, ap, sym, ◌∙◌, append-nil, append_assoc, length-append, arith}
 use Rattle.std.proofs.lemmas.List.{take_more}
 use Rattle.std.proofs.lemmas.List.Concat.{flat_map-append}
 use Rattle.std.proofs.Math.Seq.{drop-append_seam, take-append_seam}
@@ -6,6 +6,9 @@ use Rattle.std.specs.Str.{IsUtf8}
 use Rattle.nap_values.specs.Coordinates.{Coordinates}
 use Rattle.nap_codes.specs.declared.code_set.CharSet.{CharSet}
 use Rattle.nap_codes.specs.declared.code_set.CharSet.TheVariants as sets
+use Rattle.nap_codes.specs.declared.control.TextStep.{TextStep}
+use Rattle.nap_codes.specs.Tables.{format_effector}
+use Rattle.nap_codes.proofs.PublicLaws.{format_effector_front}
 use Rattle.nap_list.specs.declared.attribute.Hand.{Hand}
 use Rattle.nap_list.specs.declared.attribute.Ink.{Ink}
 use Rattle.nap_list.specs.declared.attribute.Pen.TheVariants.{After}
@@ -15,12 +18,12 @@ use Rattle.nap_list.specs.declared.state.Drawing.{Drawing}
 use Rattle.nap_list.specs.State.{ink_of}
 use Rattle.nap_list.specs.declared.batch.Batch.{Batch}
 use Rattle.nap_list.specs.declared.batch.Batch.TheVariants as batches
-use Rattle.nap_list.specs.Batches.{point_on, lines_on, text_in, listed}
+use Rattle.nap_list.specs.Batches.{point_on, lines_on, text_in, typed, typed_as, listed}
 use Rattle.nap_list.specs.BatchLaws.{points_front, lines_front, text_front}
 use Rattle.nap_list.specs.Putting.{SinkShows, shows}
-use Rattle.nap_lines.specs.Lines.{line, ink_text, pen_text, move_text, colour_text, look_text, set_text}
+use Rattle.nap_lines.specs.Lines.{line, ink_text, pen_text, move_text, colour_text, look_text, hand_text, set_text}
 use Rattle.nap_lines.specs.Listing.{Listed, Lists, lines}
-use Rattle.nap_lines.specs.Batches.{point_front, point_end, line_front, char_front, written_text, lines_with, Goes}
+use Rattle.nap_lines.specs.Batches.{point_front, point_end, line_front, char_front, move_front, typed_front_as, typed_front, written_text, lines_with, Goes}
 
 -- The lines of a batch.
 
@@ -54,6 +57,10 @@ pub appended : {T E : Type 0} (r : Result T E) (failed : Bool) (now old bytes : 
     now ≡ old ++ bytes
 appended (Ok _) failed now old bytes is was works = is
 appended (Err _) failed now old bytes is was works = let bad : ⊥ = cc in absurd bad
+
+pub worked : {T E : Type 0} (r : Result T E) (A : Type 0) (failed : Bool) → failed ≡ is_err r → failed ≡ false → OnOk r A → A
+worked (Ok _) A failed was works so = so
+worked (Err _) A failed was works so = let bad : ⊥ = cc in absurd bad
 
 pub one_more : {A : Type 0} (f : A → List ℕ) (xs : List A) (i : ℕ) (x d : A) → i < length xs → x ≡ get_or xs i d → flat_map f (take (i + 1) xs) ≡ flat_map f (take i xs) ++ f x
 one_more {A} f xs i x d less is =
@@ -104,12 +111,29 @@ line_line ink from to = parts (line_front from to) (codes " ") (ink_text ink) (1
     parts : (f a i n : List ℕ) → f ++ (a ++ i ++ n) ≡ f ++ a ++ i ++ n
     parts f a i n = simp append_assoc
 
-pub letter_line : (set : CharSet) (hand : Hand) (code : ℕ) →
-    char_front set code ++ (codes " pen=" ++ (pen_text hand.pen ++ (written_text hand ++ 10 ∷ []))) ≡ line (entries.Char set code hand) ++ 10 ∷ []
-letter_line set hand code = parts (char_front set code) (codes " ") (codes "pen=") (pen_text hand.pen) (codes " colour=") (colour_text hand.colour) (codes " text=") (look_text hand.text) (10 ∷ [])
+hand_line : (front : List ℕ) (hand : Hand) →
+    front ++ (codes " pen=" ++ (pen_text hand.pen ++ (written_text hand ++ 10 ∷ []))) ≡ (front ++ codes " " ++ hand_text hand) ++ 10 ∷ []
+hand_line front hand = parts front (codes " ") (codes "pen=") (pen_text hand.pen) (codes " colour=") (colour_text hand.colour) (codes " text=") (look_text hand.text) (10 ∷ [])
   where
-    parts : (f a b p c k t l n : List ℕ) → f ++ ((a ++ b) ++ (p ++ (c ++ k ++ t ++ l ++ n))) ≡ f ++ a ++ (b ++ p ++ c ++ k ++ t ++ l) ++ n
+    parts : (f a b p c k t l n : List ℕ) → f ++ ((a ++ b) ++ (p ++ (c ++ k ++ t ++ l ++ n))) ≡ (f ++ a ++ (b ++ p ++ c ++ k ++ t ++ l)) ++ n
     parts f a b p c k t l n = simp append_assoc
+
+typed_line_as : (step : Option TextStep) (set : CharSet) (hand : Hand) (code : ℕ) →
+    typed_front_as step set code ++ (codes " pen=" ++ (pen_text hand.pen ++ (written_text hand ++ 10 ∷ []))) ≡ line (typed_as step set hand code) ++ 10 ∷ []
+typed_line_as (Some step) set hand code = hand_line (move_front step) hand
+typed_line_as None set hand code = hand_line (char_front set code) hand
+
+pub typed_line : (set : CharSet) (hand : Hand) (code : ℕ) →
+    typed_front set code ++ (codes " pen=" ++ (pen_text hand.pen ++ (written_text hand ++ 10 ∷ []))) ≡ line (typed set hand code) ++ 10 ∷ []
+typed_line set hand code = typed_line_as (format_effector code) set hand code
+
+-- a byte that isn't below the codes of a set has the front of a character
+letter_typed_as : (step : Option TextStep) (set : CharSet) (code : ℕ) → format_effector code ≡ step → 0x20 ≤ code → typed_front_as step set code ≡ char_front set code
+letter_typed_as (Some step) set code is above = let below = (format_effector_front code step is).0 in absurd (omega (arith, below, above))
+letter_typed_as None set code is above = refl
+
+pub letter_typed : (set : CharSet) (code : ℕ) → 0x20 ≤ code → typed_front set code ≡ char_front set code
+letter_typed set code above = letter_typed_as (format_effector code) set code refl above
 
 pub dots_are_lines : (d : Drawing) (points : List Coordinates) →
     flat_map (λ at. point_front at ++ (point_end d.pel d.colour ++ 10 ∷ [])) points ≡ lines (map (point_on d) points)
@@ -128,12 +152,12 @@ lines_are_lines d from (p ∷ ps) =
     ∙ ap (λ (bytes : List ℕ). (line (entries.Line from p (ink_of d)) ++ 10 ∷ []) ++ bytes) (lines_are_lines d p ps)
 
 pub letters_are_lines : (set : CharSet) (hand : Hand) (cs : List ℕ) →
-    flat_map (λ code. char_front set code ++ (codes " pen=after" ++ (written_text hand ++ 10 ∷ []))) cs ≡ lines (text_in set (record hand { pen = After }) cs)
+    flat_map (λ code. typed_front set code ++ (codes " pen=after" ++ (written_text hand ++ 10 ∷ []))) cs ≡ lines (text_in set (record hand { pen = After }) cs)
 unfolding text_in
 letters_are_lines set hand [] = refl
 letters_are_lines set hand (c ∷ cs) =
-    ap (λ (bytes : List ℕ). bytes ++ flat_map (λ code. char_front set code ++ (codes " pen=after" ++ (written_text hand ++ 10 ∷ []))) cs) (letter_line set (record hand { pen = After }) c)
-    ∙ ap (λ (bytes : List ℕ). (line (entries.Char set c (record hand { pen = After })) ++ 10 ∷ []) ++ bytes) (letters_are_lines set hand cs)
+    ap (λ (bytes : List ℕ). bytes ++ flat_map (λ code. typed_front set code ++ (codes " pen=after" ++ (written_text hand ++ 10 ∷ []))) cs) (typed_line set (record hand { pen = After }) c)
+    ∙ ap (λ (bytes : List ℕ). (line (typed set (record hand { pen = After }) c) ++ 10 ∷ []) ++ bytes) (letters_are_lines set hand cs)
 
 -- a room with the end of a line, behind which nothing stood
 pub ended : (room pushed cleared end : List ℕ) → room ≡ end ++ pushed → pushed ≡ codes "\n" ++ cleared → cleared ≡ [] → room ≡ end ++ 10 ∷ []
@@ -163,21 +187,21 @@ lines_written b from points d n old new room is end text =
 
 -- the lines of a text, of which the first has a pen of its own
 pub text_written : (set : CharSet) (hand : Hand) (all others : List ℕ) (first n : ℕ) (old mid new bytes room : List ℕ) → all ≡ first ∷ others → mid ≡ old ++ bytes →
-    bytes ≡ char_front set first ++ (codes " pen=" ++ (pen_text hand.pen ++ (written_text hand ++ 10 ∷ []))) → room ≡ codes " pen=after" ++ (written_text hand ++ 10 ∷ []) →
-    new ≡ mid ++ flat_map (λ code. char_front set code ++ room) (take n others) → new ≡ old ++ lines (take (n + 1) (text_in set hand all))
+    bytes ≡ typed_front set first ++ (codes " pen=" ++ (pen_text hand.pen ++ (written_text hand ++ 10 ∷ []))) → room ≡ codes " pen=after" ++ (written_text hand ++ 10 ∷ []) →
+    new ≡ mid ++ flat_map (λ code. typed_front set code ++ room) (take n others) → new ≡ old ++ lines (take (n + 1) (text_in set hand all))
 unfolding text_in
 text_written set hand all others first n old mid new bytes room is one front end more =
     let further : Hand = record hand { pen = After } in
     let rest : List ℕ = lines (take n (text_in set further others)) in
-    let begun = entries.Char set first hand in
-    let written : flat_map (λ code. char_front set code ++ room) (take n others) ≡ rest =
-    ap (λ (end : List ℕ). flat_map (λ code. char_front set code ++ end) (take n others)) end
+    let begun = typed set hand first in
+    let written : flat_map (λ code. typed_front set code ++ room) (take n others) ≡ rest =
+    ap (λ (end : List ℕ). flat_map (λ code. typed_front set code ++ end) (take n others)) end
     ∙ letters_are_lines set hand (take n others)
     ∙ ap lines (text_front set further others n) in
     let taken : take (n + 1) (text_in set hand all) ≡ begun ∷ take n (text_in set further others) = rw (is, add-one) refl in
     more
     ∙ ap (λ (bytes : List ℕ). mid ++ bytes) written
-    ∙ ap (λ (bytes : List ℕ). bytes ++ rest) (one ∙ ap (λ (bytes : List ℕ). old ++ bytes) (front ∙ letter_line set hand first))
+    ∙ ap (λ (bytes : List ℕ). bytes ++ rest) (one ∙ ap (λ (bytes : List ℕ). old ++ bytes) (front ∙ typed_line set hand first))
     ∙ append_assoc old (line begun ++ 10 ∷ []) rest
     ∙ ap (λ (list : List Entry). old ++ lines list) (sym taken)
 

@@ -1,9 +1,11 @@
-use Rattle.std.specs.Prelude.{ℕ, ◌≡◌, List, [], ◌∷◌, ◌++◌, codes}
+use Rattle.std.specs.Prelude.{ℕ, ◌≡◌, List, [], ◌∷◌, ◌++◌, Option, Some, None, codes}
 use Rattle.nap_values.specs.Coordinates.{Coordinates, Displacement}
 use Rattle.nap_codes.specs.declared.code_set.CharSet.{CharSet}
+use Rattle.nap_codes.specs.declared.control.TextStep.{TextStep}
+use Rattle.nap_codes.specs.Tables.{format_effector}
 use Rattle.nap_list.specs.declared.attribute.Colour.{Colour}
 use Rattle.nap_list.specs.declared.attribute.Hand.{Hand}
-use Rattle.nap_lines.specs.Lines.{point_text, move_text, colour_text, look_text, set_text, code_text}
+use Rattle.nap_lines.specs.Lines.{point_text, move_text, colour_text, look_text, set_text, step_text, code_text}
 
 -- Lines of like entries: each has a front of its own, and they share an end.
 
@@ -18,6 +20,17 @@ line_front from to = codes "LINE " ++ point_text from ++ codes " " ++ point_text
 
 abbrev pub char_front : CharSet → ℕ → List ℕ
 char_front set code = codes "CHAR " ++ set_text set ++ codes " " ++ code_text code
+
+abbrev pub move_front : TextStep → List ℕ
+move_front step = codes "MOVE " ++ step_text step
+
+-- of a byte of a text: the front of the move that it is by itself, or else of the character of the set
+abbrev pub typed_front_as : Option TextStep → CharSet → ℕ → List ℕ
+typed_front_as (Some step) set code = move_front step
+typed_front_as None set code = char_front set code
+
+abbrev pub typed_front : CharSet → ℕ → List ℕ
+typed_front set code = typed_front_as (format_effector code) set code
 
 -- what characters are drawn with, but for their pen
 abbrev pub written_text : Hand → List ℕ

@@ -1,14 +1,16 @@
 //! Lines of like entries, which share their ends.
-ghost use Rattle.std.specs.Prelude.{◌≡◌, ◌+◌, ◌≤◌, ◌++◌, flat_map, length, take};
+ghost use Rattle.std.specs.Prelude.{◌≡◌, ◌+◌, ◌-◌, ◌≤◌, ◌++◌, OnOk, OnErr, drop, flat_map, length, take};
+ghost use Rattle.std.specs.Str.{IsUtf8};
 ghost use Rattle.nap_list.specs.Batches.{listed, text_in};
 ghost use Rattle.nap_lines.specs.Listing.{lines};
-ghost use Rattle.nap_lines.specs.Batches.{point_front, point_end, line_front, char_front, lines_with};
+ghost use Rattle.nap_lines.specs.Batches.{point_front, point_end, line_front, char_front, move_front, typed_front, lines_with};
 ghost use Rattle.nap_lines.specs.Writing.{line_limit};
 
 use crate::tail::Tail;
-use nap_codes::CharSet;
+use nap_codes::{CharSet, TextStep, format_effector};
 use nap_list::{Batch, Colour, Hand};
 use nap_values::{Move, Point};
+use std::alloc::AllocError;
 
 impl Tail {
     /// The end of a point's line.
@@ -51,6 +53,26 @@ impl Tail {
         self.push(" ");
         self.char_set(set);
         self.push("CHAR ");
+    }
+
+    /// The front of a move's line.
+    pub(crate) fn move_front(&mut self, step: TextStep)
+        requires room { length self.old + 14 ≤ line_limit }
+        ensures { self.new ≡ move_front step ++ self.old }
+    {
+        self.step(step);
+        self.push("MOVE ");
+    }
+
+    /// The front of the line of a text's byte: a move by itself, or else a character.
+    fn typed_front(&mut self, set: CharSet, code: u8)
+        requires room { length self.old + 21 ≤ line_limit }
+        ensures { self.new ≡ typed_front set code ++ self.old }
+    {
+        match format_effector(code) {
+            Some(step) => self.move_front(step),
+            None => self.letter_front(set, code),
+        }
     }
 }
 
@@ -95,11 +117,35 @@ fn write_lines(room: &mut Tail, text: &mut Vec<u8>, from: Point, points: &[Point
     written
 }
 
-/// Writes a line for each character, as `write_dots` does.
+/// Writes the line of a byte that may be a move, with the last bytes of the room as its end, and makes the front of a
+/// character's line again.
+fn write_typed(
+    room: &mut Tail,
+    text: &mut Vec<u8>,
+    set: CharSet,
+    code: u8,
+    end: usize,
+) -> Result<(), AllocError>
+    requires within { end ≤ length room.old }
+    requires room { end + 21 ≤ line_limit }
+    requires utf8 { IsUtf8 (drop (length room.old - end) room.old) }
+    ensures room { room.new ≡ char_front set 0 ++ drop (length room.old - end) room.old }
+    ensures ok { OnOk result (text.new.items ≡ text.old.items ++ (typed_front set code ++ drop (length room.old - end) room.old)) }
+    ensures err { OnErr result (text.new.items ≡ text.old.items) }
+{
+    room.keep(end);
+    room.typed_front(set, code);
+    let written = text.extend_from_slice(room.as_slice());
+    room.keep(end);
+    room.letter_front(set, 0);
+    written
+}
+
+/// Writes a line for each character and for each move among them, as `write_dots` does.
 fn write_letters(room: &mut Tail, text: &mut Vec<u8>, set: CharSet, codes: &[u8]) -> usize
     requires room { length room.old + 21 ≤ line_limit }
     ensures count { result ≤ length codes.now }
-    ensures text { text.new.items ≡ text.old.items ++ flat_map (λ code. char_front set code ++ room.old) (take result codes.now) }
+    ensures text { text.new.items ≡ text.old.items ++ flat_map (λ code. typed_front set code ++ room.old) (take result codes.now) }
 {
     let end = room.len();
     // The digits stand for those of any code.
@@ -107,16 +153,22 @@ fn write_letters(room: &mut Tail, text: &mut Vec<u8>, set: CharSet, codes: &[u8]
     let place = room.len() - end - 2;
     let mut written = 0;
     for code in codes {
-        room.recode(place, *code);
-        if text.extend_from_slice(room.as_slice()).is_err() {
-            return written;
+        if *code < 0x20 {
+            if write_typed(room, text, set, *code, end).is_err() {
+                return written;
+            }
+        } else {
+            room.recode(place, *code);
+            if text.extend_from_slice(room.as_slice()).is_err() {
+                return written;
+            }
         }
         written += 1;
     }
     written
 }
 
-/// Writes a line for each character of a text, the first in this hand, as `write_dots` does.
+/// Writes a line for each byte of a text, the first in this hand, as `write_dots` does.
 fn write_text(room: &mut Tail, text: &mut Vec<u8>, set: CharSet, codes: &[u8], hand: &Hand) -> usize
     ensures count { result ≤ length codes.now }
     ensures text { text.new.items ≡ text.old.items ++ lines (take result (text_in set hand.now codes.now)) }
@@ -130,7 +182,7 @@ fn write_text(room: &mut Tail, text: &mut Vec<u8>, set: CharSet, codes: &[u8], h
     let end = room.len();
     room.pen(hand.pen);
     room.push(" pen=");
-    room.letter_front(set, *first);
+    room.typed_front(set, *first);
     if text.extend_from_slice(room.as_slice()).is_err() {
         return 0;
     }

@@ -68,8 +68,7 @@ impl Tail {
     {
         self.hand(hand);
         self.push(" ");
-        self.step(step);
-        self.push("MOVE ");
+        self.move_front(step);
     }
 
     fn to_eol(&mut self, hand: &Hand)

@@ -6,7 +6,7 @@ ghost use Rattle.nap_lines.specs.Listing.{Lists, lists_more, lists_none};
 use crate::batch::write_batch;
 use crate::line::write_line;
 use crate::tail::Tail;
-use nap_list::{Batch, BatchFault, Entry, Sink, SinkFault, State};
+use nap_list::{Batch, BatchFault, Entry, Shape, Sink, SinkFault, State};
 use std::alloc::Global;
 use std::marker::Model;
 
@@ -69,6 +69,11 @@ impl Sink for LineSink {
         let taken = write_batch(&mut self.room, &mut self.text, batch);
         self.state.step_front(batch, taken);
         BatchFault::unless_all(taken, batch)
+    }
+
+    fn put_shape(&mut self, alloc: Global, shape: &Shape) -> Result<(), SinkFault> {
+        let entry = shape.entry(alloc)?;
+        self.put(entry)
     }
 
     ghost took_none = { λ s. lists_none s };

@@ -13,6 +13,7 @@ use Rattle.nap_codes.specs.Lexer.{LexerState}
 use Rattle.nap_list.specs.declared.entry.Entry.{Entry}
 use Rattle.nap_list.specs.declared.sink.Sink.{Ghosts}
 use Rattle.nap_list.specs.declared.sink.SinkFault.{SinkFault}
+use Rattle.nap_list.specs.Batches.{IsTyped}
 use Rattle.nap_list.specs.Putting.{HaltsAfter}
 use Rattle.nap_list.specs.Shown.{shows_of}
 use Rattle.nap_draw.specs.declared.fault.DrawFault.{DrawFault}
@@ -39,7 +40,7 @@ use Rattle.nap_reader.proofs.ReadingLemmas.{acts, code_acts, run_opens, still_be
 use Rattle.nap_reader.proofs.StepLemmas.{stops_code, stops_run}
 use Rattle.nap_reader.proofs.StreamLemmas.{bytes_of-append}
 use Rattle.nap_reader.proofs.StretchLemmas.{words, words_join}
-use Rattle.nap_reader.proofs.TextLemmas.{text_passes, typed}
+use Rattle.nap_reader.proofs.TextLemmas.{text_passes, with_text}
 
 -- Whole codes, one after another.
 
@@ -179,19 +180,19 @@ module _ {S : Type 0} (g : Ghosts S) (t : S) (work : Work) (lexer : LexerState) 
   }
 
   -- Characters act.
-  pub codes_text : (set : CharSet) (text : List ℕ) (v : S) (work'' : Work) → take n (drop at bytes) ≡ text → All IsGraphic text →
+  pub codes_text : (set : CharSet) (text : List ℕ) (v : S) (work'' : Work) → take n (drop at bytes) ≡ text → All IsTyped text →
       ((b : ℕ) → IsGraphic b → codes.front lexer'.sets (b ∷ []) ≡ codes.whole (code.Char set b) 1 lexer'.sets) → work'' ≡ (drawn work' (draws_codes.text work'.state set text)).work →
       g.took u (draws_codes.text work'.state set text) v → (g.failed u ≡ false → g.failed v ≡ false) → WholeCodes g t work lexer v work'' lexer' false bytes (at + n)
-  codes_text set text v work'' unit graphic chars same took clear =
+  codes_text set text v work'' unit typed chars same took clear =
       codes_more v work'' lexer' false before.rested clear
       (λ h ys rested is s o pending k.
       let all : bytes_of ys ≡ text = is ∙ unit in
       let after = ap₂ (λ (w : Work) (bs : List ℕ). drawn w (draws_codes.text w.state set bs)) rested.work all in
-      rests_on g s o v (record h { machine = typed h.machine set (bytes_of ys) }) work'' lexer' pending
+      rests_on g s o v (record h { machine = with_text h.machine set (bytes_of ys) }) work'' lexer' pending
       (record { between = rested.between; closed = rested.closed; work = ap (λ (d : Drawn). d.work) after ∙ sym same; sets = rested.sets; half = rested.half; run = rested.run }) before.rested
       (text_passes g s o u h ys pending k rested.between rested.closed rested.half set
       (λ b graphic. ap (λ (sets : CodeSets). codes.front sets (b ∷ [])) rested.sets ∙ chars b graphic ∙ ap (codes.whole (code.Char set b) 1) (sym rested.sets))
-      (subst (All IsGraphic) (sym all) graphic) v more (subst (λ (es : List Entry). g.took u es v) (sym (ap (λ (d : Drawn). d.entries) after)) took) clear))
+      (subst (All IsTyped) (sym all) typed) v more (subst (λ (es : List Entry). g.took u es v) (sym (ap (λ (d : Drawn). d.entries) after)) took) clear))
 
   -- A code of one byte acts, or changes only the sets.
   module _ (c : Code) (byte : ℕ) (sets : CodeSets) (one : n ≡ 1) (unit : take 1 (drop at bytes) ≡ byte ∷ []) (front : codes.front lexer'.sets (byte ∷ []) ≡ codes.whole c 1 sets) where
@@ -343,10 +344,10 @@ module _ {S : Type 0} (g : Ghosts S) (t : S) (work : Work) (lexer : LexerState) 
       ))
 
   -- One of the characters that come isn't taken, or breaks.
-  pub codes_stop_text : (set : CharSet) (text : List ℕ) (taken : ℕ) (v : S) (fault : SinkFault) → take (length text) (drop at bytes) ≡ text → 0 < length text → All IsGraphic text →
+  pub codes_stop_text : (set : CharSet) (text : List ℕ) (taken : ℕ) (v : S) (fault : SinkFault) → take (length text) (drop at bytes) ≡ text → 0 < length text → All IsTyped text →
       ((b : ℕ) → IsGraphic b → codes.front lexer'.sets (b ∷ []) ≡ codes.whole (code.Char set b) 1 lexer'.sets) → HaltsAfter (shows_of g) (draws_codes.text work'.state set text) u v taken fault →
       taken < length text → length text ≤ length (drop at bytes) → CodesStop g t work lexer v bytes (at + taken + 1) (at + taken) (draw_fault (fault_of fault))
-  codes_stop_text set text taken v fault unit some graphic chars halts less long =
+  codes_stop_text set text taken v fault unit some typed chars halts less long =
       in_characters at taken text refl refl unit (omega (arith, less, long, before.within, length-drop at bytes))
       (λ h xs place rested is.
       let there = before.leads h xs rested is in
@@ -360,7 +361,7 @@ module _ {S : Type 0} (g : Ghosts S) (t : S) (work : Work) (lexer : LexerState) 
               set = set;
               chars = chars;
               some = some;
-              graphic = graphic;
+              typed = typed;
               fault = fault;
               halts = halts;
               why = refl;

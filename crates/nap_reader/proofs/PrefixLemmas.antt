@@ -1,14 +1,19 @@
 -- Bytes of a range at the front, seen by blocks through the mask of those that are others.
-use Rattle.std.proofs.Common.{◌≡◌, ℕ, ◌+◌, ◌-◌, ◌*◌, ◌%◌, ◌^◌, ◌<◌, ◌≤◌, Bool, true, false, not, ◌&&◌, cond, eqb, leb, ltb, List, [], ◌∷◌, map, length, take, drop, replicate, refl, sym, ap, ap₂, ◌∙◌, arith, Fits, w8}
+use Rattle.std.proofs.Common.{◌≡◌, ℕ, suc, ◌+◌, ◌-◌, ◌*◌, ◌%◌, ◌^◌, ◌<◌, ◌≤◌, Bool, true, false, not, ◌&&◌, ◌||◌, cond, eqb, leb, ltb, List, [], ◌∷◌, map, length, take, drop, replicate, get_or, Option, refl, sym, ap, ap₂, subst, ◌∙◌, arith, Fits, w8}
 use Rattle.std.proofs.lemmas.Simd.{chunk-drop, length-chunk, leading_from_mask_l, trailing_mask_l, mask_l-mod}
-use Rattle.std.proofs.lemmas.List.{length-map}
+use Rattle.std.proofs.lemmas.List.{drop-drop, length-map}
 use Rattle.std.proofs.lemmas.List.Folds.{prefix_len-append, length-prefix_len}
-use Rattle.std.proofs.lemmas.List.Sums.{prefix_len-le-length}
-use Rattle.std.proofs.lemmas.Bool.{eq-eqb, ne_eqb, leb-true, leb-false, ltb-true, ltb-false, le-leb, lt-leb}
+use Rattle.std.proofs.lemmas.List.Sums.{prefix_len-drop_yes, prefix_len-le-length}
+use Rattle.std.proofs.lemmas.Bool.{eq-eqb, ne_eqb, leb-true, leb-false, ltb-true, ltb-false, le-leb, lt-leb, and_parts}
+use Rattle.std.proofs.Math.Bool.{or-true}
 use Rattle.std.specs.List.{prefix_len}
+use Rattle.std.specs.Option.{is_some}
 use lib.Lanes.{Each1, chunk, mask_l, top, zip2}
 use lib.Count.{count_trailing_zeros}
-use Rattle.nap_reader.specs.Prefix.{is_from}
+use Rattle.nap_codes.specs.declared.control.TextStep.{TextStep}
+use Rattle.nap_codes.specs.Tables.{format_effector}
+use Rattle.nap_list.specs.Batches.{IsTyped}
+use Rattle.nap_reader.specs.Prefix.{is_from, is_of_text}
 
 abbrev pub is_other : ℕ → ℕ → Bool
 is_other least b = not (is_from least b)
@@ -73,7 +78,43 @@ in_block least piece i n room short some =
 
 -- ---- the bytes at the front
 
-pub at_front : (least : ℕ) (piece bytes : List ℕ) → bytes ≡ take (prefix_len (is_from least) piece) piece → (length bytes ≤ length piece) × (take (length bytes) piece ≡ bytes)
-at_front least piece bytes is =
-    let counted : length bytes ≡ prefix_len (is_from least) piece = ap (λ (xs : List ℕ). length xs) is ∙ length-prefix_len (is_from least) piece in
-    (omega (arith, counted, prefix_len-le-length (is_from least) piece), ap (λ (n : ℕ). take n piece) counted ∙ sym is)
+pub at_front : (test : ℕ → Bool) (piece bytes : List ℕ) → bytes ≡ take (prefix_len test piece) piece → (length bytes ≤ length piece) × (take (length bytes) piece ≡ bytes)
+at_front test piece bytes is =
+    let counted : length bytes ≡ prefix_len test piece = ap (λ (xs : List ℕ). length xs) is ∙ length-prefix_len test piece in
+    (omega (arith, counted, prefix_len-le-length test piece), ap (λ (n : ℕ). take n piece) counted ∙ sym is)
+
+-- ---- bytes of a text
+
+-- so many at the front are of it, and then comes none from 20 to 7F
+abbrev pub PassesGraphic : List ℕ → ℕ → Type 0
+PassesGraphic xs n = (prefix_len is_of_text xs ≡ n + prefix_len is_of_text (drop n xs)) × (prefix_len (is_from 32) (drop n xs) ≡ 0)
+
+-- this is so of those from 20 to 7F at the front
+pub past_graphic : (xs : List ℕ) → PassesGraphic xs (prefix_len (is_from 32) xs)
+past_graphic [] = (refl, refl)
+past_graphic (b ∷ xs) = by (is_from 32 b) refl (past_graphic xs)
+  where
+    by : (is : Bool) → is_from 32 b ≡ is → PassesGraphic xs (prefix_len (is_from 32) xs) → PassesGraphic (b ∷ xs) (cond is (1 + prefix_len (is_from 32) xs) 0)
+    by true e rest =
+        let of : is_of_text b ≡ true = ap (λ (x : Bool). is_some (format_effector b) || x) e ∙ or-true (is_some (format_effector b)) in
+        let all : prefix_len is_of_text (b ∷ xs) ≡ 1 + prefix_len is_of_text xs = ap (λ (x : Bool). cond x (1 + prefix_len is_of_text xs) 0) of in
+        let further : suc (prefix_len (is_from 32) xs) ≡ 1 + prefix_len (is_from 32) xs = omega arith in
+        subst (PassesGraphic (b ∷ xs)) further (omega (arith, all, rest.0), rest.1)
+    by false e rest = (omega arith, ap (λ (x : Bool). cond x (1 + prefix_len (is_from 32) xs) 0) e)
+
+-- and so it is of a move by itself with those from 20 to 7F behind it
+pub past_effector : (xs : List ℕ) (at n : ℕ) → at < length xs → is_some (format_effector (get_or xs at 0)) ≡ true → n ≡ prefix_len (is_from 32) (drop (at + 1) xs) →
+    (prefix_len is_of_text (drop at xs) ≡ 1 + n + prefix_len is_of_text (drop (at + 1 + n) xs)) × (prefix_len (is_from 32) (drop (at + 1 + n) xs) ≡ 0)
+past_effector xs at n within is counted =
+    let past : PassesGraphic (drop (at + 1) xs) n = subst (PassesGraphic (drop (at + 1) xs)) (sym counted) (past_graphic (drop (at + 1) xs)) in
+    let there : drop n (drop (at + 1) xs) ≡ drop (at + 1 + n) xs = drop-drop n (at + 1) xs in
+    let one = prefix_len-drop_yes is_of_text xs at 0 within (ap (λ (x : Bool). x || is_from 32 (get_or xs at 0)) is) in (
+      omega (arith, one, past.0, ap (prefix_len is_of_text) there),
+      sym (ap (prefix_len (is_from 32)) there) ∙ past.1,
+    )
+
+-- a byte of a text is a move by itself, or a code of a set
+pub of_text_is : (b : ℕ) → is_of_text b ≡ true → IsTyped b
+of_text_is b is none =
+    let both = and_parts (leb 32 b) (ltb b 128) (ap (λ (step : Option TextStep). is_some step || is_from 32 b) (sym none) ∙ is) in
+    (leb-true 32 b both.0, omega (arith, ltb-true b 128 both.1))

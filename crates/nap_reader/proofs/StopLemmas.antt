@@ -1,7 +1,7 @@
 use Rattle.std.proofs.Common.{ℕ, ◌≡◌, ◌≢◌, ◌<◌, ◌≤◌, ◌+◌, ◌-◌, List, [], ◌∷◌, ◌++◌, All, length, take, drop, get_or, None, false, refl, ap, sym, ◌∙◌, subst, arith, length-append, length-take}
 use Rattle.std.proofs.lemmas.List.{length-drop}
 use Rattle.std.proofs.lemmas.List.Elements.{All-head, All-nil}
-use Rattle.nap_codes.specs.Laws.{IsGraphic}
+use Rattle.nap_list.specs.Batches.{IsTyped}
 use Rattle.nap_list.specs.declared.sink.Sink.{Ghosts}
 use Rattle.nap_list.specs.declared.sink.SinkFault.{SinkFault}
 use Rattle.nap_list.specs.declared.sink.SinkFault.TheVariants as sink_faults
@@ -113,7 +113,7 @@ module _ {S : Type 0} {g : Ghosts S} (old new : Reader S g) (piece : List ℕ) (
                 let xs = all_at r.place text in
                 let same : bytes_of xs ≡ text = bytes_of-all_at r.place text in
                 subst (λ (r : Refusal). BreaksFrom g s [] o new.sink (cause_of r.fault)) (sym reason)
-                (text_breaks_off g s o t h xs rest (subst (Continues g s o t h) front k) stops.between stops.closed stops.rested stops.set stops.chars (subst (All IsGraphic) (sym same) stops.graphic) index new.sink stops.fault
+                (text_breaks_off g s o t h xs rest (subst (Continues g s o t h) front k) stops.between stops.closed stops.rested stops.set stops.chars (subst (All IsTyped) (sym same) stops.typed) index new.sink stops.fault
                 more broken
                 (subst (λ (bs : List ℕ). HaltsIn g h.machine.work.state stops.set bs index t new.sink stops.fault) (sym same)
                 (halts_in g h.machine.work.state stops.set text index t new.sink stops.fault stops.some stops.halts)))));

@@ -8,6 +8,7 @@ use Rattle.nap_list.specs.declared.entry.Entry.{Entry}
 use Rattle.nap_list.specs.declared.sink.Sink.{Ghosts}
 use Rattle.nap_list.specs.declared.sink.SinkFault.{SinkFault}
 use Rattle.nap_list.specs.Agreement.{StatesAgree}
+use Rattle.nap_list.specs.Batches.{IsTyped}
 use Rattle.nap_list.specs.Putting.{HaltsAfter}
 use Rattle.nap_list.specs.Shown.{shows_of}
 use Rattle.nap_draw.specs.declared.fault.DrawFault.{DrawFault}
@@ -106,7 +107,7 @@ pub record StopsByte {S : Type 0} (g : Ghosts S) (t : S) (h : Holding) (x : Plac
   pub own : IsOwn r → (s : S) (o : Outcome) (pending : List Placed) → Continues g s o t h (x ∷ pending) → IsRefused g s o u h r
   pub broke : cause_of r.fault ≢ stream → Breaks g t h x u r
 
--- One of these characters wasn't taken, or broke: the one with this index.
+-- One of these characters, or of the moves among them, wasn't taken, or broke: the one with this index.
 pub record StopsText {S : Type 0} (g : Ghosts S) (t : S) (h : Holding) (text : List ℕ) (index : ℕ) (u : S) (r : Refusal) : Type 0 where
   pub between : h.open_body ≡ None
   pub closed : h.open_run ≡ None
@@ -114,7 +115,7 @@ pub record StopsText {S : Type 0} (g : Ghosts S) (t : S) (h : Holding) (text : L
   pub set : CharSet
   pub chars : (b : ℕ) → IsGraphic b → codes.front h.machine.sets (b ∷ []) ≡ codes.whole (code.Char set b) 1 h.machine.sets
   pub some : 0 < length text
-  pub graphic : All IsGraphic text
+  pub typed : All IsTyped text
   pub fault : SinkFault
   pub halts : HaltsAfter (shows_of g) (draws_codes.text h.machine.work.state set text) t u index fault
   pub why : r.fault ≡ draw_fault (fault_of fault)

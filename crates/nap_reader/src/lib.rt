@@ -6,13 +6,13 @@ mod budget;
 mod fault;
 mod feeding;
 mod frames;
-mod graphic;
 mod kind;
 pub mod laws;
 mod operands;
 mod prefix;
 mod reader;
 mod store;
+mod text;
 mod whole;
 
 pub use budget::Budget;

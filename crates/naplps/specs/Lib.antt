@@ -28,6 +28,7 @@ pub use Rattle.nap_lines.specs.Lines
 pub use Rattle.nap_list.specs.Putting
 pub use Rattle.nap_list.specs.PuttingLaws
 pub use Rattle.nap_list.specs.Batches
+pub use Rattle.nap_list.specs.Shapes
 pub use Rattle.nap_list.specs.Counting
 pub use Rattle.nap_lines.specs.Listing
 pub use Rattle.nap_canon.specs.Sinking

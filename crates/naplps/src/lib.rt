@@ -51,6 +51,9 @@ pub mod sink {
     /// Entries that a sink takes together.
     pub use nap_list::{Batch, BatchFault};
 
+    /// Arcs and polygons that a sink takes with their points lent.
+    pub use nap_list::{Shape, ShapeKind};
+
     /// Sinks that keep the entries, count them, make their lines, or write their canonical text.
     pub use nap_canon::CanonSink;
     pub use nap_lines::LineSink;

@@ -1,1 +1,2 @@
 mod ConvertingLemmas
+mod ExtentLemmas

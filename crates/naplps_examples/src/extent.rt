@@ -1,13 +1,14 @@
 //! A sink of one's own: how far the shapes of a page reach.
-ghost use Rattle.std.specs.Prelude.{◌≡◌, ◌≢◌, Some, false, IfOk, IfErr};
+ghost use Rattle.std.specs.Prelude.{◌≡◌, ◌≢◌, Some, false, fold, IfOk, IfErr};
 ghost use Rattle.naplps.specs.Budgets.{usual_budget};
+ghost use Rattle.naplps.specs.Shapes.{drawn_shape};
 ghost use Rattle.naplps.specs.State.{start};
 ghost use Rattle.naplps.specs.Stream.{means};
 ghost use Rattle.naplps.specs.Streams.{IsAccepted, list_of};
 ghost use Rattle.naplps_examples.specs.Extents.{Reaches, nowhere, reaches_more, reaches_none, with_entries, with_entry, with_point};
 
 use naplps::entry::Point;
-use naplps::sink::{Sink, SinkFault, State};
+use naplps::sink::{Shape, Sink, SinkFault, State};
 use naplps::{Budget, Entry, Fault, Reader, Refusal};
 use std::alloc::Global;
 
@@ -49,6 +50,15 @@ impl Extent {
         }
     }
 
+    /// The extent with more points.
+    pub fn with_all(self, points: &[Point]) -> Extent
+        ensures { result ≡ fold with_point self points.now }
+    {
+        points
+            .iter()
+            .fold(self, |extent, point| extent.with(*point))
+    }
+
     /// The extent with the points of one more entry.
     pub fn with_entry(self, entry: &Entry) -> Extent
         ensures { result ≡ with_entry self entry.now }
@@ -58,12 +68,18 @@ impl Extent {
             Entry::Line { from, to, .. } | Entry::Rect { from, to, .. } => {
                 self.with(*from).with(*to)
             }
-            Entry::Arc { points, .. } | Entry::Poly { points, .. } => points
-                .as_slice()
-                .iter()
-                .fold(self, |extent, point| extent.with(*point)),
+            Entry::Arc { points, .. } | Entry::Poly { points, .. } => {
+                self.with_all(points.as_slice())
+            }
             _ => self,
         }
+    }
+
+    /// The extent with the points of one more arc or polygon.
+    pub fn with_shape(self, shape: &Shape) -> Extent
+        ensures { result ≡ with_entry self (drawn_shape shape.now) }
+    {
+        self.with(shape.from).with_all(shape.others)
     }
 }
 
@@ -102,6 +118,12 @@ impl Sink for ExtentSink {
     fn put(&mut self, entry: Entry) -> Result<(), SinkFault> {
         self.extent = self.extent.with_entry(&entry);
         self.state.step(&entry);
+        Ok(())
+    }
+
+    fn put_shape(&mut self, _: Global, shape: &Shape) -> Result<(), SinkFault> {
+        self.extent = self.extent.with_shape(shape);
+        self.state.step_shape(shape);
         Ok(())
     }
 

@@ -11,8 +11,8 @@ ghost use Rattle.nap_reader.specs.Steps.{CodesStop, Leaves, OneMore, WholeCodes}
 use super::coming::{coming, pass, place_of};
 use super::{Reader, Refused, refuse};
 use crate::fault::Fault;
-use crate::graphic::graphic_bytes;
 use crate::operands::whole_run;
+use crate::text::text_bytes;
 use nap_codes::{CharSet, Code, Lexer};
 use nap_draw::Work;
 use nap_list::Sink;
@@ -178,7 +178,7 @@ fn whole_code<S: Sink>(
     One::Other
 }
 
-/// Takes the characters at the front of the bytes, which are of this set.
+/// Takes the characters at the front of the bytes, which are of this set, and the format effectors among them.
 #[inline(always)]
 fn characters<S: Sink>(work: &mut Work, set: CharSet, sink: &mut S, bytes: &[u8]) -> One
     requires agrees { StatesAgree work.old.state (S.state sink.old) }
@@ -187,7 +187,7 @@ fn characters<S: Sink>(work: &mut Work, set: CharSet, sink: &mut S, bytes: &[u8]
         WholeCodes S.Sink t w l sink.old work.old m false all at → OneMore S.Sink t w l sink.new work.new m all at result }
     ensures leaves { Leaves S.Sink sink.old sink.new work.new result }
 {
-    let text = graphic_bytes(bytes);
+    let text = text_bytes(bytes);
     if text.is_empty() {
         return One::Other;
     }

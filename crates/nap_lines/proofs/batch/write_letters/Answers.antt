@@ -1,8 +1,9 @@
 use Rattle.std.proofs.Common.{ℕ, ◌≡◌, ◌≤◌, ◌+◌, ◌-◌, List, ◌++◌, flat_map, length, take, drop, get_or, refl, sym, ap, ◌∙◌, arith, append-nil, append_assoc, length-append}
 use Rattle.nap_lines.specs.Lines.{code_text}
-use Rattle.nap_lines.specs.Batches.{char_front}
-use Rattle.nap_lines.proofs.BatchLemmas.{appended, around, char_start, start_utf8, one_more, text_goes}
+use Rattle.nap_lines.specs.Batches.{char_front, typed_front}
+use Rattle.nap_lines.proofs.BatchLemmas.{appended, worked, around, kept, char_start, start_utf8, letter_typed, one_more, text_goes}
 use Rattle.nap_lines.proofs.batch.write_letters.Goals as goal
+use Rattle.nap_lines.proofs.batch.write_letters.Goals.{then-code-lt32+else-is_err, else-code-lt32+else-is_err-2}
 
 -- the digits stand behind the name of the set, and the end of a line behind them
 recoded : (start end old room : List ℕ) (last all rest place : ℕ) → old ≡ (start ++ code_text 0) ++ end → all ≡ length old → rest ≡ length end → place ≡ all - rest - 2 →
@@ -46,27 +47,41 @@ recode-requires-clause-rest c =
 pub loop-code-preserved : goal.loop-code-preserved
 loop-code-preserved c =
     let invariant = c.loop-code.invariant in
-    let start = char_start c.args.set in
+    let set = c.args.set in
+    let start = char_start set in
     let end = c.args.room.now in
-    let code = get_or c.args.codes.now c.loop-code.code-index 0 in
+    let i = c.loop-code.code-index in
+    let all = c.args.codes.now in
+    let code = get_or all i 0 in
     let place = c.len.result - c.len-end.result - 2 in
-    let parts = recoded start end _ _ _ _ _ place c.letter_front.ensures c.len.ensures.count c.len-end.ensures.count refl invariant.room in
-    let room : c.recode.new.self ≡ char_front c.args.set code ++ end =
-    c.recode.ensures
-    ∙ ap (λ (front : List ℕ). front ++ (code_text code ++ drop (place + 2) c.loop-code.room)) parts.1
-    ∙ ap (λ (rest : List ℕ). start ++ (code_text code ++ rest)) parts.2
-    ∙ sym (append_assoc start (code_text code) end) in
-    let line = c.as_slice.ensures.bytes ∙ room in
-    let f = λ (code : ℕ). char_front c.args.set code ++ end in
-    record {
-      last = code;
-      room = room;
-      written = ap (λ n. n + 1) invariant.written;
-      text =
-          text_goes c.args.text.now.items c.loop-code.text.items c.extend_from_slice.new.self.items (flat_map f (take c.loop-code.code-index c.args.codes.now))
-          (flat_map f (take (c.loop-code.code-index + 1) c.args.codes.now)) (f code) invariant.text
-          (appended c.extend_from_slice.result c.is_err.result c.extend_from_slice.new.self.items c.loop-code.text.items c.as_slice.result.now c.extend_from_slice.ensures.items c.is_err.ensures.value
-          c.if-is_err.false
-          ∙ ap (λ (bytes : List ℕ). c.loop-code.text.items ++ bytes) line)
-          (one_more f c.args.codes.now c.loop-code.code-index code 0 (omega arith) refl);
-    }
+    let f = λ (code : ℕ). typed_front set code ++ end in
+    let goes = λ (next : List ℕ) (more : next ≡ c.loop-code.text.items ++ f code).
+    text_goes c.args.text.now.items c.loop-code.text.items next (flat_map f (take i all)) (flat_map f (take (i + 1) all)) (f code) invariant.text more
+    (one_more f all i code 0 (omega arith) refl) in
+    elim c.if-code-lt32.branch [
+      | then-code-lt32+else-is_err w ↦
+          let left = kept c.loop-code.room (char_front set invariant.last) end c.len-end.result invariant.room c.len-end.ensures.count in
+          let line = worked w.write_typed.result _ w.is_err.result w.is_err.ensures.value w.if-is_err.false w.write_typed.ensures.ok in
+          record {
+            last = 0;
+            room = w.room-is ∙ w.write_typed.ensures.room ∙ ap (λ (bytes : List ℕ). char_front set 0 ++ bytes) left;
+            written = ap (λ n. n + 1) invariant.written;
+            text = goes _ (ap (λ t. t.items) w.text-is ∙ line ∙ ap (λ (bytes : List ℕ). c.loop-code.text.items ++ (typed_front set code ++ bytes)) left);
+          }
+      | else-code-lt32+else-is_err-2 w ↦
+          let parts = recoded start end _ _ _ _ _ place c.letter_front.ensures c.len.ensures.count c.len-end.ensures.count refl invariant.room in
+          let room : w.recode.new.self ≡ char_front set code ++ end =
+          w.recode.ensures
+          ∙ ap (λ (front : List ℕ). front ++ (code_text code ++ drop (place + 2) c.loop-code.room)) parts.1
+          ∙ ap (λ (rest : List ℕ). start ++ (code_text code ++ rest)) parts.2
+          ∙ sym (append_assoc start (code_text code) end) in
+          let line = w.as_slice.ensures.bytes ∙ room ∙ ap (λ (front : List ℕ). front ++ end) (sym (letter_typed set code (omega (arith, w.if-code-lt32.false)))) in
+          let more = appended w.extend_from_slice.result w.is_err-else-code-lt32.result w.extend_from_slice.new.self.items c.loop-code.text.items w.as_slice.result.now w.extend_from_slice.ensures.items
+          w.is_err-else-code-lt32.ensures.value w.if-is_err-2.false in
+          record {
+            last = code;
+            room = w.room-is ∙ room;
+            written = ap (λ n. n + 1) invariant.written;
+            text = goes _ (ap (λ t. t.items) w.text-is ∙ more ∙ ap (λ (bytes : List ℕ). c.loop-code.text.items ++ bytes) line);
+          }
+    ]

@@ -1,5 +1,5 @@
 use Rattle.std.proofs.Common.{ℕ, ◌≡◌, ◌++◌, flat_map, take}
-use Rattle.nap_lines.specs.Batches.{char_front}
+use Rattle.nap_lines.specs.Batches.{char_front, typed_front}
 use Rattle.nap_lines.proofs.batch.write_letters.Given as goal
 
 abbrev pub invariant-loop-code : goal.invariant-loop-code
@@ -7,5 +7,5 @@ invariant-loop-code l = record {
   last : ℕ;
   room : l.room ≡ char_front l.fn.set last ++ l.fn.room;
   written : l.written ≡ l.code-index;
-  text : l.text.items ≡ l.initial.text.items ++ flat_map (λ code. char_front l.fn.set code ++ l.fn.room) (take l.code-index l.codes);
+  text : l.text.items ≡ l.initial.text.items ++ flat_map (λ code. typed_front l.fn.set code ++ l.fn.room) (take l.code-index l.codes);
 }

@@ -1,0 +1,41 @@
+use Rattle.std.proofs.Common.{◌≡◌, List, ◌+◌, ◌-◌, ◌<◌, ℕ, length, take, drop, get_or, ap, sym, ◌∙◌, subst, arith}
+use Rattle.std.proofs.lemmas.List.{get_or-take, length-drop, length-take-le, take_all}
+use Rattle.std.proofs.lemmas.List.Sums.{prefix_len-le-length, prefix_len_passes}
+use Rattle.std.specs.List.{prefix_len}
+use Rattle.std.specs.Option.{is_some}
+use Rattle.nap_list.specs.Batches.{IsTyped}
+use Rattle.nap_reader.specs.Prefix.{is_from, is_of_text}
+use Rattle.nap_reader.proofs.PrefixLemmas.{of_text_is, past_effector, past_graphic}
+use Rattle.nap_reader.proofs.text.text_bytes.Goals as goal
+
+pub loop-at-init : goal.loop-at-init
+loop-at-init c =
+    let piece = c.args.piece.now in
+    let past = past_graphic piece in
+    rw c.prefix_from-at.ensures (past.0, past.1, prefix_len-le-length (is_from 32) piece)
+
+-- those behind a place are counted
+counted : (piece : List ℕ) (at : ℕ) → prefix_len (is_from 32) (take (length piece - at) (drop at piece)) ≡ prefix_len (is_from 32) (drop at piece)
+counted piece at = ap (prefix_len (is_from 32)) (take_all (length piece - at) (drop at piece) (omega (arith, length-drop at piece)))
+
+pub overflow_add-at-in-loop-at : goal.overflow_add-at-in-loop-at
+overflow_add-at-in-loop-at c =
+    let piece = c.args.piece.now in
+    let rest = drop (c.loop-at.at + 1) piece in
+    omega (arith, c.prefix_from-at-in-loop-at.ensures, counted piece (c.loop-at.at + 1), prefix_len-le-length (is_from 32) rest, length-drop (c.loop-at.at + 1) piece)
+
+pub loop-at-preserved : goal.loop-at-preserved
+loop-at-preserved c =
+    let piece = c.args.piece.now in
+    let rest = drop (c.loop-at.at + 1) piece in
+    let n = c.prefix_from-at-in-loop-at.result in
+    let is : n ≡ prefix_len (is_from 32) rest = c.prefix_from-at-in-loop-at.ensures ∙ counted piece (c.loop-at.at + 1) in
+    let past = past_effector piece c.loop-at.at n (omega arith) (ap is_some (sym c.format_effector.ensures) ∙ sym c.is_some.ensures ∙ c.if-is_some.true) is in
+    (omega (arith, c.loop-at.invariant.0, past.0), past.1, omega (arith, is, prefix_len-le-length (is_from 32) rest, length-drop (c.loop-at.at + 1) piece))
+
+pub returns-clause-typed : goal.returns-clause-typed
+returns-clause-typed c i d less =
+    let piece = c.args.piece.now in
+    let n = c.loop-at.at in
+    let fewer : i < n = omega (arith, less, length-take-le n piece c.loop-at.invariant.2) in
+    subst IsTyped (sym (get_or-take n piece i d fewer)) (of_text_is (get_or piece i d) (prefix_len_passes is_of_text piece i d (omega (arith, fewer, c.loop-at.invariant.0))))

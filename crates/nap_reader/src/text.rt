@@ -1,0 +1,21 @@
+//! The bytes at the front of a piece that are of a text.
+ghost use Rattle.std.specs.Prelude.{All, take, ◌≡◌};
+ghost use Rattle.std.specs.List.{prefix_len};
+ghost use Rattle.nap_list.specs.Batches.{IsTyped};
+ghost use Rattle.nap_reader.specs.Prefix.{is_of_text};
+
+use crate::prefix::prefix_from;
+use nap_codes::format_effector;
+
+/// The bytes at the front that are from `20` to `7F`, or format effectors of one byte.
+pub(crate) fn text_bytes(piece: &[u8]) -> &[u8]
+    ensures bytes { result.now ≡ take (prefix_len is_of_text piece.now) piece.now }
+    ensures typed { All IsTyped result.now }
+{
+    let mut at = prefix_from(piece, 0x20);
+    while at < piece.len() && format_effector(piece[at]).is_some() {
+        at += 1;
+        at += prefix_from(&piece[at..], 0x20);
+    }
+    &piece[..at]
+}
