@@ -101,18 +101,22 @@ bring_text old (Some t) =
     ++ (to_flag flags.Wrap old.wrap t.wrap
     ++ to_flag flags.Scroll old.scroll t.scroll))))
 
--- from the texture on
+-- the bring of all the values that an entry holds
+unfoldable pub bring : Drawing → Held → List Command
+bring d h =
+    bring_pen d.pen h.pen
+    ++ (bring_pel d.pel h.pel
+    ++ (bring_colour d.base d.colour h.colour
+    ++ (bring_texture d.texture h.texture
+    ++ bring_text d.text h.text)))
+
+-- its rests, from a value on
+
 abbrev pub bring_from_texture : Drawing → Held → List Command
 bring_from_texture d h = bring_texture d.texture h.texture ++ bring_text d.text h.text
 
--- from the colour on
 abbrev pub bring_from_colour : Drawing → Held → List Command
 bring_from_colour d h = bring_colour d.base d.colour h.colour ++ bring_from_texture d h
 
--- from the pel on
 abbrev pub bring_from_pel : Drawing → Held → List Command
 bring_from_pel d h = bring_pel d.pel h.pel ++ bring_from_colour d h
-
--- the bring of all the values that an entry holds
-unfoldable pub bring : Drawing → Held → List Command
-bring d h = bring_pen d.pen h.pen ++ bring_from_pel d h

@@ -243,7 +243,7 @@ text_joins form s hand (c ∷ cs) stand =
     let e = typed Primary hand c in
     let bytes = typed_alone c in
     joined_more 1 form (Apart G0) (Apart G0) s e (text_in Primary (record hand { pen = After }) cs) (typed_piece Primary c) (c ∷ []) cs (Apart G0)
-    (alone form s e stand.0 ∙ typed_spelled form (taking s.drawing (held e)) Primary hand c) bytes.0 bytes.1 refl
+    (alone form s e stand.0 ∙ typed_spelled form (taking s.drawing (held e)) Primary hand c) bytes.0 refl bytes.1
     (text_joins form (after s e) (record hand { pen = After }) cs stand.1)
 
 -- the run that is joined
