@@ -6,3 +6,4 @@ pub mod WriterLemmas
 pub mod GatheredLemmas
 pub mod FaultLemmas
 pub mod Rows
+pub mod WritingLemmas

@@ -11,6 +11,7 @@ pub mod Checking
 pub mod Acting
 pub mod Sinking
 pub mod TextParts
+pub mod Writing
 pub mod SinkLaws
 pub mod Converting
 pub mod Concluding

@@ -1,4 +1,4 @@
-use Rattle.std.specs.Prelude.{ℕ, ◌+◌, ◌%◌, ◌==◌, List, [], ◌∷◌, ◌++◌, map, Bool, Some, if◌then◌else◌}
+use Rattle.std.specs.Prelude.{ℕ, ◌+◌, ◌%◌, ◌==◌, List, [], ◌∷◌, ◌++◌, map, Bool, Option, Some, None, if◌then◌else◌}
 use Rattle.nap_values.specs.Colours.{Components}
 use Rattle.nap_values.specs.Coordinates.{Coordinates, displacement_to}
 use Rattle.nap_values.specs.Spellings.{move_bytes, point_bytes, addr_bytes, grb_bytes}
@@ -6,6 +6,7 @@ use Rattle.nap_codes.specs.declared.code_set.CharSet.{CharSet}
 use Rattle.nap_codes.specs.declared.code_set.CharSet.TheVariants as chars
 use Rattle.nap_codes.specs.declared.control.TextStep.{TextStep}
 use Rattle.nap_codes.specs.declared.control.TextStep.TheVariants as steps
+use Rattle.nap_codes.specs.Tables.{format_effector}
 use Rattle.nap_codes.specs.declared.control.Size.{Size}
 use Rattle.nap_codes.specs.declared.control.Size.TheVariants as sizes
 use Rattle.nap_codes.specs.declared.control.Mask.{Mask}
@@ -116,6 +117,14 @@ step_bytes steps.Apu = 0x0B ∷ []
 step_bytes steps.Apr = 0x0D ∷ []
 step_bytes steps.Aph = 0x1E ∷ []
 step_bytes (steps.Aps a b) = 0x1C ∷ a ∷ b ∷ []
+
+-- a byte of a text: the move that it is by itself, or else a character of the set
+abbrev pub typed_piece_as : Option TextStep → CharSet → ℕ → Piece
+typed_piece_as (Some step) set code = control (step_bytes step)
+typed_piece_as None set code = char_piece set code
+
+abbrev pub typed_piece : CharSet → ℕ → Piece
+typed_piece set code = typed_piece_as (format_effector code) set code
 
 abbrev pub area_bytes : Area → List ℕ
 area_bytes areas.Whole = []

@@ -9,7 +9,8 @@ ghost use Rattle.nap_canon.specs.SinkLaws.{took_none, took_more, took_broke};
 use crate::form::Form;
 use crate::output::Output;
 use crate::writer::{Writer, entry_size};
-use nap_list::{Batch, BatchFault, Entry, Outlet, Sink, SinkFault};
+use nap_list::{Batch, BatchFault, Entry, Outlet, Shape, Sink, SinkFault};
+use std::alloc::Global;
 use std::marker::Model;
 
 /// Writes the canonical text of the entries that it takes to an outlet, as they come. It takes no memory.
@@ -198,6 +199,13 @@ impl<O: Outlet + Drop> Sink for CanonSink<O> {
                 fault: SinkFault::Write,
             }),
         }
+    }
+
+    fn put_shape(&mut self, _: Global, shape: &Shape) -> Result<(), SinkFault> {
+        if self.failed() || self.writer.put_shape(shape).is_err() {
+            return Err(SinkFault::Write);
+        }
+        Ok(())
     }
 
     ghost took_none = { λ s. took_none _ s };

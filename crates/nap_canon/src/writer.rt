@@ -1,13 +1,15 @@
 //! Writes the canonical text of entries, one after another.
-ghost use Rattle.std.specs.Prelude.{◌≡◌, ◌++◌, map, is_err, None, OnOk, OnErr};
+ghost use Rattle.std.specs.Prelude.{◌≡◌, is_err, None, OnOk, OnErr};
 ghost use Rattle.nap_codes.specs.declared.code_set.GSet.TheVariants.{G1};
 ghost use Rattle.nap_canon.specs.declared.tail.Tail.TheVariants.{Apart};
 ghost use Rattle.nap_list.specs.Entry.{held};
 ghost use Rattle.nap_list.specs.Agreement.{Stands};
+ghost use Rattle.nap_list.specs.Shapes.{drawn_shape};
 ghost use Rattle.nap_list.specs.State.{start, after, with_pen, Fits};
-ghost use Rattle.nap_canon.specs.Bring.{told, bring_pel, bring_colour, bring_texture, bring_text, bring};
+ghost use Rattle.nap_canon.specs.Bring.{told, bring_colour, bring_text, bring_from_texture, bring_from_colour, bring_from_pel, bring};
 ghost use Rattle.nap_canon.specs.Spelling.{size_byte, flag_byte, escape, command_piece, step_bytes};
-ghost use Rattle.nap_canon.specs.Text.{header, gl_of, begun_tail, piece_bytes, written, tail_behind, tail_after, entry_pieces};
+ghost use Rattle.nap_canon.specs.Text.{header, gl_of, begun_tail};
+ghost use Rattle.nap_canon.specs.Writing.{Puts, WritesBytes, WritesCommands, WritesPiece};
 
 use crate::byte_sink::ByteSink;
 use crate::command::{Command, Commands, Flag, bring_colour, bring_pel, bring_pen, bring_texture};
@@ -17,7 +19,7 @@ use crate::piece::Piece;
 use crate::tail::Tail;
 use arrayvec::ArrayVec;
 use nap_codes::{GSet, Size, TextStep};
-use nap_list::{Base, Colour, Drawing, Entry, Held, Pen, State, TextLook, corner};
+use nap_list::{Base, Colour, Drawing, Entry, Held, Pen, Shape, State, TextLook, corner};
 use nap_values::{put_addr, put_grb, put_move, put_point};
 
 mod joining;
@@ -121,9 +123,7 @@ impl<T: ByteSink + Drop> Writer<T> {
 
     /// Begins the text: SO brings the opcodes into GL, and DOMAIN makes the operands eight words and four words long.
     pub(crate) fn begin(&mut self) -> Result<(), T::Fault>
-        ensures sent { T.sent self.old.to header (is_err result) self.new.to }
-        ensures tail { self.new.tail ≡ Apart (gl_of self.old.tail) }
-        ensures kept { (self.new.form ≡ self.old.form) × (self.new.state ≡ self.old.state) }
+        ensures { WritesBytes T.sent header (Apart (gl_of self.old.tail)) self.old self.new result }
     {
         self.control(&[0x0E, opcodes::DOMAIN, LENGTHS])
     }
@@ -145,9 +145,7 @@ impl<T: ByteSink + Drop> Writer<T> {
 
     /// Takes the bytes of an opcode with its operands, behind which the opcodes are in GL.
     fn drawn(&mut self, piece: Piece) -> Result<(), T::Fault>
-        ensures sent { T.sent self.old.to piece (is_err result) self.new.to }
-        ensures tail { self.new.tail ≡ Apart G1 }
-        ensures kept { (self.new.form ≡ self.old.form) × (self.new.state ≡ self.old.state) }
+        ensures { WritesBytes T.sent piece (Apart G1) self.old self.new result }
     {
         self.tail = Tail::Apart(GSet::G1);
         self.to.take(piece.as_slice())
@@ -155,9 +153,7 @@ impl<T: ByteSink + Drop> Writer<T> {
 
     /// Takes controls with the bytes that belong to them.
     fn control(&mut self, bytes: &[u8]) -> Result<(), T::Fault>
-        ensures sent { T.sent self.old.to bytes.now (is_err result) self.new.to }
-        ensures tail { self.new.tail ≡ Apart (gl_of self.old.tail) }
-        ensures kept { (self.new.form ≡ self.old.form) × (self.new.state ≡ self.old.state) }
+        ensures { WritesBytes T.sent bytes.now (Apart (gl_of self.old.tail)) self.old self.new result }
     {
         self.tail = Tail::Apart(self.tail.gl());
         self.to.take(bytes)
@@ -165,17 +161,13 @@ impl<T: ByteSink + Drop> Writer<T> {
 
     /// Takes a control of the C1 set.
     fn escape(&mut self, byte: u8) -> Result<(), T::Fault>
-        ensures sent { T.sent self.old.to (piece_bytes self.old.tail (escape byte)) (is_err result) self.new.to }
-        ensures tail { self.new.tail ≡ Apart (gl_of self.old.tail) }
-        ensures kept { (self.new.form ≡ self.old.form) × (self.new.state ≡ self.old.state) }
+        ensures { WritesPiece T.sent (escape byte) self.old self.new result }
     {
         self.control(&[0x1B, byte])
     }
 
     fn command(&mut self, command: Command) -> Result<(), T::Fault>
-        ensures sent { T.sent self.old.to (piece_bytes self.old.tail (command_piece command)) (is_err result) self.new.to }
-        ensures tail { self.new.tail ≡ tail_behind self.old.tail (command_piece command) }
-        ensures kept { (self.new.form ≡ self.old.form) × (self.new.state ≡ self.old.state) }
+        ensures { WritesPiece T.sent (command_piece command) self.old self.new result }
     {
         let gl = self.tail.gl();
         match command {
@@ -220,9 +212,7 @@ impl<T: ByteSink + Drop> Writer<T> {
     }
 
     fn commands(&mut self, commands: &Commands) -> Result<(), T::Fault>
-        ensures sent { T.sent self.old.to (written self.old.tail (map command_piece commands.now)) (is_err result) self.new.to }
-        ensures tail { OnOk result (self.new.tail ≡ tail_after self.old.tail (map command_piece commands.now)) }
-        ensures kept { (self.new.form ≡ self.old.form) × (self.new.state ≡ self.old.state) }
+        ensures { WritesCommands T.sent commands.now self.old self.new result }
     {
         for command in commands.as_slice() {
             self.command(*command)?;
@@ -233,9 +223,7 @@ impl<T: ByteSink + Drop> Writer<T> {
     /// Writes a command, where there is one.
     #[tactic(auto, unfolding(crate::specs::Text::written, crate::specs::Text::tail_after))]
     fn tell(&mut self, command: Option<Command>) -> Result<(), T::Fault>
-        ensures sent { T.sent self.old.to (written self.old.tail (map command_piece (told command))) (is_err result) self.new.to }
-        ensures tail { OnOk result (self.new.tail ≡ tail_after self.old.tail (map command_piece (told command))) }
-        ensures kept { (self.new.form ≡ self.old.form) × (self.new.state ≡ self.old.state) }
+        ensures { WritesCommands T.sent (told command) self.old self.new result }
     {
         match command {
             Some(command) => self.command(command),
@@ -250,9 +238,7 @@ impl<T: ByteSink + Drop> Writer<T> {
         old: Colour,
         colour: Option<Colour>,
     ) -> Result<(), T::Fault>
-        ensures sent { T.sent self.old.to (written self.old.tail (map command_piece (bring_colour base old colour))) (is_err result) self.new.to }
-        ensures tail { OnOk result (self.new.tail ≡ tail_after self.old.tail (map command_piece (bring_colour base old colour))) }
-        ensures kept { (self.new.form ≡ self.old.form) × (self.new.state ≡ self.old.state) }
+        ensures { WritesCommands T.sent (bring_colour base old colour) self.old self.new result }
     {
         let (first, second) = bring_colour(base, old, colour);
         self.tell(first)?;
@@ -262,9 +248,7 @@ impl<T: ByteSink + Drop> Writer<T> {
     /// Writes the bring of the look of text.
     #[tactic(auto, unfolding(crate::specs::Text::written, crate::specs::Text::tail_after, crate::specs::Bring::bring_text))]
     fn lead_text(&mut self, old: &TextLook, look: &Option<TextLook>) -> Result<(), T::Fault>
-        ensures sent { T.sent self.old.to (written self.old.tail (map command_piece (bring_text old.now look.now))) (is_err result) self.new.to }
-        ensures tail { OnOk result (self.new.tail ≡ tail_after self.old.tail (map command_piece (bring_text old.now look.now))) }
-        ensures kept { (self.new.form ≡ self.old.form) × (self.new.state ≡ self.old.state) }
+        ensures { WritesCommands T.sent (bring_text old.now look.now) self.old self.new result }
     {
         if look.is_none() {
             return Ok(());
@@ -274,9 +258,7 @@ impl<T: ByteSink + Drop> Writer<T> {
 
     /// Writes the bring of an entry from its texture on.
     fn lead_texture(&mut self, old: &Drawing, held: &Held) -> Result<(), T::Fault>
-        ensures sent { T.sent self.old.to (written self.old.tail (map command_piece (bring_texture old.now.texture held.now.texture ++ bring_text old.now.text held.now.text))) (is_err result) self.new.to }
-        ensures tail { OnOk result (self.new.tail ≡ tail_after self.old.tail (map command_piece (bring_texture old.now.texture held.now.texture ++ bring_text old.now.text held.now.text))) }
-        ensures kept { (self.new.form ≡ self.old.form) × (self.new.state ≡ self.old.state) }
+        ensures { WritesCommands T.sent (bring_from_texture old.now held.now) self.old self.new result }
     {
         self.tell(bring_texture(old.texture, held.texture))?;
         self.lead_text(&old.text, &held.text)
@@ -284,9 +266,7 @@ impl<T: ByteSink + Drop> Writer<T> {
 
     /// Writes the bring of an entry from its colour on.
     fn lead_colours(&mut self, old: &Drawing, held: &Held) -> Result<(), T::Fault>
-        ensures sent { T.sent self.old.to (written self.old.tail (map command_piece (bring_colour old.now.base old.now.colour held.now.colour ++ (bring_texture old.now.texture held.now.texture ++ bring_text old.now.text held.now.text)))) (is_err result) self.new.to }
-        ensures tail { OnOk result (self.new.tail ≡ tail_after self.old.tail (map command_piece (bring_colour old.now.base old.now.colour held.now.colour ++ (bring_texture old.now.texture held.now.texture ++ bring_text old.now.text held.now.text)))) }
-        ensures kept { (self.new.form ≡ self.old.form) × (self.new.state ≡ self.old.state) }
+        ensures { WritesCommands T.sent (bring_from_colour old.now held.now) self.old self.new result }
     {
         self.lead_colour(old.base, old.colour, held.colour)?;
         self.lead_texture(old, held)
@@ -294,37 +274,28 @@ impl<T: ByteSink + Drop> Writer<T> {
 
     /// Writes the bring of an entry from its pel on.
     fn lead_pel(&mut self, old: &Drawing, held: &Held) -> Result<(), T::Fault>
-        ensures sent { T.sent self.old.to (written self.old.tail (map command_piece (bring_pel old.now.pel held.now.pel ++ (bring_colour old.now.base old.now.colour held.now.colour ++ (bring_texture old.now.texture held.now.texture ++ bring_text old.now.text held.now.text))))) (is_err result) self.new.to }
-        ensures tail { OnOk result (self.new.tail ≡ tail_after self.old.tail (map command_piece (bring_pel old.now.pel held.now.pel ++ (bring_colour old.now.base old.now.colour held.now.colour ++ (bring_texture old.now.texture held.now.texture ++ bring_text old.now.text held.now.text))))) }
-        ensures kept { (self.new.form ≡ self.old.form) × (self.new.state ≡ self.old.state) }
+        ensures { WritesCommands T.sent (bring_from_pel old.now held.now) self.old self.new result }
     {
         self.tell(bring_pel(old.pel, held.pel))?;
         self.lead_colours(old, held)
     }
 
-    /// Writes the bring of an entry.
-    fn lead(&mut self, entry: &Entry) -> Result<(), T::Fault>
-        ensures sent { T.sent self.old.to (written self.old.tail (map command_piece (bring self.old.state.drawing (held entry.now)))) (is_err result) self.new.to }
-        ensures tail { OnOk result (self.new.tail ≡ tail_after self.old.tail (map command_piece (bring self.old.state.drawing (held entry.now)))) }
-        ensures kept { (self.new.form ≡ self.old.form) × (self.new.state ≡ self.old.state) }
+    /// Writes the bring of the values that an entry holds.
+    fn lead(&mut self, held: &Held) -> Result<(), T::Fault>
+        ensures { WritesCommands T.sent (bring self.old.state.drawing held.now) self.old self.new result }
     {
-        let held = entry.held();
         let old = self.state.drawing;
         self.tell(bring_pen(old.pen, held.pen))?;
-        self.lead_pel(&old, &held)
+        self.lead_pel(&old, held)
     }
 
     /// Writes an entry that may come next: its bring, and its spelling.
     #[inline(never)]
     fn put_led(&mut self, entry: &Entry) -> Result<(), T::Fault>
         requires { Fits self.old.state entry.now }
-        ensures sent { T.sent self.old.to (written self.old.tail (entry_pieces self.old.form self.old.state entry.now)) (is_err result) self.new.to }
-        ensures tail { OnOk result (self.new.tail ≡ tail_after self.old.tail (entry_pieces self.old.form self.old.state entry.now)) }
-        ensures form { self.new.form ≡ self.old.form }
-        ensures state { OnOk result (self.new.state ≡ after self.old.state entry.now) }
-        ensures still { OnErr result (self.new.state ≡ self.old.state) }
+        ensures { Puts T.sent entry.now self.old self.new result }
     {
-        self.lead(entry)?;
+        self.lead(&entry.held())?;
         self.spelling(entry)?;
         self.state.step(entry);
         Ok(())
@@ -350,11 +321,7 @@ impl<T: ByteSink + Drop> Writer<T> {
     fn put_current(&mut self, entry: &Entry) -> Result<(), T::Fault>
         requires fits { Fits self.old.state entry.now }
         requires stand { Stands (held entry.now) self.old.state.drawing }
-        ensures sent { T.sent self.old.to (written self.old.tail (entry_pieces self.old.form self.old.state entry.now)) (is_err result) self.new.to }
-        ensures tail { OnOk result (self.new.tail ≡ tail_after self.old.tail (entry_pieces self.old.form self.old.state entry.now)) }
-        ensures form { self.new.form ≡ self.old.form }
-        ensures state { OnOk result (self.new.state ≡ after self.old.state entry.now) }
-        ensures still { OnErr result (self.new.state ≡ self.old.state) }
+        ensures { Puts T.sent entry.now self.old self.new result }
     {
         if let Entry::TextMove { step, .. } = entry {
             return self.put_move(*step);
@@ -368,16 +335,50 @@ impl<T: ByteSink + Drop> Writer<T> {
     /// state stays where this fails.
     pub(crate) fn put_ref(&mut self, entry: &Entry) -> Result<(), T::Fault>
         requires { Fits self.old.state entry.now }
-        ensures sent { T.sent self.old.to (written self.old.tail (entry_pieces self.old.form self.old.state entry.now)) (is_err result) self.new.to }
-        ensures tail { OnOk result (self.new.tail ≡ tail_after self.old.tail (entry_pieces self.old.form self.old.state entry.now)) }
-        ensures form { self.new.form ≡ self.old.form }
-        ensures state { OnOk result (self.new.state ≡ after self.old.state entry.now) }
-        ensures still { OnErr result (self.new.state ≡ self.old.state) }
+        ensures { Puts T.sent entry.now self.old self.new result }
     {
         if self.state.drawing.stands(entry) {
             return self.put_current(entry);
         }
         self.put_led(entry)
+    }
+
+    /// Writes a shape that may come next: its bring, and its spelling.
+    #[inline(never)]
+    fn put_led_shape(&mut self, shape: &Shape) -> Result<(), T::Fault>
+        requires { Fits self.old.state (drawn_shape shape.now) }
+        ensures { Puts T.sent (drawn_shape shape.now) self.old self.new result }
+    {
+        self.lead(&held(shape))?;
+        self.lent_shape(shape)?;
+        self.state.step_shape(shape);
+        Ok(())
+    }
+
+    /// Writes a shape that may come next, as `put_ref` writes its entry. Its points are written from where they are.
+    pub(crate) fn put_shape(&mut self, shape: &Shape) -> Result<(), T::Fault>
+        requires { Fits self.old.state (drawn_shape shape.now) }
+        ensures { Puts T.sent (drawn_shape shape.now) self.old self.new result }
+    {
+        if !self.state.drawing.stands_shape(shape) {
+            return self.put_led_shape(shape);
+        }
+        self.lent_shape(shape)?;
+        self.state.pass_shape(shape);
+        Ok(())
+    }
+}
+
+/// The values that the entry of a shape holds.
+fn held(shape: &Shape) -> Held
+    ensures { result ≡ held (drawn_shape shape.now) }
+{
+    Held {
+        pen: None,
+        pel: Some(shape.drawing.pel),
+        colour: Some(shape.drawing.colour),
+        texture: Some(shape.drawing.texture),
+        text: None,
     }
 }
 

@@ -1,6 +1,6 @@
 -- Entries that join what stands last: each is written as so many bytes, one behind another.
 
-use Rattle.std.proofs.Common.{ℕ, zero, suc, ◌≡◌, ◌+◌, ◌*◌, ◌/◌, ◌%◌, ◌<◌, ◌≤◌, Bool, true, Result, Ok, Err, List, [], ◌∷◌, ◌++◌, length, map, take, drop, refl, ap, sym, subst, ◌∙◌, append-nil, append_assoc, length-drop, arith}
+use Rattle.std.proofs.Common.{ℕ, zero, suc, ◌≡◌, ◌+◌, ◌*◌, ◌/◌, ◌%◌, ◌<◌, ◌≤◌, Bool, true, Option, Some, None, Result, Ok, Err, List, [], ◌∷◌, ◌++◌, length, map, take, drop, refl, ap, sym, subst, ◌∙◌, append-nil, append_assoc, length-drop, arith}
 use Rattle.std.specs.Prelude.{⊤}
 use Rattle.std.proofs.lemmas.Bool.{false≢true}
 use Rattle.std.proofs.lemmas.Bool.Decides.{nat_tests}
@@ -11,6 +11,10 @@ use Rattle.nap_values.specs.Spellings.{point_bytes}
 use Rattle.nap_codes.specs.declared.code_set.CharSet.{CharSet}
 use Rattle.nap_codes.specs.declared.code_set.CharSet.TheVariants.{Primary}
 use Rattle.nap_codes.specs.declared.code_set.GSet.TheVariants.{G0}
+use Rattle.nap_codes.specs.declared.control.TextStep.{TextStep}
+use Rattle.nap_codes.specs.Laws.{FormatEffector, backward, forward, down, up, return, home}
+use Rattle.nap_codes.specs.Tables.{format_effector}
+use Rattle.nap_codes.proofs.PublicLaws.{format_effector_known}
 use Rattle.nap_list.specs.declared.attribute.Hand.{Hand}
 use Rattle.nap_list.specs.declared.attribute.Pen.{Pen}
 use Rattle.nap_list.specs.declared.attribute.Pen.TheVariants.{At, After}
@@ -21,7 +25,7 @@ use Rattle.nap_list.specs.declared.entry.Entry.TheVariants as entries
 use Rattle.nap_list.specs.declared.state.Drawing.{Drawing}
 use Rattle.nap_list.specs.declared.state.State.{State}
 use Rattle.nap_list.specs.Agreement.{Stands}
-use Rattle.nap_list.specs.Batches.{EachStands, listed, point_on, line_on, lines_on, text_in, last_of}
+use Rattle.nap_list.specs.Batches.{EachStands, listed, point_on, line_on, lines_on, text_in, typed, typed_as, last_of}
 use Rattle.nap_list.specs.BatchLaws.{points_front, lines_front, text_front, points_rest, lines_rest, lines_count, text_count}
 use Rattle.nap_list.specs.Entry.{held}
 use Rattle.nap_list.specs.State.{taking, after, walk, ink_of, hand_of}
@@ -33,7 +37,7 @@ use Rattle.nap_canon.specs.declared.tail.Tail.{Tail}
 use Rattle.nap_canon.specs.declared.tail.Tail.TheVariants.{Apart, InRun}
 use Rattle.nap_canon.specs.Batches.{PointsJoin, Joins, SentUpTo, points_bytes, entry_size, joined_bytes, joined_tail, whole_entries}
 use Rattle.nap_canon.specs.Equality.{same_pen}
-use Rattle.nap_canon.specs.Spelling.{Piece, command_piece, group, stroke, primary, line_piece, char_piece, spelled}
+use Rattle.nap_canon.specs.Spelling.{Piece, command_piece, group, stroke, line_piece, step_bytes, typed_piece, typed_piece_as, spelled}
 use Rattle.nap_canon.specs.Text.{is_joined, run_behind, piece_bytes, tail_behind, written, tail_after, entry_pieces, pieces}
 use Rattle.nap_canon.specs.TextParts.{written-append, tail_after-append}
 use Rattle.nap_canon.proofs.texts.GatheredLemmas.{point_size, points_size}
@@ -104,14 +108,24 @@ text_behind set hand codes zero = (hand, refl)
 text_behind set hand [] (suc n) = (hand, refl)
 text_behind set hand (c ∷ cs) (suc n) = text_behind set (record hand { pen = After }) cs n
 
-pub next_character : (form : Form) (s : State) (batch : Batch) (set : CharSet) (codes : _) (pen : Pen) (drawing : _) (index code : ℕ) (rest : List ℕ) →
+-- how a byte of a text is spelled
+typed_spelled : (form : Form) (d : Drawing) (set : CharSet) (hand : Hand) (code : ℕ) → spelled form d (typed set hand code) ≡ typed_piece set code ∷ []
+typed_spelled form d set hand code = by (format_effector code)
+  where
+    by : (step : Option TextStep) → spelled form d (typed_as step set hand code) ≡ typed_piece_as step set code ∷ []
+    by (Some step) = refl
+    by None = refl
+
+pub next_typed : (form : Form) (s : State) (batch : Batch) (set : CharSet) (codes : _) (pen : Pen) (drawing : _) (index code : ℕ) (rest : List ℕ) →
     batch ≡ batches.Text set codes pen drawing → drop index codes.now ≡ code ∷ rest → EachStands s (drop index (listed batch)) →
-    (e : Entry) (es : List Entry) → drop index (listed batch) ≡ e ∷ es → entry_pieces form s e ≡ char_piece set code ∷ []
+    (e : Entry) (es : List Entry) → drop index (listed batch) ≡ e ∷ es → entry_pieces form s e ≡ typed_piece set code ∷ []
 unfolding text_in
-next_character form s batch set codes pen drawing index code rest is at =
+next_typed form s batch set codes pen drawing index code rest is at stand e es list =
     let behind = text_behind set (record (hand_of drawing.now) { pen = pen }) codes.now index in
-    next_entry form s (drop index (listed batch)) (entries.Char set code behind.0) (text_in set (record behind.0 { pen = After }) rest)
-    (ap (text_in set behind.0) (sym at) ∙ sym behind.1 ∙ ap (λ (b : Batch). drop index (listed b)) (sym is))
+    let x = typed set behind.0 code in
+    next_entry form s (drop index (listed batch)) x (text_in set (record behind.0 { pen = After }) rest)
+    (ap (text_in set behind.0) (sym at) ∙ sym behind.1 ∙ ap (λ (b : Batch). drop index (listed b)) (sym is)) stand e es list
+    ∙ typed_spelled form (taking s.drawing (held x)) set behind.0 code
 
 -- what entries are written as that are one piece each
 
@@ -203,14 +217,33 @@ lines_join n s d from (p ∷ ps) pen stand room =
     subst (λ (m : ℕ). Joined 8 Two (run_of 0x28 n) s (lines_on d from (p ∷ ps)) (points_bytes (p ∷ ps)) (run_of 0x28 m)) (omega arith)
     (point_more 0x28 n p (omega (arith, room)) s e (lines_on d p ps) (points_bytes ps) _ piece rest)
 
--- primary characters, where they are in GL
+-- primary characters, where they are in GL, and moves among them
+
+effector_bytes : {byte : ℕ} {step : TextStep} → FormatEffector byte step → step_bytes step ≡ byte ∷ []
+effector_bytes backward = refl
+effector_bytes forward = refl
+effector_bytes down = refl
+effector_bytes up = refl
+effector_bytes return = refl
+effector_bytes home = refl
+
+-- each is its own byte, behind which the primary characters are in GL
+typed_alone : (code : ℕ) → (piece_bytes (Apart G0) (typed_piece Primary code) ≡ code ∷ []) × (tail_behind (Apart G0) (typed_piece Primary code) ≡ Apart G0)
+typed_alone code = by (format_effector code) refl
+  where
+    by : (step : Option TextStep) → format_effector code ≡ step →
+        (piece_bytes (Apart G0) (typed_piece_as step Primary code) ≡ code ∷ []) × (tail_behind (Apart G0) (typed_piece_as step Primary code) ≡ Apart G0)
+    by (Some step) is = (effector_bytes (format_effector_known code step is), refl)
+    by None is = (refl, refl)
 
 text_joins : (form : Form) (s : State) (hand : Hand) (codes : List ℕ) → EachStands s (text_in Primary hand codes) → Joined 1 form (Apart G0) s (text_in Primary hand codes) codes (Apart G0)
 unfolding EachStands text_in
 text_joins form s hand [] stand = joined_none 1 form (Apart G0) s
 text_joins form s hand (c ∷ cs) stand =
-    let e = entries.Char Primary c hand in
-    joined_more 1 form (Apart G0) (Apart G0) s e (text_in Primary (record hand { pen = After }) cs) (primary c) (c ∷ []) cs (Apart G0) (alone form s e stand.0) refl refl refl
+    let e = typed Primary hand c in
+    let bytes = typed_alone c in
+    joined_more 1 form (Apart G0) (Apart G0) s e (text_in Primary (record hand { pen = After }) cs) (typed_piece Primary c) (c ∷ []) cs (Apart G0)
+    (alone form s e stand.0 ∙ typed_spelled form (taking s.drawing (held e)) Primary hand c) bytes.0 refl bytes.1
     (text_joins form (after s e) (record hand { pen = After }) cs stand.1)
 
 -- the run that is joined

@@ -1,10 +1,15 @@
 -- What a canonical sink that works takes of a batch.
 
-use Rattle.std.proofs.Common.{ℕ, zero, suc, ◌≡◌, ◌+◌, ◌*◌, ◌/◌, ◌%◌, ◌<◌, ◌≤◌, inl, inr, Bool, true, false, List, [], ◌∷◌, ◌++◌, Result, Ok, Err, OnOk, OnErr, IsErrOf, is_err, length, map, take, drop, refl, ap, sym, subst, ◌∙◌, append-nil, append_assoc, length-append, length-drop, arith}
+use Rattle.std.proofs.Common.{ℕ, zero, suc, ◌≡◌, ◌+◌, ◌*◌, ◌/◌, ◌%◌, ◌<◌, ◌≤◌, inl, inr, Bool, true, false, List, [], ◌∷◌, ◌++◌, Option, Some, None, Result, Ok, Err, OnOk, OnErr, IsErrOf, is_err, length, map, take, drop, refl, ap, sym, subst, ◌∙◌, append-nil, append_assoc, length-append, length-drop, arith}
 use Rattle.std.specs.Prelude.{slice_index}
 use Rattle.std.proofs.lemmas.Bool.{true≢false, false≢true}
 use Rattle.std.proofs.lemmas.List.{take-append-drop, take-take, length-take-le, drop-drop}
 use Rattle.nap_values.specs.Coordinates.{Coordinates}
+use Rattle.nap_codes.specs.declared.code_set.CharSet.{CharSet}
+use Rattle.nap_codes.specs.declared.control.TextStep.{TextStep}
+use Rattle.nap_codes.specs.Tables.{format_effector}
+use Rattle.nap_list.specs.declared.attribute.Hand.{Hand}
+use Rattle.nap_list.specs.declared.attribute.Held.{Held}
 use Rattle.nap_list.specs.declared.batch.Batch.{Batch}
 use Rattle.nap_list.specs.declared.batch.Batch.TheVariants as batches
 use Rattle.nap_list.specs.declared.device.Outlet as outlet
@@ -15,15 +20,16 @@ use Rattle.nap_list.specs.declared.sink.SinkFault.TheVariants as faults
 use Rattle.nap_list.specs.declared.state.Drawing.{Drawing}
 use Rattle.nap_list.specs.declared.state.State.{State}
 use Rattle.nap_list.specs.Agreement.{Stands}
-use Rattle.nap_list.specs.Batches.{EachStands, FirstStands, listed, point_on, line_on, char_on, lines_on, text_in, text_on}
-use Rattle.nap_list.specs.Entry.{held}
-use Rattle.nap_list.specs.Putting.{HaltsAfter, NotTaken, Put, Putting, TakesAll, WantsMore}
-use Rattle.nap_list.specs.PuttingLaws.{put_begins, put_goes, put_halts, put_ends, stops_at_first, takes_one}
-use Rattle.nap_list.specs.State.{after, walk}
+use Rattle.nap_list.specs.Batches.{EachStands, FirstStands, listed, point_on, line_on, typed, typed_as, typed_on, lines_on, text_in, text_on}
+use Rattle.nap_list.specs.Entry.{held, hand_values}
+use Rattle.nap_list.specs.Putting.{HaltsAfter, NotTaken, Put, PutSome, Putting, TakesAll, WantsMore}
+use Rattle.nap_list.specs.PuttingLaws.{put_begins, put_goes, put_halts, put_ends, some_put, stops_at_first, takes_one}
+use Rattle.nap_list.specs.State.{after, walk, hand_of}
 use Rattle.nap_list.proofs.PublicLaws.{batch_stands}
 use Rattle.nap_canon.specs.Batches.{canon_shows, CutAfter, SentUpTo, Joins, WritesNext, PutsFirst, PutsSome, PutsBehind, entry_size, joined_bytes, joined_tail, whole_entries}
 use Rattle.nap_canon.specs.Sinking.{Sending, Sends, Grows, Canonical, shown, bytes_of, bytes_behind, Took, Broke}
 use Rattle.nap_canon.specs.Sinking as sinking
+use Rattle.nap_canon.specs.Text.{written, entry_pieces}
 use Rattle.nap_canon.specs.SinkLaws.{grows_more, took_none, took_more, took_broke}
 use Rattle.nap_canon.proofs.sinks.JoinLemmas.{Joined, batch_joins, stands_rest, each_front, whole_of}
 use Rattle.nap_canon.proofs.sinks.SinkingLemmas.{took_answered, broke_answered}
@@ -50,6 +56,12 @@ module _ {O : Type 0} (o : outlet.Ghosts O) (s t : Canonical O) (works : o.faile
     },
   )
 
+  -- an entry that broke
+  pub one_breaks : {E : Type 0} (e : Entry) (r : Result (Unit {0}) E) → is_err r ≡ true → Sends (shown o s) (written s.tail (entry_pieces s.form s.state e)) (is_err r) (shown o t) →
+      OnErr r (t.state ≡ s.state) → PutSome {A = Unit {0}} (canon_shows o) (e ∷ []) s t (Err Write)
+  one_breaks e r failed bytes still =
+      some_put (canon_shows o) (Unit {0}) s t (e ∷ []) 0 Write (breaks_at (e ∷ []) [] [] e 0 refl refl (broke_answered o s t e r failed bytes still))
+
   -- the first entry of a list was written, whose values stand
   pub next_put : {E : Type 0} (list : List Entry) (r : Result (Unit {0}) E) → 0 < length list → WritesNext Sends s.form s.tail s.state list (shown o s) t.tail (shown o t) (is_err r) →
       t.form ≡ s.form → OnOk r (t.state ≡ walk s.state (take 1 list)) → OnErr r (t.state ≡ s.state) → PutsFirst o list s t r
@@ -57,6 +69,14 @@ module _ {O : Type 0} (o : outlet.Ghosts O) (s t : Canonical O) (works : o.faile
   next_put [] r some wrote form state still = absurd (omega (arith, some))
   next_put {E = E} (e ∷ es) (Ok x) some wrote form state still = (omega arith, omega arith, takes_all (e ∷ []) (took_answered {E = E} o s t e (Ok x) refl (wrote e es refl).0 form (wrote e es refl).1 state))
   next_put {E = E} (e ∷ es) (Err x) some wrote form state still = breaks_at (e ∷ es) [] es e 0 refl refl (broke_answered {T = Unit {0}} o s t e (Err x) refl (wrote e es refl).0 still)
+
+-- a sink that has failed takes nothing
+pub still_put : {O : Type 0} (o : outlet.Ghosts O) (s : Canonical O) (list : List Entry) → o.failed s.outlet ≡ true → PutSome {A = Unit {0}} (canon_shows o) list s s (Err Write)
+still_put o s list failed = (
+  0,
+  inl (failed, refl, refl),
+  record { write = λ _. failed; memory = λ e. (let bad : ⊥ = cc in absurd bad); none = λ _. (refl, refl, refl) },
+)
 
 -- the first entry of a list was put
 
@@ -164,6 +184,14 @@ module _ {O S : Type 0} (o : outlet.Ghosts O) (view : S → Sending) (a b : S) (
 
 -- a list that is put part by part
 
+-- a byte of a text holds its hand
+typed_held : (set : CharSet) (hand : Hand) (code : ℕ) → held (typed set hand code) ≡ hand_values hand
+typed_held set hand code = by (format_effector code)
+  where
+    by : (step : Option TextStep) → held (typed_as step set hand code) ≡ hand_values hand
+    by (Some step) = refl
+    by None = refl
+
 -- the values of the first entry stand
 first_stands : (batch : Batch) (d : Drawing) (e : Entry) (es : List Entry) → listed batch ≡ e ∷ es → FirstStands batch d → Stands (held e) d
 unfolding lines_on text_in
@@ -181,7 +209,9 @@ first_stands (batches.Text set codes pen drawing) d e es all stands = by codes.n
   where
     by : (cs : List ℕ) → text_on drawing.now pen set cs ≡ e ∷ es → Stands (held e) d
     by [] all = let bad : ⊥ = cc in absurd bad
-    by (c ∷ cs) all = let same : char_on drawing.now pen set c ≡ e = cc in subst (λ (e : Entry). Stands (held e) d) same stands
+    by (c ∷ cs) all =
+        let same : typed_on drawing.now pen set c ≡ e = cc in
+        subst (λ (e : Entry). Stands (held e) d) same (subst (λ (h : Held). Stands h d) (sym (typed_held set (record (hand_of drawing.now) { pen = pen }) c)) stands)
 
 -- then those of each entry do when it comes
 pub each_stands : (batch : Batch) (s : State) → FirstStands batch s.drawing → EachStands s (listed batch)

@@ -1,22 +1,16 @@
 -- The bytes that a writer sends, part by part.
 
-use Rattle.std.proofs.Common.{if◌then◌else◌, Result, Ok, Err, OnOk, Bool, true, false, refl, subst, ℕ, suc, ◌+◌, ◌≡◌, ◌<◌, List, [], ◌∷◌, ◌++◌, length, map, take, drop, get_or, ap, sym, ◌∙◌, append_assoc, append-nil, arith}
+use Rattle.std.proofs.Common.{Result, Ok, Err, OnOk, Bool, true, false, refl, subst, ℕ, suc, ◌+◌, ◌≡◌, ◌<◌, List, [], ◌∷◌, ◌++◌, length, map, take, drop, get_or, ap, sym, ◌∙◌, append_assoc, append-nil, arith}
 use Rattle.std.proofs.lemmas.List.{take_more, map-append, take-append-drop}
 use Rattle.std.proofs.Math.Seq.{drop-cons}
 use Rattle.nap_values.specs.Coordinates.{Coordinates, Displacement, displacement_to}
 use Rattle.nap_values.specs.Digits.{digits_of}
 use Rattle.nap_values.specs.Spellings.{move_bytes, point_bytes, words_of_pairs}
 use Rattle.nap_canon.specs.declared.tail.Tail.{Tail}
-use Rattle.nap_canon.specs.declared.form.Form.{Form}
 use Rattle.nap_canon.specs.declared.command.Command.{Command}
-use Rattle.nap_list.specs.declared.entry.Entry.{Entry}
-use Rattle.nap_list.specs.declared.state.State.{State}
-use Rattle.nap_list.specs.Entry.{held}
-use Rattle.nap_list.specs.State.{taking}
 use Rattle.nap_list.specs.Batches.{last_of}
-use Rattle.nap_canon.specs.Bring.{bring}
-use Rattle.nap_canon.specs.Spelling.{Piece, command_piece, onward_bytes, shape, shape_bytes, spelled}
-use Rattle.nap_canon.specs.Text.{gl_of, to_opcodes, piece_bytes, tail_behind, written, tail_after, entry_pieces}
+use Rattle.nap_canon.specs.Spelling.{Piece, command_piece, onward_bytes, opcode, shape_bytes, spelled}
+use Rattle.nap_canon.specs.Text.{gl_of, to_opcodes, piece_bytes, tail_behind, written, tail_after}
 use Rattle.nap_canon.specs.TextParts.{written-append, tail_after-append}
 
 -- one displacement more of a shape
@@ -61,17 +55,14 @@ onward_part now piece whole from to left part rest parts spelled last so_far =
     ∙ so_far
 
 -- a shape: its opcode with the first point and some displacements, and those to the other points
-pub shape_joined : (tail : Tail) (outlined code : ℕ) (filled : Bool) (first last : Coordinates) (near far others points : List Coordinates) (bytes : List ℕ) →
-    code ≡ (if filled then (outlined + 1) else outlined) → bytes ≡ (to_opcodes (gl_of tail) ++ code ∷ point_bytes first) ++ onward_bytes first near →
-    others ≡ near ++ far → last ≡ last_of first near → points ≡ first ∷ others → bytes ++ onward_bytes last far ≡ piece_bytes tail (shape outlined filled points)
-shape_joined tail outlined code filled first last near far others points bytes opcode begun parts ends all =
+pub shape_joined : (tail : Tail) (code : ℕ) (first last : Coordinates) (near far others : List Coordinates) (bytes : List ℕ) →
+    bytes ≡ (to_opcodes (gl_of tail) ++ code ∷ point_bytes first) ++ onward_bytes first near → others ≡ near ++ far → last ≡ last_of first near →
+    bytes ++ onward_bytes last far ≡ piece_bytes tail (opcode code (shape_bytes (first ∷ others)))
+shape_joined tail code first last near far others bytes begun parts ends =
     let head : List ℕ = to_opcodes (gl_of tail) ++ code ∷ point_bytes first in
-    let whole : head ++ onward_bytes first others ≡ piece_bytes tail (shape outlined filled points) =
-    append_assoc (to_opcodes (gl_of tail)) (code ∷ point_bytes first) (onward_bytes first others)
-    ∙ ap (λ (byte : ℕ). to_opcodes (gl_of tail) ++ byte ∷ shape_bytes (first ∷ others)) opcode
-    ∙ ap (λ (ps : List Coordinates). piece_bytes tail (shape outlined filled ps)) (sym all) in
     ap (λ (bs : List ℕ). bs ++ onward_bytes last far) begun
-    ∙ onward_part head (onward_bytes first near) (piece_bytes tail (shape outlined filled points)) first last others near far parts refl ends whole
+    ∙ onward_part head (onward_bytes first near) (piece_bytes tail (opcode code (shape_bytes (first ∷ others)))) first last others near far parts refl ends
+    (append_assoc (to_opcodes (gl_of tail)) (code ∷ point_bytes first) (onward_bytes first others))
 
 -- pieces behind others
 
@@ -92,6 +83,11 @@ pub on_ok_from : {T E P : Type 0} (r : Result T E) → P → OnOk r P
 on_ok_from (Ok _) p = p
 on_ok_from (Err _) p = tt
 
+-- what holds at an answer leads to what else does
+pub on_ok_to : {T E P Q : Type 0} (r : Result T E) → (P → Q) → OnOk r P → OnOk r Q
+on_ok_to (Ok _) to p = to p
+on_ok_to (Err _) to p = tt
+
 -- what a writer sends, in parts
 
 module _ {T : Type 0} (sent : T → List ℕ → Bool → T → Type 0)
@@ -108,40 +104,6 @@ module _ {T : Type 0} (sent : T → List ℕ → Bool → T → Type 0)
   -- a failure in the second part, where there is a third
   pub sent_second : (s t u : T) (a b c whole : List ℕ) → (a ++ b) ++ c ≡ whole → sent s a false t → sent t b true u → sent s whole true u
   sent_second s t u a b c whole is first second = sent_first s u (a ++ b) c whole is (more s t u a b true first second)
-
--- commands behind others
-
-told_bytes : (tail mid : Tail) (front back whole : List Command) → front ++ back ≡ whole → mid ≡ tail_after tail (map command_piece front) →
-    written tail (map command_piece front) ++ written mid (map command_piece back) ≡ written tail (map command_piece whole)
-told_bytes tail mid front back whole is ends =
-    ap (λ (u : Tail). written tail (map command_piece front) ++ written u (map command_piece back)) ends
-    ∙ sym (written-append tail (map command_piece front) (map command_piece back))
-    ∙ ap (written tail) (sym (map-append command_piece front back) ∙ ap (map command_piece) is)
-
-pub told_tail : (tail mid next : Tail) (front back whole : List Command) → front ++ back ≡ whole → mid ≡ tail_after tail (map command_piece front) →
-    next ≡ tail_after mid (map command_piece back) → next ≡ tail_after tail (map command_piece whole)
-told_tail tail mid next front back whole is ends step =
-    step
-    ∙ ap (λ (u : Tail). tail_after u (map command_piece back)) ends
-    ∙ sym (tail_after-append tail (map command_piece front) (map command_piece back))
-    ∙ ap (tail_after tail) (sym (map-append command_piece front back) ∙ ap (map command_piece) is)
-
-pub on_ok_to : {T E P Q : Type 0} (r : Result T E) → (P → Q) → OnOk r P → OnOk r Q
-on_ok_to (Ok _) to p = to p
-on_ok_to (Err _) to p = tt
-
-module _ {T : Type 0} (sent : T → List ℕ → Bool → T → Type 0)
-    (more : (s t u : T) (a b : List ℕ) (broke : Bool) → sent s a false t → sent t b broke u → sent s (a ++ b) broke u)
-    (cut : (s t : T) (a b : List ℕ) → sent s a true t → sent s (a ++ b) true t) (tail : Tail) (front back whole : List Command) (is : front ++ back ≡ whole) where
-  pub told_both : (s t u : T) (mid : Tail) (broke : Bool) → mid ≡ tail_after tail (map command_piece front) →
-      sent s (written tail (map command_piece front)) false t → sent t (written mid (map command_piece back)) broke u → sent s (written tail (map command_piece whole)) broke u
-  told_both s t u mid broke ends first second =
-      sent_both sent more cut s t u (written tail (map command_piece front)) (written mid (map command_piece back)) _ broke (told_bytes tail mid front back whole is ends) first second
-
-  pub told_first : (s t : T) → sent s (written tail (map command_piece front)) true t → sent s (written tail (map command_piece whole)) true t
-  told_first s t first =
-      sent_first sent more cut s t (written tail (map command_piece front)) (written (tail_after tail (map command_piece front)) (map command_piece back)) _
-      (told_bytes tail (tail_after tail (map command_piece front)) front back whole is refl) first
 
 -- one command more
 
@@ -185,31 +147,3 @@ commands_left tail mid commands i c within is ends =
     ∙ sym (written-append tail front back)
     ∙ ap (written tail) (sym (map-append command_piece (take (i + 1) commands) (drop (i + 1) commands)))
     ∙ ap (λ (cs : List Command). written tail (map command_piece cs)) (take-append-drop (i + 1) commands)
-
--- an entry: its bring, and its spelling where the values that it holds stand
-
-module _ (tail mid : Tail) (f form : Form) (s t : State) (e : Entry) (same : form ≡ f) (state : t ≡ s)
-    (ends : mid ≡ tail_after tail (map command_piece (bring s.drawing (held e)))) where
-  -- the spelling in the terms of the start
-  at_start : spelled form (taking t.drawing (held e)) e ≡ spelled f (taking s.drawing (held e)) e
-  at_start = ap (λ (g : Form). spelled g (taking t.drawing (held e)) e) same ∙ ap (λ (u : State). spelled f (taking u.drawing (held e)) e) state
-
-  pub entry_bytes : written tail (map command_piece (bring s.drawing (held e))) ++ written mid (spelled form (taking t.drawing (held e)) e) ≡ written tail (entry_pieces f s e)
-  entry_bytes =
-      let told : List Piece = map command_piece (bring s.drawing (held e)) in
-      let qs : List Piece = spelled f (taking s.drawing (held e)) e in
-      ap (λ (ps : List Piece). written tail told ++ written mid ps) at_start
-      ∙ ap (λ (u : Tail). written tail told ++ written u qs) ends
-      ∙ sym (written-append tail told qs)
-
-  pub entry_tail : (next : Tail) → next ≡ tail_after mid (spelled form (taking t.drawing (held e)) e) → next ≡ tail_after tail (entry_pieces f s e)
-  entry_tail next is =
-      let qs : List Piece = spelled f (taking s.drawing (held e)) e in
-      is ∙ ap (tail_after mid) at_start ∙ ap (λ (u : Tail). tail_after u qs) ends ∙ sym (tail_after-append tail (map command_piece (bring s.drawing (held e))) qs)
-
--- the bring, and what comes behind it
-pub led_bytes : (tail : Tail) (form : Form) (s : State) (e : Entry) →
-    written tail (map command_piece (bring s.drawing (held e)))
-    ++ written (tail_after tail (map command_piece (bring s.drawing (held e)))) (spelled form (taking s.drawing (held e)) e)
-    ≡ written tail (entry_pieces form s e)
-led_bytes tail form s e = entry_bytes tail (tail_after tail (map command_piece (bring s.drawing (held e)))) form form s s e refl refl refl

@@ -5,6 +5,7 @@ ghost use Rattle.nap_list.specs.State.{walk};
 ghost use Rattle.nap_canon.specs.declared.tail.Tail.TheVariants.{InRun};
 ghost use Rattle.nap_canon.specs.Batches.{Joins, PointsJoin, SentUpTo, WritesNext, entry_size, joined_bytes, joined_tail, points_bytes, whole_entries};
 ghost use Rattle.nap_canon.specs.Text.{run_behind};
+ghost use Rattle.nap_canon.specs.Writing.{Stays, WritesUpTo};
 
 use crate::byte_sink::ByteSink;
 use crate::form::Form;
@@ -79,7 +80,7 @@ impl<T: ByteSink + Drop> Writer<T> {
         requires some { index < length (listed batch.now) }
         requires stand { EachStands self.old.state (drop index (listed batch.now)) }
         ensures next { WritesNext T.sent self.old.form self.old.tail self.old.state (drop index (listed batch.now)) self.old.to self.new.tail self.new.to (is_err result) }
-        ensures kept { (self.new.form ≡ self.old.form) × (self.new.state ≡ self.old.state) }
+        ensures kept { Stays self.old self.new }
     {
         match batch {
             Batch::Points { points, .. } => self.stroke(
@@ -90,7 +91,7 @@ impl<T: ByteSink + Drop> Writer<T> {
                 start_at(*from, points, index),
                 item(points, index),
             ),
-            Batch::Text { set, codes, .. } => self.character(*set, item(codes, index)),
+            Batch::Text { set, codes, .. } => self.typed(*set, item(codes, index)),
         }
     }
 
@@ -112,9 +113,7 @@ impl<T: ByteSink + Drop> Writer<T> {
     /// Writes points that join the run of this opcode. An error has the number of their bytes that were taken.
     fn join_run(&mut self, opcode: u8, points: &[Point]) -> Result<(), usize>
         requires few { length points.now ≤ 128 }
-        ensures sent { SentUpTo T.sent self.old.to (points_bytes points.now) self.new.to result }
-        ensures tail { OnOk result (self.new.tail ≡ InRun (run_behind self.old.tail opcode (8 * length points.now))) }
-        ensures kept { (self.new.form ≡ self.old.form) × (self.new.state ≡ self.old.state) }
+        ensures { WritesUpTo T.sent (points_bytes points.now) (InRun (run_behind self.old.tail opcode (8 * length points.now))) self.old self.new result }
     {
         gather(&mut self.room, points);
         self.to.take_counted(self.room.as_slice())?;
@@ -128,9 +127,7 @@ impl<T: ByteSink + Drop> Writer<T> {
     fn write_joined(&mut self, batch: &Batch, first: usize, count: usize) -> Result<(), usize>
         requires few { count + first ≤ length (listed batch.now) }
         requires joins { Joins self.old.form self.old.tail self.old.state batch.now first count }
-        ensures sent { SentUpTo T.sent self.old.to (joined_bytes batch.now first count) self.new.to result }
-        ensures tail { OnOk result (self.new.tail ≡ joined_tail self.old.tail batch.now count) }
-        ensures kept { (self.new.form ≡ self.old.form) × (self.new.state ≡ self.old.state) }
+        ensures { WritesUpTo T.sent (joined_bytes batch.now first count) (joined_tail self.old.tail batch.now count) self.old self.new result }
     {
         match batch {
             Batch::Points { points, .. } => self.join_run(

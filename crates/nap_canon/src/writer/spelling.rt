@@ -1,11 +1,13 @@
 //! How each entry is spelled where the values that it holds stand.
-ghost use Rattle.std.specs.Prelude.{◌≡◌, ◌<◌, ◌≤◌, ◌+◌, [], ◌∷◌, length, if◌then◌else◌, is_err, OnOk};
-ghost use Rattle.nap_codes.specs.declared.code_set.GSet.TheVariants.{G0, G1};
+ghost use Rattle.std.specs.Prelude.{◌≡◌, ◌<◌, ◌≤◌, ◌+◌, [], ◌∷◌, length, if◌then◌else◌};
+ghost use Rattle.nap_codes.specs.declared.code_set.GSet.TheVariants.{G1};
 ghost use Rattle.nap_canon.specs.declared.tail.Tail.TheVariants.{Apart};
 ghost use Rattle.nap_list.specs.Entry.{held};
+ghost use Rattle.nap_list.specs.Shapes.{drawn_shape, round};
 ghost use Rattle.nap_list.specs.State.{taking};
-ghost use Rattle.nap_canon.specs.Spelling.{word_byte, mask_byte, cursor_byte, step_bytes, area_bytes, onward_bytes, shape, char_piece, domain_again, opcode, group, primary, stroke, line_piece, rect_piece, map_pieces, spelled};
-ghost use Rattle.nap_canon.specs.Text.{gl_of, piece_bytes, written, tail_behind, tail_after};
+ghost use Rattle.nap_canon.specs.Spelling.{word_byte, mask_byte, cursor_byte, step_bytes, area_bytes, onward_bytes, shape_bytes, shape, char_piece, typed_piece, domain_again, opcode, group, primary, stroke, line_piece, rect_piece, map_pieces, spelled};
+ghost use Rattle.nap_canon.specs.Text.{gl_of, written};
+ghost use Rattle.nap_canon.specs.Writing.{WritesBytes, WritesPiece, WritesPieces};
 
 use crate::byte_sink::ByteSink;
 use crate::form::Form;
@@ -13,8 +15,8 @@ use crate::gathered::{MOST, NEAR, gather_onward, gather_shape};
 use crate::piece::Piece;
 use crate::tail::Tail;
 use crate::writer::{LENGTHS, Writer, opcodes};
-use nap_codes::{CharSet, CursorKind, GSet, Mask, TextStep};
-use nap_list::{Area, Colour, Entry, Pen, start_at};
+use nap_codes::{CharSet, CursorKind, GSet, Mask, TextStep, format_effector};
+use nap_list::{Area, Colour, Entry, Pen, Shape, ShapeKind, start_at};
 use nap_values::{Addr, Grb, Point, Word, put_addr, put_grb, put_move, put_point};
 
 /// The argument of DEF TEXTURE.
@@ -50,9 +52,7 @@ fn shape_opcode(outlined: u8, filled: bool) -> u8
 impl<T: ByteSink + Drop> Writer<T> {
     /// The displacements from a point to the others in turn.
     fn onward(&mut self, first: Point, others: &[Point]) -> Result<(), T::Fault>
-        ensures sent { T.sent self.old.to (onward_bytes first others.now) (is_err result) self.new.to }
-        ensures tail { self.new.tail ≡ self.old.tail }
-        ensures kept { (self.new.form ≡ self.old.form) × (self.new.state ≡ self.old.state) }
+        ensures { WritesBytes T.sent (onward_bytes first others.now) self.old.tail self.old self.new result }
     {
         let mut from = first;
         for chunk in others.chunks(MOST) {
@@ -63,33 +63,58 @@ impl<T: ByteSink + Drop> Writer<T> {
         Ok(())
     }
 
+    /// The opcode of a shape with a point, and the displacements to the others in turn.
+    fn path(&mut self, code: u8, first: Point, others: &[Point]) -> Result<(), T::Fault>
+        ensures { WritesPiece T.sent (opcode code (shape_bytes (first ∷ others.now))) self.old self.new result }
+    {
+        let (near, far) = others.split_at(others.len().min(NEAR));
+        gather_shape(&mut self.room, self.tail.gl(), code, first, near);
+        self.tail = Tail::Apart(GSet::G1);
+        self.to.take(self.room.as_slice())?;
+        self.onward(start_at(first, near, near.len()), far)
+    }
+
     /// A shape through its points, by the opcode of the outlined one.
     fn shape(&mut self, outlined: u8, filled: bool, points: &[Point]) -> Result<(), T::Fault>
         requires { outlined < 255 }
-        ensures sent { T.sent self.old.to (piece_bytes self.old.tail (shape outlined filled points.now)) (is_err result) self.new.to }
-        ensures tail { self.new.tail ≡ Apart G1 }
-        ensures kept { (self.new.form ≡ self.old.form) × (self.new.state ≡ self.old.state) }
+        ensures { WritesPiece T.sent (shape outlined filled points.now) self.old self.new result }
     {
-        let opcode = shape_opcode(outlined, filled);
-        let gl = self.tail.gl();
-        match points.split_first() {
-            Some((first, others)) => {
-                let (near, far) = others.split_at(others.len().min(NEAR));
-                gather_shape(&mut self.room, gl, opcode, *first, near);
-                self.tail = Tail::Apart(GSet::G1);
-                self.to.take(self.room.as_slice())?;
-                self.onward(start_at(*first, near, near.len()), far)
+        let code = shape_opcode(outlined, filled);
+        let Some((first, others)) = points.split_first() else {
+            return self.drawn(Piece::opcode(self.tail.gl(), code));
+        };
+        self.path(code, *first, others)
+    }
+
+    /// An arc through a point and the others in turn. One of a single step goes back to its start.
+    fn arc(&mut self, filled: bool, first: Point, others: &[Point]) -> Result<(), T::Fault>
+        ensures { WritesPiece T.sent (shape 0x2E filled (round (first ∷ others.now))) self.old self.new result }
+    {
+        let code = shape_opcode(opcodes::SET_ARC, filled);
+        if let [point] = others {
+            return self.path(code, first, &[*point, first]);
+        }
+        self.path(code, first, others)
+    }
+
+    /// How the entry of a shape is spelled where the values that it holds stand.
+    #[tactic(auto, unfolding(crate::specs::Text::written, crate::specs::Text::tail_after))]
+    pub(super) fn lent_shape(&mut self, shape: &Shape) -> Result<(), T::Fault>
+        ensures { WritesPieces T.sent (spelled self.old.form (taking self.old.state.drawing (held (drawn_shape shape.now))) (drawn_shape shape.now)) self.old self.new result }
+    {
+        let (from, others) = (shape.from, shape.others);
+        match shape.kind {
+            ShapeKind::Arc => self.arc(shape.filled, from, others),
+            ShapeKind::Poly => {
+                self.path(shape_opcode(opcodes::SET_POLY, shape.filled), from, others)
             }
-            None => self.drawn(Piece::opcode(gl, opcode)),
         }
     }
 
     /// A group of operands: behind their opcode, unless they join a run of it.
     fn group(&mut self, opcode: u8, operands: &[u8]) -> Result<(), T::Fault>
         requires few { length operands.now ≤ 16 }
-        ensures sent { T.sent self.old.to (piece_bytes self.old.tail (group opcode operands.now)) (is_err result) self.new.to }
-        ensures tail { self.new.tail ≡ tail_behind self.old.tail (group opcode operands.now) }
-        ensures kept { (self.new.form ≡ self.old.form) × (self.new.state ≡ self.old.state) }
+        ensures { WritesPiece T.sent (group opcode operands.now) self.old self.new result }
     {
         let tail = self.tail;
         self.tail = tail.behind(opcode, operands.len());
@@ -103,9 +128,7 @@ impl<T: ByteSink + Drop> Writer<T> {
     /// The opcode of a point, a line or a rectangle with its operands.
     pub(super) fn stroke(&mut self, opcode: u8, operands: &[u8]) -> Result<(), T::Fault>
         requires few { length operands.now ≤ 16 }
-        ensures sent { T.sent self.old.to (piece_bytes self.old.tail (stroke self.old.form opcode operands.now)) (is_err result) self.new.to }
-        ensures tail { self.new.tail ≡ tail_behind self.old.tail (stroke self.old.form opcode operands.now) }
-        ensures kept { (self.new.form ≡ self.old.form) × (self.new.state ≡ self.old.state) }
+        ensures { WritesPiece T.sent (stroke self.old.form opcode operands.now) self.old self.new result }
     {
         match self.form {
             Form::One => self.drawn(Piece::opened(self.tail.gl(), opcode, operands)),
@@ -115,9 +138,7 @@ impl<T: ByteSink + Drop> Writer<T> {
 
     /// A line, which in the second form goes on from the pen where it starts there.
     pub(super) fn line(&mut self, from: Point, to: Point) -> Result<(), T::Fault>
-        ensures sent { T.sent self.old.to (piece_bytes self.old.tail (line_piece self.old.form self.old.state.drawing.pen from to)) (is_err result) self.new.to }
-        ensures tail { self.new.tail ≡ tail_behind self.old.tail (line_piece self.old.form self.old.state.drawing.pen from to) }
-        ensures kept { (self.new.form ≡ self.old.form) × (self.new.state ≡ self.old.state) }
+        ensures { WritesPiece T.sent (line_piece self.old.form self.old.state.drawing.pen from to) self.old self.new result }
     {
         if self.form == Form::Two && self.state.drawing.pen == Pen::At(from) {
             return self.group(opcodes::LINE_ABS, &put_point(to));
@@ -127,9 +148,7 @@ impl<T: ByteSink + Drop> Writer<T> {
     }
 
     fn rect(&mut self, filled: bool, from: Point, to: Point) -> Result<(), T::Fault>
-        ensures sent { T.sent self.old.to (piece_bytes self.old.tail (rect_piece self.old.form filled from to)) (is_err result) self.new.to }
-        ensures tail { self.new.tail ≡ tail_behind self.old.tail (rect_piece self.old.form filled from to) }
-        ensures kept { (self.new.form ≡ self.old.form) × (self.new.state ≡ self.old.state) }
+        ensures { WritesPiece T.sent (rect_piece self.old.form filled from to) self.old self.new result }
     {
         let corners = Piece::of(&put_point(from)).with(&put_move(from.to(to)));
         self.stroke(shape_opcode(opcodes::SET_RECT, filled), corners.as_slice())
@@ -137,9 +156,7 @@ impl<T: ByteSink + Drop> Writer<T> {
 
     /// A code of the primary characters, behind which they are in GL.
     fn primary(&mut self, code: u8) -> Result<(), T::Fault>
-        ensures sent { T.sent self.old.to (piece_bytes self.old.tail (primary code)) (is_err result) self.new.to }
-        ensures tail { self.new.tail ≡ Apart G0 }
-        ensures kept { (self.new.form ≡ self.old.form) × (self.new.state ≡ self.old.state) }
+        ensures { WritesPiece T.sent (primary code) self.old self.new result }
     {
         let piece = Piece::primary(self.tail.gl(), code);
         self.tail = Tail::Apart(GSet::G0);
@@ -148,9 +165,7 @@ impl<T: ByteSink + Drop> Writer<T> {
 
     /// A character: SS2 brings G2 and SS3 brings G3 for it alone, and a DRCS is G3 for that time.
     pub(super) fn character(&mut self, set: CharSet, code: u8) -> Result<(), T::Fault>
-        ensures sent { T.sent self.old.to (piece_bytes self.old.tail (char_piece set code)) (is_err result) self.new.to }
-        ensures tail { self.new.tail ≡ tail_behind self.old.tail (char_piece set code) }
-        ensures kept { (self.new.form ≡ self.old.form) × (self.new.state ≡ self.old.state) }
+        ensures { WritesPiece T.sent (char_piece set code) self.old self.new result }
     {
         match set {
             CharSet::Primary => self.primary(code),
@@ -163,9 +178,7 @@ impl<T: ByteSink + Drop> Writer<T> {
     /// A format effector.
     #[inline(always)]
     pub(super) fn text_move(&mut self, step: TextStep) -> Result<(), T::Fault>
-        ensures sent { T.sent self.old.to (step_bytes step) (is_err result) self.new.to }
-        ensures tail { self.new.tail ≡ Apart (gl_of self.old.tail) }
-        ensures kept { (self.new.form ≡ self.old.form) × (self.new.state ≡ self.old.state) }
+        ensures { WritesBytes T.sent (step_bytes step) (Apart (gl_of self.old.tail)) self.old self.new result }
     {
         match step {
             TextStep::Apb => self.control(&[0x08]),
@@ -178,11 +191,20 @@ impl<T: ByteSink + Drop> Writer<T> {
         }
     }
 
+    /// A byte of a text: the move that it is by itself, or else a character of the set.
+    #[inline]
+    pub(super) fn typed(&mut self, set: CharSet, code: u8) -> Result<(), T::Fault>
+        ensures { WritesPiece T.sent (typed_piece set code) self.old self.new result }
+    {
+        match format_effector(code) {
+            Some(step) => self.text_move(step),
+            None => self.character(set, code),
+        }
+    }
+
     /// SET COLOR at an address, which is brought where it isn't the colour.
     fn map(&mut self, addr: Addr, grb: Grb) -> Result<(), T::Fault>
-        ensures sent { T.sent self.old.to (written self.old.tail (map_pieces self.old.state.drawing addr grb)) (is_err result) self.new.to }
-        ensures tail { OnOk result (self.new.tail ≡ tail_after self.old.tail (map_pieces self.old.state.drawing addr grb)) }
-        ensures kept { (self.new.form ≡ self.old.form) × (self.new.state ≡ self.old.state) }
+        ensures { WritesPieces T.sent (map_pieces self.old.state.drawing addr grb) self.old self.new result }
     {
         let (base, old) = (self.state.drawing.base, self.state.drawing.colour);
         self.lead_colour(base, old, Some(Colour::Front(addr)))?;
@@ -192,9 +214,7 @@ impl<T: ByteSink + Drop> Writer<T> {
     /// RESET, and DOMAIN once more where that puts the lengths of operands back.
     #[tactic(auto, unfolding(crate::specs::Text::written))]
     fn reset(&mut self, first: Word, second: Word) -> Result<(), T::Fault>
-        ensures sent { T.sent self.old.to (written self.old.tail (opcode 0x20 (word_byte first ∷ word_byte second ∷ []) ∷ domain_again first)) (is_err result) self.new.to }
-        ensures tail { self.new.tail ≡ Apart G1 }
-        ensures kept { (self.new.form ≡ self.old.form) × (self.new.state ≡ self.old.state) }
+        ensures { WritesBytes T.sent (written self.old.tail (opcode 0x20 (word_byte first ∷ word_byte second ∷ []) ∷ domain_again first)) (Apart G1) self.old self.new result }
     {
         let piece = Piece::opcode(self.tail.gl(), opcodes::RESET);
         let words = piece.word(first).word(second);
@@ -207,9 +227,7 @@ impl<T: ByteSink + Drop> Writer<T> {
 
     /// FIELD with its area.
     fn field(&mut self, area: Area) -> Result<(), T::Fault>
-        ensures sent { T.sent self.old.to (piece_bytes self.old.tail (opcode 0x38 (area_bytes area))) (is_err result) self.new.to }
-        ensures tail { self.new.tail ≡ Apart G1 }
-        ensures kept { (self.new.form ≡ self.old.form) × (self.new.state ≡ self.old.state) }
+        ensures { WritesPiece T.sent (opcode 0x38 (area_bytes area)) self.old self.new result }
     {
         match area {
             Area::Whole => self.drawn(Piece::opcode(self.tail.gl(), opcodes::FIELD)),
@@ -220,9 +238,7 @@ impl<T: ByteSink + Drop> Writer<T> {
     /// How an entry is spelled where the values that it holds stand.
     #[tactic(auto, unfolding(crate::specs::Text::written, crate::specs::Text::tail_after))]
     pub(super) fn spelling(&mut self, entry: &Entry) -> Result<(), T::Fault>
-        ensures sent { T.sent self.old.to (written self.old.tail (spelled self.old.form (taking self.old.state.drawing (held entry.now)) entry.now)) (is_err result) self.new.to }
-        ensures tail { OnOk result (self.new.tail ≡ tail_after self.old.tail (spelled self.old.form (taking self.old.state.drawing (held entry.now)) entry.now)) }
-        ensures kept { (self.new.form ≡ self.old.form) × (self.new.state ≡ self.old.state) }
+        ensures { WritesPieces T.sent (spelled self.old.form (taking self.old.state.drawing (held entry.now)) entry.now) self.old self.new result }
     {
         let gl = self.tail.gl();
         match entry {

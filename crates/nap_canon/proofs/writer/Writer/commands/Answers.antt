@@ -27,16 +27,20 @@ loop-command-preserved g c =
       kept = (c.in_ok-command.ensures.kept.0 ∙ c.loop-command.invariant.kept.0, c.in_ok-command.ensures.kept.1 ∙ c.loop-command.invariant.kept.1);
     }
 
-pub returns-in_err-command-clause-sent : goal.returns-in_err-command-clause-sent
-returns-in_err-command-clause-sent g c =
+pub returns-in_err-command : goal.returns-in_err-command
+returns-in_err-command g c =
     let tail = c.args.self.now.tail in
     let mid = c.loop-command.self.tail in
     let all = c.as_slice-command-items.result.now in
     let i = c.loop-command.command-index in
     let x = c.command-item.result in
     let failure = err_from_is_err_and c.from_residual.result c.from_residual.ensures.1 in
-    rw failure.1 (sent_second g.T.ByteSink.sent g.met.T.ByteSink.sent_more g.met.T.ByteSink.sent_cut c.args.self.now.to c.loop-command.self.to c.command.new.self.to
-    (written tail (map command_piece (take i all))) (piece_bytes mid (command_piece x)) _ _
-    (commands_left tail mid all i x c.loop-command-test.true c.command-item.is c.loop-command.invariant.tail
-    ∙ ap (λ (cs : List Command). written tail (map command_piece cs)) c.as_slice-command-items.ensures)
-    c.loop-command.invariant.sent c.in_err-command.ensures.sent)
+    rw failure.1 (record {
+      sent = sent_second g.T.ByteSink.sent g.met.T.ByteSink.sent_more g.met.T.ByteSink.sent_cut c.args.self.now.to c.loop-command.self.to c.command.new.self.to
+          (written tail (map command_piece (take i all))) (piece_bytes mid (command_piece x)) _ _
+          (commands_left tail mid all i x c.loop-command-test.true c.command-item.is c.loop-command.invariant.tail
+          ∙ ap (λ (cs : List Command). written tail (map command_piece cs)) c.as_slice-command-items.ensures)
+          c.loop-command.invariant.sent c.in_err-command.ensures.sent;
+      tail = tt;
+      kept = (c.in_err-command.ensures.kept.0 ∙ c.loop-command.invariant.kept.0, c.in_err-command.ensures.kept.1 ∙ c.loop-command.invariant.kept.1);
+    })

@@ -1,39 +1,24 @@
-use Rattle.std.proofs.Common.{◌≡◌, ◌++◌, List, is_err, ap, ◌∙◌}
+use Rattle.std.proofs.Common.{◌≡◌, ◌++◌, List, ap}
 use Rattle.std.proofs.lemmas.Result.{err_from_is_err_and}
-use Rattle.nap_list.specs.Entry.{held}
 use Rattle.nap_canon.specs.declared.command.Command.{Command}
-use Rattle.nap_canon.specs.Bring.{told, bring_pel, bring_colour, bring_texture, bring_text, bring}
-use Rattle.nap_canon.proofs.texts.WriterLemmas.{told_both, told_first, told_tail, on_ok_to}
+use Rattle.nap_canon.specs.Bring.{told, bring_from_pel, bring}
+use Rattle.nap_canon.proofs.texts.WritingLemmas.{both_written, commands_join, front_fails}
 use Rattle.nap_canon.proofs.writer.Writer.lead.Goals as goal
 
-pub returns-in_err-tell-clause-sent : goal.returns-in_err-tell-clause-sent
+pub returns-in_err-tell : goal.returns-in_err-tell
 unfolding bring
-returns-in_err-tell-clause-sent g c =
-    let w = c.args.self.now in
-    let t = c.tell.new.self in
+returns-in_err-tell g c =
     let front : List Command = told c.bring_pen.result in
-    let back : List Command = bring_pel c.args.self.now.state.drawing.pel c.held-held.result.pel ++ (bring_colour c.args.self.now.state.drawing.base c.args.self.now.state.drawing.colour c.held-held.result.colour ++ (bring_texture c.args.self.now.state.drawing.texture c.held-held.result.texture ++ bring_text c.args.self.now.state.drawing.text c.held-held.result.text)) in
-    let is : front ++ back ≡ bring c.args.self.now.state.drawing (held c.args.entry.now) = ap (λ (cs : List Command). cs ++ back) c.bring_pen.ensures ∙ ap (bring c.args.self.now.state.drawing) c.held-held.ensures in
+    let back : List Command = bring_from_pel c.args.self.now.state.drawing c.args.held.now in
+    let is : front ++ back ≡ bring c.args.self.now.state.drawing c.args.held.now = ap (λ (cs : List Command). cs ++ back) c.bring_pen.ensures in
     let failure = err_from_is_err_and c.from_residual.result c.from_residual.ensures.1 in
-    rw failure.1 (told_first g.T.ByteSink.sent g.met.T.ByteSink.sent_more g.met.T.ByteSink.sent_cut w.tail front back _ is w.to t.to c.in_err-tell.ensures.sent)
+    rw failure.1 (front_fails g.T.ByteSink.sent g.met.T.ByteSink.sent_more g.met.T.ByteSink.sent_cut c.args.self.now c.tell.new.self _ _ _ (commands_join front back _ is) failure.0 c.in_err-tell.ensures)
 
-pub returns-clause-sent : goal.returns-clause-sent
+pub returns : goal.returns
 unfolding bring
-returns-clause-sent g c =
-    let w = c.args.self.now in
-    let t = c.tell.new.self in
+returns g c =
     let front : List Command = told c.bring_pen.result in
-    let back : List Command = bring_pel c.args.self.now.state.drawing.pel c.held-held.result.pel ++ (bring_colour c.args.self.now.state.drawing.base c.args.self.now.state.drawing.colour c.held-held.result.colour ++ (bring_texture c.args.self.now.state.drawing.texture c.held-held.result.texture ++ bring_text c.args.self.now.state.drawing.text c.held-held.result.text)) in
-    let is : front ++ back ≡ bring c.args.self.now.state.drawing (held c.args.entry.now) = ap (λ (cs : List Command). cs ++ back) c.bring_pen.ensures ∙ ap (bring c.args.self.now.state.drawing) c.held-held.ensures in
-    told_both g.T.ByteSink.sent g.met.T.ByteSink.sent_more g.met.T.ByteSink.sent_cut w.tail front back _ is w.to t.to c.lead_pel.new.self.to t.tail (is_err c.lead_pel.result)
-    c.in_ok-tell.ensures.tail c.in_ok-tell.ensures.sent c.lead_pel.ensures.sent
-
-pub returns-clause-tail : goal.returns-clause-tail
-unfolding bring
-returns-clause-tail g c =
-    let w = c.args.self.now in
-    let t = c.tell.new.self in
-    let front : List Command = told c.bring_pen.result in
-    let back : List Command = bring_pel c.args.self.now.state.drawing.pel c.held-held.result.pel ++ (bring_colour c.args.self.now.state.drawing.base c.args.self.now.state.drawing.colour c.held-held.result.colour ++ (bring_texture c.args.self.now.state.drawing.texture c.held-held.result.texture ++ bring_text c.args.self.now.state.drawing.text c.held-held.result.text)) in
-    let is : front ++ back ≡ bring c.args.self.now.state.drawing (held c.args.entry.now) = ap (λ (cs : List Command). cs ++ back) c.bring_pen.ensures ∙ ap (bring c.args.self.now.state.drawing) c.held-held.ensures in
-    on_ok_to c.lead_pel.result (told_tail w.tail t.tail c.lead_pel.new.self.tail front back _ is c.in_ok-tell.ensures.tail) c.lead_pel.ensures.tail
+    let back : List Command = bring_from_pel c.args.self.now.state.drawing c.args.held.now in
+    let is : front ++ back ≡ bring c.args.self.now.state.drawing c.args.held.now = ap (λ (cs : List Command). cs ++ back) c.bring_pen.ensures in
+    both_written g.T.ByteSink.sent g.met.T.ByteSink.sent_more g.met.T.ByteSink.sent_cut c.args.self.now c.tell.new.self _ _ _ (commands_join front back _ is) c.lead_pel.new.self c.lead_pel.result
+    c.in_ok-tell.ensures c.lead_pel.ensures

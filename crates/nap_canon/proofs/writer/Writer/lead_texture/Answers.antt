@@ -1,35 +1,22 @@
-use Rattle.std.proofs.Common.{◌≡◌, ◌++◌, List, is_err, ap}
+use Rattle.std.proofs.Common.{◌≡◌, ◌++◌, List, ap}
 use Rattle.std.proofs.lemmas.Result.{err_from_is_err_and}
 use Rattle.nap_canon.specs.declared.command.Command.{Command}
-use Rattle.nap_canon.specs.Bring.{told, bring_texture, bring_text}
-use Rattle.nap_canon.proofs.texts.WriterLemmas.{told_both, told_first, told_tail, on_ok_to}
+use Rattle.nap_canon.specs.Bring.{told, bring_text, bring_from_texture}
+use Rattle.nap_canon.proofs.texts.WritingLemmas.{both_written, commands_join, front_fails}
 use Rattle.nap_canon.proofs.writer.Writer.lead_texture.Goals as goal
 
-pub returns-in_err-tell-clause-sent : goal.returns-in_err-tell-clause-sent
-returns-in_err-tell-clause-sent g c =
-    let w = c.args.self.now in
-    let t = c.tell.new.self in
+pub returns-in_err-tell : goal.returns-in_err-tell
+returns-in_err-tell g c =
     let front : List Command = told c.bring_texture.result in
     let back : List Command = bring_text c.args.old.now.text c.args.held.now.text in
-    let is : front ++ back ≡ bring_texture c.args.old.now.texture c.args.held.now.texture ++ bring_text c.args.old.now.text c.args.held.now.text = ap (λ (cs : List Command). cs ++ back) c.bring_texture.ensures in
+    let is : front ++ back ≡ bring_from_texture c.args.old.now c.args.held.now = ap (λ (cs : List Command). cs ++ back) c.bring_texture.ensures in
     let failure = err_from_is_err_and c.from_residual.result c.from_residual.ensures.1 in
-    rw failure.1 (told_first g.T.ByteSink.sent g.met.T.ByteSink.sent_more g.met.T.ByteSink.sent_cut w.tail front back _ is w.to t.to c.in_err-tell.ensures.sent)
+    rw failure.1 (front_fails g.T.ByteSink.sent g.met.T.ByteSink.sent_more g.met.T.ByteSink.sent_cut c.args.self.now c.tell.new.self _ _ _ (commands_join front back _ is) failure.0 c.in_err-tell.ensures)
 
-pub returns-clause-sent : goal.returns-clause-sent
-returns-clause-sent g c =
-    let w = c.args.self.now in
-    let t = c.tell.new.self in
+pub returns : goal.returns
+returns g c =
     let front : List Command = told c.bring_texture.result in
     let back : List Command = bring_text c.args.old.now.text c.args.held.now.text in
-    let is : front ++ back ≡ bring_texture c.args.old.now.texture c.args.held.now.texture ++ bring_text c.args.old.now.text c.args.held.now.text = ap (λ (cs : List Command). cs ++ back) c.bring_texture.ensures in
-    told_both g.T.ByteSink.sent g.met.T.ByteSink.sent_more g.met.T.ByteSink.sent_cut w.tail front back _ is w.to t.to c.lead_text.new.self.to t.tail (is_err c.lead_text.result)
-    c.in_ok-tell.ensures.tail c.in_ok-tell.ensures.sent c.lead_text.ensures.sent
-
-pub returns-clause-tail : goal.returns-clause-tail
-returns-clause-tail g c =
-    let w = c.args.self.now in
-    let t = c.tell.new.self in
-    let front : List Command = told c.bring_texture.result in
-    let back : List Command = bring_text c.args.old.now.text c.args.held.now.text in
-    let is : front ++ back ≡ bring_texture c.args.old.now.texture c.args.held.now.texture ++ bring_text c.args.old.now.text c.args.held.now.text = ap (λ (cs : List Command). cs ++ back) c.bring_texture.ensures in
-    on_ok_to c.lead_text.result (told_tail w.tail t.tail c.lead_text.new.self.tail front back _ is c.in_ok-tell.ensures.tail) c.lead_text.ensures.tail
+    let is : front ++ back ≡ bring_from_texture c.args.old.now c.args.held.now = ap (λ (cs : List Command). cs ++ back) c.bring_texture.ensures in
+    both_written g.T.ByteSink.sent g.met.T.ByteSink.sent_more g.met.T.ByteSink.sent_cut c.args.self.now c.tell.new.self _ _ _ (commands_join front back _ is) c.lead_text.new.self c.lead_text.result
+    c.in_ok-tell.ensures c.lead_text.ensures

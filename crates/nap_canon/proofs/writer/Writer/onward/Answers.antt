@@ -44,25 +44,33 @@ loop-chunk-preserved g c =
       kept = inv.kept;
     }
 
-pub returns-in_err-take-clause-sent : goal.returns-in_err-take-clause-sent
-returns-in_err-take-clause-sent g c =
+pub returns-in_err-take : goal.returns-in_err-take
+returns-in_err-take g c =
     let so_far = c.loop-chunk.invariant.sent in
     let piece = c.as_slice.result.now in
     let whole = onward_bytes c.args.first c.args.others.now in
     let from = c.loop-chunk.from in
     let part = c.in-Some.chunk.now in
     let failure = err_from_is_err_and c.from_residual.result c.from_residual.ensures.1 in
-    rw failure.1 (sent_second g.T.ByteSink.sent g.met.T.ByteSink.sent_more g.met.T.ByteSink.sent_cut c.args.self.now.to c.loop-chunk.self.to c.take.new.self so_far.0 piece _ whole
-    (onward_part so_far.0 piece whole from (last_of from part) _ part (chunks_rest c.next.new.self) c.in-Some.ensures.steps.1.0 (c.as_slice.ensures.value ∙ c.gather_onward.ensures) refl so_far.2)
-    so_far.1 c.in_err-take.ensures)
+    rw failure.1 (record {
+      sent = sent_second g.T.ByteSink.sent g.met.T.ByteSink.sent_more g.met.T.ByteSink.sent_cut c.args.self.now.to c.loop-chunk.self.to c.take.new.self so_far.0 piece _ whole
+          (onward_part so_far.0 piece whole from (last_of from part) _ part (chunks_rest c.next.new.self) c.in-Some.ensures.steps.1.0 (c.as_slice.ensures.value ∙ c.gather_onward.ensures) refl so_far.2)
+          so_far.1 c.in_err-take.ensures;
+      tail = c.loop-chunk.invariant.tail;
+      kept = c.loop-chunk.invariant.kept;
+    })
 
-pub returns-clause-sent : goal.returns-clause-sent
+pub returns : goal.returns
 unfolding onward_bytes
-returns-clause-sent g c =
+returns g c =
     let so_far = c.loop-chunk.invariant.sent in
     let none = nil_from_length _ c.in-None.ensures.steps.1.0 in
     let all : so_far.0 ≡ onward_bytes c.args.first c.args.others.now =
     sym (append-nil so_far.0)
     ∙ ap (λ (qs : List Coordinates). so_far.0 ++ onward_bytes c.loop-chunk.from qs) (sym none)
     ∙ so_far.2 in
-    subst (λ (bytes : List ℕ). g.T.ByteSink.sent c.args.self.now.to bytes false c.loop-chunk.self.to) all so_far.1
+    record {
+      sent = subst (λ (bytes : List ℕ). g.T.ByteSink.sent c.args.self.now.to bytes false c.loop-chunk.self.to) all so_far.1;
+      tail = c.loop-chunk.invariant.tail;
+      kept = c.loop-chunk.invariant.kept;
+    }

@@ -1,4 +1,4 @@
-use Rattle.std.proofs.Common.{ℕ, ◌≡◌, ◌*◌, OnOk, length, drop, ap, subst, ◌∙◌, length-drop, arith}
+use Rattle.std.proofs.Common.{rules, ℕ, ◌≡◌, ◌*◌, OnOk, length, drop, ap, subst, ◌∙◌, length-drop, arith}
 use Rattle.std.proofs.lemmas.List.{length-take-le}
 use Rattle.nap_list.specs.BatchLaws.{sized_lines, sized_text}
 use Rattle.nap_canon.specs.declared.tail.Tail.TheVariants.{InRun}
@@ -17,10 +17,14 @@ part-requires-in-Text-clause-some g c = omega (arith, c.requires.few, sized_text
 pub part-requires-in-Text-clause-few : goal.part-requires-in-Text-clause-few
 part-requires-in-Text-clause-few g c = omega (arith, c.requires.few, sized_text _ _ _ _ _ c.in-Text.is)
 
-pub returns-in-Lines-clause-tail : goal.returns-in-Lines-clause-tail
-returns-in-Lines-clause-tail g c =
+pub returns-in-Lines : goal.returns-in-Lines
+returns-in-Lines g c =
     let ps = c.in-Lines.points.now in
     let size : length c.part-in-Lines.result.now ≡ c.args.count =
     ap length c.part-in-Lines.ensures
     ∙ length-take-le c.args.count (drop c.args.first ps) (omega (arith, c.requires.few, sized_lines _ _ _ _ c.in-Lines.is, length-drop c.args.first ps)) in
-    rw c.in-Lines.is (subst (λ (n : ℕ). OnOk c.join_run-in-Lines.result (c.join_run-in-Lines.new.self.tail ≡ InRun (run_behind c.args.self.now.tail 0x28 (8 * n)))) size c.join_run-in-Lines.ensures.tail)
+    rw c.in-Lines.is (record {
+      sent = search rules;
+      tail = subst (λ (n : ℕ). OnOk c.join_run-in-Lines.result (c.join_run-in-Lines.new.self.tail ≡ InRun (run_behind c.args.self.now.tail 0x28 (8 * n)))) size c.join_run-in-Lines.ensures.tail;
+      kept = c.join_run-in-Lines.ensures.kept;
+    })

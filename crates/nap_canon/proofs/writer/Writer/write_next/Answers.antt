@@ -1,9 +1,9 @@
 use Rattle.std.proofs.Common.{◌≡◌, ℕ, List, is_err, ap, subst, ◌∙◌, arith}
 use Rattle.nap_values.specs.Spellings.{point_bytes}
 use Rattle.nap_list.specs.BatchLaws.{sized_lines, sized_text}
-use Rattle.nap_canon.specs.Spelling.{stroke, line_piece, char_piece}
+use Rattle.nap_canon.specs.Spelling.{stroke, line_piece, typed_piece}
 use Rattle.nap_canon.specs.Text.{piece_bytes, tail_behind}
-use Rattle.nap_canon.proofs.sinks.JoinLemmas.{writes_one, next_point, next_line, next_character}
+use Rattle.nap_canon.proofs.sinks.JoinLemmas.{writes_one, next_point, next_line, next_typed}
 use Rattle.nap_canon.proofs.writer.Writer.write_next.Goals as goal
 
 pub start_at-requires : goal.start_at-requires
@@ -39,8 +39,8 @@ returns-in-Lines-clause-next g c e es is =
 pub returns-in-Text-clause-next : goal.returns-in-Text-clause-next
 returns-in-Text-clause-next g c e es is =
     let w = c.args.self.now in
-    let t = c.character.new.self in
+    let t = c.typed.new.self in
     let code = c.item-in-Text.result in
-    writes_one g.T.ByteSink.sent w.form w.tail w.state e (char_piece c.in-Text.set code) w.to t.to t.tail (is_err c.character.result)
-    (next_character w.form w.state c.args.batch.now c.in-Text.set c.in-Text.codes c.in-Text.pen c.in-Text.drawing c.args.index code _ c.in-Text.is c.item-in-Text.ensures c.requires.stand e es is)
-    c.character.ensures.sent c.character.ensures.tail
+    writes_one g.T.ByteSink.sent w.form w.tail w.state e (typed_piece c.in-Text.set code) w.to t.to t.tail (is_err c.typed.result)
+    (next_typed w.form w.state c.args.batch.now c.in-Text.set c.in-Text.codes c.in-Text.pen c.in-Text.drawing c.args.index code _ c.in-Text.is c.item-in-Text.ensures c.requires.stand e es is)
+    c.typed.ensures.sent c.typed.ensures.tail
