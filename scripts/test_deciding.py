@@ -4,7 +4,7 @@ import unittest
 from pathlib import Path
 
 from deciding import Deciding
-from naming import Import, imports_in
+from naming import Import, imports_in, uses
 from parts import cut_definitions, cut_source
 from wrong_bodies import REFUSED, Verdict, Verdicts, read_verdicts, standing, write_verdicts
 
@@ -180,6 +180,28 @@ class Sums(unittest.TestCase):
         least = "file: src/lib.rt\nold: self.number == LEAST\nnew: true\n"
         self.assertFalse(self.changes(QUARTER, LOWEST, "    number: u32,\n    ghost", "    number: u16,\n    ghost"))
         self.assertTrue(self.changes(least, LOWEST, "    number: u32,\n    ghost", "    number: u16,\n    ghost", "low"))
+
+    def test_a_field_of_another_type(self) -> None:
+        """A field leads to no type, so one that has a field of the same name doesn't count."""
+        other = "struct Other {\n    number: u64,\n}\n\n#[derive(Drop)]\nstruct Kept"
+        self.assertFalse(self.changes(QUARTER, HIGHEST, "#[derive(Drop)]\nstruct Kept", other))
+
+    def test_whether_a_definition_is_public(self) -> None:
+        """It says nothing of what is defined."""
+        self.assertFalse(self.changes(QUARTER, DEFINED, "pub half :", "half :"))
+
+    def test_a_function_of_an_impl_without_clauses(self) -> None:
+        """It has those of the trait, and says nothing by itself."""
+        parts = {part.owner: part for part in cut_source("high", "src/lib.rt", HIGH).parts if part.names == {"put"}}
+        self.assertFalse(parts["impl Taker for Kept"].says_something)
+        parts = {part.owner: part for part in cut_source("low", "src/lib.rt", LOW).parts if part.names == {"put"}}
+        self.assertTrue(parts["pub trait Sink"].says_something)
+
+    def test_a_label_names_nothing(self) -> None:
+        """What stands before an equals sign is a field's label, or a name that is given there."""
+        names = {use.name for use in uses("record work { text = look; size = small == size' } in let half = 2 ≡ whole")}
+        self.assertFalse({"text", "half"} & names)
+        self.assertTrue({"look", "small", "whole"} <= names)
 
     def test_the_new_text_of_the_edit(self) -> None:
         """The text itself, and what only it calls."""
