@@ -2,5 +2,6 @@
 #![tactic(auto)]
 
 pub mod devices;
+pub mod entries;
 pub mod faltering;
 pub mod samples;

@@ -1,6 +1,6 @@
 //! What the libraries say of a stream.
 use crate::notation::MOST;
-use crate::trouble::{Trouble, tell};
+use crate::report::Report;
 use nap_command::Failure;
 use nap_lines::line_of;
 use nap_list::{CountSink, Entry, ListSink, Sink};
@@ -8,7 +8,7 @@ use nap_reader::{Budget, Reader, Refusal};
 use std::alloc::{AllocError, Global};
 
 /// All that a reader says of a stream.
-#[derive(PartialEq, Drop)]
+#[derive(Drop)]
 pub struct Answer {
     /// The entries before the end, or before what is refused.
     pub list: Vec<Entry>,
@@ -24,99 +24,128 @@ pub struct Answer {
     pub charged: u64,
 }
 
+impl Answer {
+    /// Whether the other is the same.
+    pub fn is(&self, other: &Answer) -> bool {
+        self.list == other.list
+            && (self.refusal, self.early) == (other.refusal, other.early)
+            && [self.fed, self.turns, self.charged] == [other.fed, other.turns, other.charged]
+    }
+}
+
+/// In which pieces a stream comes.
+#[derive(Clone, Copy, Drop)]
+pub enum Cut {
+    /// In one.
+    Whole,
+    /// In two, each with an empty piece behind it.
+    At(usize),
+    /// In single bytes, with empty pieces between them where that is wanted.
+    Single(bool),
+}
+
 /// Feeds a piece. Once a stream is refused, each further piece is.
-fn feed<S: Sink>(alloc: Global, reader: &mut Reader<S>, piece: &[u8]) -> Result<(), Trouble> {
+fn feed<S: Sink>(report: &mut Report, reader: &mut Reader<S>, piece: &[u8]) {
     if piece.len() > MOST || reader.fed() > MOST as u64 {
-        return tell(alloc, "there are too many bytes");
+        report.tell("there are too many bytes");
+        return;
     }
-    let before = reader.refused();
-    let fed = reader.fed();
-    let answer = reader.feed(piece);
-    if answer.err() != reader.refused() {
-        return tell(alloc, "the answer isn't the refusal that is kept");
+    let (before, fed) = (reader.refused(), reader.fed());
+    let answer = reader.feed(piece).err();
+    let stays = before.is_none() || (answer == before && reader.fed() == fed);
+    let is_kept = stays && answer == reader.refused();
+    report.check(is_kept, "the refusal isn't the one that was kept");
+}
+
+/// Feeds a stream in these pieces.
+fn feed_in<S: Sink>(report: &mut Report, reader: &mut Reader<S>, stream: &[u8], cut: Cut) {
+    match cut {
+        Cut::Whole => feed(report, reader, stream),
+        Cut::At(place) => {
+            let (front, back) = stream.split_at(place.min(stream.len()));
+            for piece in [front, &[], back, &[]] {
+                feed(report, reader, piece);
+            }
+        }
+        Cut::Single(empty) => {
+            for byte in stream {
+                if empty {
+                    feed(report, reader, &[]);
+                }
+                feed(report, reader, &[*byte]);
+            }
+        }
     }
-    if before.is_some() && (reader.refused() != before || reader.fed() != fed) {
-        return tell(alloc, "a refusal didn't stay");
+}
+
+/// The sink at the end of the stream, and why it is refused.
+pub fn end<S: Sink>(reader: Reader<S>) -> (S, Option<Refusal>) {
+    match reader.finish() {
+        Ok(sink) => (sink, None),
+        Err(stopped) => (stopped.sink, Some(stopped.refusal)),
     }
-    Ok(())
 }
 
 /// What a reader into this sink says of a stream in these pieces, and the sink.
 pub fn read_into<S: Sink + Drop>(
-    alloc: Global,
+    report: &mut Report,
     mut reader: Reader<S>,
-    pieces: &[&[u8]],
-) -> Result<(S, Answer), Trouble> {
-    for piece in pieces {
-        feed(alloc, &mut reader, piece)?;
-    }
-    if reader.refused().is_some() {
-        feed(alloc, &mut reader, b"\x0F")?;
-    }
+    stream: &[u8],
+    cut: Cut,
+) -> (S, Answer) {
+    feed_in(report, &mut reader, stream, cut);
     let early = reader.refused().is_some();
+    if early {
+        feed(report, &mut reader, b"\x0F");
+    }
     let (fed, turns, charged) = (reader.fed(), reader.turns(), reader.charged());
-    let (sink, refusal) = match reader.finish() {
-        Ok(sink) => (sink, None),
-        Err(stopped) => (stopped.sink, Some(stopped.refusal)),
-    };
+    let (sink, refusal) = end(reader);
     let answer = Answer {
-        list: Vec::new(alloc),
+        list: Vec::new(report.alloc),
         refusal,
         early,
         fed,
         turns,
         charged,
     };
-    Ok((sink, answer))
+    (sink, answer)
 }
 
 /// What a reader says of a stream in these pieces.
 #[tactic(auto, unfolding(nap_list::specs::State::walk))]
-pub fn answer_in(alloc: Global, budget: Budget, pieces: &[&[u8]]) -> Result<Answer, Trouble> {
+pub fn answer_in(report: &mut Report, budget: Budget, stream: &[u8], cut: Cut) -> Answer {
+    let alloc = report.alloc;
     let reader = Reader::new(alloc, budget, ListSink::new(alloc));
-    let (sink, answer) = read_into(alloc, reader, pieces)?;
-    Ok(Answer {
+    let (sink, answer) = read_into(report, reader, stream, cut);
+    Answer {
         list: sink.into_list(),
         ..answer
-    })
-}
-
-/// Each byte in a piece of its own, with empty pieces between where that is wanted.
-pub fn single_bytes<'a>(
-    alloc: Global,
-    bytes: &'a [u8],
-    empty: bool,
-) -> Result<Vec<&'a [u8]>, AllocError> {
-    let mut pieces: Vec<&'a [u8]> = Vec::new(alloc);
-    for index in 0..bytes.len() {
-        if empty {
-            pieces.push(&bytes[index..index])?;
-        }
-        pieces.push(&bytes[index..=index])?;
     }
-    Ok(pieces)
 }
 
 /// With which byte each entry comes, where each byte is a piece; those that come at the end have the length.
-pub fn places_in(alloc: Global, budget: Budget, bytes: &[u8]) -> Result<Vec<u64>, Trouble> {
+pub fn places_in(
+    report: &mut Report,
+    budget: Budget,
+    stream: &[u8],
+) -> Result<Vec<u64>, AllocError> {
+    let alloc = report.alloc;
     let mut reader = Reader::new(alloc, budget, CountSink::new());
     let mut places = Vec::new(alloc);
-    for (place, piece) in single_bytes(alloc, bytes, false)?.iter().enumerate() {
-        feed(alloc, &mut reader, piece)?;
+    let mut place: u64 = 0;
+    for byte in stream {
+        feed(report, &mut reader, &[*byte]);
         place_new(&mut places, reader.sink().count(), place)?;
+        place = place.saturating_add(1);
     }
-    let sink = match reader.finish() {
-        Ok(sink) => sink,
-        Err(stopped) => stopped.sink,
-    };
-    place_new(&mut places, sink.count(), bytes.len())?;
+    place_new(&mut places, end(reader).0.count(), place)?;
     Ok(places)
 }
 
 /// The entries that have no place yet, of so many, came there.
-fn place_new(places: &mut Vec<u64>, count: u64, place: usize) -> Result<(), AllocError> {
+fn place_new(places: &mut Vec<u64>, count: u64, place: u64) -> Result<(), AllocError> {
     for _ in places.len() as u64..count {
-        places.push(place as u64)?;
+        places.push(place)?;
     }
     Ok(())
 }
@@ -131,17 +160,21 @@ pub fn lines_of(alloc: Global, list: &[Entry]) -> Result<String, AllocError> {
     Ok(lines)
 }
 
-/// How a stream ended, as a row has it.
+/// How a stream ended, as a row has it: what the program says of a refusal.
 pub fn ended(alloc: Global, refusal: Option<Refusal>) -> Result<String, AllocError> {
     match refusal {
         None => String::from_str(alloc, "accepted"),
-        Some(refusal) => reason(alloc, refusal),
+        Some(refusal) => Failure::from(refusal).line(alloc),
     }
 }
 
-/// Why a stream is refused, as a row has it: what the program says of it, without its first word.
-fn reason(alloc: Global, refusal: Refusal) -> Result<String, AllocError> {
-    let line = Failure::from(refusal).line(alloc)?;
-    let told = line.strip_prefix("refused ").unwrap_or(&line);
-    String::from_str(alloc, told.trim_end())
+/// A stream ended as it was wanted.
+pub fn same_end(
+    report: &mut Report,
+    wanted: Option<Refusal>,
+    came: Option<Refusal>,
+) -> Result<(), AllocError> {
+    let (wanted, came) = (ended(report.alloc, wanted)?, ended(report.alloc, came)?);
+    report.same_text("end", wanted.trim_end(), came.trim_end());
+    Ok(())
 }

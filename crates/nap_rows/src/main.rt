@@ -16,51 +16,46 @@
 mod answer;
 mod notation;
 mod outlets;
+mod report;
 mod row;
 mod stops;
 mod table;
 mod trial;
-mod trouble;
 
 use std::process::ExitCode;
-use std::rt::{Env, Files};
+use std::rt::Files;
 use std::{env, io};
-use table::{Tally, check_file};
-use trouble::Trouble;
+use table::{Trouble, check_file};
 
-/// Checks the tables of these files, and prints each row that disagrees.
-fn check_all(rt: &(impl Files + Print + AllocGlobal), names: &[String]) -> Result<Tally, Trouble> {
-    let mut tally = Tally::default();
+/// Checks the tables of these files, and prints each row that disagrees. Answers how many do.
+fn check_all(rt: &(impl Files + Print + AllocGlobal), names: &[String]) -> Result<u64, Trouble> {
+    let mut wrong: u64 = 0;
     for name in names {
-        check_file(rt, name, &mut tally)?;
+        wrong = wrong.saturating_add(check_file(rt, name)?);
     }
-    Ok(tally)
+    Ok(wrong)
 }
 
 /// Prints how the checks ended, and answers the exit status.
-fn conclude(rt: &(impl Print + Eprint), checked: Result<Tally, Trouble>) -> io::Result<u8> {
-    match checked {
-        Ok(tally) if tally.wrong > 0 => {
-            println!(rt; "{} rows disagree", tally.wrong)?;
-            Ok(1)
-        }
-        Ok(_) => {
+fn conclude(rt: &(impl Print + Eprint), checked: Result<u64, Trouble>) -> io::Result<u8> {
+    let trouble = match checked {
+        Ok(0) => {
             println!(rt; "every row agrees")?;
-            Ok(0)
+            return Ok(0);
         }
-        Err(Trouble::Told(text)) => {
+        Ok(wrong) => {
+            println!(rt; "{wrong} rows disagree")?;
+            return Ok(1);
+        }
+        Err(Trouble::Unread(text)) => {
             eprintln!(rt; "{text}")?;
-            Ok(1)
+            return Ok(1);
         }
-        Err(Trouble::Memory) => {
-            eprintln!(rt; "no memory")?;
-            Ok(3)
-        }
-        Err(Trouble::Output) => {
-            eprintln!(rt; "standard output failed")?;
-            Ok(3)
-        }
-    }
+        Err(Trouble::Memory) => "no memory",
+        Err(Trouble::Output) => "standard output failed",
+    };
+    eprintln!(rt; "{trouble}")?;
+    Ok(3)
 }
 
 fn main(rt: HostRuntime) -> io::Result<ExitCode> {

@@ -1,13 +1,13 @@
 //! Bytes as a row spells them.
-use crate::trouble::{Trouble, tell};
+use crate::report::Report;
 use State::{Between, Counted, High, Quoted};
-use std::alloc::Global;
+use std::alloc::{AllocError, Global};
 
 /// The most bytes that one field spells.
 pub const MOST: usize = 16_777_216;
 
 /// What has come of the part that is being read.
-#[derive(Clone, Copy, PartialEq, Eq, Drop)]
+#[derive(Clone, Copy, Drop)]
 enum State {
     /// No part is open.
     Between,
@@ -22,13 +22,14 @@ enum State {
 /// The bytes so far.
 #[derive(Drop)]
 struct Spelling {
-    alloc: Global,
     state: State,
     bytes: Vec<u8>,
     /// Where the open groups begin.
     groups: Vec<usize>,
     /// Where the last part begins, if it can be repeated.
     part: Option<usize>,
+    /// What is wrong, empty where nothing is.
+    wrong: &'static str,
 }
 
 /// The value of a hexadecimal digit.
@@ -42,37 +43,31 @@ fn digit(byte: u8) -> Option<u8> {
 }
 
 impl Spelling {
-    fn new(alloc: Global) -> Spelling {
-        Spelling {
-            alloc,
-            state: Between,
-            bytes: Vec::new(alloc),
-            groups: Vec::new(alloc),
-            part: None,
-        }
-    }
-
-    fn take(&mut self, byte: u8) -> Result<(), Trouble> {
+    fn take(&mut self, byte: u8) -> Result<(), AllocError> {
         match self.state {
             Between => self.begin(byte),
             High(high) => self.end_byte(high, byte),
-            Quoted => self.quoted(byte),
+            Quoted if byte == b'"' => {
+                self.state = Between;
+                Ok(())
+            }
+            Quoted => Ok(self.bytes.push(byte)?),
             Counted(count) => self.count(count, byte),
         }
     }
 
     /// A byte where no part is open.
-    fn begin(&mut self, byte: u8) -> Result<(), Trouble> {
+    fn begin(&mut self, byte: u8) -> Result<(), AllocError> {
         match byte {
             b' ' | b'\t' => {}
             b'(' => {
-                self.groups.push(self.bytes.len())?;
                 self.part = None;
+                self.groups.push(self.bytes.len())?;
             }
             b')' => {
                 self.part = self.groups.pop();
                 if self.part.is_none() {
-                    return tell(self.alloc, "a group ends that didn't begin");
+                    self.wrong = "a group ends that didn't begin";
                 }
             }
             b'"' => {
@@ -80,43 +75,31 @@ impl Spelling {
                 self.state = Quoted;
             }
             b'*' if self.part.is_some() => self.state = Counted(None),
-            b'*' => return tell(self.alloc, "nothing stands before a count"),
+            b'*' => self.wrong = "nothing stands before a count",
             _ => match digit(byte) {
                 Some(high) => self.state = High(high),
-                None => return tell(self.alloc, "that is no hexadecimal digit"),
+                None => self.wrong = "that is no hexadecimal digit",
             },
         }
         Ok(())
     }
 
     /// The second digit of a byte.
-    fn end_byte(&mut self, high: u8, byte: u8) -> Result<(), Trouble> {
+    fn end_byte(&mut self, high: u8, byte: u8) -> Result<(), AllocError> {
         let Some(low) = digit(byte) else {
-            return tell(self.alloc, "a byte lacks its second digit");
+            self.wrong = "a byte lacks its second digit";
+            return Ok(());
         };
         self.part = Some(self.bytes.len());
-        self.bytes.push(high.wrapping_mul(16) | low)?;
         self.state = Between;
-        Ok(())
-    }
-
-    /// A byte behind a quote.
-    fn quoted(&mut self, byte: u8) -> Result<(), Trouble> {
-        if byte == b'"' {
-            self.state = Between;
-        } else {
-            self.bytes.push(byte)?;
-        }
-        Ok(())
+        Ok(self.bytes.push(high.wrapping_mul(16) | low)?)
     }
 
     /// A byte behind `*` and perhaps some digits.
-    fn count(&mut self, count: Option<usize>, byte: u8) -> Result<(), Trouble> {
+    fn count(&mut self, count: Option<usize>, byte: u8) -> Result<(), AllocError> {
         if byte.is_ascii_digit() {
-            let next = count
-                .unwrap_or(0)
-                .saturating_mul(10)
-                .saturating_add((byte - b'0') as usize);
+            let tens = count.unwrap_or(0).saturating_mul(10);
+            let next = tens.saturating_add((byte - b'0') as usize);
             self.state = Counted(Some(next));
             return Ok(());
         }
@@ -125,15 +108,17 @@ impl Spelling {
     }
 
     /// The last part stands there so often.
-    fn repeat(&mut self, count: Option<usize>) -> Result<(), Trouble> {
+    fn repeat(&mut self, count: Option<usize>) -> Result<(), AllocError> {
         let (Some(count), Some(start)) = (count, self.part) else {
-            return tell(self.alloc, "a count has no digits");
+            self.wrong = "a count has no digits";
+            return Ok(());
         };
-        let part = Vec::from_slice(self.alloc, self.bytes.get(start..).unwrap_or(&[]))?;
+        let start = start.min(self.bytes.len());
+        let part = self.bytes.split_off(start)?;
         if part.len().saturating_mul(count) > MOST {
-            return tell(self.alloc, "a part is repeated too often");
+            self.wrong = "a part is repeated too often";
+            return Ok(());
         }
-        self.bytes.truncate(start);
         for _ in 0..count {
             self.bytes.extend_from_slice(&part)?;
         }
@@ -142,32 +127,42 @@ impl Spelling {
         Ok(())
     }
 
-    /// All bytes, once the last has come.
-    fn finish(self) -> Result<Vec<u8>, Trouble> {
-        let mut spelling = self;
-        let alloc = spelling.alloc;
-        match spelling.state {
+    /// The last byte has come.
+    fn finish(&mut self) -> Result<(), AllocError> {
+        match self.state {
             Between => {}
-            High(_) => return tell(alloc, "a byte lacks its second digit"),
-            Quoted => return tell(alloc, "a text lacks its second quote"),
-            Counted(count) => spelling.repeat(count)?,
+            High(_) => self.wrong = "a byte lacks its second digit",
+            Quoted => self.wrong = "a text lacks its second quote",
+            Counted(count) => self.repeat(count)?,
         }
-        if !spelling.groups.is_empty() {
-            return tell(alloc, "a group doesn't end");
+        if !self.groups.is_empty() {
+            self.wrong = "a group doesn't end";
         }
-        if spelling.bytes.len() > MOST {
-            return tell(alloc, "there are too many bytes");
+        if self.bytes.len() > MOST {
+            self.wrong = "there are too many bytes";
         }
-        Ok(spelling.bytes)
+        Ok(())
     }
 }
 
 /// The bytes that a text spells: hexadecimal digits, texts in quotes, and groups in brackets, each of which stands so often
 /// as a number behind `*` says.
-pub fn bytes_of(alloc: Global, text: &str) -> Result<Vec<u8>, Trouble> {
-    let mut spelling = Spelling::new(alloc);
+pub fn bytes_of(report: &mut Report, text: &str) -> Result<Vec<u8>, AllocError> {
+    let mut spelling = Spelling {
+        state: Between,
+        bytes: Vec::new(report.alloc),
+        groups: Vec::new(report.alloc),
+        part: None,
+        wrong: "",
+    };
     for byte in text.as_bytes() {
         spelling.take(*byte)?;
+        if !spelling.wrong.is_empty() {
+            report.tell(spelling.wrong);
+            return Ok(spelling.bytes);
+        }
     }
-    spelling.finish()
+    spelling.finish()?;
+    report.check(spelling.wrong.is_empty(), spelling.wrong);
+    Ok(spelling.bytes)
 }

@@ -1,8 +1,8 @@
 //! A stream, and what is wanted of it.
 use crate::notation::{MOST, bytes_of};
-use crate::trouble::{Trouble, tell};
+use crate::report::Report;
 use nap_reader::Budget;
-use std::alloc::Global;
+use std::alloc::AllocError;
 
 /// Where a sink stops the reading.
 #[derive(Clone, Copy, Drop)]
@@ -15,116 +15,73 @@ pub struct Stop {
     pub turns: Option<u64>,
 }
 
-/// How a stream ends.
-#[derive(Drop)]
-pub enum Ending<'a> {
-    /// It is accepted, with this canonical stream, if the row says which.
-    Accepted(Option<Vec<u8>>),
-    /// It is refused for this reason.
-    Refused(&'a str),
-}
-
-/// What else is wanted.
-#[derive(Drop)]
-pub struct More {
-    /// The budget that it is read under.
-    pub budget: Budget,
-    /// How much is charged, if the row says so.
-    pub charged: Option<u64>,
-    /// How many turns there are, if the row says so.
-    pub turns: Option<u64>,
-    /// How many bytes are taken, if the row says so.
-    pub fed: Option<u64>,
-    /// With which byte each entry comes, if the row says so.
-    pub places: Option<Vec<u64>>,
-    /// The canonical text in form 1, if the row has it.
-    pub form1: Option<Vec<u8>>,
-    /// Whether the stream is plain, if the row says so.
-    pub plain: Option<bool>,
-    /// Where a sink that takes no entry, one, two and so on stops the reading.
-    pub stops: Vec<Stop>,
-    /// Where an outlet that takes no byte, one, two and so on stops it.
-    pub breaks: Vec<u64>,
-    /// Whether the turns may be any number.
-    any_turns: bool,
-}
-
 /// A stream, and what is wanted of it.
 #[derive(Drop)]
 pub struct Row<'a> {
     /// Its bytes.
     pub stream: Vec<u8>,
-    /// The lines of its entries, each with its end, if the row says which.
-    pub lines: Option<String>,
-    /// How it ends.
-    pub ending: Ending<'a>,
+    /// The lines of its entries, or `-`.
+    pub list: &'a str,
+    /// Its canonical stream, why it is refused, or `-`.
+    pub ending: &'a str,
     /// What else is wanted.
-    pub more: More,
+    more: &'a str,
+    /// The budget that it is read under.
+    pub budget: Budget,
 }
 
 /// A number in decimal digits.
-fn number(alloc: Global, text: &str) -> Result<u64, Trouble> {
+pub fn number(report: &mut Report, text: &str) -> u64 {
     match text.trim().parse::<u64>() {
-        Ok(number) => Ok(number),
-        Err(_) => tell(alloc, "that is no number"),
-    }
-}
-
-/// A count, or `-` for any.
-fn count(alloc: Global, text: &str) -> Result<Option<u64>, Trouble> {
-    if text.trim() == "-" {
-        return Ok(None);
-    }
-    Ok(Some(number(alloc, text)?))
-}
-
-fn budget(alloc: Global, text: &str) -> Result<Budget, Trouble> {
-    let bytes = number(alloc, text)?;
-    match u32::try_from(bytes) {
-        Ok(bytes) => match Budget::new(bytes) {
-            Some(budget) => Ok(budget),
-            None => tell(alloc, "no budget is as large as that"),
-        },
-        Err(_) => tell(alloc, "no budget is as large as that"),
+        Ok(number) => number,
+        Err(_) => {
+            report.tell("that is no number");
+            0
+        }
     }
 }
 
 /// A word, and how often it stands there.
-fn counted<'a>(alloc: Global, word: &'a str) -> Result<(&'a str, u64), Trouble> {
+fn counted<'a>(report: &mut Report, word: &'a str) -> (&'a str, u64) {
     let Some((word, times)) = word.split_once('*') else {
-        return Ok((word, 1));
+        return (word, 1);
     };
-    let times = number(alloc, times)?;
-    if times > MOST as u64 {
-        return tell(alloc, "a word or a line is repeated too often");
-    }
-    Ok((word, times))
+    let times = number(report, times);
+    report.check(times <= MOST as u64, "a word is repeated too often");
+    (word, times.min(MOST as u64))
 }
 
 /// Where the reading stops: `PLACE/TAKEN/TURNS`, of which TURNS may be left out, and TAKEN where it stops at the end.
-fn stop_of(alloc: Global, word: &str) -> Result<Stop, Trouble> {
-    let mut parts = word.split('/');
-    let place = number(alloc, parts.next().unwrap_or(""))?;
-    let Some(fed) = parts.next() else {
-        return Ok(Stop {
-            place,
+fn stop_of(report: &mut Report, word: &str) -> Stop {
+    let Some((place, taken)) = word.split_once('/') else {
+        return Stop {
+            place: number(report, word),
             fed: None,
             turns: None,
-        });
+        };
     };
-    let fed = Some(number(alloc, fed)?);
-    let turns = match parts.next() {
-        Some(turns) => Some(number(alloc, turns)?),
-        None => fed,
-    };
-    Ok(Stop { place, fed, turns })
+    let (fed, turns) = taken.split_once('/').unwrap_or((taken, taken));
+    Stop {
+        place: number(report, place),
+        fed: Some(number(report, fed)),
+        turns: Some(number(report, turns)),
+    }
 }
 
-fn stops_of(alloc: Global, text: &str) -> Result<Vec<Stop>, Trouble> {
-    let mut stops = Vec::new(alloc);
+/// A count, or `-` for any.
+pub fn count(report: &mut Report, text: &str) -> Option<u64> {
+    if text.trim() == "-" {
+        return None;
+    }
+    Some(number(report, text))
+}
+
+/// Where sinks stop the reading.
+pub fn stops_of(report: &mut Report, text: &str) -> Result<Vec<Stop>, AllocError> {
+    let mut stops = Vec::new(report.alloc);
     for word in text.split_whitespace() {
-        let (word, times) = counted(alloc, word)?;
-        let stop = stop_of(alloc, word)?;
+        let (word, times) = counted(report, word);
+        let stop = stop_of(report, word);
         for _ in 0..times {
             stops.push(stop)?;
         }
@@ -132,144 +89,150 @@ fn stops_of(alloc: Global, text: &str) -> Result<Vec<Stop>, Trouble> {
     Ok(stops)
 }
 
-fn places_of(alloc: Global, text: &str) -> Result<Vec<u64>, Trouble> {
-    let mut places = Vec::new(alloc);
-    for word in text.split_whitespace() {
-        let (word, times) = counted(alloc, word)?;
-        let place = number(alloc, word)?;
-        for _ in 0..times {
-            places.push(place)?;
-        }
+/// Appends a word so many times, each with a blank behind it.
+fn push_word(line: &mut String, word: &str, times: u64) -> Result<(), AllocError> {
+    for _ in 0..times {
+        line.push_str(word)?;
+        line.push(' ')?;
     }
-    Ok(places)
+    Ok(())
 }
 
 /// Appends a line. Of its words `W*3` is three times W, and `*3` has the line three times.
-fn push_lines(alloc: Global, lines: &mut String, text: &str) -> Result<(), Trouble> {
-    let mut line = String::new(alloc);
+fn push_lines(report: &mut Report, lines: &mut String, text: &str) -> Result<(), AllocError> {
+    let mut line = String::new(report.alloc);
     let mut repeated = 1;
     for word in text.split_whitespace() {
-        let (word, times) = counted(alloc, word)?;
+        let (word, times) = counted(report, word);
         if word.is_empty() {
             repeated = times;
-            continue;
-        }
-        for _ in 0..times {
-            if !line.is_empty() {
-                line.push(' ')?;
-            }
-            line.push_str(word)?;
+        } else {
+            push_word(&mut line, word, times)?;
         }
     }
     for _ in 0..repeated {
-        lines.push_str(&line)?;
+        lines.push_str(line.trim_end())?;
         lines.push('\n')?;
     }
     Ok(())
 }
 
-/// The lines of a list, each with its end, or none where it is `-`.
-fn lines_of(alloc: Global, text: &str) -> Result<Option<String>, Trouble> {
-    if text.trim() == "-" {
-        return Ok(None);
-    }
-    let mut lines = String::new(alloc);
-    for part in text.split(';') {
-        let line = part.trim();
-        if !line.is_empty() {
-            push_lines(alloc, &mut lines, line)?;
+/// The lines of a list, each with its end.
+pub fn lines_of(report: &mut Report, list: &str) -> Result<String, AllocError> {
+    let mut lines = String::new(report.alloc);
+    for line in list.split(';') {
+        if !line.trim().is_empty() {
+            push_lines(report, &mut lines, line)?;
         }
     }
-    Ok(Some(lines))
+    Ok(lines)
 }
 
-fn ending_of<'a>(alloc: Global, text: &'a str) -> Result<Ending<'a>, Trouble> {
-    let text = text.trim();
-    if text == "-" {
-        return Ok(Ending::Accepted(None));
-    }
-    match text.strip_prefix("refused ") {
-        Some(reason) => Ok(Ending::Refused(reason.trim())),
-        None => Ok(Ending::Accepted(Some(bytes_of(alloc, text)?))),
-    }
+/// The word of an item, and what stands behind it.
+fn parted(item: &str) -> (&str, &str) {
+    let item = item.trim();
+    item.split_once(' ').unwrap_or((item, ""))
 }
 
-impl More {
-    /// What is wanted where a row says nothing else.
-    fn usual(alloc: Global) -> More {
-        More {
-            budget: Budget::usual(),
-            charged: Some(0),
-            turns: None,
-            fed: None,
-            places: None,
-            form1: None,
-            plain: None,
-            stops: Vec::new(alloc),
-            breaks: Vec::new(alloc),
-            any_turns: false,
-        }
-    }
+fn budget(report: &mut Report, text: &str) -> Budget {
+    let bytes = u32::try_from(number(report, text)).unwrap_or(u32::MAX);
+    let budget = Budget::new(bytes);
+    report.check(budget.is_some(), "no budget is as large as that");
+    budget.unwrap_or(Budget::usual())
+}
 
-    /// One more word.
-    fn add(&mut self, alloc: Global, text: &str) -> Result<(), Trouble> {
-        let text = text.trim();
-        let (word, rest) = text.split_once(' ').unwrap_or((text, ""));
-        match word {
-            "budget" => self.budget = budget(alloc, rest)?,
-            "charged" => self.charged = count(alloc, rest)?,
-            "turns" => {
-                self.turns = count(alloc, rest)?;
-                self.any_turns = self.turns.is_none();
-            }
-            "fed" => self.fed = Some(number(alloc, rest)?),
-            "places" => self.places = Some(places_of(alloc, rest)?),
-            "form1" => self.form1 = Some(bytes_of(alloc, rest)?),
-            "plain" if rest.is_empty() => self.plain = Some(true),
-            "not" if rest == "plain" => self.plain = Some(false),
-            "stops" => self.stops = stops_of(alloc, rest)?,
-            "breaks" => self.breaks = places_of(alloc, rest)?,
-            _ => return Err(Trouble::Told(format!(in alloc; "`{text}` says nothing")?)),
+/// An item begins with one of the words, and what stands behind that can be read, whether or not the row is refused.
+fn check_item(report: &mut Report, item: &str) -> Result<(), AllocError> {
+    let (word, rest) = parted(item);
+    let says = match word {
+        "budget" | "" => true,
+        "fed" => {
+            number(report, rest);
+            true
         }
-        Ok(())
-    }
-
-    fn parse(alloc: Global, text: &str) -> Result<More, Trouble> {
-        let mut more = More::usual(alloc);
-        for part in text.split(',') {
-            if !part.trim().is_empty() {
-                more.add(alloc, part)?;
-            }
+        "charged" | "turns" => {
+            count(report, rest);
+            true
         }
-        Ok(more)
-    }
-
-    /// How many turns there are for so many bytes, if that is wanted.
-    pub fn turns_for(&self, fed: u64) -> Option<u64> {
-        if self.turns.is_some() || self.any_turns || self.charged != Some(0) {
-            return self.turns;
+        "form1" => {
+            bytes_of(report, rest)?;
+            true
         }
-        Some(fed)
-    }
+        "stops" => {
+            stops_of(report, rest)?;
+            true
+        }
+        "places" | "breaks" => {
+            stops_of(report, rest)?;
+            rest.split_once('/').is_none()
+        }
+        "plain" => rest.is_empty(),
+        "not" => rest == "plain",
+        _ => false,
+    };
+    report.check(says, "an item says nothing");
+    Ok(())
 }
 
 impl<'a> Row<'a> {
     /// The row of a line: the stream, its list, its canonical stream or why it is refused, and perhaps more.
-    pub fn parse(alloc: Global, line: &'a str) -> Result<Row<'a>, Trouble> {
+    pub fn parse(report: &mut Report, line: &'a str) -> Result<Row<'a>, AllocError> {
         let mut fields = line.split('|');
-        let (Some(stream), Some(list), Some(ending)) = (fields.next(), fields.next(), fields.next())
-        else {
-            return tell(alloc, "a row has three fields at least");
+        let stream = bytes_of(report, fields.next().unwrap_or(""))?;
+        let list = fields.next().unwrap_or("").trim();
+        let ending = fields.next();
+        report.check(ending.is_some(), "a row has three fields at least");
+        let mut row = Row {
+            stream,
+            list,
+            ending: ending.unwrap_or("").trim(),
+            more: fields.next().unwrap_or(""),
+            budget: Budget::usual(),
         };
-        let more = fields.next().unwrap_or("");
-        if fields.next().is_some() {
-            return tell(alloc, "a row has four fields at most");
+        report.check(fields.next().is_none(), "a row has four fields at most");
+        if let Some(text) = row.item("budget") {
+            row.budget = budget(report, text);
         }
-        Ok(Row {
-            stream: bytes_of(alloc, stream)?,
-            lines: lines_of(alloc, list)?,
-            ending: ending_of(alloc, ending)?,
-            more: More::parse(alloc, more)?,
-        })
+        for item in row.more.split(',') {
+            check_item(report, item)?;
+        }
+        Ok(row)
+    }
+
+    /// What stands behind this word in what else is wanted, where it stands last, if it is there.
+    pub fn item(&self, word: &str) -> Option<&'a str> {
+        let mut last = None;
+        for item in self.more.split(',') {
+            let (found, rest) = parted(item);
+            if found == word {
+                last = Some(rest);
+            }
+        }
+        last
+    }
+
+    /// How much is charged, if the row says so.
+    pub fn charged(&self, report: &mut Report) -> Option<u64> {
+        match self.item("charged") {
+            Some(text) => count(report, text),
+            None => Some(0),
+        }
+    }
+
+    /// How many turns there are for so many bytes, if that is wanted.
+    pub fn turns(&self, report: &mut Report, fed: u64) -> Option<u64> {
+        match self.item("turns") {
+            Some(text) => count(report, text),
+            None if self.charged(report) == Some(0) => Some(fed),
+            None => None,
+        }
+    }
+
+    /// Whether the stream is plain, if the row says so.
+    pub fn plain(&self) -> Option<bool> {
+        if self.item("not") == Some("plain") {
+            return Some(false);
+        }
+        self.item("plain").map(|_| true)
     }
 }

@@ -1,11 +1,11 @@
 //! Streams that are read into sinks with little room.
-use crate::answer::{Answer, ended, read_into, single_bytes};
-use crate::row::{Row, Stop};
-use crate::trouble::{Trouble, of, same_count, same_text, tell};
+use crate::answer::{Answer, Cut, read_into, same_end};
+use crate::report::Report;
+use crate::row::{Row, Stop, stops_of};
 use nap_fixtures::faltering::Faltering;
 use nap_list::{Entry, SinkFault};
 use nap_reader::{Fault, Reader, Refusal};
-use std::alloc::Global;
+use std::alloc::AllocError;
 
 /// Where the refusal of a sink is told.
 fn refusal_at(fault: SinkFault, place: u64) -> Refusal {
@@ -27,94 +27,72 @@ struct Limit {
 /// A stream in these pieces stops there, or nowhere, over a sink with this limit, which takes these entries.
 #[tactic(auto, unfolding(nap_list::specs::State::walk))]
 fn check_stop(
-    alloc: Global,
+    report: &mut Report,
     row: &Row<'_>,
-    pieces: &[&[u8]],
+    cut: Cut,
     limit: Limit,
     stop: Option<Stop>,
     list: &[Entry],
-) -> Result<(), Trouble> {
-    let Limit {
-        room,
-        fault,
-        failed,
-    } = limit;
+) -> Result<(), AllocError> {
+    let fault = limit.fault;
     let sink = Faltering {
-        failed,
-        ..Faltering::new(alloc, room, fault)
+        failed: limit.failed,
+        ..Faltering::new(report.alloc, limit.room, fault)
     };
-    let reader = Reader::new(alloc, row.more.budget, sink);
-    let (sink, answer) = read_into(alloc, reader, pieces)?;
+    let reader = Reader::new(report.alloc, row.budget, sink);
+    let (sink, answer) = read_into(report, reader, &row.stream, cut);
     let wanted = stop.map(|stop| refusal_at(fault, stop.place));
-    same_text(
-        alloc,
-        &ended(alloc, wanted)?,
-        &ended(alloc, answer.refusal)?,
-    )?;
+    same_end(report, wanted, answer.refusal)?;
     if let Some(stop) = stop {
         let all = row.stream.len() as u64;
-        same_count(alloc, stop.fed.unwrap_or(all), answer.fed)?;
-        same_count(alloc, stop.turns.unwrap_or(all), answer.turns)?;
-        if answer.early != stop.fed.is_some() || sink.failed != (fault == SinkFault::Write) {
-            return tell(alloc, "it stops otherwise");
-        }
+        report.same_count("fed", stop.fed.unwrap_or(all), answer.fed);
+        report.same_count("turns", stop.turns.unwrap_or(all), answer.turns);
+        report.check(answer.early == stop.fed.is_some(), "whether it stops early");
+        report.check(sink.failed == (fault == SinkFault::Write), "how it stops");
     }
-    if sink.list.into_list().as_slice() != list {
-        return tell(alloc, "it has other entries");
-    }
+    let is_list = sink.list.into_list().as_slice() == list;
+    report.check(is_list, "it has other entries");
     Ok(())
 }
 
 /// A sink with this limit stops the reading there, or nowhere, whole and byte by byte.
 fn check_limit(
-    alloc: Global,
+    report: &mut Report,
     row: &Row<'_>,
     limit: Limit,
     stop: Option<Stop>,
     list: &[Entry],
-) -> Result<(), Trouble> {
-    check_stop(alloc, row, &[row.stream.as_slice()], limit, stop, list)?;
-    let single = single_bytes(alloc, &row.stream, true)?;
-    check_stop(alloc, row, &single, limit, stop, list)
-}
-
-/// A sink that takes so many entries stops the reading there, for want of memory and at its device.
-fn check_room(
-    alloc: Global,
-    row: &Row<'_>,
-    answer: &Answer,
-    room: usize,
-    stop: Stop,
-) -> Result<(), Trouble> {
-    let name = format!(in alloc; "over a sink that takes {room}")?;
-    let list = answer.list.get(..room).unwrap_or(&[]);
-    for fault in [SinkFault::Write, SinkFault::Memory] {
-        let limit = Limit {
-            room,
-            fault,
-            failed: false,
-        };
-        let checked = check_limit(alloc, row, limit, Some(stop), list);
-        of(alloc, &name, checked)?;
+) -> Result<(), AllocError> {
+    for cut in [Cut::Whole, Cut::Single(true)] {
+        check_stop(report, row, cut, limit, stop, list)?;
     }
     Ok(())
 }
 
-/// A sink that takes no entry, one, two and so on stops the reading where the row says so. One that has failed does as one that
-/// takes none, and a stream without entries passes it.
-pub fn check_stops(alloc: Global, row: &Row<'_>, answer: &Answer) -> Result<(), Trouble> {
-    let stops = &row.more.stops;
+/// A sink that takes no entry, one, two and so on stops the reading where the row says so, for want of memory and at its device.
+/// One that has failed does as one that takes none, and a stream without entries passes it.
+pub fn check_stops(report: &mut Report, row: &Row<'_>, answer: &Answer) -> Result<(), AllocError> {
+    let stops = stops_of(report, row.item("stops").unwrap_or(""))?;
     if !stops.is_empty() || (answer.list.is_empty() && answer.refusal.is_none()) {
+        report.try_now("over a sink that has failed", 1);
         let limit = Limit {
             room: 1,
             fault: SinkFault::Write,
             failed: true,
         };
-        let checked = check_limit(alloc, row, limit, stops.first().copied(), &[]);
-        of(alloc, "over a sink that has failed", checked)?;
+        check_limit(report, row, limit, stops.first().copied(), &[])?;
     }
     for (room, stop) in stops.iter().enumerate() {
-        check_room(alloc, row, answer, room, *stop)?;
+        report.try_now("over a sink that takes", room);
+        let list = answer.list.get(..room).unwrap_or(&[]);
+        for fault in [SinkFault::Write, SinkFault::Memory] {
+            let limit = Limit {
+                room,
+                fault,
+                failed: false,
+            };
+            check_limit(report, row, limit, Some(*stop), list)?;
+        }
     }
     Ok(())
 }

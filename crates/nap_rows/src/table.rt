@@ -1,63 +1,64 @@
 //! A file of rows.
+use crate::report::Report;
 use crate::row::Row;
 use crate::trial::check;
-use crate::trouble::{Trouble, unread};
-use std::alloc::Global;
-use std::fs;
+use std::alloc::{AllocError, Global};
 use std::rt::Files;
+use std::{fs, io};
 
-/// How many rows were checked, and how many of them disagree.
-#[derive(Clone, Copy, PartialEq, Eq, Default, Drop)]
-pub struct Tally {
-    /// All rows.
-    pub rows: u64,
-    /// Those that disagree.
-    pub wrong: u64,
+/// Why the checks end before all rows were tried.
+#[derive(Drop)]
+pub enum Trouble {
+    /// There was no memory.
+    Memory,
+    /// Standard output failed.
+    Output,
+    /// A file wasn't read.
+    Unread(String),
 }
 
-/// What is wrong with the row of a line, if anything is.
-fn check_line(alloc: Global, line: &str) -> Result<(), Trouble> {
-    let row = Row::parse(alloc, line)?;
-    check(alloc, &row)
+/// What is wrong with the row of a line; nothing, if the text is empty.
+fn check_line(alloc: Global, line: &str) -> Result<String, AllocError> {
+    let mut report = Report::new(alloc);
+    let row = Row::parse(&mut report, line)?;
+    if report.is_well() {
+        check(&mut report, &row)?;
+    }
+    report.is_complete()?;
+    Ok(report.text)
 }
 
-/// Checks the rows of a text, and prints those that disagree. A line that begins with `#`, and an empty one, is no row.
-fn check_text(
-    rt: &(impl Print + AllocGlobal),
-    name: &str,
-    text: &str,
-    tally: &mut Tally,
-) -> Result<(), Trouble> {
-    let mut number = 0u64;
+/// Checks the rows of a text, and prints those that disagree. A line that begins with `#`, and an empty one, is no row. Answers how
+/// many disagree.
+fn check_text(rt: &(impl Print + AllocGlobal), name: &str, text: &str) -> Result<u64, Trouble> {
+    let mut wrong: u64 = 0;
+    let mut number: u64 = 0;
     for line in text.lines() {
         number = number.saturating_add(1);
         let line = line.trim();
         if line.is_empty() || line.starts_with('#') {
             continue;
         }
-        tally.rows = tally.rows.saturating_add(1);
-        match check_line(rt.alloc(), line) {
-            Ok(()) => {}
-            Err(Trouble::Told(what)) => {
-                tally.wrong = tally.wrong.saturating_add(1);
-                if println!(rt; "{name}:{number}: {what}").is_err() {
-                    return Err(Trouble::Output);
-                }
+        let Ok(what) = check_line(rt.alloc(), line) else {
+            return Err(Trouble::Memory);
+        };
+        if !what.is_empty() {
+            wrong = wrong.saturating_add(1);
+            if println!(rt; "{name}:{number}: {what}").is_err() {
+                return Err(Trouble::Output);
             }
-            Err(trouble) => return Err(trouble),
         }
     }
-    Ok(())
+    Ok(wrong)
 }
 
-/// Checks the rows of a file.
-pub fn check_file(
-    rt: &(impl Files + Print + AllocGlobal),
-    name: &String,
-    tally: &mut Tally,
-) -> Result<(), Trouble> {
+/// Checks the rows of a file, and answers how many disagree.
+pub fn check_file(rt: &(impl Files + Print + AllocGlobal), name: &String) -> Result<u64, Trouble> {
     match fs::read_to_string(rt, name) {
-        Ok(text) => check_text(rt, name, &text, tally),
-        Err(error) => Err(unread(rt.alloc(), name, error)),
+        Ok(text) => check_text(rt, name, &text),
+        Err(error) => match format!(in rt.alloc(); "{name}: {error}") {
+            Ok(text) => Err(Trouble::Unread(text)),
+            Err(AllocError) => Err(Trouble::Memory),
+        },
     }
 }

@@ -1,14 +1,16 @@
 //! What is checked of a row.
-use crate::answer::{Answer, answer_in, ended, lines_of, places_in, single_bytes};
+use crate::answer::{Answer, Cut, answer_in, end, ended, lines_of, places_in};
+use crate::notation::bytes_of;
 use crate::outlets::check_outlets;
-use crate::row::{Ending, Row};
+use crate::report::Report;
+use crate::row;
+use crate::row::{Row, count, stops_of};
 use crate::stops::check_stops;
-use crate::trouble::{Trouble, of, same_bytes, same_count, same_lines, same_text, tell};
 use nap_canon::{ConvertFault, canon, canon_form1, convert, is_plain, normalise};
 use nap_lines::LineSink;
 use nap_list::{Entry, Source, Target};
 use nap_reader::{Budget, Reader, Refusal, read_all};
-use std::alloc::Global;
+use std::alloc::{AllocError, Global};
 
 /// A stream is cut at every place up to this length.
 const SHORT: usize = 64;
@@ -17,254 +19,216 @@ const SHORT: usize = 64;
 const LONG: u64 = 20_000;
 
 /// The list of an answer, or why the stream is refused, is what the row wants.
-fn check_answer(alloc: Global, row: &Row<'_>, answer: &Answer) -> Result<(), Trouble> {
-    let wanted = match row.ending {
-        Ending::Accepted(_) => "accepted",
-        Ending::Refused(reason) => reason,
-    };
-    same_text(alloc, wanted, &ended(alloc, answer.refusal)?)?;
-    match &row.lines {
-        Some(wanted) => {
-            let lines = lines_of(alloc, &answer.list)?;
-            of(alloc, "list", same_lines(alloc, wanted, &lines))
-        }
-        None => Ok(()),
+fn check_answer(report: &mut Report, row: &Row<'_>, answer: &Answer) -> Result<(), AllocError> {
+    let came = ended(report.alloc, answer.refusal)?;
+    let is_refused = row.ending.starts_with("refused ");
+    let wanted = if is_refused { row.ending } else { "accepted" };
+    report.same_text("end", wanted, came.trim_end());
+    if row.list != "-" {
+        let wanted = row::lines_of(report, row.list)?;
+        let came = lines_of(report.alloc, &answer.list)?;
+        report.same_lines("list", &wanted, &came);
     }
+    Ok(())
 }
 
 /// The counts of an answer are what the row wants.
-fn check_counts(alloc: Global, row: &Row<'_>, answer: &Answer) -> Result<(), Trouble> {
+fn check_counts(report: &mut Report, row: &Row<'_>, answer: &Answer) {
     let all = row.stream.len() as u64;
-    if let Some(fed) = row.more.fed {
-        of(alloc, "fed", same_count(alloc, fed, answer.fed))?;
+    if let Some(text) = row.item("fed") {
+        let fed = count(report, text).unwrap_or(all);
+        report.same_count("fed", fed, answer.fed);
     } else if !answer.early {
-        of(alloc, "fed", same_count(alloc, all, answer.fed))?;
+        report.same_count("fed", all, answer.fed);
     }
     if let Some(refusal) = answer.refusal {
-        let least = if answer.early {
-            refusal.place.saturating_add(1)
-        } else {
-            all
-        };
-        if answer.fed < least || answer.fed > all {
-            return tell(
-                alloc,
-                "the bytes that were taken aren't those up to the refused one",
-            );
-        }
+        let behind = refusal.place.saturating_add(1);
+        let least = if answer.early { behind } else { all };
+        let is_in_range = least <= answer.fed && answer.fed <= all;
+        report.check(
+            is_in_range,
+            "the bytes taken aren't those up to the refused",
+        );
     }
-    if let Some(charged) = row.more.charged {
-        of(alloc, "charged", same_count(alloc, charged, answer.charged))?;
-    }
-    match row.more.turns_for(answer.fed) {
-        Some(turns) => of(alloc, "turns", same_count(alloc, turns, answer.turns)),
-        None => Ok(()),
-    }
+    let charged = row.charged(report).unwrap_or(answer.charged);
+    report.same_count("charged", charged, answer.charged);
+    let turns = row.turns(report, answer.fed).unwrap_or(answer.turns);
+    report.same_count("turns", turns, answer.turns);
 }
 
 /// The stream in these pieces has the same answer.
-fn check_pieces(
-    alloc: Global,
-    budget: Budget,
-    answer: &Answer,
-    pieces: &[&[u8]],
-    name: &str,
-) -> Result<(), Trouble> {
-    let other = of(alloc, name, answer_in(alloc, budget, pieces))?;
-    if other != *answer {
-        return Err(Trouble::Told(format!(in alloc;
-            "{name}: the answer isn't that of the whole stream"
-        )?));
-    }
-    Ok(())
+fn check_cut(report: &mut Report, row: &Row<'_>, answer: &Answer, cut: Cut) {
+    let other = answer_in(report, row.budget, &row.stream, cut);
+    report.check(other.is(answer), "the answer isn't that of the whole");
 }
 
 /// The stream has the same answer in single bytes and in every cut, near its end alone where it has more bytes. One that has
 /// many turns has no empty pieces between its bytes, and no cuts where it is short.
-fn check_cuts(alloc: Global, row: &Row<'_>, answer: &Answer) -> Result<(), Trouble> {
-    let bytes = row.stream.as_slice();
-    let budget = row.more.budget;
+fn check_cuts(report: &mut Report, row: &Row<'_>, answer: &Answer) {
+    let length = row.stream.len();
     let few = answer.turns <= LONG;
-    let pieces = single_bytes(alloc, bytes, few)?;
-    check_pieces(alloc, budget, answer, &pieces, "in single bytes")?;
-    let first = if bytes.len() > SHORT {
-        bytes.len() - 4
+    report.try_now("in single bytes", 1);
+    check_cut(report, row, answer, Cut::Single(few));
+    let first = if length > SHORT {
+        length - 4
     } else if few {
         0
     } else {
-        return Ok(());
+        return;
     };
-    for cut in first..=bytes.len() {
-        let (front, back) = bytes.split_at(cut);
-        let name = format!(in alloc; "cut at {cut}")?;
-        check_pieces(alloc, budget, answer, &[front, &[], back, &[]], &name)?;
+    for place in first..=length {
+        report.try_now("cut at", place);
+        check_cut(report, row, answer, Cut::At(place));
     }
-    Ok(())
 }
 
 /// Each entry comes with the byte that the row says.
-fn check_places(alloc: Global, row: &Row<'_>) -> Result<(), Trouble> {
-    let Some(wanted) = &row.more.places else {
+fn check_places(report: &mut Report, row: &Row<'_>) -> Result<(), AllocError> {
+    let Some(text) = row.item("places") else {
         return Ok(());
     };
-    let came = places_in(alloc, row.more.budget, &row.stream)?;
+    let wanted = stops_of(report, text)?;
+    let came = places_in(report, row.budget, &row.stream)?;
     for (wanted, came) in wanted.iter().zip(came.iter()) {
-        of(
-            alloc,
-            "the place of an entry",
-            same_count(alloc, *wanted, *came),
-        )?;
+        report.same_count("the place of an entry", wanted.place, *came);
     }
-    same_count(alloc, wanted.len() as u64, came.len() as u64)
+    report.same_count("places", wanted.len() as u64, came.len() as u64);
+    Ok(())
 }
 
 /// What is read in one call is the answer's.
-fn check_whole(alloc: Global, row: &Row<'_>, answer: &Answer) -> Result<(), Trouble> {
-    match read_all(alloc, row.more.budget, &row.stream) {
-        Ok(list) if answer.refusal.is_none() && list == answer.list => Ok(()),
-        Err(refusal) if answer.refusal == Some(refusal) => Ok(()),
-        _ => tell(alloc, "read in one call it has another answer"),
-    }
+fn check_whole(report: &mut Report, row: &Row<'_>, answer: &Answer) {
+    let is_same = match read_all(report.alloc, row.budget, &row.stream) {
+        Ok(list) => answer.refusal.is_none() && list == answer.list,
+        Err(refusal) => answer.refusal == Some(refusal),
+    };
+    report.check(is_same, "read in one call it has another answer");
 }
 
 /// A sink of lines has those of the list.
-fn check_lines(alloc: Global, row: &Row<'_>, list: &[Entry]) -> Result<(), Trouble> {
-    let mut reader = Reader::new(alloc, row.more.budget, LineSink::new(alloc));
+fn check_lines(report: &mut Report, row: &Row<'_>, list: &[Entry]) -> Result<(), AllocError> {
+    let alloc = report.alloc;
+    let mut reader = Reader::new(alloc, row.budget, LineSink::new(alloc));
     let _ = reader.feed(&row.stream);
-    let sink = match reader.finish() {
-        Ok(sink) => sink,
-        Err(stopped) => stopped.sink,
-    };
+    let came = end(reader).0.into_text();
     let wanted = lines_of(alloc, list)?;
-    let came = sink.into_text();
-    let compared = same_bytes(alloc, wanted.as_bytes(), &came);
-    of(alloc, "sink of lines", compared)
+    report.same_bytes("sink of lines", wanted.as_bytes(), &came);
+    Ok(())
 }
 
 /// What is converted from memory to memory: the bytes, and how that ended.
-fn converted(alloc: Global, budget: Budget, bytes: &[u8]) -> (Vec<u8>, Result<u64, ConvertFault>) {
-    let mut input = Source::new(bytes);
-    let (output, outcome) = convert(alloc, &mut input, Target::new(Vec::new(alloc)), budget);
+fn converted(alloc: Global, row: &Row<'_>) -> (Vec<u8>, Result<u64, ConvertFault>) {
+    let mut input = Source::new(row.stream.as_slice());
+    let output = Target::new(Vec::new(alloc));
+    let (output, outcome) = convert(alloc, &mut input, output, row.budget);
     (output.into_inner(), outcome)
 }
 
 /// A refused stream is so by the calls above the reader, too.
-fn check_refused(alloc: Global, row: &Row<'_>, refusal: Refusal) -> Result<(), Trouble> {
-    if normalise(alloc, row.more.budget, &row.stream) != Err(refusal) {
-        return tell(alloc, "normalise refuses it otherwise");
-    }
-    let (bytes, outcome) = converted(alloc, row.more.budget, &row.stream);
+fn check_refused(report: &mut Report, row: &Row<'_>, refusal: Refusal) {
+    let refused = normalise(report.alloc, row.budget, &row.stream).err();
+    report.check(refused == Some(refusal), "normalise refuses it otherwise");
+    let (bytes, outcome) = converted(report.alloc, row);
     let written = bytes.len() as u64;
-    if outcome != Err(ConvertFault::Refused { refusal, written }) {
-        return tell(alloc, "convert refuses it otherwise");
-    }
-    Ok(())
+    let fault = ConvertFault::Refused { refusal, written };
+    report.check(outcome == Err(fault), "convert refuses it otherwise");
 }
 
-/// The canonical text of a list.
-fn text_of(alloc: Global, list: &[Entry]) -> Result<Vec<u8>, Trouble> {
-    match canon(alloc, list) {
-        Ok(text) => Ok(text),
-        Err(fault) => Err(Trouble::Told(format!(in alloc; "canon: {fault}")?)),
+/// The call answers this text.
+fn gives<E: Drop>(report: &mut Report, name: &str, text: &[u8], answer: Result<Vec<u8>, E>) {
+    match answer {
+        Ok(other) => report.same_bytes(name, text, &other),
+        Err(_) => report.tell(name),
     }
-}
-
-/// The canonical stream by each of the three calls that make it.
-fn canonical_of(alloc: Global, row: &Row<'_>, answer: &Answer) -> Result<Vec<u8>, Trouble> {
-    let text = text_of(alloc, &answer.list)?;
-    if let Ending::Accepted(Some(wanted)) = &row.ending {
-        of(alloc, "canonical", same_bytes(alloc, wanted, &text))?;
-    }
-    match normalise(alloc, row.more.budget, &row.stream) {
-        Ok(other) => of(alloc, "normalise", same_bytes(alloc, &text, &other))?,
-        Err(_) => return tell(alloc, "normalise refuses it"),
-    }
-    let (bytes, outcome) = converted(alloc, row.more.budget, &row.stream);
-    of(alloc, "convert", same_bytes(alloc, &text, &bytes))?;
-    if outcome != Ok(text.len() as u64) {
-        return tell(alloc, "convert didn't end well");
-    }
-    Ok(text)
 }
 
 /// A stream is plain, has this list, and no macros.
-fn check_plain(alloc: Global, list: &[Entry], bytes: &[u8]) -> Result<(), Trouble> {
-    if !is_plain(bytes) {
-        return tell(alloc, "it isn't plain");
-    }
-    let Some(budget) = Budget::new(0) else {
-        return tell(alloc, "there is no budget of 0");
-    };
-    let answer = answer_in(alloc, budget, &[bytes])?;
-    if answer.refusal.is_some() || answer.list.as_slice() != list {
-        return tell(alloc, "it isn't read as the list");
-    }
-    same_count(alloc, 0, answer.charged)?;
-    same_count(alloc, bytes.len() as u64, answer.turns)
+fn check_plain(report: &mut Report, list: &[Entry], stream: &[u8]) {
+    report.check(is_plain(stream), "it isn't plain");
+    let none = Budget::new(0);
+    report.check(none.is_some(), "there is no budget of 0");
+    let budget = none.unwrap_or(Budget::usual());
+    let answer = answer_in(report, budget, stream, Cut::Whole);
+    let is_list = answer.refusal.is_none() && answer.list.as_slice() == list;
+    report.check(is_list, "it isn't read as the list");
+    report.same_count("charged", 0, answer.charged);
+    report.same_count("turns", stream.len() as u64, answer.turns);
 }
 
-/// The canonical stream has the same list, is its own canonical stream, and is what outlets with any room take.
-fn check_canonical(alloc: Global, row: &Row<'_>, answer: &Answer) -> Result<(), Trouble> {
-    let text = canonical_of(alloc, row, answer)?;
+/// The canonical stream is that of each call that makes it. It has the same list, is its own canonical stream, and is what outlets
+/// with any room take.
+fn check_canonical(report: &mut Report, row: &Row<'_>, answer: &Answer) -> Result<(), AllocError> {
+    let alloc = report.alloc;
+    let Ok(text) = canon(alloc, &answer.list) else {
+        report.tell("canon fails");
+        return Ok(());
+    };
+    if row.ending != "-" {
+        let wanted = bytes_of(report, row.ending)?;
+        report.same_bytes("canonical", &wanted, &text);
+    }
+    gives(
+        report,
+        "normalise",
+        &text,
+        normalise(alloc, row.budget, &row.stream),
+    );
+    let (bytes, outcome) = converted(alloc, row);
+    report.same_bytes("convert", &text, &bytes);
+    report.check(outcome == Ok(text.len() as u64), "convert didn't end well");
     if answer.turns <= LONG {
-        check_outlets(alloc, row, &text)?;
+        check_outlets(report, row, &text)?;
     }
-    of(
-        alloc,
-        "the canonical stream",
-        check_plain(alloc, &answer.list, &text),
-    )?;
-    match normalise(alloc, row.more.budget, &text) {
-        Ok(again) => of(
-            alloc,
-            "the canonical stream's own",
-            same_bytes(alloc, &text, &again),
-        ),
-        Err(_) => tell(alloc, "its canonical stream is refused"),
-    }
+    report.try_now("the canonical stream", 1);
+    check_plain(report, &answer.list, &text);
+    gives(
+        report,
+        "its own",
+        &text,
+        normalise(alloc, row.budget, &text),
+    );
+    Ok(())
 }
 
 /// The text in form 1 has the same list.
-fn check_form1(alloc: Global, row: &Row<'_>, answer: &Answer) -> Result<(), Trouble> {
-    let text = match canon_form1(alloc, &answer.list) {
-        Ok(text) => text,
-        Err(fault) => return Err(Trouble::Told(format!(in alloc; "form 1: {fault}")?)),
+fn check_form1(report: &mut Report, row: &Row<'_>, answer: &Answer) -> Result<(), AllocError> {
+    report.try_now("form", 1);
+    let Ok(text) = canon_form1(report.alloc, &answer.list) else {
+        report.tell("canon_form1 fails");
+        return Ok(());
     };
-    if let Some(wanted) = &row.more.form1 {
-        of(alloc, "form 1", same_bytes(alloc, wanted, &text))?;
+    if let Some(wanted) = row.item("form1") {
+        let wanted = bytes_of(report, wanted)?;
+        report.same_bytes("text", &wanted, &text);
     }
-    of(alloc, "form 1", check_plain(alloc, &answer.list, &text))
-}
-
-/// Whether the stream is plain is what the row wants.
-fn check_kind(alloc: Global, row: &Row<'_>) -> Result<(), Trouble> {
-    match row.more.plain {
-        Some(plain) if is_plain(&row.stream) != plain => {
-            tell(alloc, "whether it is plain isn't so")
-        }
-        _ => Ok(()),
-    }
+    check_plain(report, &answer.list, &text);
+    Ok(())
 }
 
 /// Checks a row.
-pub fn check(alloc: Global, row: &Row<'_>) -> Result<(), Trouble> {
-    let answer = answer_in(alloc, row.more.budget, &[row.stream.as_slice()])?;
-    check_answer(alloc, row, &answer)?;
-    check_counts(alloc, row, &answer)?;
-    check_kind(alloc, row)?;
-    check_cuts(alloc, row, &answer)?;
-    check_places(alloc, row)?;
-    check_whole(alloc, row, &answer)?;
-    check_stops(alloc, row, &answer)?;
-    if answer.turns <= LONG {
-        check_lines(alloc, row, &answer.list)?;
+pub fn check(report: &mut Report, row: &Row<'_>) -> Result<(), AllocError> {
+    let answer = answer_in(report, row.budget, &row.stream, Cut::Whole);
+    check_answer(report, row, &answer)?;
+    check_counts(report, row, &answer);
+    let plain = row.plain().unwrap_or(is_plain(&row.stream));
+    report.check(is_plain(&row.stream) == plain, "whether it is plain");
+    check_cuts(report, row, &answer);
+    report.try_now("whole", 1);
+    check_places(report, row)?;
+    check_whole(report, row, &answer);
+    let few = answer.turns <= LONG;
+    if few {
+        check_lines(report, row, &answer.list)?;
     }
+    check_stops(report, row, &answer)?;
+    report.try_now("whole", 1);
     match answer.refusal {
-        Some(refusal) if answer.turns <= LONG => check_refused(alloc, row, refusal),
-        Some(_) => Ok(()),
+        Some(refusal) if few => check_refused(report, row, refusal),
+        Some(_) => {}
         None => {
-            check_canonical(alloc, row, &answer)?;
-            check_form1(alloc, row, &answer)
+            check_canonical(report, row, &answer)?;
+            check_form1(report, row, &answer)?;
         }
     }
+    Ok(())
 }

@@ -12,93 +12,118 @@ const ALL: usize = usize::MAX;
 const REQUESTS: &[u8] =
     b"check 0 5\n\x0E\x26\x52\x40\x40list 0 1\n\x80places 0 6\n\x0E\x26\x52\x40\x40\x0F";
 
-const FIRST: &[u8] = b"accepted 1 entries\n0\n";
+/// Their answers.
+const ANSWERS: &[u8] = b"accepted 1 entries\n0\n\
+    refused 1 EighthBit at 0\n0\n\
+    accepted 1 entries\n49\n5 POINT 4194304,4194304 pel=0,0 colour=own-start\n";
 
-const SECOND: &[u8] = b"refused 1 EighthBit at 0\n0\n";
+/// An input, how many bytes a read gives, and which read fails; how much the output has room for; how many bytes of the answers go
+/// out, what is told, and the status.
+type Row = (&'static [u8], (usize, u64), usize, usize, &'static [u8], u8);
 
-const THIRD: &[u8] = b"accepted 1 entries\n49\n5 POINT 4194304,4194304 pel=0,0 colour=own-start\n";
+const WHOLE: usize = ANSWERS.len();
 
-/// What came out, what was told, and the status.
-#[derive(Drop)]
-struct Ended {
-    output: Taker,
-    errors: Taker,
-    status: u8,
-}
+const ROWS: &[Row] = &[
+    // Requests are answered however they come.
+    (REQUESTS, (1, 0), ALL, WHOLE, b"", 0),
+    (REQUESTS, (2, 0), ALL, WHOLE, b"", 0),
+    (REQUESTS, (3, 0), ALL, WHOLE, b"", 0),
+    (REQUESTS, (10, 0), ALL, WHOLE, b"", 0),
+    (REQUESTS, (11, 0), ALL, WHOLE, b"", 0),
+    (REQUESTS, (17, 0), ALL, WHOLE, b"", 0),
+    (REQUESTS, (40, 0), ALL, WHOLE, b"", 0),
+    (REQUESTS, (ALL, 0), ALL, WHOLE, b"", 0),
+    // A failing read leaves the answers before it. The reads are of one byte: the nth fails behind n - 1 bytes.
+    (REQUESTS, (1, 1), ALL, 0, b"read fault\n", 3),
+    (REQUESTS, (1, 15), ALL, 0, b"read fault\n", 3),
+    (REQUESTS, (1, 16), ALL, 21, b"read fault\n", 3),
+    // A failing write tells all bytes that were taken.
+    (REQUESTS, (ALL, 0), 0, 0, b"write fault after 0 bytes\n", 3),
+    (REQUESTS, (ALL, 0), 5, 5, b"write fault after 5 bytes\n", 3),
+    (
+        REQUESTS,
+        (ALL, 0),
+        20,
+        20,
+        b"write fault after 20 bytes\n",
+        3,
+    ),
+    (
+        REQUESTS,
+        (ALL, 0),
+        21,
+        21,
+        b"write fault after 21 bytes\n",
+        3,
+    ),
+    (
+        REQUESTS,
+        (ALL, 0),
+        30,
+        30,
+        b"write fault after 30 bytes\n",
+        3,
+    ),
+    (
+        REQUESTS,
+        (ALL, 0),
+        48,
+        48,
+        b"write fault after 48 bytes\n",
+        3,
+    ),
+    (
+        REQUESTS,
+        (ALL, 0),
+        60,
+        60,
+        b"write fault after 60 bytes\n",
+        3,
+    ),
+    // What is no request ends the row.
+    (b"check 0\n", (ALL, 0), ALL, 0, b"request fault\n", 3),
+    (b"check 0 0", (ALL, 0), ALL, 0, b"request fault\n", 3),
+    (b"check 0 2\n\x0E", (ALL, 0), ALL, 0, b"request fault\n", 3),
+    (
+        b"check 67108865 0\n",
+        (ALL, 0),
+        ALL,
+        0,
+        b"request fault\n",
+        3,
+    ),
+    (
+        b"check 0 16777217\n",
+        (ALL, 0),
+        ALL,
+        0,
+        b"request fault\n",
+        3,
+    ),
+    (b"convert 0 0\n", (ALL, 0), ALL, 0, b"request fault\n", 3),
+];
 
-fn run(alloc: Global, input: Giver<'_>, output: Taker) -> Ended {
+/// The output and standard error behind requests, and the status. An output without room for all takes three bytes at a write.
+fn run(alloc: Global, input: Giver<'_>, room: usize) -> (Taker, Taker, u8) {
+    let most = if room == ALL { ALL } else { 3 };
     let mut input = Source::new(input);
-    let mut output = Target::new(output);
+    let mut output = Target::new(Taker::new(alloc, room, most, End::Fails));
     let mut errors = Target::new(Taker::wide(alloc));
     let status = batch(alloc, &mut input, &mut output, &mut errors);
-    Ended {
-        output: output.into_inner(),
-        errors: errors.into_inner(),
-        status,
-    }
+    (output.into_inner(), errors.into_inner(), status)
 }
 
 #[test]
-fn requests_are_answered_however_they_come(rt: HostRuntime) -> Result<(), Fail> {
-    let alloc = rt.alloc();
-    let wanted = [FIRST, SECOND, THIRD].concat(alloc)?;
-    for most in [1, 2, 3, 10, 11, 17, 40, ALL] {
-        let ended = run(alloc, Giver::new(REQUESTS, most, 0), Taker::wide(alloc));
-        assert_eq!(rt; ended.output.kept.as_slice(), wanted.as_slice());
-        assert_eq!(rt; ended.output.flushes, 3);
-        assert_eq!(rt; ended.output.sent, wanted.len());
-        assert!(rt; ended.errors.kept.is_empty());
-        assert_eq!(rt; ended.status, 0);
+fn requests_are_answered_in_turn(rt: HostRuntime) {
+    for (input, gives, room, out, told, status) in ROWS {
+        let giver = Giver::new(input, gives.0, gives.1);
+        let (output, errors, ended) = run(rt.alloc(), giver, *room);
+        let is_sent = ended != 0 || (output.flushes, output.sent) == (3, *out);
+        let found = ANSWERS.get(..*out) == Some(output.kept.as_slice())
+            && errors.kept.as_slice() == *told
+            && ended == *status;
+        assert!(rt; found && is_sent, "{input:?} by {gives:?} into {room}");
     }
-    Ok(())
-}
-
-// The reads are of one byte: the nth fails behind n - 1 bytes.
-#[test]
-fn a_failing_read_leaves_the_answers_before_it(rt: HostRuntime) -> Result<(), Fail> {
-    let alloc = rt.alloc();
-    for (bad, out) in [(1, b"".as_slice()), (15, b"".as_slice()), (16, FIRST)] {
-        let ended = run(alloc, Giver::new(REQUESTS, 1, bad), Taker::wide(alloc));
-        assert_eq!(rt; ended.output.kept.as_slice(), out);
-        assert_eq!(rt; ended.errors.kept.as_slice(), b"read fault\n".as_slice());
-        assert_eq!(rt; ended.status, 3);
-    }
-    Ok(())
-}
-
-#[test]
-fn a_failing_write_tells_all_bytes_that_were_taken(rt: HostRuntime) -> Result<(), Fail> {
-    let alloc = rt.alloc();
-    let all = [FIRST, SECOND, THIRD].concat(alloc)?;
-    for room in [0, 5, 20, 21, 30, 48, 60] {
-        let output = Taker::new(alloc, room, 3, End::Fails);
-        let ended = run(alloc, Giver::new(REQUESTS, ALL, 0), output);
-        let line = format!(in alloc; "write fault after {room} bytes\n")?;
-        let kept = ended.output.kept.as_slice();
-        assert!(rt; kept.len() == room && all.starts_with(kept));
-        assert_eq!(rt; ended.errors.kept.as_slice(), line.as_bytes());
-        assert_eq!(rt; ended.status, 3);
-    }
-    Ok(())
-}
-
-#[test]
-fn what_is_no_request_ends_the_row(rt: HostRuntime) -> Result<(), Fail> {
-    let alloc = rt.alloc();
-    for input in [
-        b"check 0\n".as_slice(),
-        b"check 0 0".as_slice(),
-        b"check 0 2\n\x0E".as_slice(),
-        b"check 67108865 0\n".as_slice(),
-        b"check 0 16777217\n".as_slice(),
-        b"convert 0 0\n".as_slice(),
-    ] {
-        let ended = run(alloc, Giver::new(input, ALL, 0), Taker::wide(alloc));
-        assert!(rt; ended.output.kept.is_empty());
-        assert_eq!(rt; ended.errors.kept.as_slice(), b"request fault\n".as_slice());
-        assert_eq!(rt; ended.status, 3);
-    }
-    Ok(())
 }
 
 #[test]
@@ -106,28 +131,25 @@ fn a_line_says_a_question_a_budget_and_a_length(rt: HostRuntime) -> Result<(), F
     let Some(line) = parse_line(b"places 67108864 16777216") else {
         return Err(Fail::new("this is a line"));
     };
-    assert!(rt; line.question == Question::Places);
-    assert_eq!(rt; line.budget.get(), Budget::MOST);
-    assert_eq!(rt; line.size, 16_777_216);
-    assert!(rt; parse_line(b"places 67108864 16777217").is_none());
-    assert!(rt; front_of(b"check 0 2\n\x0E") == Front::More(1));
-    assert!(rt; front_of(b"check 0 2") == Front::More(0));
-    assert!(rt; front_of(b"check 0 x\n") == Front::Wrong);
+    let found = [
+        line.question == Question::Places,
+        (line.budget.get(), line.size) == (Budget::MOST, 16_777_216),
+        parse_line(b"places 67108864 16777217").is_none(),
+        front_of(b"check 0 2\n\x0E") == Front::More(1),
+        front_of(b"check 0 2") == Front::More(0),
+        front_of(b"check 0 x\n") == Front::Wrong,
+    ];
+    assert!(rt; found == [true; 6]);
     Ok(())
 }
 
 #[test]
 fn places_before_a_refusal_stand(rt: HostRuntime) -> Result<(), Fail> {
-    let alloc = rt.alloc();
     let page = b"\x0E\x26\x52\x28\x7F";
-    let answer = answer_page(alloc, Question::Places, Budget::usual(), page)?;
-    assert_eq!(rt;
-        answer.line.as_slice(),
-        b"refused 10 Outside at 3\n".as_slice()
-    );
-    assert_eq!(rt;
-        answer.body.as_slice(),
-        b"3 POINT 4194304,4194304 pel=0,0 colour=own-start\n".as_slice()
-    );
+    let answer = answer_page(rt.alloc(), Question::Places, Budget::usual(), page)?;
+    let line: &[u8] = b"refused 10 Outside at 3\n";
+    let body: &[u8] = b"3 POINT 4194304,4194304 pel=0,0 colour=own-start\n";
+    let found = answer.line.as_slice() == line && answer.body.as_slice() == body;
+    assert!(rt; found);
     Ok(())
 }

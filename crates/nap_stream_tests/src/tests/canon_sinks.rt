@@ -1,35 +1,38 @@
 //! A sink of canonical text whose writer fails.
 use nap_canon::CanonSink;
 use nap_fixtures::devices::{End, Taker};
-use nap_fixtures::samples::{dot, middle};
-use nap_list::{SinkFault, State, Target};
+use nap_fixtures::entries::{DOT, entry_of};
+use nap_list::{Entry, SinkFault, State, Target};
+use std::alloc::Global;
+use std::test::Fail;
+
+/// Whether a sink over an outlet with so much room, which takes so many bytes at a write, fails at an entry, and then again.
+fn fails_twice(alloc: Global, entry: &Entry, room: usize, most: usize) -> bool {
+    if !State::start().fits(entry) {
+        return false;
+    }
+    let mut sink = CanonSink::new(Target::new(Taker::new(alloc, room, most, End::Fails)));
+    let at_once = sink.failed() == (room < 3);
+    let fails = sink.put_ref(entry) == Err(SinkFault::Write);
+    if !fails || !at_once || (sink.failed(), sink.written()) != (true, room as u64) {
+        return false;
+    }
+    let again = sink.put_ref(entry) == Err(SinkFault::Write);
+    let stays = (sink.failed(), sink.written()) == (true, room as u64);
+    let kept = sink.close().into_inner().kept;
+    again && stays && kept.as_slice() == &b"\x0E!_&R"[..room.min(5)]
+}
 
 #[test]
-fn a_failed_sink_stays_failed(rt: HostRuntime) {
+fn a_failed_sink_stays_failed(rt: HostRuntime) -> Result<(), Fail> {
     let alloc = rt.alloc();
-    let entry = dot(middle());
-    assert!(rt; State::start().fits(&entry));
-    for (room, most, written) in [(0, 64, 0), (2, 64, 2), (5, 64, 5), (5, 1, 5)] {
-        let taker = Taker::new(alloc, room, most, End::Fails);
-        let mut sink = CanonSink::new(Target::new(taker));
-        assert!(rt; sink.failed() == (written < 3));
-        assert!(rt;
-            sink.put_ref(&entry) == Err(SinkFault::Write),
-            "with room for {room}"
-        );
-        assert!(rt;
-            (sink.failed(), sink.written()) == (true, written),
-            "with room for {room}"
-        );
-        assert!(rt;
-            sink.put_ref(&entry) == Err(SinkFault::Write),
-            "with room for {room}"
-        );
-        assert!(rt;
-            (sink.failed(), sink.written()) == (true, written),
-            "with room for {room}"
-        );
-        let Taker { kept, .. } = sink.close().into_inner();
-        assert!(rt; kept.as_slice() == &b"\x0E!_&R"[..room]);
-    }
+    let entry = entry_of(alloc, DOT)?;
+    let fails = [
+        fails_twice(alloc, &entry, 0, 64),
+        fails_twice(alloc, &entry, 2, 64),
+        fails_twice(alloc, &entry, 5, 64),
+        fails_twice(alloc, &entry, 5, 1),
+    ];
+    assert!(rt; fails == [true; 4]);
+    Ok(())
 }

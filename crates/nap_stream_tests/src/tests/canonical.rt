@@ -1,86 +1,100 @@
 //! Lists that are not legal, which have no canonical text in either form.
+use Sample::{Bell, BlinkEnd, Blue, DefEnd, Glyph, Red, Reset};
+use Spot::Start;
 use nap_canon::{CanonFault, canon, canon_form1};
-use nap_fixtures::samples::{AFTER_RESET, blink_end, dot, map, middle, red, reset};
-use nap_list::{Entry, Pen};
-use nap_values::Grb;
-use std::alloc::{AllocError, Global};
-use std::process::Abort;
+use nap_fixtures::entries::{DOT, Sample, Shade, Spot, entries_of};
 use std::test::Fail;
 
-/// The list breaks at this index in both forms.
-fn breaks(rt: &impl Abort, alloc: Global, list: &[Entry], index: usize) {
-    let fault = Some(CanonFault::Illegal(index));
-    let faults = [canon(alloc, list).err(), canon_form1(alloc, list).err()];
-    assert!(rt; faults == [fault; 2], "of {list:?}");
-}
-
-/// DEF DRCS.
-fn glyph() -> Entry {
-    Entry::GlyphStart(0x41)
-}
+/// How light the colours are.
+const LIGHT: u16 = 49_152;
 
 /// The address of the word 4 in red.
-fn in_red() -> Entry {
-    map(1_048_576, red())
-}
+const RED: Sample = Red(1_048_576, LIGHT);
 
 /// The same address in blue.
-fn in_blue() -> Entry {
-    map(1_048_576, Grb::new(0, 0, 49_152))
-}
+const BLUE: Sample = Blue(1_048_576, LIGHT);
 
-/// RESET with this first word at the start.
-fn chosen(first: u8) -> Entry {
-    reset(first, 0, Pen::Start)
-}
+/// DEF DRCS.
+const GLYPH: Sample = Glyph(0x41);
+
+/// A list, and the index at which it breaks in both forms.
+const ROWS: &[(&[Sample], usize)] = &[
+    // Definitions begin before they end.
+    (&[DefEnd], 0),
+    (&[GLYPH], 1),
+    (&[Bell, DefEnd], 1),
+    // A list breaks at its first entry that doesn't fit.
+    (&[DefEnd, Bell, Bell], 0),
+    (&[DOT, BlinkEnd(Shade::AfterReset), DefEnd], 1),
+    (&[DOT, Bell, DefEnd], 2),
+    (&[DOT, DOT, GLYPH], 3),
+    // A known colour isn't legal.
+    (&[RED, RED], 1),
+    (&[RED, BLUE, BLUE], 2),
+    (&[RED, Red(2_097_152, LIGHT), RED], 2),
+    (&[RED, Reset(0, 0, Start), RED], 2),
+    (&[RED, Reset(1, 0, Start), RED], 2),
+    (&[RED, GLYPH, RED, DefEnd], 2),
+    (&[GLYPH, RED, DefEnd, RED], 3),
+    (&[RED, GLYPH, BLUE, DefEnd, BLUE], 4),
+    // Sixteen are known, each at an address of one word.
+    (
+        &[
+            Red(0, LIGHT),
+            Red(262_144, LIGHT),
+            Red(524_288, LIGHT),
+            Red(786_432, LIGHT),
+            Red(1_048_576, LIGHT),
+            Red(1_310_720, LIGHT),
+            Red(1_572_864, LIGHT),
+            Red(1_835_008, LIGHT),
+            Red(2_097_152, LIGHT),
+            Red(2_359_296, LIGHT),
+            Red(2_621_440, LIGHT),
+            Red(2_883_584, LIGHT),
+            Red(3_145_728, LIGHT),
+            Red(3_407_872, LIGHT),
+            Red(3_670_016, LIGHT),
+            Red(3_932_160, LIGHT),
+            Red(0, LIGHT),
+        ],
+        16,
+    ),
+    (
+        &[
+            Red(0, LIGHT),
+            Red(262_144, LIGHT),
+            Red(524_288, LIGHT),
+            Red(786_432, LIGHT),
+            Red(1_048_576, LIGHT),
+            Red(1_310_720, LIGHT),
+            Red(1_572_864, LIGHT),
+            Red(1_835_008, LIGHT),
+            Red(2_097_152, LIGHT),
+            Red(2_359_296, LIGHT),
+            Red(2_621_440, LIGHT),
+            Red(2_883_584, LIGHT),
+            Red(3_145_728, LIGHT),
+            Red(3_407_872, LIGHT),
+            Red(3_670_016, LIGHT),
+            Red(3_932_160, LIGHT),
+            Red(4_194_304, LIGHT),
+            Red(262_144, LIGHT),
+        ],
+        17,
+    ),
+];
 
 #[test]
-fn definitions_begin_before_they_end(rt: HostRuntime) {
+fn lists_that_are_not_legal_have_no_text(rt: HostRuntime) -> Result<(), Fail> {
     let alloc = rt.alloc();
-    breaks(&rt, alloc, &[Entry::DefEnd], 0);
-    breaks(&rt, alloc, &[glyph()], 1);
-    breaks(&rt, alloc, &[Entry::Bell, Entry::DefEnd], 1);
-}
-
-#[test]
-fn a_list_breaks_at_its_first_entry_that_does_not_fit(rt: HostRuntime) {
-    let alloc = rt.alloc();
-    breaks(&rt, alloc, &[Entry::DefEnd, Entry::Bell, Entry::Bell], 0);
-    let list = [dot(middle()), blink_end(AFTER_RESET), Entry::DefEnd];
-    breaks(&rt, alloc, &list, 1);
-    breaks(&rt, alloc, &[dot(middle()), Entry::Bell, Entry::DefEnd], 2);
-    breaks(&rt, alloc, &[dot(middle()), dot(middle()), glyph()], 3);
-}
-
-#[test]
-fn a_known_colour_is_not_legal(rt: HostRuntime) {
-    let alloc = rt.alloc();
-    breaks(&rt, alloc, &[in_red(), in_red()], 1);
-    breaks(&rt, alloc, &[in_red(), in_blue(), in_blue()], 2);
-    breaks(&rt, alloc, &[in_red(), map(2_097_152, red()), in_red()], 2);
-    breaks(&rt, alloc, &[in_red(), chosen(0), in_red()], 2);
-    breaks(&rt, alloc, &[in_red(), chosen(1), in_red()], 2);
-    breaks(&rt, alloc, &[in_red(), glyph(), in_red(), Entry::DefEnd], 2);
-    breaks(&rt, alloc, &[glyph(), in_red(), Entry::DefEnd, in_red()], 3);
-    let list = [in_red(), glyph(), in_blue(), Entry::DefEnd, in_blue()];
-    breaks(&rt, alloc, &list, 4);
-}
-
-/// Red at so many addresses, each of one word, and then at this one.
-fn reds(alloc: Global, count: u32, last: u32) -> Result<Vec<Entry>, AllocError> {
-    let mut list = Vec::new(alloc);
-    for number in 0..count {
-        list.push(map(number % 64 * 262_144, red()))?;
-    }
-    list.push(map(last, red()))?;
-    Ok(list)
-}
-
-#[test]
-fn sixteen_colours_are_known(rt: HostRuntime) -> Result<(), Fail> {
-    let alloc = rt.alloc();
-    for (count, last, index) in [(16, 0, 16), (17, 262_144, 17)] {
-        breaks(&rt, alloc, &reds(alloc, count, last)?, index);
+    for (samples, index) in ROWS {
+        let list = entries_of(alloc, samples)?;
+        let faults = [canon(alloc, &list).err(), canon_form1(alloc, &list).err()];
+        assert!(rt;
+            faults == [Some(CanonFault::Illegal(*index)); 2],
+            "of {list:?}"
+        );
     }
     Ok(())
 }

@@ -3,9 +3,8 @@ use nap_command::{Action, Command, Failure, execute, write_whole};
 use nap_fixtures::devices::{End, Giver, Nuls, Taker};
 use nap_list::{Source, Target};
 use nap_reader::Budget;
-use std::alloc::{AllocError, Global};
+use std::alloc::Global;
 use std::io::Read;
-use std::test::Fail;
 
 const POINT: &[u8] = b"\x0E\x26\x52";
 
@@ -13,41 +12,583 @@ const POINT_TEXT: &[u8] = b"\x0E\x21\x5F\x26\x52\x40\x40\x40\x40\x40\x40\x40";
 
 const REFUSED: &[u8] = b"refused 1 EighthBit at 0\n";
 
-const READ_FAULT: &[u8] = b"read fault\n";
-
-const NOTHING: &[u8] = b"";
-
 const ALL: usize = usize::MAX;
 
-const ACTIONS: [Action; 3] = [Action::List, Action::Check, Action::Canon];
-
-/// The command on bytes, which prints at its end.
-fn command(action: Action) -> Command {
-    Command {
-        action,
-        hex: false,
-        budget: Budget::usual(),
-        stream: false,
-    }
+/// A command, its input, its devices, and how it ends.
+#[derive(Clone, Copy, Drop)]
+struct Row {
+    action: Action,
+    hex: bool,
+    stream: bool,
+    budget: Option<u32>,
+    input: &'static [u8],
+    /// How many bytes a read gives, and which read fails.
+    gives: (usize, u64),
+    /// How much the output has room for, and how many bytes a write takes.
+    takes: (usize, usize),
+    end: End,
+    good_flushes: u64,
+    /// How much standard error has room for. It takes a byte at a write, unless it takes all.
+    error_room: usize,
+    /// What goes out.
+    out: &'static [u8],
+    /// What is told.
+    told: &'static [u8],
+    status: u8,
+    /// How many reads there are, where the row says so.
+    reads: Option<u64>,
+    /// How often the output and standard error are flushed, where the row says so.
+    flushes: Option<(u64, u64)>,
 }
 
-/// The same on hexadecimal text.
-fn on_digits(action: Action) -> Command {
-    Command {
+/// `check` of nothing.
+const USUAL: Row = Row {
+    action: Action::Check,
+    hex: false,
+    stream: false,
+    budget: None,
+    input: b"",
+    gives: (ALL, 0),
+    takes: (ALL, ALL),
+    end: End::Fails,
+    good_flushes: u64::MAX,
+    error_room: ALL,
+    out: b"",
+    told: b"",
+    status: 0,
+    reads: None,
+    flushes: None,
+};
+
+const LIST: Row = Row {
+    action: Action::List,
+    ..USUAL
+};
+
+const CANON: Row = Row {
+    action: Action::Canon,
+    ..USUAL
+};
+
+const POINT_LINE: &[u8] = b"POINT 4194304,4194304 pel=0,0 colour=own-start\n";
+
+/// The point, and characters behind it.
+const PAGE: &[u8] = b"\x0E\x26\x52\x40\x40\x00\x00\x00";
+
+const ROWS: &[Row] = &[
+    // A failing output is a write fault.
+    Row {
+        input: POINT,
+        takes: (5, 1),
+        out: b"\x0E\x21\x5F\x26\x52",
+        told: b"write fault after 5 bytes\n",
+        status: 3,
+        ..CANON
+    },
+    Row {
+        input: POINT,
+        takes: (0, 1),
+        end: End::Closes,
+        told: b"write fault after 0 bytes\n",
+        status: 3,
+        ..CANON
+    },
+    Row {
+        input: POINT,
+        takes: (5, 1),
+        end: End::Closes,
+        out: b"POINT",
+        told: b"write fault after 5 bytes\n",
+        status: 3,
+        ..LIST
+    },
+    Row {
+        takes: (5, 1),
+        good_flushes: 0,
+        told: b"write fault after 0 bytes\n",
+        status: 3,
+        ..LIST
+    },
+    Row {
+        input: POINT,
+        takes: (8, 1),
+        out: b"accepted",
+        told: b"write fault after 8 bytes\n",
+        status: 3,
+        ..USUAL
+    },
+    Row {
+        input: b"\x80",
+        takes: (7, 1),
+        out: b"refused",
+        told: b"write fault after 7 bytes\n",
+        status: 3,
+        ..USUAL
+    },
+    Row {
+        input: b"\x80",
+        takes: (7, 1),
+        good_flushes: 0,
+        told: b"write fault after 0 bytes\n",
+        status: 3,
+        ..LIST
+    },
+    Row {
+        input: b"\x80",
+        takes: (7, 1),
+        good_flushes: 0,
+        told: b"write fault after 0 bytes\n",
+        status: 3,
+        ..CANON
+    },
+    // One that fails later takes all.
+    Row {
+        input: POINT,
+        takes: (12, 1),
+        out: POINT_TEXT,
+        ..CANON
+    },
+    Row {
+        takes: (19, 1),
+        out: b"accepted 0 entries\n",
+        ..USUAL
+    },
+    Row {
+        input: b"\x80",
+        takes: (0, 1),
+        told: REFUSED,
+        status: 1,
+        ..LIST
+    },
+    // A read that failed isn't tried again, wherever it comes, although the bytes behind it would make a page.
+    Row {
+        input: POINT,
+        gives: (1, 1),
+        told: b"read fault\n",
+        status: 3,
+        reads: Some(1),
+        ..LIST
+    },
+    Row {
+        input: POINT,
+        gives: (1, 2),
+        told: b"read fault\n",
+        status: 3,
+        reads: Some(2),
+        ..LIST
+    },
+    Row {
+        input: POINT,
+        gives: (1, 3),
+        told: b"read fault\n",
+        status: 3,
+        reads: Some(3),
+        ..LIST
+    },
+    Row {
+        input: POINT,
+        gives: (1, 4),
+        told: b"read fault\n",
+        status: 3,
+        reads: Some(4),
+        ..LIST
+    },
+    Row {
+        input: POINT,
+        gives: (1, 1),
+        told: b"read fault\n",
+        status: 3,
+        reads: Some(1),
+        ..USUAL
+    },
+    Row {
+        input: POINT,
+        gives: (1, 2),
+        told: b"read fault\n",
+        status: 3,
+        reads: Some(2),
+        ..USUAL
+    },
+    Row {
+        input: POINT,
+        gives: (1, 3),
+        told: b"read fault\n",
+        status: 3,
+        reads: Some(3),
+        ..USUAL
+    },
+    Row {
+        input: POINT,
+        gives: (1, 4),
+        told: b"read fault\n",
+        status: 3,
+        reads: Some(4),
+        ..USUAL
+    },
+    Row {
+        input: POINT,
+        gives: (1, 1),
+        told: b"read fault\n",
+        status: 3,
+        reads: Some(1),
+        ..CANON
+    },
+    Row {
+        input: POINT,
+        gives: (1, 2),
+        told: b"read fault\n",
+        status: 3,
+        reads: Some(2),
+        ..CANON
+    },
+    Row {
+        input: POINT,
+        gives: (1, 3),
+        told: b"read fault\n",
+        status: 3,
+        reads: Some(3),
+        ..CANON
+    },
+    Row {
+        input: POINT,
+        gives: (1, 4),
+        told: b"read fault\n",
+        status: 3,
+        reads: Some(4),
+        ..CANON
+    },
+    // Behind a refusal the rest is read all the same, and a read that fails there comes first.
+    Row {
+        input: b"\x80\x0E\x26",
+        gives: (1, 3),
+        told: b"read fault\n",
+        status: 3,
+        reads: Some(3),
+        ..LIST
+    },
+    Row {
+        input: b"\x80\x0E\x26",
+        gives: (1, 4),
+        told: b"read fault\n",
+        status: 3,
+        reads: Some(4),
+        ..LIST
+    },
+    Row {
+        input: b"\x80\x0E\x26",
+        gives: (1, 100),
+        told: REFUSED,
+        status: 1,
+        reads: Some(4),
+        ..LIST
+    },
+    Row {
+        input: b"\x80\x0E\x26",
+        gives: (1, 3),
+        told: b"read fault\n",
+        status: 3,
+        reads: Some(3),
+        ..USUAL
+    },
+    Row {
+        input: b"\x80\x0E\x26",
+        gives: (1, 4),
+        told: b"read fault\n",
+        status: 3,
+        reads: Some(4),
+        ..USUAL
+    },
+    Row {
+        input: b"\x80\x0E\x26",
+        gives: (1, 100),
+        out: REFUSED,
+        status: 1,
+        reads: Some(4),
+        ..USUAL
+    },
+    Row {
+        input: b"\x80\x0E\x26",
+        gives: (1, 3),
+        told: b"read fault\n",
+        status: 3,
+        reads: Some(3),
+        ..CANON
+    },
+    Row {
+        input: b"\x80\x0E\x26",
+        gives: (1, 4),
+        told: b"read fault\n",
+        status: 3,
+        reads: Some(4),
+        ..CANON
+    },
+    Row {
+        input: b"\x80\x0E\x26",
+        gives: (1, 100),
+        told: REFUSED,
+        status: 1,
+        reads: Some(4),
+        ..CANON
+    },
+    // A failing standard error changes no status. It takes three bytes. The last input gives a byte and then fails.
+    Row {
         hex: true,
-        ..command(action)
-    }
-}
-
-/// `canon` that prints as it reads.
-fn streamed() -> Command {
-    Command {
+        takes: (100, 1),
+        error_room: 3,
+        out: b"accepted 0 entries\n",
+        status: 0,
+        ..USUAL
+    },
+    Row {
+        hex: true,
+        input: b"80",
+        takes: (100, 1),
+        error_room: 3,
+        out: REFUSED,
+        status: 1,
+        ..USUAL
+    },
+    Row {
+        hex: true,
+        input: b"80",
+        takes: (100, 1),
+        error_room: 3,
+        told: b"ref",
+        status: 1,
+        ..LIST
+    },
+    Row {
+        hex: true,
+        input: b"80",
+        takes: (100, 1),
+        error_room: 3,
+        told: b"ref",
+        status: 1,
+        ..CANON
+    },
+    Row {
+        hex: true,
+        input: b"8",
+        takes: (100, 1),
+        error_room: 3,
+        told: b"hex",
+        status: 3,
+        ..CANON
+    },
+    Row {
+        hex: true,
+        takes: (2, 1),
+        error_room: 3,
+        out: b"0e",
+        told: b"wri",
+        status: 3,
+        ..CANON
+    },
+    Row {
+        input: b"\x0E",
+        gives: (ALL, 2),
+        takes: (100, 1),
+        error_room: 3,
+        told: b"rea",
+        status: 3,
+        ..LIST
+    },
+    // Answers are sent on.
+    Row {
+        hex: true,
+        input: b"0E2652",
+        out: POINT_LINE,
+        flushes: Some((1, 0)),
+        ..LIST
+    },
+    Row {
+        hex: true,
+        flushes: Some((1, 0)),
+        ..LIST
+    },
+    Row {
+        hex: true,
+        input: b"0E2652",
+        out: b"accepted 1 entries\n",
+        flushes: Some((1, 0)),
+        ..USUAL
+    },
+    Row {
+        hex: true,
+        input: b"80",
+        out: REFUSED,
+        status: 1,
+        flushes: Some((1, 0)),
+        ..USUAL
+    },
+    Row {
+        hex: true,
+        input: b"0E2652",
+        out: b"0e215f265240404040404040\n",
+        flushes: Some((1, 0)),
+        ..CANON
+    },
+    Row {
+        budget: Some(0),
+        out: b"\x0E\x21\x5F",
+        flushes: Some((1, 0)),
+        ..CANON
+    },
+    // So are failures, behind nothing.
+    Row {
+        hex: true,
+        input: b"80",
+        told: REFUSED,
+        status: 1,
+        flushes: Some((1, 1)),
+        ..LIST
+    },
+    Row {
+        hex: true,
+        input: b"80",
+        told: REFUSED,
+        status: 1,
+        flushes: Some((1, 1)),
+        ..CANON
+    },
+    Row {
+        hex: true,
+        input: b"8",
+        told: b"hex fault\n",
+        status: 3,
+        flushes: Some((1, 1)),
+        ..LIST
+    },
+    Row {
+        hex: true,
+        input: b"8",
+        told: b"hex fault\n",
+        status: 3,
+        flushes: Some((1, 1)),
+        ..USUAL
+    },
+    Row {
+        hex: true,
+        input: b"8",
+        told: b"hex fault\n",
+        status: 3,
+        flushes: Some((1, 1)),
+        ..CANON
+    },
+    // An output that failed to take is not flushed any more; that it failed is sent on.
+    Row {
+        hex: true,
+        input: b"0E2652",
+        takes: (0, ALL),
+        told: b"write fault after 0 bytes\n",
+        status: 3,
+        flushes: Some((0, 1)),
+        ..LIST
+    },
+    Row {
+        hex: true,
+        input: b"0E2652",
+        takes: (0, ALL),
+        told: b"write fault after 0 bytes\n",
+        status: 3,
+        flushes: Some((0, 1)),
+        ..USUAL
+    },
+    Row {
+        hex: true,
+        input: b"0E2652",
+        takes: (0, ALL),
+        told: b"write fault after 0 bytes\n",
+        status: 3,
+        flushes: Some((0, 1)),
+        ..CANON
+    },
+    // Faults leave what went out: of the whole page, of one whose read fails in the open run of the point and behind it,
+    // and of one whose write fails, where nothing more is read.
+    Row {
         stream: true,
-        ..command(Action::Canon)
-    }
-}
+        input: PAGE,
+        gives: (1, 0),
+        takes: (100, ALL),
+        out: POINT_TEXT,
+        reads: Some(9),
+        flushes: Some((1, 0)),
+        ..CANON
+    },
+    Row {
+        stream: true,
+        input: PAGE,
+        gives: (1, 5),
+        takes: (100, ALL),
+        out: b"\x0E\x21\x5F",
+        told: b"read fault\n",
+        status: 3,
+        reads: Some(5),
+        flushes: Some((1, 1)),
+        ..CANON
+    },
+    Row {
+        stream: true,
+        input: PAGE,
+        gives: (1, 8),
+        takes: (100, ALL),
+        out: POINT_TEXT,
+        told: b"read fault\n",
+        status: 3,
+        reads: Some(8),
+        flushes: Some((1, 1)),
+        ..CANON
+    },
+    Row {
+        stream: true,
+        input: PAGE,
+        gives: (1, 0),
+        takes: (5, ALL),
+        out: b"\x0E\x21\x5F\x26\x52",
+        told: b"write fault after 5 bytes\n",
+        status: 3,
+        reads: Some(6),
+        flushes: Some((0, 1)),
+        ..CANON
+    },
+    Row {
+        stream: true,
+        input: PAGE,
+        gives: (1, 0),
+        takes: (3, ALL),
+        out: b"\x0E\x21\x5F",
+        told: b"write fault after 3 bytes\n",
+        status: 3,
+        reads: Some(6),
+        flushes: Some((0, 1)),
+        ..CANON
+    },
+    Row {
+        stream: true,
+        input: PAGE,
+        gives: (1, 0),
+        takes: (2, ALL),
+        out: b"\x0E\x21",
+        told: b"write fault after 2 bytes\n",
+        status: 3,
+        reads: Some(0),
+        flushes: Some((0, 1)),
+        ..CANON
+    },
+    // Hexadecimal text is not streamed.
+    Row {
+        hex: true,
+        stream: true,
+        input: b"0E",
+        told: b"--hex and --stream exclude each other\n",
+        status: 2,
+        reads: Some(0),
+        flushes: Some((0, 1)),
+        ..CANON
+    },
+];
 
-/// The devices behind a command, and its status.
+/// What a command leaves.
 #[derive(Drop)]
 struct Ended<R> {
     input: R,
@@ -57,24 +598,46 @@ struct Ended<R> {
 }
 
 impl<R> Ended<R> {
-    /// Whether this went out, this was told, and this is the status.
-    fn is(&self, out: &[u8], told: &[u8], status: u8) -> bool {
-        self.output.kept.as_slice() == out
-            && self.errors.kept.as_slice() == told
-            && self.status == status
+    /// Whether this went out, was told, and is the status.
+    fn is(&self, row: &Row) -> bool {
+        let Ended { output, errors, .. } = self;
+        let flushes = (output.flushes, errors.flushes);
+        output.kept.as_slice() == row.out
+            && errors.kept.as_slice() == row.told
+            && self.status == row.status
+            && row.flushes.unwrap_or(flushes) == flushes
+    }
+
+    /// Whether the last flushes found all that was taken.
+    fn is_sent(&self) -> bool {
+        let Ended { output, errors, .. } = self;
+        (output.flushes == 0 || output.sent == output.kept.len())
+            && (errors.flushes == 0 || errors.sent == errors.kept.len())
     }
 }
 
-fn run<R: Read + Drop>(
-    alloc: Global,
-    command: &Command,
-    input: R,
-    output: Taker,
-    errors: Taker,
-) -> Ended<R> {
+fn run<R: Read + Drop>(alloc: Global, row: &Row, input: R) -> Ended<R> {
+    let usual = Budget::usual();
+    let command = Command {
+        action: row.action,
+        hex: row.hex,
+        stream: row.stream,
+        budget: Budget::new(row.budget.unwrap_or(usual.get())).unwrap_or(usual),
+    };
+    let output = Taker {
+        good_flushes: row.good_flushes,
+        ..Taker::new(alloc, row.takes.0, row.takes.1, row.end)
+    };
     let mut input = Source::new(input);
-    let mut errors = Target::new(errors);
-    let (output, status) = execute(alloc, command, &mut input, Target::new(output), &mut errors);
+    let most = if row.error_room == ALL { ALL } else { 1 };
+    let mut errors = Target::new(Taker::new(alloc, row.error_room, most, End::Fails));
+    let (output, status) = execute(
+        alloc,
+        &command,
+        &mut input,
+        Target::new(output),
+        &mut errors,
+    );
     Ended {
         input: input.into_inner(),
         output: output.into_inner(),
@@ -83,267 +646,51 @@ fn run<R: Read + Drop>(
     }
 }
 
-/// All is taken, and the input gives a byte at a read, and fails at this one from 1.
-fn run_slow<'a>(alloc: Global, command: &Command, input: &'a [u8], bad: u64) -> Ended<Giver<'a>> {
-    let input = Giver::new(input, 1, bad);
-    run(
-        alloc,
-        command,
-        input,
-        Taker::wide(alloc),
-        Taker::wide(alloc),
-    )
-}
-
-/// All is told, and the input is in one piece.
-fn run_into<'a>(
-    alloc: Global,
-    command: &Command,
-    input: &'a [u8],
-    output: Taker,
-) -> Ended<Giver<'a>> {
-    let input = Giver::new(input, ALL, 0);
-    run(alloc, command, input, output, Taker::wide(alloc))
-}
-
-/// Nothing was taken, and nothing sent on.
-fn is_untouched(writer: &Taker) -> bool {
-    writer.flushes == 0 && writer.kept.is_empty()
-}
-
-/// All that was taken was sent on, once.
-fn is_sent(writer: &Taker) -> bool {
-    writer.flushes == 1 && writer.sent == writer.kept.len()
-}
-
-/// The line of a write that failed behind so many bytes.
-fn write_fault(alloc: Global, written: usize) -> Result<String, AllocError> {
-    format!(in alloc; "write fault after {written} bytes\n")
-}
-
-// So help is printed, and so wrong words are told. An output that failed to take is not flushed any more.
 #[test]
-fn a_text_is_taken_whole_and_sent_on(rt: HostRuntime) {
-    let alloc = rt.alloc();
-    for (room, good_flushes, kept, flushed, fault) in [
-        (ALL, 1, POINT_TEXT, (1, 12), None),
-        (ALL, 0, POINT_TEXT, (1, 12), Some(Failure::Write(12))),
-        (6, 1, &POINT_TEXT[..6], (0, 0), Some(Failure::Write(6))),
-        (0, 1, NOTHING, (0, 0), Some(Failure::Write(0))),
-    ] {
-        let mut output = Target::new(Taker {
-            good_flushes,
-            ..Taker::new(alloc, room, ALL, End::Fails)
-        });
-        let written = write_whole(&mut output, POINT_TEXT);
-        let taker = output.into_inner();
-        let found = written.err() == fault
-            && taker.kept.as_slice() == kept
-            && (taker.flushes, taker.sent) == flushed;
-        assert!(rt; found, "with room for {room}");
-    }
-}
-
-#[test]
-fn a_failing_output_is_a_write_fault(rt: HostRuntime) -> Result<(), Fail> {
-    let alloc = rt.alloc();
-    for (action, input, room, end, good_flushes, out) in [
-        (Action::Canon, POINT, 5, End::Fails, 1, &POINT_TEXT[..5]),
-        (Action::Canon, POINT, 0, End::Closes, 1, NOTHING),
-        (Action::List, POINT, 5, End::Closes, 1, b"POINT"),
-        (Action::List, NOTHING, 5, End::Fails, 0, NOTHING),
-        (Action::Check, POINT, 8, End::Fails, 1, b"accepted"),
-        (Action::Check, b"\x80", 7, End::Fails, 1, b"refused"),
-        (Action::List, b"\x80", 7, End::Fails, 0, NOTHING),
-        (Action::Canon, b"\x80", 7, End::Fails, 0, NOTHING),
-    ] {
-        let output = Taker {
-            good_flushes,
-            ..Taker::new(alloc, room, 1, end)
-        };
-        let ended = run_into(alloc, &command(action), input, output);
-        let told = write_fault(alloc, out.len())?;
-        assert!(rt; ended.is(out, told.as_bytes(), 3), "of {input:?}");
-    }
-    Ok(())
-}
-
-// The room is just what is printed.
-#[test]
-fn an_output_that_fails_later_takes_all(rt: HostRuntime) {
-    let alloc = rt.alloc();
-    for (action, input, out, told, status) in [
-        (Action::Canon, POINT, POINT_TEXT, NOTHING, 0),
-        (Action::Check, NOTHING, b"accepted 0 entries\n", NOTHING, 0),
-        (Action::List, b"\x80", NOTHING, REFUSED, 1),
-    ] {
-        let output = Taker::new(alloc, out.len(), 1, End::Fails);
-        let ended = run_into(alloc, &command(action), input, output);
-        assert!(rt; ended.is(out, told, status), "of {input:?}");
-    }
-}
-
-// A read that failed isn't tried again, wherever it comes, although the bytes behind it would make a page.
-#[test]
-fn a_failed_read_is_not_tried_again(rt: HostRuntime) {
-    let alloc = rt.alloc();
-    for action in ACTIONS {
-        for bad in 1..5 {
-            let ended = run_slow(alloc, &command(action), POINT, bad);
-            let fails = ended.is(NOTHING, READ_FAULT, 3) && ended.input.reads == bad;
-            assert!(rt; fails, "at {bad}");
-        }
-    }
-}
-
-// Behind a refusal the rest is read all the same, and a read that fails there comes first.
-#[test]
-fn a_refused_input_is_read_to_its_end(rt: HostRuntime) {
-    let alloc = rt.alloc();
-    for (action, out, told) in [
-        (Action::List, NOTHING, REFUSED),
-        (Action::Check, REFUSED, NOTHING),
-        (Action::Canon, NOTHING, REFUSED),
-    ] {
-        for bad in [3, 4] {
-            let ended = run_slow(alloc, &command(action), b"\x80\x0E\x26", bad);
-            let fails = ended.is(NOTHING, READ_FAULT, 3) && ended.input.reads == bad;
-            assert!(rt; fails, "at {bad}");
-        }
-        let ended = run_slow(alloc, &command(action), b"\x80\x0E\x26", 100);
-        assert!(rt; ended.is(out, told, 1) && ended.input.reads == 4);
+fn commands_end_as_their_devices_let_them(rt: HostRuntime) {
+    let mut number: u64 = 0;
+    for row in ROWS {
+        number = number.wrapping_add(1);
+        let input = Giver::new(row.input, row.gives.0, row.gives.1);
+        let ended = run(rt.alloc(), row, input);
+        let reads = ended.input.reads;
+        let found = ended.is(row) && ended.is_sent() && row.reads.unwrap_or(reads) == reads;
+        assert!(rt; found, "row {number}");
     }
 }
 
 // The read that finds the end is the last, also of an input of more bytes than a command may make reads.
 #[test]
 fn a_long_input_is_read_once_past_its_bytes(rt: HostRuntime) {
-    let alloc = rt.alloc();
-    let ended = run(
-        alloc,
-        &command(Action::Check),
-        Nuls::new(1_100_000, ALL),
-        Taker::wide(alloc),
-        Taker::wide(alloc),
-    );
-    let found = ended.is(b"accepted 0 entries\n", NOTHING, 0) && ended.input.reads == 18;
-    assert!(rt; found);
-}
-
-// Standard error takes three bytes. The last input gives a byte and then fails.
-#[test]
-fn a_failing_standard_error_changes_no_status(rt: HostRuntime) {
-    let alloc = rt.alloc();
-    for (command, input, bad, room, told, status) in [
-        (on_digits(Action::Check), NOTHING, 0, 100, NOTHING, 0),
-        (on_digits(Action::Check), b"80", 0, 100, NOTHING, 1),
-        (on_digits(Action::List), b"80", 0, 100, b"ref", 1),
-        (on_digits(Action::Canon), b"80", 0, 100, b"ref", 1),
-        (on_digits(Action::Canon), b"8", 0, 100, b"hex", 3),
-        (on_digits(Action::Canon), NOTHING, 0, 2, b"wri", 3),
-        (command(Action::List), b"\x0E", 2, 100, b"rea", 3),
-    ] {
-        let ended = run(
-            alloc,
-            &command,
-            Giver::new(input, ALL, bad),
-            Taker::new(alloc, room, 1, End::Fails),
-            Taker::new(alloc, 3, 1, End::Fails),
-        );
-        let found = ended.errors.kept.as_slice() == told && ended.status == status;
-        assert!(rt; found, "of {input:?}");
-    }
-}
-
-#[test]
-fn answers_are_sent_on(rt: HostRuntime) {
-    let alloc = rt.alloc();
-    let uncharged = Command {
-        budget: Budget::new(0).unwrap_or(Budget::usual()),
-        ..command(Action::Canon)
+    let row = Row {
+        out: b"accepted 0 entries\n",
+        ..USUAL
     };
-    for (command, input, status) in [
-        (on_digits(Action::List), b"0E2652".as_slice(), 0),
-        (on_digits(Action::List), b"", 0),
-        (on_digits(Action::Check), b"0E2652", 0),
-        (on_digits(Action::Check), b"80", 1),
-        (on_digits(Action::Canon), b"0E2652", 0),
-        (uncharged, b"", 0),
-    ] {
-        let ended = run_into(alloc, &command, input, Taker::wide(alloc));
-        let sent = is_sent(&ended.output) && is_untouched(&ended.errors);
-        assert!(rt; sent && ended.status == status, "of {input:?}");
-    }
+    let ended = run(rt.alloc(), &row, Nuls::new(1_100_000, ALL));
+    assert!(rt; ended.is(&row) && ended.input.reads == 18);
 }
 
-#[test]
-fn failures_are_sent_on(rt: HostRuntime) {
-    let alloc = rt.alloc();
-    for (action, input, status) in [
-        (Action::List, b"80".as_slice(), 1),
-        (Action::Canon, b"80", 1),
-        (Action::List, b"8", 3),
-        (Action::Check, b"8", 3),
-        (Action::Canon, b"8", 3),
-    ] {
-        let ended = run_into(alloc, &on_digits(action), input, Taker::wide(alloc));
-        let told = is_sent(&ended.errors) && !ended.errors.kept.is_empty();
-        let sent = is_sent(&ended.output) && ended.output.kept.is_empty();
-        assert!(rt; told && sent && ended.status == status, "of {input:?}");
-    }
-}
+/// The room of an output, its good flushes, how much is taken, its flushes and what the last found, and the answer.
+const TEXTS: &[(usize, u64, usize, (u64, usize), Option<Failure>)] = &[
+    (ALL, 1, 12, (1, 12), None),
+    (ALL, 0, 12, (1, 12), Some(Failure::Write(12))),
+    (6, 1, 6, (0, 0), Some(Failure::Write(6))),
+    (0, 1, 0, (0, 0), Some(Failure::Write(0))),
+];
 
-// An output that failed to take is not flushed any more; that it failed is sent on.
+// So help is printed, and so wrong words are told. An output that failed to take is not flushed any more.
 #[test]
-fn write_faults_are_sent_on(rt: HostRuntime) {
-    let alloc = rt.alloc();
-    for action in ACTIONS {
-        let output = Taker::new(alloc, 0, ALL, End::Fails);
-        let ended = run_into(alloc, &on_digits(action), b"0E2652", output);
-        let sent = is_untouched(&ended.output) && is_sent(&ended.errors);
-        let told = ended.is(NOTHING, b"write fault after 0 bytes\n", 3);
-        assert!(rt; sent && told);
+fn a_text_is_taken_whole_and_sent_on(rt: HostRuntime) {
+    for (room, good_flushes, kept, flushed, fault) in TEXTS {
+        let mut output = Target::new(Taker {
+            good_flushes: *good_flushes,
+            ..Taker::new(rt.alloc(), *room, ALL, End::Fails)
+        });
+        let written = write_whole(&mut output, POINT_TEXT).err();
+        let taker = output.into_inner();
+        let found = written == *fault
+            && taker.kept.as_slice() == &POINT_TEXT[..*kept]
+            && (taker.flushes, taker.sent) == *flushed;
+        assert!(rt; found, "with room for {room}");
     }
-}
-
-#[test]
-fn faults_leave_what_went_out(rt: HostRuntime) {
-    let alloc = rt.alloc();
-    let page = b"\x0E\x26\x52\x40\x40\x00\x00\x00".as_slice();
-    for (bad, room, reads, taken, flushes, told) in [
-        // the whole page
-        (0, 100, 9, 12, 1, NOTHING),
-        // a read fails while the point's run is open, and behind it
-        (5, 100, 5, 3, 1, READ_FAULT),
-        (8, 100, 8, 12, 1, READ_FAULT),
-        // a write fails, and nothing more is read
-        (0, 5, 6, 5, 0, b"write fault after 5 bytes\n"),
-        (0, 3, 6, 3, 0, b"write fault after 3 bytes\n"),
-        (0, 2, 0, 2, 0, b"write fault after 2 bytes\n"),
-    ] {
-        let ended = run(
-            alloc,
-            &streamed(),
-            Giver::new(page, 1, bad),
-            Taker::new(alloc, room, ALL, End::Fails),
-            Taker::wide(alloc),
-        );
-        let status = if told.is_empty() { 0 } else { 3 };
-        let found = ended.is(&POINT_TEXT[..taken], told, status)
-            && (ended.input.reads, ended.output.flushes) == (reads, flushes);
-        assert!(rt; found, "with room for {room}, at {bad}");
-    }
-}
-
-#[test]
-fn hexadecimal_text_is_not_streamed(rt: HostRuntime) {
-    let alloc = rt.alloc();
-    let command = Command {
-        hex: true,
-        ..streamed()
-    };
-    let ended = run_into(alloc, &command, b"0E", Taker::wide(alloc));
-    let told = b"--hex and --stream exclude each other\n";
-    assert!(rt; is_untouched(&ended.output) && ended.input.reads == 0);
-    assert!(rt; ended.is(NOTHING, told, 2));
 }

@@ -5,10 +5,7 @@ use nap_list::{Inlet, Source, Target};
 use nap_reader::{Budget, Fault, Refusal};
 use std::alloc::{AllocError, Global};
 use std::io::Read;
-use std::process::Abort;
 use std::test::Fail;
-
-const HEADER: &[u8] = b"\x0E\x21\x5F";
 
 /// A point in the middle, and its canonical stream.
 const POINT: &[u8] = b"\x0E\x26\x52\x40\x40";
@@ -18,177 +15,381 @@ const CANONICAL: &[u8] = b"\x0E\x21\x5F\x26\x52\x40\x40\x40\x40\x40\x40\x40";
 /// The point, and an opcode whose operand is missing.
 const MISSING: &[u8] = b"\x0E\x26\x52\x0E\x24";
 
-/// What a conversion leaves.
-#[derive(Drop)]
-struct Done {
+/// The point, and a hundred NULs.
+const LONG: &[u8] = b"\x0E\x26\x52\x40\x40\
+\0\0\0\0\0\0\0\0\0\0\0\0\0\0\0\0\0\0\0\0\0\0\0\0\0\0\0\0\0\0\0\0\0\0\0\0\0\0\0\0\0\0\0\0\0\0\0\0\0\0\
+\0\0\0\0\0\0\0\0\0\0\0\0\0\0\0\0\0\0\0\0\0\0\0\0\0\0\0\0\0\0\0\0\0\0\0\0\0\0\0\0\0\0\0\0\0\0\0\0\0\0\
+";
+
+/// The same behind as many.
+const LATE: &[u8] = b"\
+\0\0\0\0\0\0\0\0\0\0\0\0\0\0\0\0\0\0\0\0\0\0\0\0\0\0\0\0\0\0\0\0\0\0\0\0\0\0\0\0\0\0\0\0\0\0\0\0\0\0\
+\0\0\0\0\0\0\0\0\0\0\0\0\0\0\0\0\0\0\0\0\0\0\0\0\0\0\0\0\0\0\0\0\0\0\0\0\0\0\0\0\0\0\0\0\0\0\0\0\0\0\
+\x0E\x26\x52\x40\x40\
+\0\0\0\0\0\0\0\0\0\0\0\0\0\0\0\0\0\0\0\0\0\0\0\0\0\0\0\0\0\0\0\0\0\0\0\0\0\0\0\0\0\0\0\0\0\0\0\0\0\0\
+\0\0\0\0\0\0\0\0\0\0\0\0\0\0\0\0\0\0\0\0\0\0\0\0\0\0\0\0\0\0\0\0\0\0\0\0\0\0\0\0\0\0\0\0\0\0\0\0\0\0\
+";
+
+/// The point by a macro of three bytes.
+const MACRO: &[u8] = b"\x1B\x40\x21\x0E\x26\x52\x1B\x45\x1B\x2F\x7A\x1D\x21\x40\x40";
+
+const NO_OPERAND: ConvertFault = ConvertFault::Refused {
+    refusal: Refusal {
+        fault: Fault::Missing,
+        place: 4,
+    },
+    written: 12,
+};
+
+const TOO_MUCH: ConvertFault = ConvertFault::Refused {
+    refusal: Refusal {
+        fault: Fault::Budget,
+        place: 12,
+    },
+    written: 3,
+};
+
+/// A conversion, its devices, and what it leaves.
+#[derive(Clone, Copy, Drop)]
+struct Row {
+    input: &'static [u8],
+    budget: u32,
+    /// How many bytes a read gives, and which read fails.
+    gives: (usize, u64),
+    /// How much the output has room for, and how many bytes a write takes.
+    takes: (usize, usize),
+    end: End,
+    /// How many flushes are done.
+    good_flushes: u64,
     answer: Result<u64, ConvertFault>,
-    calls: u64,
-    taker: Taker,
+    /// How many bytes of the canonical stream go out.
+    kept: usize,
+    flushes: u64,
+    /// How many reads and writes there are, where the row says so.
+    calls: Option<u64>,
+    writes: Option<u64>,
 }
 
-fn converted<R: Read + Drop>(alloc: Global, budget: Budget, reader: R, taker: Taker) -> Done {
+/// The point, whole.
+const USUAL: Row = Row {
+    input: POINT,
+    budget: Budget::USUAL,
+    gives: (64, 0),
+    takes: (usize::MAX, usize::MAX),
+    end: End::Fails,
+    good_flushes: u64::MAX,
+    answer: Ok(12),
+    kept: 12,
+    flushes: 1,
+    calls: None,
+    writes: None,
+};
+
+const ROWS: &[Row] = &[
+    // A stream is read and written in pieces of any size.
+    Row {
+        input: b"\x0E\x26\x52",
+        gives: (64, 0),
+        takes: (64, 64),
+        ..USUAL
+    },
+    Row {
+        input: b"\x0E\x26\x52",
+        gives: (1, 0),
+        takes: (64, 64),
+        ..USUAL
+    },
+    Row {
+        input: b"\x0E\x26\x52",
+        gives: (64, 0),
+        takes: (64, 1),
+        ..USUAL
+    },
+    Row {
+        input: b"\x0E\x26\x52",
+        gives: (1, 0),
+        takes: (64, 1),
+        ..USUAL
+    },
+    Row {
+        input: b"\x0E\x26\x52",
+        gives: (2, 0),
+        takes: (64, 5),
+        ..USUAL
+    },
+    Row {
+        input: POINT,
+        gives: (64, 0),
+        takes: (64, 64),
+        ..USUAL
+    },
+    Row {
+        input: POINT,
+        gives: (1, 0),
+        takes: (64, 64),
+        ..USUAL
+    },
+    Row {
+        input: POINT,
+        gives: (64, 0),
+        takes: (64, 1),
+        ..USUAL
+    },
+    Row {
+        input: POINT,
+        gives: (1, 0),
+        takes: (64, 1),
+        ..USUAL
+    },
+    Row {
+        input: POINT,
+        gives: (2, 0),
+        takes: (64, 5),
+        ..USUAL
+    },
+    // What stands before a refusal is written.
+    Row {
+        input: MISSING,
+        gives: (64, 0),
+        takes: (64, 64),
+        answer: Err(NO_OPERAND),
+        ..USUAL
+    },
+    Row {
+        input: MISSING,
+        gives: (1, 0),
+        takes: (64, 64),
+        answer: Err(NO_OPERAND),
+        ..USUAL
+    },
+    Row {
+        input: MISSING,
+        gives: (64, 0),
+        takes: (64, 1),
+        answer: Err(NO_OPERAND),
+        ..USUAL
+    },
+    // A failed flush is a write fault.
+    Row {
+        input: POINT,
+        gives: (1, 0),
+        good_flushes: 0,
+        answer: Err(ConvertFault::Write { written: 12 }),
+        ..USUAL
+    },
+    Row {
+        input: MISSING,
+        gives: (1, 0),
+        good_flushes: 0,
+        answer: Err(ConvertFault::Write { written: 12 }),
+        ..USUAL
+    },
+    Row {
+        input: POINT,
+        gives: (1, 3),
+        good_flushes: 0,
+        answer: Err(ConvertFault::Write { written: 3 }),
+        kept: 3,
+        ..USUAL
+    },
+    // What was read is written before more is read, and nothing is read or flushed behind a failed write.
+    Row {
+        input: LONG,
+        gives: (1, 0),
+        takes: (0, 64),
+        answer: Err(ConvertFault::Write { written: 0 }),
+        kept: 0,
+        flushes: 0,
+        calls: Some(0),
+        ..USUAL
+    },
+    Row {
+        input: LONG,
+        gives: (1, 0),
+        takes: (2, 64),
+        answer: Err(ConvertFault::Write { written: 2 }),
+        kept: 2,
+        flushes: 0,
+        calls: Some(0),
+        ..USUAL
+    },
+    Row {
+        input: LONG,
+        gives: (1, 0),
+        takes: (3, 64),
+        answer: Err(ConvertFault::Write { written: 3 }),
+        kept: 3,
+        flushes: 0,
+        calls: Some(6),
+        ..USUAL
+    },
+    Row {
+        input: LONG,
+        gives: (1, 0),
+        takes: (11, 64),
+        answer: Err(ConvertFault::Write { written: 11 }),
+        kept: 11,
+        flushes: 0,
+        calls: Some(6),
+        ..USUAL
+    },
+    Row {
+        input: LONG,
+        gives: (2, 0),
+        takes: (3, 64),
+        answer: Err(ConvertFault::Write { written: 3 }),
+        kept: 3,
+        flushes: 0,
+        calls: Some(3),
+        ..USUAL
+    },
+    Row {
+        input: LATE,
+        gives: (64, 0),
+        takes: (3, 64),
+        answer: Err(ConvertFault::Write { written: 3 }),
+        kept: 3,
+        flushes: 0,
+        calls: Some(2),
+        ..USUAL
+    },
+    // Any read may fail. An opcode whose operands go on doesn't act then.
+    Row {
+        input: POINT,
+        gives: (1, 1),
+        answer: Err(ConvertFault::Read { written: 3 }),
+        kept: 3,
+        calls: Some(1),
+        ..USUAL
+    },
+    Row {
+        input: POINT,
+        gives: (1, 2),
+        answer: Err(ConvertFault::Read { written: 3 }),
+        kept: 3,
+        calls: Some(2),
+        ..USUAL
+    },
+    Row {
+        input: POINT,
+        gives: (1, 3),
+        answer: Err(ConvertFault::Read { written: 3 }),
+        kept: 3,
+        calls: Some(3),
+        ..USUAL
+    },
+    Row {
+        input: POINT,
+        gives: (1, 4),
+        answer: Err(ConvertFault::Read { written: 3 }),
+        kept: 3,
+        calls: Some(4),
+        ..USUAL
+    },
+    Row {
+        input: POINT,
+        gives: (1, 5),
+        answer: Err(ConvertFault::Read { written: 3 }),
+        kept: 3,
+        calls: Some(5),
+        ..USUAL
+    },
+    Row {
+        input: POINT,
+        gives: (1, 6),
+        answer: Err(ConvertFault::Read { written: 3 }),
+        kept: 3,
+        calls: Some(6),
+        ..USUAL
+    },
+    // A body is charged to the budget.
+    Row {
+        input: MACRO,
+        budget: 2,
+        gives: (1, 0),
+        answer: Err(TOO_MUCH),
+        kept: 3,
+        ..USUAL
+    },
+    Row {
+        input: MACRO,
+        budget: 3,
+        gives: (1, 0),
+        ..USUAL
+    },
+];
+
+/// Whether a conversion from this reader leaves what the row has.
+fn leaves<R: Read + Drop>(alloc: Global, row: &Row, reader: R) -> bool {
+    let budget = Budget::new(row.budget).unwrap_or(Budget::usual());
+    let taker = Taker {
+        good_flushes: row.good_flushes,
+        ..Taker::new(alloc, row.takes.0, row.takes.1, row.end)
+    };
     let mut input = Source::new(reader);
     let (output, answer) = convert(alloc, &mut input, Target::new(taker), budget);
-    Done {
-        answer,
-        calls: input.calls(),
-        taker: output.into_inner(),
-    }
-}
-
-/// The answer, what went out, and how often the output was flushed.
-fn leaves(
-    rt: &impl Abort,
-    done: Done,
-    answer: Result<u64, ConvertFault>,
-    kept: &[u8],
-    flushes: u64,
-) {
-    let found = [
-        done.answer == answer,
-        done.taker.kept.as_slice() == kept,
-        done.taker.flushes == flushes,
-    ];
-    assert_eq!(rt; found, [true; 3]);
-}
-
-fn missing() -> ConvertFault {
-    ConvertFault::Refused {
-        refusal: Refusal {
-            fault: Fault::Missing,
-            place: 4,
-        },
-        written: 12,
-    }
+    let (taker, calls) = (output.into_inner(), input.calls());
+    answer == row.answer
+        && taker.kept.as_slice() == &CANONICAL[..row.kept.min(12)]
+        && taker.flushes == row.flushes
+        && calls == row.calls.unwrap_or(calls)
+        && taker.writes == row.writes.unwrap_or(taker.writes)
 }
 
 #[test]
-fn a_stream_is_read_and_written_in_pieces_of_any_size(rt: HostRuntime) {
-    let alloc = rt.alloc();
-    for bytes in [&POINT[..3], POINT] {
-        for (read, write) in [(64, 64), (1, 64), (64, 1), (1, 1), (2, 5)] {
-            let taker = Taker::new(alloc, 64, write, End::Fails);
-            let done = converted(alloc, Budget::usual(), Giver::new(bytes, read, 0), taker);
-            leaves(&rt, done, Ok(12), CANONICAL, 1);
-        }
-    }
-}
-
-#[test]
-fn what_stands_before_a_refusal_is_written(rt: HostRuntime) {
-    let alloc = rt.alloc();
-    for (read, write) in [(64, 64), (1, 64), (64, 1)] {
-        let taker = Taker::new(alloc, 64, write, End::Fails);
-        let done = converted(alloc, Budget::usual(), Giver::new(MISSING, read, 0), taker);
-        leaves(&rt, done, Err(missing()), CANONICAL, 1);
+fn conversions_end_as_their_devices_let_them(rt: HostRuntime) {
+    let mut number: u64 = 0;
+    for row in ROWS {
+        number = number.wrapping_add(1);
+        let giver = Giver::new(row.input, row.gives.0, row.gives.1);
+        assert!(rt; leaves(rt.alloc(), row, giver), "row {number}");
     }
 }
 
 // Nothing is written or flushed behind a failed write.
 #[test]
 fn any_write_may_fail(rt: HostRuntime) {
-    let alloc = rt.alloc();
-    for bytes in [POINT, MISSING] {
-        for end in [End::Fails, End::Closes] {
-            for room in 0..12 {
-                let taker = Taker::new(alloc, room, 1, end);
-                let done = converted(alloc, Budget::usual(), Giver::new(bytes, 64, 0), taker);
-                let written = room as u64;
-                assert!(rt; done.taker.writes == written + 1);
-                let fault = ConvertFault::Write { written };
-                leaves(&rt, done, Err(fault), &CANONICAL[..room], 0);
-            }
+    for (input, end) in [
+        (POINT, End::Fails),
+        (POINT, End::Closes),
+        (MISSING, End::Fails),
+        (MISSING, End::Closes),
+    ] {
+        for room in 0..12_u8 {
+            let written = u64::from(room);
+            let row = Row {
+                takes: (usize::from(room), 1),
+                end,
+                answer: Err(ConvertFault::Write { written }),
+                kept: usize::from(room),
+                flushes: 0,
+                writes: Some(written.saturating_add(1)),
+                ..USUAL
+            };
+            let giver = Giver::new(input, 64, 0);
+            assert!(rt; leaves(rt.alloc(), &row, giver), "with room for {room}");
         }
     }
 }
 
-#[test]
-fn a_failed_flush_is_a_write_fault(rt: HostRuntime) {
-    let alloc = rt.alloc();
-    for (bytes, bad, written) in [(POINT, 0, 12), (MISSING, 0, 12), (POINT, 3, 3)] {
-        let taker = Taker::without_flush(alloc);
-        let done = converted(alloc, Budget::usual(), Giver::new(bytes, 1, bad), taker);
-        let kept = &CANONICAL[..written];
-        let written = written as u64;
-        leaves(&rt, done, Err(ConvertFault::Write { written }), kept, 1);
-    }
-}
-
-// What was read is written before more is read, and nothing is read behind a failed write.
-#[test]
-fn nothing_is_read_behind_a_failed_write(rt: HostRuntime) -> Result<(), Fail> {
-    let alloc = rt.alloc();
-    let mut bytes = Vec::from_slice(alloc, POINT)?;
-    bytes.extend_from_slice(&[0; 100])?;
-    let mut late = Vec::from_slice(alloc, &[0; 100])?;
-    late.extend_from_slice(&bytes)?;
-    for (stream, room, read, calls) in [
-        (bytes.as_slice(), 0, 1, 0),
-        (bytes.as_slice(), 2, 1, 0),
-        (bytes.as_slice(), 3, 1, 6),
-        (bytes.as_slice(), 11, 1, 6),
-        (bytes.as_slice(), 3, 2, 3),
-        (late.as_slice(), 3, 64, 2),
-    ] {
-        let taker = Taker::new(alloc, room, 64, End::Fails);
-        let done = converted(alloc, Budget::usual(), Giver::new(stream, read, 0), taker);
-        assert!(rt; done.calls == calls);
-        let written = room as u64;
-        let fault = ConvertFault::Write { written };
-        leaves(&rt, done, Err(fault), &CANONICAL[..room], 0);
-    }
-    Ok(())
-}
-
-// An opcode whose operands go on doesn't act where a read fails.
-#[test]
-fn any_read_may_fail(rt: HostRuntime) {
-    let alloc = rt.alloc();
-    let fault = ConvertFault::Read { written: 3 };
-    for bad in 1..7 {
-        let giver = Giver::new(POINT, 1, bad);
-        let done = converted(alloc, Budget::usual(), giver, Taker::wide(alloc));
-        assert!(rt; done.calls == bad);
-        leaves(&rt, done, Err(fault), HEADER, 1);
-    }
-}
+/// As many reads as a conversion may make, the last of which doesn't find the end.
+const ENDLESS: Row = Row {
+    answer: Err(ConvertFault::Read { written: 3 }),
+    kept: 3,
+    calls: Some(1_048_576),
+    ..USUAL
+};
 
 // The last of the reads that a conversion may make has to find the end.
 #[test]
 fn an_endless_input_is_a_read_fault(rt: HostRuntime) {
-    let alloc = rt.alloc();
-    let fault = ConvertFault::Read { written: 3 };
-    for (count, answer) in [(1_048_575, Ok(3)), (1_048_576, Err(fault))] {
-        let done = converted(
-            alloc,
-            Budget::usual(),
-            Nuls::new(count, 1),
-            Taker::wide(alloc),
-        );
-        assert!(rt; done.calls == 1_048_576);
-        leaves(&rt, done, answer, HEADER, 1);
-    }
-}
-
-#[test]
-fn a_body_is_charged_to_the_budget(rt: HostRuntime) {
-    let alloc = rt.alloc();
-    let bytes = b"\x1B\x40\x21\x0E\x26\x52\x1B\x45\x1B\x2F\x7A\x1D\x21\x40\x40";
-    let fault = ConvertFault::Refused {
-        refusal: Refusal {
-            fault: Fault::Budget,
-            place: 12,
-        },
-        written: 3,
+    let row = Row {
+        answer: Ok(3),
+        ..ENDLESS
     };
-    let rows = [
-        (Budget::new(2).unwrap(), Err(fault), HEADER),
-        (Budget::new(3).unwrap(), Ok(12), CANONICAL),
-    ];
-    for (budget, answer, kept) in rows {
-        let done = converted(alloc, budget, Giver::new(bytes, 1, 0), Taker::wide(alloc));
-        leaves(&rt, done, answer, kept, 1);
-    }
+    let ends = leaves(rt.alloc(), &row, Nuls::new(1_048_575, 1));
+    let fails = leaves(rt.alloc(), &ENDLESS, Nuls::new(1_048_576, 1));
+    assert!(rt; ends && fails);
 }
 
 /// The bytes, and then a piece so many times.
@@ -209,16 +410,21 @@ fn repeated(
 fn a_stream_may_be_longer_than_a_read(rt: HostRuntime) -> Result<(), Fail> {
     let alloc = rt.alloc();
     let bytes = repeated(alloc, b"\x0E\x26", &POINT[2..], 5_000)?;
-    let mut want = Vec::from_slice(alloc, HEADER)?;
-    for count in [2_048, 2_048, 904] {
-        want.extend_from_slice(&repeated(alloc, b"\x26", &CANONICAL[4..], count)?)?;
-    }
+    let want = [
+        repeated(alloc, b"\x0E\x21\x5F\x26", &CANONICAL[4..], 2_048)?,
+        repeated(alloc, b"\x26", &CANONICAL[4..], 2_048)?,
+        repeated(alloc, b"\x26", &CANONICAL[4..], 904)?,
+    ]
+    .concat(alloc)?;
     let text = normalise(alloc, Budget::usual(), &bytes).map_err(|_| AllocError)?;
     assert!(rt; text.as_slice() == want.as_slice());
-    for read in [1, 7, bytes.len()] {
-        let giver = Giver::new(&bytes, read, 0);
-        let done = converted(alloc, Budget::usual(), giver, Taker::wide(alloc));
-        leaves(&rt, done, Ok(40_006), &want, 1);
+    for most in [1, 7, bytes.len()] {
+        let mut input = Source::new(Giver::new(&bytes, most, 0));
+        let output = Target::new(Taker::wide(alloc));
+        let (output, answer) = convert(alloc, &mut input, output, Budget::usual());
+        let taker = output.into_inner();
+        let found = answer == Ok(40_006) && taker.flushes == 1 && taker.kept == want;
+        assert!(rt; found, "by {most}");
     }
     Ok(())
 }

@@ -5,7 +5,6 @@ use nap_reader::{Budget, Fault, Reader, Refusal, read_all};
 use std::alloc::Global;
 use std::io;
 use std::io::Write;
-use std::process::Abort;
 
 const POINT: &[u8] = b"\x0E!_&R@@@@@@@";
 
@@ -33,95 +32,94 @@ impl Write for Expecting<'_> {
     }
 }
 
-// Memory was wanting, at a byte of the page or at its end.
-fn lacks(rt: &impl Abort, bytes: &[u8], refusal: Refusal) {
-    assert!(rt; refusal.fault == Fault::Memory && refusal.place <= bytes.len() as u64);
+// Whether memory was wanting, at a byte of the page or at its end.
+fn lacks(bytes: &[u8], refusal: Refusal) -> bool {
+    refusal.fault == Fault::Memory && refusal.place <= bytes.len() as u64
 }
 
-// The page has so many entries, or the first of them and a refusal that stays.
-#[tactic(auto, unfolding(nap_list::specs::State::walk))]
-fn reads(rt: &impl Abort, alloc: Global, bytes: &[u8], entries: usize) {
-    assert!(rt; bytes.len() < 1 << 32);
+// Whether the page has so many entries, or is refused.
+fn reads_whole(alloc: Global, bytes: &[u8], entries: usize) -> bool {
     match read_all(alloc, Budget::usual(), bytes) {
-        Ok(list) => assert!(rt; list.len() == entries),
-        Err(refusal) => lacks(rt, bytes, refusal),
+        Ok(list) => list.len() == entries,
+        Err(refusal) => lacks(bytes, refusal),
+    }
+}
+
+// Whether the page has so many entries, or the first of them and a refusal that stays.
+#[tactic(auto, unfolding(nap_list::specs::State::walk))]
+fn reads(alloc: Global, bytes: &[u8], entries: usize) -> bool {
+    if bytes.len() >= 1 << 32 {
+        return false;
     }
     let mut reader = Reader::new(alloc, Budget::usual(), ListSink::new(alloc));
     if let Err(refusal) = reader.feed(bytes) {
-        lacks(rt, bytes, refusal);
-        assert!(rt; reader.feed(b"\x00") == Err(refusal));
-    }
-    let kept = reader.into_sink().into_list();
-    if let Ok(list) = read_all(alloc, Budget::usual(), bytes) {
-        let front = list.as_slice().get(..kept.len());
-        assert!(rt; front == Some(kept.as_slice()));
-    }
-    assert!(rt; kept.len() <= entries);
-}
-
-// The page has this canonical stream, or there is no memory for it.
-fn writes(rt: &impl Abort, alloc: Global, bytes: &[u8], want: &[u8]) {
-    assert!(rt; bytes.len() < 1 << 32);
-    match normalise(alloc, Budget::usual(), bytes) {
-        Ok(text) => assert!(rt; text.as_slice() == want),
-        Err(refusal) => lacks(rt, bytes, refusal),
-    }
-    if let Ok(list) = read_all(alloc, Budget::usual(), bytes) {
-        match canon(alloc, &list) {
-            Ok(text) => assert!(rt; text.as_slice() == want),
-            Err(fault) => assert!(rt; fault == CanonFault::Memory),
+        if !lacks(bytes, refusal) || reader.feed(b"\x00") != Err(refusal) {
+            return false;
         }
     }
+    let kept = reader.into_sink().into_list();
+    let is_front = match read_all(alloc, Budget::usual(), bytes) {
+        Ok(list) => list.as_slice().starts_with(kept.as_slice()),
+        Err(_) => true,
+    };
+    is_front && kept.len() <= entries && reads_whole(alloc, bytes, entries)
 }
 
-// What goes out is the canonical stream, or a first part of it where the page is refused for want of memory.
-fn streams(rt: &impl Abort, alloc: Global, bytes: &[u8], want: &[u8]) {
+// Whether the page has this canonical stream, or there is no memory for it.
+fn writes(alloc: Global, bytes: &[u8], want: &[u8]) -> bool {
+    match normalise(alloc, Budget::usual(), bytes) {
+        Ok(text) if text.as_slice() == want => {}
+        Err(refusal) if lacks(bytes, refusal) => {}
+        _ => return false,
+    }
+    let Ok(list) = read_all(alloc, Budget::usual(), bytes) else {
+        return true;
+    };
+    match canon(alloc, &list) {
+        Ok(text) => text.as_slice() == want,
+        Err(fault) => fault == CanonFault::Memory,
+    }
+}
+
+// Whether what goes out is the canonical stream, or a first part of it where the page is refused for want of memory.
+fn streams(alloc: Global, bytes: &[u8], want: &[u8]) -> bool {
     let output = Target::new(Expecting { rest: want });
     let (output, answer) = convert(alloc, &mut Source::new(bytes), output, Budget::usual());
     let Expecting { rest } = output.into_inner();
     let out = want.len().saturating_sub(rest.len()) as u64;
     match answer {
-        Ok(written) => {
-            assert!(rt; rest.is_empty() && written == out);
-        }
-        Err(ConvertFault::Refused { refusal, written }) => {
-            lacks(rt, bytes, refusal);
-            assert!(rt; written == out);
-        }
-        Err(fault) => assert!(rt; fault == ConvertFault::Write { written: 0 }),
+        Ok(written) => rest.is_empty() && written == out,
+        Err(ConvertFault::Refused { refusal, written }) => lacks(bytes, refusal) && written == out,
+        Err(fault) => fault == ConvertFault::Write { written: 0 },
     }
 }
 
-fn survives(rt: &impl Abort, alloc: Global, bytes: &[u8], want: &[u8], entries: usize) {
-    reads(rt, alloc, bytes, entries);
-    writes(rt, alloc, bytes, want);
-    streams(rt, alloc, bytes, want);
+fn survives(alloc: Global, bytes: &[u8], want: &[u8], entries: usize) -> bool {
+    reads(alloc, bytes, entries) && writes(alloc, bytes, want) && streams(alloc, bytes, want)
 }
+
+// Pages, with their canonical streams and how many entries they have.
+const PAGES: &[(&[u8], &[u8], usize)] = &[
+    (b"\x0E&R@@", POINT, 1),
+    (b"\x0E.@@@I@@\x7F@@", CIRCLE, 1),
+    (b"\x1B@!\x0E&R\x1BE\x1B/z\x1D!@@", POINT, 1),
+    (b"\x1BA!\x0E&R\x1BCA\x1BE", b"\x0E!_&R@@@@@@@\x1BCA\x1BE", 3),
+    (
+        b"\x0E$P@@\x1BCA!@&I\x1BE(R@@",
+        b"\x0E!_\x1BCA&I@@@@@@@\x1BE*P@@@@@@@R@@@@@@@",
+        4,
+    ),
+    (
+        b"\x19A\x1DB\x1B({C",
+        b"\x0E!_\x19A\x1DB\x1B+{\x1DC\x1B+}",
+        3,
+    ),
+];
 
 #[test]
 fn short_pages_survive_want_of_memory(rt: HostRuntime) {
-    let alloc = rt.alloc();
-    for (bytes, want, entries) in [
-        (b"\x0E&R@@".as_slice(), POINT, 1),
-        (b"\x0E.@@@I@@\x7F@@", CIRCLE, 1),
-        (b"\x1B@!\x0E&R\x1BE\x1B/z\x1D!@@", POINT, 1),
-        (
-            b"\x1BA!\x0E&R\x1BCA\x1BE",
-            b"\x0E!_&R@@@@@@@\x1BCA\x1BE".as_slice(),
-            3,
-        ),
-        (
-            b"\x0E$P@@\x1BCA!@&I\x1BE(R@@",
-            b"\x0E!_\x1BCA&I@@@@@@@\x1BE*P@@@@@@@R@@@@@@@",
-            4,
-        ),
-        (
-            b"\x19A\x1DB\x1B({C",
-            b"\x0E!_\x19A\x1DB\x1B+{\x1DC\x1B+}",
-            3,
-        ),
-    ] {
-        survives(&rt, alloc, bytes, want, entries);
+    for (bytes, want, entries) in PAGES {
+        assert!(rt; survives(rt.alloc(), bytes, want, *entries), "{bytes:?}");
     }
 }
 
@@ -131,7 +129,7 @@ fn a_large_shape_survives_want_of_memory(rt: HostRuntime) {
     let mut want = [0x40; 16_012];
     page[..4].copy_from_slice(b"\x0E!@4");
     want[..4].copy_from_slice(b"\x0E!_6");
-    survives(&rt, rt.alloc(), &page, &want, 1);
+    assert!(rt; survives(rt.alloc(), &page, &want, 1));
 }
 
 #[test]
@@ -143,6 +141,5 @@ fn a_full_store_survives_want_of_memory(rt: HostRuntime) {
     let taken = page.extend_from_slice(b"\x1B@!").is_ok()
         && page.resize(1_048_579, 0x41).is_ok()
         && page.extend_from_slice(b"\x1BE").is_ok();
-    assert!(rt; taken);
-    survives(&rt, alloc, page.as_slice(), b"\x0E!_", 0);
+    assert!(rt; taken && survives(alloc, page.as_slice(), b"\x0E!_", 0));
 }

@@ -1,7 +1,7 @@
 //! Readers between two pieces of a stream, their budgets, and the names of faults.
 use nap_codes::{CodeFault, Left};
 use nap_draw::DrawFault;
-use nap_fixtures::samples::{dot, middle};
+use nap_fixtures::entries::{DOT, entries_of};
 use nap_list::{Entry, ListSink, Sink};
 use nap_reader::{Budget, Fault, RUN_LIMIT, Reader, Refusal};
 use std::alloc::Global;
@@ -31,34 +31,40 @@ fn begins(rt: &impl Abort, alloc: Global, bytes: &[u8], list: &[Entry]) -> bool 
 }
 
 #[test]
-fn an_open_run_has_no_entry_yet(rt: HostRuntime) {
+fn an_open_run_has_no_entry_yet(rt: HostRuntime) -> Result<(), Fail> {
     let alloc = rt.alloc();
-    let point = [dot(middle())];
-    assert!(rt; begins(&rt, alloc, b"\x0E&R@@", &[]));
-    assert!(rt; begins(&rt, alloc, b"\x0E&R@@\x0F", &point));
-    assert!(rt; begins(&rt, alloc, b"\x0E&R@@)P@@", &point));
+    let point = entries_of(alloc, &[DOT])?;
+    let found = [
+        begins(&rt, alloc, b"\x0E&R@@", &[]),
+        begins(&rt, alloc, b"\x0E&R@@\x0F", &point),
+        begins(&rt, alloc, b"\x0E&R@@)P@@", &point),
+    ];
+    assert!(rt; found == [true; 3]);
+    Ok(())
 }
+
+const EIGHTH_BIT: Refusal = Refusal {
+    fault: Fault::EighthBit,
+    place: 3,
+};
 
 #[test]
 #[tactic(auto, unfolding(nap_list::specs::State::walk))]
-fn a_refusal_stays(rt: HostRuntime) {
+fn a_refusal_stays(rt: HostRuntime) -> Result<(), Fail> {
     let alloc = rt.alloc();
     let mut reader = Reader::new(alloc, Budget::usual(), ListSink::new(alloc));
     let taken = feed(&rt, &mut reader, b"\x0E&R").is_ok() && reader.refused().is_none();
     assert!(rt; taken);
-    let want = Refusal {
-        fault: Fault::EighthBit,
-        place: 3,
-    };
     for piece in [b"\x80", b"&"] {
-        let refused = feed(&rt, &mut reader, piece) == Err(want)
-            && reader.refused() == Some(want)
+        let refused = feed(&rt, &mut reader, piece) == Err(EIGHTH_BIT)
+            && reader.refused() == Some(EIGHTH_BIT)
             && (reader.fed(), reader.turns()) == (4, 4);
         assert!(rt; refused, "by {piece:?}");
     }
     let (sink, refusal) = end(reader);
-    assert!(rt; refusal == Some(want));
-    assert!(rt; sink.into_list().as_slice() == [dot(middle())].as_slice());
+    let stays = refusal == Some(EIGHTH_BIT) && sink.into_list() == entries_of(alloc, &[DOT])?;
+    assert!(rt; stays);
+    Ok(())
 }
 
 #[test]

@@ -1,5 +1,5 @@
 //! Which bytes are characters by themselves: those of the set in GL, and none amid a code.
-use super::rows::{bytes_of, parted, same};
+use super::rows::{bytes_of, parted};
 use nap_codes::Lexer;
 use std::test::Fail;
 
@@ -65,15 +65,13 @@ fn are_characters(lexer: &Lexer) -> bool {
 fn characters_are_those_of_the_set_in_gl(rt: HostRuntime) -> Result<(), Fail> {
     let alloc = rt.alloc();
     for row in ROWS.lines() {
-        let lexer = behind(&bytes_of(alloc, parted(row).0));
+        let (bytes, want) = parted(row);
+        let lexer = behind(&bytes_of(alloc, bytes));
         let sets = lexer.sets();
         let (set, rest, characters) = (sets.at(sets.gl), lexer.at_rest(), lexer.characters());
-        same(
-            &rt,
-            &format!(in alloc; "{set:?} {rest} {characters:?}")?,
-            row,
-        );
-        assert!(rt; are_characters(&lexer), "of {row}");
+        let came = format!(in alloc; "{set:?} {rest} {characters:?}")?;
+        let agrees = came.as_str() == want && are_characters(&lexer);
+        assert!(rt; agrees, "{came}, of {row}");
     }
     Ok(())
 }

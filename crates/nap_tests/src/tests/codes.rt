@@ -1,5 +1,4 @@
 //! A lexer behind a fault, the texts of faults, and the ends of the tables.
-use super::rows::same;
 use nap_codes::{
     Code, CodeFault, CodeSet, Left, Lexer, Opcode, Row, Step, control0, control1, designate,
     opcode_of,
@@ -17,26 +16,19 @@ fn a_lexer_goes_on_after_a_fault(rt: HostRuntime) {
     assert!(rt; answers == [true; 3]);
 }
 
+const FAULTS: &[(CodeFault, &str)] = &[
+    (CodeFault::EighthBit, "a byte has its eighth bit set"),
+    (CodeFault::BadEscape, "no such escape sequence"),
+    (CodeFault::BadArgument, "an argument is out of range"),
+    (CodeFault::LeftOut(Left::Deft), "DEFT MACRO is left out"),
+    (CodeFault::LeftOut(Left::Nsr), "NSR is left out"),
+];
+
 #[test]
 fn faults_tell_what_is_wrong(rt: HostRuntime) -> Result<(), Fail> {
-    let alloc = rt.alloc();
-    for (fault, row) in [
-        (
-            CodeFault::EighthBit,
-            "EighthBit | a byte has its eighth bit set",
-        ),
-        (CodeFault::BadEscape, "BadEscape | no such escape sequence"),
-        (
-            CodeFault::BadArgument,
-            "BadArgument | an argument is out of range",
-        ),
-        (
-            CodeFault::LeftOut(Left::Deft),
-            "Deft | DEFT MACRO is left out",
-        ),
-        (CodeFault::LeftOut(Left::Nsr), "Nsr | NSR is left out"),
-    ] {
-        same(&rt, &format!(in alloc; "{fault}")?, row);
+    for (fault, want) in FAULTS {
+        let text = format!(in rt.alloc(); "{fault}")?;
+        assert!(rt; text.as_str() == *want, "{text}");
     }
     Ok(())
 }

@@ -25,42 +25,36 @@ fn reads<R: Read + Drop>(rt: &impl Abort, reader: R, rows: &[ReadRow]) -> R {
     source.into_inner()
 }
 
-#[test]
-fn a_source_counts_its_reads(rt: HostRuntime) {
-    let rest = reads(
-        &rt,
-        b"\x0E\x26".as_slice(),
-        &[
-            (Ok(2), [0x0E, 0x26, 0, 0], 1, false),
-            (Ok(0), [0x0E, 0x26, 0, 0], 2, false),
-        ],
-    );
-    assert!(rt; rest.is_empty());
-}
+/// Two bytes, and the end.
+const WHOLE: &[ReadRow] = &[
+    (Ok(2), [0x0E, 0x26, 0, 0], 1, false),
+    (Ok(0), [0x0E, 0x26, 0, 0], 2, false),
+];
+
+/// A byte, a failure, a byte and the end.
+const FALTERING: &[ReadRow] = &[
+    (Ok(1), [1, 0, 0, 0], 1, false),
+    (FAILED, [1, 0, 0, 0], 2, true),
+    (Ok(1), [3, 0, 0, 0], 3, true),
+    (Ok(0), [3, 0, 0, 0], 4, true),
+];
 
 #[test]
-fn a_source_tells_a_failure_and_reads_no_more(rt: HostRuntime) {
+fn a_source_counts_its_reads_and_tells_a_failure(rt: HostRuntime) {
+    let rest = reads(&rt, b"\x0E\x26".as_slice(), WHOLE);
+    assert!(rt; rest.is_empty());
     for fault in FAULTS {
         let giver = Giver {
             fault,
             ..Giver::new(b"\x01\x03", 1, 2)
         };
-        let giver = reads(
-            &rt,
-            giver,
-            &[
-                (Ok(1), [1, 0, 0, 0], 1, false),
-                (FAILED, [1, 0, 0, 0], 2, true),
-                (Ok(1), [3, 0, 0, 0], 3, true),
-                (Ok(0), [3, 0, 0, 0], 4, true),
-            ],
-        );
+        let giver = reads(&rt, giver, FALTERING);
         assert!(rt; giver.reads == 4);
     }
 }
 
 /// A piece that is written, or none for a flush, what the call answers, and whether the target has failed behind it.
-type CallRow<'a> = (Option<&'a [u8]>, Result<usize, DeviceFault>, bool);
+type CallRow = (Option<&'static [u8]>, Result<usize, DeviceFault>, bool);
 
 /// Each call in turn is as its row has it. Gives the writer back.
 fn takes<W: Write + Drop>(rt: &impl Abort, writer: W, rows: &[CallRow]) -> W {
@@ -78,17 +72,16 @@ fn takes<W: Write + Drop>(rt: &impl Abort, writer: W, rows: &[CallRow]) -> W {
     target.into_inner()
 }
 
+/// Two bytes, and a flush.
+const TAKEN: &[CallRow] = &[
+    (Some(b""), Ok(0), false),
+    (Some(b"\x0E\x26"), Ok(2), false),
+    (None, Ok(0), false),
+];
+
 #[test]
 fn a_target_gives_its_bytes_to_the_writer(rt: HostRuntime) {
-    let kept = takes(
-        &rt,
-        Vec::new(rt.alloc()),
-        &[
-            (Some(b""), Ok(0), false),
-            (Some(b"\x0E\x26"), Ok(2), false),
-            (None, Ok(0), false),
-        ],
-    );
+    let kept = takes(&rt, Vec::new(rt.alloc()), TAKEN);
     assert!(rt; kept.as_slice() == b"\x0E\x26".as_slice());
 }
 
@@ -100,30 +93,21 @@ fn taker(alloc: Global, fault: ErrorKind) -> Taker {
     }
 }
 
-#[test]
-fn a_target_that_takes_nothing_has_failed(rt: HostRuntime) {
-    for fault in FAULTS {
-        let taker = takes(
-            &rt,
-            taker(rt.alloc(), fault),
-            &[
-                (Some(b"\x0E\x26"), Ok(1), false),
-                (Some(b"\x26"), FAILED, true),
-                (Some(b"\x26"), FAILED, true),
-            ],
-        );
-        assert!(rt; taker.writes == 3);
-    }
-}
+/// A target that takes nothing has failed.
+const CLOSED: &[CallRow] = &[
+    (Some(b"\x0E\x26"), Ok(1), false),
+    (Some(b"\x26"), FAILED, true),
+    (Some(b"\x26"), FAILED, true),
+];
+
+/// A flush reaches the writer once.
+const FLUSHED: &[CallRow] = &[(None, Ok(0), false), (None, FAILED, true)];
 
 #[test]
-fn a_flush_reaches_the_writer_once(rt: HostRuntime) {
+fn a_target_tells_a_failure(rt: HostRuntime) {
     for fault in FAULTS {
-        let taker = takes(
-            &rt,
-            taker(rt.alloc(), fault),
-            &[(None, Ok(0), false), (None, FAILED, true)],
-        );
-        assert!(rt; taker.flushes == 2);
+        let closed = takes(&rt, taker(rt.alloc(), fault), CLOSED);
+        let flushed = takes(&rt, taker(rt.alloc(), fault), FLUSHED);
+        assert!(rt; (closed.writes, flushed.flushes) == (3, 2));
     }
 }

@@ -1,145 +1,148 @@
 //! Opcodes and controls whose sink fails.
 use super::drawing::{has_rule, is_made};
+use Sample::{Blink, DefEnd, Dot, Glyph, Letter, Line, Rect, Wait};
+use Shade::AtStart;
 use nap_codes::{CharSet, Code, Mask, Opcode};
 use nap_draw::{DrawFault, RUN_LIMIT, Work, apply};
+use nap_fixtures::entries::{MIDDLE, Sample, Shade, Spot, entries_of};
 use nap_fixtures::faltering::Faltering;
-use nap_fixtures::samples::{AT_START, at, blink, dot, letter, line, rect, word, words};
-use nap_list::{Entry, ListSink, Pen, SinkFault};
+use nap_fixtures::samples::{word, words};
+use nap_list::{Entry, SinkFault};
 use std::alloc::{AllocError, Global};
-use std::process::Abort;
 use std::test::Fail;
 
-/// An opcode from the start on gives the first of the entries, and then its sink fails. The work stays as it was.
-#[tactic(auto, unfolding(nap_list::specs::State::walk))]
-fn falters(
-    rt: &impl Abort,
-    alloc: Global,
-    opcode: (Opcode, &[u8]),
-    want: &[Entry],
-    why: (SinkFault, DrawFault),
-) -> Result<(), AllocError> {
-    let (op, bytes) = opcode;
-    let (fault, answered) = why;
-    assert!(rt; has_rule(op));
-    let run = words(alloc, bytes)?;
-    assert!(rt; run.len() <= RUN_LIMIT);
-    let mut sink = Faltering::new(alloc, want.len(), fault);
-    let work = Work::start();
-    let found = [
-        apply(alloc, &work, op, &run, &mut sink).err() == Some(answered),
-        work == Work::start(),
-        sink.failed == (fault == SinkFault::Write),
-        sink.list.into_list().as_slice() == want,
-    ];
-    assert!(rt; found == [true; 4], "by {op:?}");
-    Ok(())
-}
+/// How a sink fails, and what is answered then.
+type Why = (SinkFault, DrawFault);
 
-const FAULTS: [(SinkFault, DrawFault); 2] = [
+const FAULTS: [Why; 2] = [
     (SinkFault::Memory, DrawFault::Memory),
     (SinkFault::Write, DrawFault::Sink),
 ];
 
-/// The sink fails behind each front of these entries, which the opcode gives at least, by each fault.
-fn falters_amid(
-    rt: &impl Abort,
-    alloc: Global,
-    op: Opcode,
-    bytes: &[u8],
-    list: &[Entry],
-) -> Result<(), AllocError> {
-    for why in FAULTS {
-        for count in 0..=list.len() {
-            falters(rt, alloc, (op, bytes), &list[..count], why)?;
-        }
-    }
-    Ok(())
-}
-
-#[test]
-fn sinks_that_fail_amid_points_and_lines(rt: HostRuntime) -> Result<(), Fail> {
-    let alloc = rt.alloc();
-    let dots = [dot(at(2, 2)), dot(at(1, 1))];
-    falters_amid(&rt, alloc, Opcode::PointAbs, b"R@@I@@@@@", &dots)?;
-    let lines = [line(at(0, 0), at(2, 2)), line(at(2, 2), at(1, 1))];
-    falters_amid(&rt, alloc, Opcode::LineAbs, b"R@@I@@@@@", &lines)?;
-    Ok(())
-}
-
-#[test]
-fn sinks_that_fail_amid_an_opcode(rt: HostRuntime) -> Result<(), Fail> {
-    let alloc = rt.alloc();
-    let pauses = [Entry::Wait(word(18)), Entry::Wait(word(0))];
-    falters_amid(&rt, alloc, Opcode::Wait, b"R@@", &pauses)?;
-    let rects = [rect(true, at(0, 0), at(2, 2))];
-    falters_amid(&rt, alloc, Opcode::SetRectFilled, b"@@@R@@I@@@@@", &rects)?;
-    let blinks = [blink(1_048_576, [1, 2, 3], AT_START)];
-    falters_amid(&rt, alloc, Opcode::Blink, b"DABCD", &blinks)?;
-    Ok(())
-}
-
-#[test]
-fn sinks_that_fail_at_the_only_entry(rt: HostRuntime) -> Result<(), Fail> {
-    for (op, bytes) in [
-        (Opcode::Reset, b"A@".as_slice()),
-        (Opcode::ArcFilled, b"I@@"),
-        (Opcode::SetPolyOutlined, b"I@@I@@"),
-        (Opcode::Field, b""),
-        (Opcode::Blink, b""),
-    ] {
-        falters_amid(&rt, rt.alloc(), op, bytes, &[])?;
-    }
-    Ok(())
-}
-
-/// Two codes give these entries, and the sink fails amid those of the second. It leaves the work as the first did.
+/// Whether an opcode from the start on gives the first of the entries, and then its sink fails. The work stays as it was.
 #[tactic(auto, unfolding(nap_list::specs::State::walk))]
-fn second_falters(
-    rt: &impl Abort,
+fn falters(
     alloc: Global,
-    codes: (&Code, &Code),
+    opcode: (Opcode, &[u8]),
     want: &[Entry],
-    why: (SinkFault, DrawFault),
-) {
-    let (first, second) = codes;
-    let (fault, answered) = why;
-    assert!(rt; is_made(first) && is_made(second));
-    let mut sink = Faltering::new(alloc, want.len(), fault);
+    why: Why,
+) -> Result<bool, AllocError> {
+    let (op, bytes) = opcode;
+    let run = words(alloc, bytes)?;
+    if !has_rule(op) || run.len() > RUN_LIMIT {
+        return Ok(false);
+    }
+    let mut sink = Faltering::new(alloc, want.len(), why.0);
+    let work = Work::start();
+    let answer = apply(alloc, &work, op, &run, &mut sink);
+    Ok(
+        answer.err() == Some(why.1)
+            && work == Work::start()
+            && sink.failed == (why.0 == SinkFault::Write)
+            && sink.list.into_list().as_slice() == want,
+    )
+}
+
+/// An opcode with its operands, and the entries that it gives at least before its last.
+const OPCODES: &[(Opcode, &[u8], &[Sample])] = &[
+    (
+        Opcode::PointAbs,
+        b"R@@I@@@@@",
+        &[Dot(MIDDLE, AtStart), Dot((2, 2), AtStart)],
+    ),
+    (
+        Opcode::LineAbs,
+        b"R@@I@@@@@",
+        &[Line((0, 0), MIDDLE, AtStart), Line(MIDDLE, (2, 2), AtStart)],
+    ),
+    (Opcode::Wait, b"R@@", &[Wait(18), Wait(0)]),
+    (
+        Opcode::SetRectFilled,
+        b"@@@R@@I@@@@@",
+        &[Rect(true, (0, 0), MIDDLE, AtStart)],
+    ),
+    (Opcode::Blink, b"DABCD", &[Blink(1_048_576, AtStart)]),
+    (Opcode::Reset, b"A@", &[]),
+    (Opcode::ArcFilled, b"I@@", &[]),
+    (Opcode::SetPolyOutlined, b"I@@I@@", &[]),
+    (Opcode::Field, b"", &[]),
+    (Opcode::Blink, b"", &[]),
+];
+
+#[test]
+fn sinks_fail_behind_any_entry_of_an_opcode(rt: HostRuntime) -> Result<(), Fail> {
+    let alloc = rt.alloc();
+    for (op, bytes, samples) in OPCODES {
+        let list = entries_of(alloc, samples)?;
+        for why in FAULTS {
+            for count in 0..=list.len() {
+                let falters = falters(alloc, (*op, bytes), &list[..count], why)?;
+                assert!(rt; falters, "{op:?} behind {count}");
+            }
+        }
+    }
+    Ok(())
+}
+
+/// Whether two codes give these entries, and the sink fails amid those of the second. It leaves the work as the first did.
+#[tactic(auto, unfolding(nap_list::specs::State::walk))]
+fn second_falters(alloc: Global, first: &Code, second: &Code, want: &[Entry], why: Why) -> bool {
+    if !is_made(first) || !is_made(second) {
+        return false;
+    }
+    let mut sink = Faltering::new(alloc, want.len(), why.0);
     let mut work = Work::start();
-    let taken = work.control(first, &mut sink).is_ok();
-    assert!(rt; taken);
+    let Ok(()) = work.control(first, &mut sink) else {
+        return false;
+    };
     let before = work.copy();
-    let found = [
-        work.control(second, &mut sink).err() == Some(answered),
-        work == before,
-        sink.failed == (fault == SinkFault::Write),
-        sink.list.into_list().as_slice() == want,
+    let answer = work.control(second, &mut sink);
+    answer.err() == Some(why.1)
+        && work == before
+        && sink.failed == (why.0 == SinkFault::Write)
+        && sink.list.into_list().as_slice() == want
+}
+
+/// A letter, and a repeat of it.
+const REPEATED: &[Sample] = &[
+    Letter(Spot::Start),
+    Letter(Spot::After),
+    Letter(Spot::After),
+];
+
+/// A definition that ends.
+const DEFINED: &[Sample] = &[Glyph(0x41), DefEnd];
+
+/// One that doesn't.
+const OPEN: &[Sample] = &[Glyph(0x41)];
+
+/// Two codes give these entries, and sinks fail behind any of them but the first.
+fn falters_amid(
+    alloc: Global,
+    first: Code,
+    second: Code,
+    samples: &[Sample],
+) -> Result<bool, AllocError> {
+    let list = entries_of(alloc, samples)?;
+    for why in FAULTS {
+        for count in 1..=list.len() {
+            if !second_falters(alloc, &first, &second, &list[..count], why) {
+                return Ok(false);
+            }
+        }
+    }
+    Ok(true)
+}
+
+#[test]
+fn sinks_fail_amid_a_repeat_and_a_definition(rt: HostRuntime) -> Result<(), Fail> {
+    let alloc = rt.alloc();
+    let letter = Code::Char(CharSet::Primary, 0x41);
+    let falters = [
+        falters_amid(alloc, letter, Code::Repeat(word(3)), REPEATED)?,
+        falters_amid(alloc, Code::DefGlyph(0x41), Code::DefMask(Mask::B), DEFINED)?,
+        falters_amid(alloc, Code::DefGlyph(0x41), Code::End, OPEN)?,
     ];
-    assert!(rt; found == [true; 4], "by {second:?}");
-}
-
-#[test]
-fn sinks_that_fail_amid_a_repeat(rt: HostRuntime) {
-    let alloc = rt.alloc();
-    let list = [letter(Pen::Start), letter(Pen::After), letter(Pen::After)];
-    let codes = (&Code::Char(CharSet::Primary, 0x41), &Code::Repeat(word(3)));
-    for why in FAULTS {
-        for count in 1..4 {
-            second_falters(&rt, alloc, codes, &list[..count], why);
-        }
-    }
-}
-
-#[test]
-fn sinks_that_fail_amid_a_definition(rt: HostRuntime) {
-    let alloc = rt.alloc();
-    let list = [Entry::GlyphStart(0x41), Entry::DefEnd];
-    let codes = (&Code::DefGlyph(0x41), &Code::DefMask(Mask::B));
-    for why in FAULTS {
-        for count in 1..3 {
-            second_falters(&rt, alloc, codes, &list[..count], why);
-        }
-        let ended = (&Code::DefGlyph(0x41), &Code::End);
-        second_falters(&rt, alloc, ended, &list[..1], why);
-    }
+    assert!(rt; falters == [true; 3]);
+    Ok(())
 }

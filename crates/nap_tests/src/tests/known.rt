@@ -1,114 +1,80 @@
 //! The colours of the map that are known.
-use nap_fixtures::samples::{map, reset};
-use nap_list::{Entry, KNOWN, Known, Pen, State, legal};
-use nap_values::Grb;
+use Sample::{Red, Reset};
+use nap_fixtures::entries::{Sample, Spot, entry_of};
+use nap_list::{KNOWN, Known, State};
+use std::alloc::{AllocError, Global};
+use std::test::Fail;
 
-fn set_at(number: u32, shade: u16) -> Entry {
-    map(number, Grb::new(0, shade, 0))
+/// The state behind a colour at each address below this.
+fn with_colours(alloc: Global, count: u32) -> Result<State, AllocError> {
+    let mut state = State::start();
+    for number in 0..count {
+        take(&mut state, alloc, Red(number, 9))?;
+    }
+    Ok(state)
+}
+
+/// How many of these entries fit one after another.
+fn fitting(state: State, alloc: Global, samples: &[Sample]) -> Result<usize, AllocError> {
+    let mut state = state;
+    let mut count: usize = 0;
+    for sample in samples {
+        if !take(&mut state, alloc, *sample)? {
+            break;
+        }
+        count = count.wrapping_add(1);
+    }
+    Ok(count)
 }
 
 /// Goes on by the entry where it fits, and says whether it does.
-fn takes(state: &mut State, entry: &Entry) -> bool {
-    let fits = state.fits(entry);
+fn take(state: &mut State, alloc: Global, sample: Sample) -> Result<bool, AllocError> {
+    let entry = entry_of(alloc, sample)?;
+    let fits = state.fits(&entry);
     if fits {
-        state.step(entry);
+        state.step(&entry);
     }
-    fits
+    Ok(fits)
 }
 
-/// The state behind a colour at each address below this.
-fn with_colours(count: u32) -> State {
-    let mut state = State::start();
-    for number in 0..count {
-        takes(&mut state, &set_at(number, 9));
+/// How many colours are known, the entries behind them, and how many of these fit.
+const ROWS: &[(u32, &[Sample], usize)] = &[
+    // Sixteen are known, and the oldest goes.
+    (16, &[Red(0, 9)], 0),
+    (17, &[Red(0, 9)], 1),
+    (17, &[Red(1, 9)], 0),
+    (17, &[Red(16, 9)], 0),
+    // One that is set anew comes first.
+    (16, &[Red(0, 8), Red(16, 9), Red(0, 8)], 2),
+    (16, &[Red(0, 8), Red(16, 9), Red(1, 9)], 3),
+    // A RESET that chooses colours forgets all.
+    (1, &[Reset(0, 0x3F, Spot::Start), Red(0, 9)], 1),
+    (1, &[Reset(1, 0x3F, Spot::Start), Red(0, 9)], 1),
+    (1, &[Reset(2, 0x3F, Spot::Start), Red(0, 9)], 2),
+    (1, &[Reset(4, 0x3F, Spot::Start), Red(0, 9)], 2),
+    (1, &[Reset(6, 0x3F, Spot::Start), Red(0, 9)], 2),
+    (1, &[Reset(8, 0x3F, Spot::Start), Red(0, 9)], 1),
+];
+
+#[test]
+fn colours_are_known_until_they_are_forgotten(rt: HostRuntime) -> Result<(), Fail> {
+    let alloc = rt.alloc();
+    for (colours, samples, want) in ROWS {
+        let count = fitting(with_colours(alloc, *colours)?, alloc, samples)?;
+        assert!(rt; count == *want, "{count} of {want} behind {colours}");
     }
-    state
+    Ok(())
 }
 
 #[test]
-fn a_colour_that_is_known_is_no_entry(rt: HostRuntime) {
-    // The addresses and the colours that are set there. The last entry fits or not.
-    for (first, second, third, want) in [
-        ((1, 9), (2, 9), (1, 9), Err(2)),
-        ((1, 9), (1, 8), (1, 9), Ok(())),
-        ((1, 9), (1, 8), (1, 8), Err(2)),
-        ((1, 9), (1, 9), (1, 8), Err(1)),
-    ] {
-        let entries = [
-            set_at(first.0, first.1),
-            set_at(second.0, second.1),
-            set_at(third.0, third.1),
-        ];
-        assert!(rt; legal(&entries) == want, "{entries:?}");
-    }
-}
-
-#[test]
-fn sixteen_colours_are_known_and_the_oldest_goes(rt: HostRuntime) {
-    assert!(rt; KNOWN == 16);
-    for (count, number, fits) in [
-        (16, 0, false),
-        (17, 0, true),
-        (17, 1, false),
-        (17, 16, false),
-    ] {
-        let state = with_colours(count);
-        assert!(rt;
-            state.fits(&set_at(number, 9)) == fits,
-            "at {number} of {count}"
-        );
-    }
-}
-
-#[test]
-fn a_colour_that_is_set_anew_comes_first(rt: HostRuntime) {
-    let mut state = with_colours(16);
+fn a_copy_knows_the_same(rt: HostRuntime) -> Result<(), Fail> {
+    let state = with_colours(rt.alloc(), 5)?;
     let answers = [
-        takes(&mut state, &set_at(0, 8)),
-        takes(&mut state, &set_at(16, 9)),
-        state.fits(&set_at(0, 8)),
-        state.fits(&set_at(1, 9)),
-    ];
-    assert!(rt; answers == [true, true, false, true]);
-}
-
-#[test]
-fn a_definition_leaves_what_is_known(rt: HostRuntime) {
-    let kept = [
-        set_at(1, 9),
-        Entry::GlyphStart(0x41),
-        set_at(2, 9),
-        Entry::DefEnd,
-        set_at(2, 9),
-    ];
-    let within = [set_at(1, 9), Entry::GlyphStart(0x41), set_at(1, 9)];
-    assert!(rt; legal(&kept) == Err(4));
-    assert!(rt; legal(&within) == Err(2));
-}
-
-#[test]
-fn a_reset_that_chooses_colours_forgets_all(rt: HostRuntime) {
-    for (first, forgets) in [
-        (0, false),
-        (1, false),
-        (2, true),
-        (4, true),
-        (6, true),
-        (8, false),
-    ] {
-        let mut state = with_colours(1);
-        let taken = takes(&mut state, &reset(first, 0x3F, Pen::Start));
-        assert!(rt; taken && state.fits(&set_at(0, 9)) == forgets, "by {first}");
-    }
-}
-
-#[test]
-fn a_copy_knows_the_same(rt: HostRuntime) {
-    let state = with_colours(5);
-    let answers = [
+        KNOWN == 16,
         state.known.copy() == state.known,
-        state.known == Known::new(),
+        state.known != Known::new(),
         state.copy() == state,
     ];
-    assert!(rt; answers == [true, false, true]);
+    assert!(rt; answers == [true; 4]);
+    Ok(())
 }

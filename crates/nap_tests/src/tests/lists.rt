@@ -1,257 +1,126 @@
 //! Lists that are legal, and others with the index at which they are not.
-use nap_codes::{CharSet, CursorKind, Mask, TextStep};
-use nap_fixtures::samples::{
-    AFTER_RESET, AT_START, BY_THREE, BY_TWO, arc, blink, blink_end, blink_mark, blue, character,
-    clear, dot, dot_in, hand, inked, letter, line, line_with, map, middle, part, poly, quarter,
-    rect_with, red, reset, size, text_move, through, to_eol, word,
+use Sample::{
+    Arc, Bell, Blink, BlinkEnd, BlinkMark, Clear, Cursor, DefEnd, Dot, Field, Glyph, Letter, Line,
+    MaskStart, MaskedLine, Mosaic, Poly, Rect, Red, Reset, Step, ToEol, Wait,
 };
-use nap_list::{Colour, Entry, Pen, Points, legal};
-use std::alloc::{AllocError, Global};
-use std::process::Abort;
+use Shade::{AfterReset, AtStart, Blue, ByThree, ByTwo};
+use Spot::{After, At, Start};
+use nap_codes::{CursorKind, Mask, TextStep};
+use nap_fixtures::entries::{DOT, LINE, MIDDLE, QUARTER, Sample, Shade, Spot, entries_of};
+use nap_list::legal;
 use std::test::Fail;
 
-fn are_legal(rt: &impl Abort, rows: &[(&[Entry], Result<(), usize>)]) {
-    for (entries, want) in rows {
-        assert!(rt; legal(entries) == *want, "{entries:?}");
-    }
-}
+/// A list, and the index at which it isn't legal.
+type Row = (&'static [Sample], Result<(), usize>);
 
-#[test]
-fn definitions_open_and_end(rt: HostRuntime) {
-    are_legal(
-        &rt,
+const ROWS: &[Row] = &[
+    // Definitions open and end.
+    (&[], Ok(())),
+    (&[DefEnd], Err(0)),
+    (&[Glyph(0x41)], Err(1)),
+    (&[MaskStart(Mask::C)], Err(1)),
+    (&[Glyph(0x41), DefEnd], Ok(())),
+    (&[Glyph(0x41), MaskStart(Mask::A)], Err(1)),
+    (&[MaskStart(Mask::D), DefEnd, DefEnd], Err(2)),
+    // A definition holds what needs no value.
+    (
         &[
-            (&[], Ok(())),
-            (&[Entry::DefEnd], Err(0)),
-            (&[Entry::GlyphStart(0x41)], Err(1)),
-            (&[Entry::MaskStart(Mask::C)], Err(1)),
-            (&[Entry::GlyphStart(0x41), Entry::DefEnd], Ok(())),
-            (
-                &[Entry::GlyphStart(0x41), Entry::MaskStart(Mask::A)],
-                Err(1),
-            ),
-            (
-                &[Entry::MaskStart(Mask::D), Entry::DefEnd, Entry::DefEnd],
-                Err(2),
-            ),
-            // A definition holds what needs no value.
-            (
-                &[
-                    Entry::MaskStart(Mask::A),
-                    map(1_048_576, red()),
-                    Entry::Wait(word(10)),
-                    Entry::Bell,
-                    Entry::Cursor(CursorKind::Steady),
-                    Entry::DefEnd,
-                ],
-                Ok(()),
-            ),
+            MaskStart(Mask::A),
+            Red(1_048_576, 49_152),
+            Wait(10),
+            Bell,
+            Cursor(CursorKind::Steady),
+            DefEnd,
         ],
-    );
-}
+        Ok(()),
+    ),
+    // Codes, bytes of a position and points of a shape are in range.
+    (&[Glyph(0x1F)], Err(0)),
+    (&[Glyph(0x20)], Err(1)),
+    (&[Glyph(0x7F)], Err(1)),
+    (&[Glyph(0x80)], Err(0)),
+    (&[Mosaic(0x1F)], Err(0)),
+    (&[Mosaic(0x20)], Ok(())),
+    (&[Mosaic(0x7F)], Ok(())),
+    (&[Mosaic(0x80)], Err(0)),
+    (&[Step(TextStep::Aps(0x20, 0x7F), Start)], Ok(())),
+    (&[Step(TextStep::Aps(0x7F, 0x20), Start)], Ok(())),
+    (&[Step(TextStep::Aps(0x1F, 0x40), Start)], Err(0)),
+    (&[Step(TextStep::Aps(0x80, 0x40), Start)], Err(0)),
+    (&[Step(TextStep::Aps(0x40, 0x1F), Start)], Err(0)),
+    (&[Step(TextStep::Aps(0x40, 0x80), Start)], Err(0)),
+    (&[Arc(1)], Err(0)),
+    (&[Arc(2)], Err(0)),
+    (&[Arc(3)], Ok(())),
+    (&[Arc(2_001)], Ok(())),
+    (&[Arc(2_002)], Err(0)),
+    (&[Poly(1)], Err(0)),
+    (&[Poly(2)], Ok(())),
+    (&[Poly(3)], Ok(())),
+    (&[Poly(2_001)], Ok(())),
+    (&[Poly(2_002)], Err(0)),
+    // Only a character can be repeated. Nothing has moved the pen at the start, and one that is held stands.
+    (&[ToEol], Err(0)),
+    (&[Letter(Start), ToEol], Ok(())),
+    (&[Letter(Start), Bell, ToEol], Err(2)),
+    (&[Letter(Start), ToEol, ToEol], Err(2)),
+    (&[Letter(Start)], Ok(())),
+    (&[Field(Start)], Ok(())),
+    (&[Clear(Start)], Ok(())),
+    (&[Reset(0, 0, Start)], Ok(())),
+    (&[Letter(After)], Err(0)),
+    (&[Field(After)], Err(0)),
+    (&[Clear(After)], Err(0)),
+    (&[Reset(0, 0, After)], Err(0)),
+    (&[Letter(Start), Letter(Start)], Err(1)),
+    (&[DOT, Letter(Start)], Err(1)),
+    (&[DOT, Field(After)], Err(1)),
+    (&[DOT, Letter(At(QUARTER))], Ok(())),
+    (&[Clear(Start), Field(After)], Ok(())),
+    // No RESET has been at the start. A colour that is held stands, also one by a RESET.
+    (&[DOT], Ok(())),
+    (&[LINE], Ok(())),
+    (&[Rect(false, QUARTER, MIDDLE, AtStart)], Ok(())),
+    (&[Blink(1, AtStart)], Ok(())),
+    (&[BlinkEnd(AtStart)], Ok(())),
+    (&[BlinkMark(AtStart)], Ok(())),
+    (&[Dot(MIDDLE, AfterReset)], Err(0)),
+    (&[Line(QUARTER, MIDDLE, AfterReset)], Err(0)),
+    (&[Rect(false, QUARTER, MIDDLE, AfterReset)], Err(0)),
+    (&[Blink(1, AfterReset)], Err(0)),
+    (&[BlinkEnd(AfterReset)], Err(0)),
+    (&[BlinkMark(AfterReset)], Err(0)),
+    (&[Dot(MIDDLE, Blue), DOT], Err(1)),
+    (&[Reset(2, 0, Start), Dot(MIDDLE, AfterReset)], Ok(())),
+    (&[Reset(2, 0, Start), Dot(MIDDLE, AfterReset), DOT], Err(2)),
+    (&[Dot(MIDDLE, ByTwo)], Err(0)),
+    (&[Reset(4, 0, Start), Dot(MIDDLE, ByTwo), DOT], Ok(())),
+    (&[Reset(4, 0, Start), DOT, Dot(MIDDLE, ByTwo)], Err(2)),
+    (&[Reset(4, 0, Start), Dot(MIDDLE, ByThree)], Err(1)),
+    (&[Reset(6, 0, Start), Dot(MIDDLE, ByThree)], Ok(())),
+    // A mask that was given stays, until a RESET puts it back.
+    (&[MaskedLine, LINE], Err(1)),
+    (&[LINE, MaskedLine, MaskedLine], Ok(())),
+    (&[MaskedLine, Reset(0, 0, At(MIDDLE)), LINE], Err(2)),
+    (&[MaskedLine, Reset(0, 8, At(MIDDLE)), LINE], Ok(())),
+    // A colour of the map that is known is no entry. A definition leaves what is known.
+    (&[Red(1, 9), Red(2, 9), Red(1, 9)], Err(2)),
+    (&[Red(1, 9), Red(1, 8), Red(1, 9)], Ok(())),
+    (&[Red(1, 9), Red(1, 8), Red(1, 8)], Err(2)),
+    (&[Red(1, 9), Red(1, 9), Red(1, 8)], Err(1)),
+    (
+        &[Red(1, 9), Glyph(0x41), Red(2, 9), DefEnd, Red(2, 9)],
+        Err(4),
+    ),
+    (&[Red(1, 9), Glyph(0x41), Red(1, 9)], Err(2)),
+];
 
 #[test]
-fn codes_are_in_range(rt: HostRuntime) {
-    for (code, glyph, fits) in [
-        (0x1F, Err(0), Err(0)),
-        (0x20, Err(1), Ok(())),
-        (0x7F, Err(1), Ok(())),
-        (0x80, Err(0), Err(0)),
-    ] {
-        are_legal(
-            &rt,
-            &[
-                (&[Entry::GlyphStart(code)], glyph),
-                (&[character(CharSet::Mosaic, code, hand(Pen::Start))], fits),
-            ],
-        );
-    }
-}
-
-#[test]
-fn bytes_of_a_position_are_in_range(rt: HostRuntime) {
-    for (first, second, want) in [
-        (0x20, 0x7F, Ok(())),
-        (0x7F, 0x20, Ok(())),
-        (0x1F, 0x40, Err(0)),
-        (0x80, 0x40, Err(0)),
-        (0x40, 0x1F, Err(0)),
-        (0x40, 0x80, Err(0)),
-    ] {
-        let step = TextStep::Aps(first, second);
-        are_legal(&rt, &[(&[text_move(step, Pen::Start)], want)]);
-    }
-}
-
-/// So many points: the quarter, and then the middle.
-fn points(alloc: Global, count: usize) -> Result<Points, AllocError> {
-    let mut list = Vec::new(alloc);
-    for index in 0..count {
-        list.push(if index == 0 { quarter() } else { middle() })?;
-    }
-    through(alloc, &list)
-}
-
-#[test]
-fn points_of_a_shape_are_in_range(rt: HostRuntime) -> Result<(), Fail> {
+fn lists_are_legal_up_to_an_entry(rt: HostRuntime) -> Result<(), Fail> {
     let alloc = rt.alloc();
-    for (count, of_arc, of_polygon) in [
-        (1, Err(0), Err(0)),
-        (2, Err(0), Ok(())),
-        (3, Ok(()), Ok(())),
-        (2_001, Ok(()), Ok(())),
-        (2_002, Err(0), Err(0)),
-    ] {
-        let arc = [arc(false, points(alloc, count)?)];
-        let polygon = [poly(true, points(alloc, count)?)];
-        are_legal(&rt, &[(&arc, of_arc), (&polygon, of_polygon)]);
+    for (samples, want) in ROWS {
+        let entries = entries_of(alloc, samples)?;
+        assert!(rt; legal(&entries) == *want, "{entries:?}");
     }
     Ok(())
-}
-
-#[test]
-fn only_a_character_can_be_repeated(rt: HostRuntime) {
-    are_legal(
-        &rt,
-        &[
-            (&[to_eol()], Err(0)),
-            (&[letter(Pen::Start), to_eol()], Ok(())),
-            (&[letter(Pen::Start), Entry::Bell, to_eol()], Err(2)),
-            (&[letter(Pen::Start), to_eol(), to_eol()], Err(2)),
-        ],
-    );
-}
-
-fn part_at(pen: Pen) -> Entry {
-    part(quarter(), middle(), pen)
-}
-
-#[test]
-fn nothing_has_moved_the_pen_at_the_start(rt: HostRuntime) {
-    are_legal(
-        &rt,
-        &[
-            (&[letter(Pen::Start)], Ok(())),
-            (&[part_at(Pen::Start)], Ok(())),
-            (&[clear(Pen::Start)], Ok(())),
-            (&[reset(0, 0, Pen::Start)], Ok(())),
-            (&[letter(Pen::After)], Err(0)),
-            (&[part_at(Pen::After)], Err(0)),
-            (&[clear(Pen::After)], Err(0)),
-            (&[reset(0, 0, Pen::After)], Err(0)),
-        ],
-    );
-}
-
-#[test]
-fn a_held_pen_stands(rt: HostRuntime) {
-    are_legal(
-        &rt,
-        &[
-            (&[letter(Pen::Start), letter(Pen::Start)], Err(1)),
-            (&[dot(middle()), letter(Pen::Start)], Err(1)),
-            (&[dot(middle()), part_at(Pen::After)], Err(1)),
-            (&[dot(middle()), letter(Pen::At(quarter()))], Ok(())),
-            (&[clear(Pen::Start), part_at(Pen::After)], Ok(())),
-        ],
-    );
-}
-
-fn dot_of(colour: Colour) -> Entry {
-    dot_in(middle(), colour)
-}
-
-fn line_of(colour: Colour) -> Entry {
-    line_with(quarter(), middle(), inked(colour, None))
-}
-
-fn rect_of(colour: Colour) -> Entry {
-    rect_with(false, quarter(), middle(), inked(colour, None))
-}
-
-fn blink_of(colour: Colour) -> Entry {
-    blink(1, [1, 2, 3], colour)
-}
-
-#[test]
-fn no_reset_has_been_at_the_start(rt: HostRuntime) {
-    are_legal(
-        &rt,
-        &[
-            (&[dot_of(AT_START)], Ok(())),
-            (&[line_of(AT_START)], Ok(())),
-            (&[rect_of(AT_START)], Ok(())),
-            (&[blink_of(AT_START)], Ok(())),
-            (&[blink_end(AT_START)], Ok(())),
-            (&[blink_mark(true, AT_START)], Ok(())),
-            (&[dot_of(AFTER_RESET)], Err(0)),
-            (&[line_of(AFTER_RESET)], Err(0)),
-            (&[rect_of(AFTER_RESET)], Err(0)),
-            (&[blink_of(AFTER_RESET)], Err(0)),
-            (&[blink_end(AFTER_RESET)], Err(0)),
-            (&[blink_mark(true, AFTER_RESET)], Err(0)),
-        ],
-    );
-}
-
-#[test]
-fn a_held_colour_stands(rt: HostRuntime) {
-    are_legal(
-        &rt,
-        &[
-            (&[dot_of(Colour::Direct(blue())), dot_of(AT_START)], Err(1)),
-            (&[reset(2, 0, Pen::Start), dot_of(AFTER_RESET)], Ok(())),
-            (
-                &[
-                    reset(2, 0, Pen::Start),
-                    dot_of(AFTER_RESET),
-                    dot_of(AT_START),
-                ],
-                Err(2),
-            ),
-        ],
-    );
-}
-
-#[test]
-fn a_colour_by_a_reset_stands(rt: HostRuntime) {
-    are_legal(
-        &rt,
-        &[
-            (&[dot_of(BY_TWO)], Err(0)),
-            (
-                &[reset(4, 0, Pen::Start), dot_of(BY_TWO), dot_of(AT_START)],
-                Ok(()),
-            ),
-            (
-                &[reset(4, 0, Pen::Start), dot_of(AT_START), dot_of(BY_TWO)],
-                Err(2),
-            ),
-            (&[reset(4, 0, Pen::Start), dot_of(BY_THREE)], Err(1)),
-            (&[reset(6, 0, Pen::Start), dot_of(BY_THREE)], Ok(())),
-        ],
-    );
-}
-
-fn masked() -> Entry {
-    line_with(quarter(), middle(), inked(AT_START, Some(size(0, 0))))
-}
-
-fn plain() -> Entry {
-    line(quarter(), middle())
-}
-
-#[test]
-fn a_mask_that_was_given_stays(rt: HostRuntime) {
-    let kept = reset(0, 0, Pen::At(middle()));
-    let put_back = reset(0, 8, Pen::At(middle()));
-    are_legal(
-        &rt,
-        &[
-            (&[masked(), plain()], Err(1)),
-            (&[plain(), masked(), masked()], Ok(())),
-            (&[masked(), kept, plain()], Err(2)),
-            (&[masked(), put_back, plain()], Ok(())),
-        ],
-    );
 }

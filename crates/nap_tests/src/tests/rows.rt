@@ -1,12 +1,5 @@
 //! Tables as text. A row is a line, and its last field is what is wanted.
 use std::alloc::Global;
-use std::process::Abort;
-
-/// What came of a row is what it wants.
-pub fn same(rt: &impl Abort, came: &str, row: &str) {
-    let (_, want) = parted(row);
-    assert_eq!(rt; came, want, "of {row}");
-}
 
 /// What a row is about, and what it wants.
 pub fn parted(row: &str) -> (&str, &str) {

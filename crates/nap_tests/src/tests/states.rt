@@ -1,90 +1,69 @@
 //! The states that entries leave.
-use nap_codes::{CursorKind, Mask, Size, TextStep};
-use nap_fixtures::samples::{
-    AFTER_RESET, AT_START, BY_THREE, BY_TWO, address, arc, at, blink, blink_end, blink_mark, blue,
-    clear, dot, dot_in, dot_with, hand, letter, line, look, map, middle, part, point, poly,
-    quarter, rect, red, reset, size, text_move, texture, through, word,
+use Sample::{
+    Arc, Bell, Blink, BlinkEnd, BlinkMark, Clear, Cursor, DefEnd, Dot, Field, Glyph, Letter,
+    MaskStart, Poly, Rect, Red, Reset, Step, Wait, WideDot,
 };
-use nap_list::{Base, CharSize, Colour, Drawing, Entry, Known, Origin, Pen, State, TextLook};
+use Shade::{AtStart, ByTwo};
+use Spot::{After, At, Start};
+use nap_codes::{CursorKind, Mask, Size, TextStep};
+use nap_fixtures::entries::{
+    DOT, LINE, MIDDLE, QUARTER, Sample, Shade, Spot, entries_of, entry_of,
+};
+use nap_fixtures::samples::{address, at, blue, look, reset, size, word};
+use nap_list::{Base, CharSize, Colour, Drawing, Known, Origin, Pen, State, TextLook, Texture};
 use nap_values::{Grb, Move, Word};
-use std::process::Abort;
+use std::alloc::{AllocError, Global};
 use std::test::Fail;
 
-fn pen_after(entry: &Entry) -> Option<Pen> {
-    let state = State::start();
-    if !state.fits(entry) {
-        return None;
-    }
-    Some(state.after(entry).drawing.pen)
-}
+/// The pen that an entry leaves, from the start on.
+const PENS: &[(Sample, Spot)] = &[
+    // On a shape.
+    (DOT, At(MIDDLE)),
+    (LINE, At(MIDDLE)),
+    (Arc(3), At(MIDDLE)),
+    (Rect(false, QUARTER, MIDDLE, AtStart), At((4, 1))),
+    (Poly(3), At(QUARTER)),
+    // Where only a terminal knows.
+    (Letter(Start), After),
+    (Step(TextStep::Apr, At(MIDDLE)), After),
+    (Field(At(QUARTER)), After),
+    (Reset(0, 0, Start), After),
+    (Clear(Start), After),
+    // Where it was, by what isn't drawn.
+    (Red(1_048_576, 49_152), Start),
+    (Blink(1, AtStart), Start),
+    (BlinkEnd(AtStart), Start),
+    (BlinkMark(AtStart), Start),
+    (Wait(10), Start),
+    (Bell, Start),
+    (Cursor(CursorKind::Off), Start),
+    (MaskStart(Mask::B), Start),
+];
 
-/// Each entry leaves this pen, from the start on.
-fn leave(rt: &impl Abort, rows: &[(Entry, Pen)]) {
-    for (entry, pen) in rows {
-        assert!(rt; pen_after(entry) == Some(*pen), "{entry:?}");
-    }
-}
-
-#[test]
-fn a_shape_leaves_the_pen_on_it(rt: HostRuntime) -> Result<(), Fail> {
-    let alloc = rt.alloc();
-    let way = [quarter(), middle(), middle()];
-    let across = point(4_194_304, 1_048_576);
-    let arc = arc(false, through(alloc, &way)?);
-    let polygon = poly(true, through(alloc, &way)?);
-    leave(
-        &rt,
-        &[
-            (dot(middle()), Pen::At(middle())),
-            (line(quarter(), middle()), Pen::At(middle())),
-            (arc, Pen::At(middle())),
-            (rect(false, quarter(), middle()), Pen::At(across)),
-            (polygon, Pen::At(quarter())),
-        ],
-    );
-    Ok(())
-}
-
-#[test]
-fn only_a_terminal_knows_the_pen_after(rt: HostRuntime) {
-    leave(
-        &rt,
-        &[
-            (letter(Pen::Start), Pen::After),
-            (text_move(TextStep::Apr, Pen::At(middle())), Pen::After),
-            (part(quarter(), middle(), Pen::At(quarter())), Pen::After),
-            (reset(0, 0, Pen::Start), Pen::After),
-            (clear(Pen::Start), Pen::After),
-        ],
-    );
-}
-
-#[test]
-fn what_is_not_drawn_leaves_the_pen(rt: HostRuntime) {
-    leave(
-        &rt,
-        &[
-            (map(1_048_576, red()), Pen::Start),
-            (blink(1, [1, 2, 3], AT_START), Pen::Start),
-            (blink_end(AT_START), Pen::Start),
-            (blink_mark(true, AT_START), Pen::Start),
-            (Entry::Wait(word(10)), Pen::Start),
-            (Entry::Bell, Pen::Start),
-            (Entry::Cursor(CursorKind::Off), Pen::Start),
-            (Entry::MaskStart(Mask::B), Pen::Start),
-        ],
-    );
-}
-
-fn left_by(entries: &[Entry]) -> Option<State> {
+/// The state behind these entries, if each fits.
+fn left_by(alloc: Global, samples: &[Sample]) -> Result<Option<State>, AllocError> {
     let mut state = State::start();
-    for entry in entries {
+    for entry in &entries_of(alloc, samples)? {
         if !state.fits(entry) {
-            return None;
+            return Ok(None);
         }
         state.step(entry);
     }
-    Some(state)
+    Ok(Some(state))
+}
+
+#[test]
+fn entries_leave_the_pen(rt: HostRuntime) -> Result<(), Fail> {
+    let alloc = rt.alloc();
+    let start = State::start();
+    for (sample, want) in PENS {
+        let entry = entry_of(alloc, *sample)?;
+        let fits = start.fits(&entry);
+        assert!(rt; fits);
+        let pen = start.after(&entry).drawing.pen;
+        assert!(rt; pen == want.pen(), "{entry:?}");
+    }
+    Ok(())
 }
 
 /// Nothing but the drawing and the colours that are known differs from the start.
@@ -97,43 +76,51 @@ fn state(drawing: Drawing, known: Known) -> State {
     }
 }
 
+// The end of a definition puts the values back. A new colour of the map is selected.
 #[test]
-fn the_end_of_a_definition_puts_the_values_back(rt: HostRuntime) {
-    let left = left_by(&[
-        dot_in(middle(), Colour::Direct(blue())),
-        Entry::GlyphStart(0x41),
-        reset(3, 9, Pen::Start),
-        Entry::DefEnd,
-    ]);
-    let drawing = Drawing {
-        pen: Pen::At(middle()),
+fn entries_leave_a_state(rt: HostRuntime) -> Result<(), Fail> {
+    let alloc = rt.alloc();
+    let defined = left_by(
+        alloc,
+        &[
+            Dot(MIDDLE, Shade::Blue),
+            Glyph(0x41),
+            Reset(3, 9, Start),
+            DefEnd,
+        ],
+    )?;
+    let after_definition = Drawing {
+        pen: Pen::At(at(MIDDLE)),
         base: Base::Direct(blue()),
         colour: Colour::Direct(blue()),
         ..Drawing::start()
     };
-    assert!(rt; left == Some(state(drawing, Known::new())));
-}
-
-#[test]
-fn a_new_colour_of_the_map_selects_it(rt: HostRuntime) {
-    let mut known = Known::new();
-    known.set(address(1_048_576), red());
-    let drawing = Drawing {
+    let mapped = left_by(alloc, &[Red(1_048_576, 49_152)])?;
+    let after_map = Drawing {
         colour: Colour::Front(address(1_048_576)),
         ..Drawing::start()
     };
-    let left = left_by(&[map(1_048_576, red())]);
-    assert!(rt; left == Some(state(drawing, known)));
+    let mut known = Known::new();
+    known.set(address(1_048_576), Grb::new(0, 49_152, 0));
+    let found = [
+        defined == Some(state(after_definition, Known::new())),
+        mapped == Some(state(after_map, known)),
+    ];
+    assert!(rt; found == [true; 2]);
+    Ok(())
 }
 
 /// No value is that of the start.
 fn changed() -> Drawing {
     Drawing {
-        pen: Pen::At(middle()),
+        pen: Pen::At(at(MIDDLE)),
         pel: size(65_536, -65_536),
         base: Base::Direct(blue()),
         colour: Colour::Front(address(1_048_576)),
-        texture: texture(word(5), Some(size(131_072, 131_072))),
+        texture: Texture {
+            word: word(5),
+            mask: Some(size(131_072, 131_072)),
+        },
         text: TextLook {
             first: word(9),
             second: word(1),
@@ -146,9 +133,10 @@ fn changed() -> Drawing {
     }
 }
 
+/// What a RESET leaves of these values.
 fn after_reset(first: u8, second: u8) -> Option<Drawing> {
     let state = state(changed(), Known::new());
-    let entry = reset(first, second, Pen::At(middle()));
+    let entry = reset(first, second, Pen::At(at(MIDDLE)));
     if !state.fits(&entry) {
         return None;
     }
@@ -163,6 +151,11 @@ fn moved() -> Drawing {
     }
 }
 
+/// The colour has changed, too.
+fn chosen(colour: Colour) -> Drawing {
+    Drawing { colour, ..moved() }
+}
+
 #[test]
 fn a_reset_puts_back_what_its_bits_name(rt: HostRuntime) {
     let pel = Drawing {
@@ -170,58 +163,52 @@ fn a_reset_puts_back_what_its_bits_name(rt: HostRuntime) {
         ..moved()
     };
     let text = Drawing {
-        text: look(),
+        text: look(Size::Normal),
         ..moved()
     };
-    let texture = Drawing {
-        texture: texture(Word::ZERO, None),
-        ..moved()
+    let texture = Texture {
+        word: Word::ZERO,
+        mask: None,
     };
+    let texture = Drawing { texture, ..moved() };
     let left = [after_reset(1, 0), after_reset(0, 1), after_reset(0, 8)];
-    assert!(rt; left == [Some(pel), Some(text), Some(texture)]);
+    let puts_back = left == [Some(pel), Some(text), Some(texture)];
     // Other bits only move the pen.
     let left = [after_reset(0, 0), after_reset(0x38, 0x36)];
-    assert!(rt; left == [Some(moved()); 2]);
+    assert!(rt; puts_back && left == [Some(moved()); 2]);
 }
 
 #[test]
 fn a_reset_chooses_colours_by_its_code(rt: HostRuntime) {
     let own = Drawing {
         base: Base::Own(Origin::AfterReset),
-        colour: AFTER_RESET,
-        ..moved()
+        ..chosen(Shade::AfterReset.colour())
     };
-    let two = Drawing {
-        colour: BY_TWO,
-        ..moved()
-    };
-    let three = Drawing {
-        colour: BY_THREE,
-        ..moved()
-    };
+    let (two, three) = (
+        chosen(Shade::ByTwo.colour()),
+        chosen(Shade::ByThree.colour()),
+    );
     let left = [after_reset(2, 0), after_reset(4, 0), after_reset(6, 0)];
     assert!(rt; left == [Some(own), Some(two), Some(three)]);
 }
 
-/// Whether the entry needs no other value than those of the start.
-fn stands(entry: Entry) -> bool {
-    Drawing::start().stands(&entry)
-}
+/// Whether an entry needs no other value than those of the start.
+const STANDING: &[(Sample, bool)] = &[
+    (DOT, true),
+    (LINE, true),
+    (Letter(Start), true),
+    (Clear(Start), true),
+    (Bell, true),
+    (Dot(MIDDLE, ByTwo), false),
+    (WideDot, false),
+    (Letter(After), false),
+];
 
 #[test]
-fn values_stand_where_each_is_the_same(rt: HostRuntime) {
-    let found = [
-        stands(dot(middle())),
-        stands(line(quarter(), middle())),
-        stands(letter(Pen::Start)),
-        stands(clear(Pen::Start)),
-        stands(Entry::Bell),
-    ];
-    assert!(rt; found == [true; 5]);
-    let found = [
-        stands(dot_in(middle(), BY_TWO)),
-        stands(dot_with(middle(), size(65_536, 65_536), AT_START)),
-        stands(letter(Pen::After)),
-    ];
-    assert!(rt; found == [false; 3]);
+fn values_stand_where_each_is_the_same(rt: HostRuntime) -> Result<(), Fail> {
+    for (sample, want) in STANDING {
+        let entry = entry_of(rt.alloc(), *sample)?;
+        assert!(rt; Drawing::start().stands(&entry) == *want, "{entry:?}");
+    }
+    Ok(())
 }

@@ -1,5 +1,6 @@
 //! The ways between points, and the ends of the ranges of values.
-use nap_fixtures::samples::{middle, point, size, word};
+use nap_fixtures::entries::MIDDLE;
+use nap_fixtures::samples::{at, point, size, word};
 use nap_values::{
     Addr, Domain, Grb, Move, Point, Word, colour, colour_bytes, multi, multi_bytes, single,
     single_bytes,
@@ -7,13 +8,13 @@ use nap_values::{
 
 #[test]
 fn ways_between_points(rt: HostRuntime) {
-    let corner = point(8_388_607, 0);
+    let (middle, corner) = (at(MIDDLE), point(8_388_607, 0));
     let found = [
-        middle().to(corner) == size(4_194_303, -4_194_304),
-        middle().by(size(4_194_303, -4_194_304)) == Some(corner),
-        middle().by(size(4_194_304, 0)) == None,
-        middle().by(size(0, -4_194_305)) == None,
-        size(4_194_304, 4_194_304).point() == Some(middle()),
+        middle.to(corner) == size(4_194_303, -4_194_304),
+        middle.by(size(4_194_303, -4_194_304)) == Some(corner),
+        middle.by(size(4_194_304, 0)) == None,
+        middle.by(size(0, -4_194_305)) == None,
+        size(4_194_304, 4_194_304).point() == Some(middle),
         size(1, -1).point() == None,
     ];
     assert!(rt; found == [true; 6]);
@@ -39,51 +40,34 @@ fn bytes_carry_words(rt: HostRuntime) {
 
 #[test]
 fn ends_of_ranges(rt: HostRuntime) {
-    let words = [
-        Word::try_new(63).map(Word::get) == Some(63),
-        Word::try_new(64) == None,
+    let small = [
+        Word::try_new(63).map(Word::get),
+        Word::try_new(64).map(Word::get),
+        Domain::try_new(8, 1).map(Domain::multi),
+        Domain::try_new(9, 1).map(Domain::multi),
+        Domain::try_new(0, 1).map(Domain::multi),
+        Domain::try_new(1, 4).map(Domain::single),
+        Domain::try_new(1, 5).map(Domain::single),
+        Domain::try_new(1, 0).map(Domain::single),
     ];
-    assert!(rt; words == [true; 2]);
-    let addresses = [
-        Addr::try_new(16_777_215).map(Addr::get) == Some(16_777_215),
-        Addr::try_new(16_777_216) == None,
-    ];
-    assert!(rt; addresses == [true; 2]);
-    let colours = [
-        Grb::try_new(0, 65_535, 0) == Some(Grb::new(0, 65_535, 0)),
-        Grb::try_new(0, 0, 65_536) == None,
-    ];
-    assert!(rt; colours == [true; 2]);
-}
-
-#[test]
-fn ends_of_points_and_displacements(rt: HostRuntime) {
-    let points = [
+    let large = [
+        Addr::try_new(16_777_215).map(Addr::get),
+        Addr::try_new(16_777_216).map(Addr::get),
         Point::try_new(8_388_607, 0).map(Point::x),
         Point::try_new(0, 8_388_608).map(Point::x),
     ];
-    assert!(rt; points == [Some(8_388_607), None]);
-    let steps = [
+    let signed = [
         Move::try_new(0, -8_388_608).map(Move::y),
         Move::try_new(-8_388_609, 0).map(Move::y),
         Move::try_new(8_388_607, 0).map(Move::x),
         Move::try_new(0, 8_388_608).map(Move::x),
     ];
-    assert!(rt; steps == [Some(-8_388_608), None, Some(8_388_607), None]);
-}
-
-#[test]
-fn ends_of_lengths(rt: HostRuntime) {
-    let multi = [
-        Domain::try_new(8, 1).map(Domain::multi),
-        Domain::try_new(9, 1).map(Domain::multi),
-        Domain::try_new(0, 1).map(Domain::multi),
+    let found = [
+        small == [Some(63), None, Some(8), None, None, Some(4), None, None],
+        large == [Some(16_777_215), None, Some(8_388_607), None],
+        signed == [Some(-8_388_608), None, Some(8_388_607), None],
+        Grb::try_new(0, 65_535, 0) == Some(Grb::new(0, 65_535, 0)),
+        Grb::try_new(0, 0, 65_536) == None,
     ];
-    assert!(rt; multi == [Some(8), None, None]);
-    let single = [
-        Domain::try_new(1, 4).map(Domain::single),
-        Domain::try_new(1, 5).map(Domain::single),
-        Domain::try_new(1, 0).map(Domain::single),
-    ];
-    assert!(rt; single == [Some(4), None, None]);
+    assert!(rt; found == [true; 5]);
 }
