@@ -348,10 +348,11 @@ impl Drawing {
 }
 
 /// Where a rectangle between two opposite corners leaves the pen: straight across from the first.
+#[inline]
 pub fn corner(from: Point, to: Point) -> Point
     ensures { result ≡ corner from to }
 {
-    Point::try_new(to.x(), from.y()).unwrap()
+    from.across(to)
 }
 
 impl State {

@@ -1,42 +1,38 @@
-use Rattle.std.proofs.Common.{◌≡◌, ℕ, ◌+◌, ◌-◌, ◌*◌, ◌/◌, ◌%◌, ◌^◌, ◌<◌, [], ◌∷◌, map, All, refl, sym, ap, ◌∙◌, arith, bit_and}
+use Rattle.std.proofs.Common.{◌≡◌, ℕ, ◌+◌, ◌-◌, ◌*◌, ◌/◌, ◌%◌, ◌^◌, ◌<◌, [], ◌∷◌, ◌≤◌, replicate, All, refl, sym, ap, ◌∙◌, arith, bit_and}
 use Rattle.std.proofs.lemmas.List.Elements.{All-nil, All-cons, All-head}
 use Rattle.nap_values.specs.Digits.{value_of, digits_of}
-use Rattle.nap_values.proofs.DigitLemmas.{value_of-digits_of, value_of-below, digits_of-value_of}
-use Rattle.nap_values.proofs.MaskLemmas.{masked}
+use Rattle.nap_values.proofs.DigitLemmas.{value_of-digits_of, value_of-below}
+use Rattle.nap_values.proofs.MaskLemmas.{low_bits}
 
 -- Eight digits in base 8, a byte for each, are gathered into one number.
 
--- the lower half of each of four digits
-lower_of_four : (a b c d : ℕ) → a < 65536 → b < 65536 → c < 65536 → d < 65536 →
-    bit_and (((a * 65536 + b) * 65536 + c) * 65536 + d) 0x00FF_00FF_00FF_00FF
-    ≡ ((a % 256 * 65536 + b % 256) * 65536 + c % 256) * 65536 + d % 256
+-- the lowest bits of each of four digits
+pub lower_of_four : (bits : ℕ) → bits ≤ 16 → (a b c d : ℕ) → a < 65536 → b < 65536 → c < 65536 → d < 65536 →
+    bit_and (((a * 65536 + b) * 65536 + c) * 65536 + d) (value_of 65536 4 (replicate 4 (2 ^ bits - 1)))
+    ≡ ((a % 2 ^ bits * 65536 + b % 2 ^ bits) * 65536 + c % 2 ^ bits) * 65536 + d % 2 ^ bits
 unfolding value_of
-lower_of_four a b c d a_fits b_fits c_fits d_fits =
+lower_of_four bits within a b c d a_fits b_fits c_fits d_fits =
     let digits = a ∷ b ∷ c ∷ d ∷ [] in
     let fit : All (λ k. k < 65536) digits =
     All-cons (λ k. k < 65536) a (b ∷ c ∷ d ∷ []) a_fits (All-cons (λ k. k < 65536) b (c ∷ d ∷ []) b_fits
     (All-cons (λ k. k < 65536) c (d ∷ []) c_fits (All-cons (λ k. k < 65536) d [] d_fits (All-nil (λ k. k < 65536))))) in
     let whole : ((a * 65536 + b) * 65536 + c) * 65536 + d ≡ value_of 65536 4 digits = omega arith in
-    let lower : value_of 65536 4 (map (λ k. (k / 1 % 256) * 1) digits) ≡ ((a % 256 * 65536 + b % 256) * 65536 + c % 256) * 65536 + d % 256 = omega arith in
-    ap (λ n. bit_and n 0x00FF_00FF_00FF_00FF) whole
-    ∙ masked 16 8 0 (omega arith) 4 (value_of 65536 4 digits)
-    ∙ ap (λ ds. value_of 65536 4 (map (λ k. (k / 1 % 256) * 1) ds)) (digits_of-value_of 65536 4 digits (omega arith) fit refl)
-    ∙ lower
+    ap (λ n. bit_and n (value_of 65536 4 (replicate 4 (2 ^ bits - 1)))) whole
+    ∙ low_bits 16 bits 4 digits within fit refl
+    ∙ omega arith
 
--- the lower half of each of two digits
-lower_of_two : (a b : ℕ) → a < 4294967296 → b < 4294967296 →
-    bit_and (a * 4294967296 + b) 0x0000_FFFF_0000_FFFF ≡ a % 65536 * 4294967296 + b % 65536
+-- the lowest bits of each of two digits
+pub lower_of_two : (bits : ℕ) → bits ≤ 32 → (a b : ℕ) → a < 4294967296 → b < 4294967296 →
+    bit_and (a * 4294967296 + b) (value_of 4294967296 2 (replicate 2 (2 ^ bits - 1))) ≡ a % 2 ^ bits * 4294967296 + b % 2 ^ bits
 unfolding value_of
-lower_of_two a b a_fits b_fits =
+lower_of_two bits within a b a_fits b_fits =
     let digits = a ∷ b ∷ [] in
     let fit : All (λ k. k < 4294967296) digits =
     All-cons (λ k. k < 4294967296) a (b ∷ []) a_fits (All-cons (λ k. k < 4294967296) b [] b_fits (All-nil (λ k. k < 4294967296))) in
     let whole : a * 4294967296 + b ≡ value_of 4294967296 2 digits = omega arith in
-    let lower : value_of 4294967296 2 (map (λ k. (k / 1 % 65536) * 1) digits) ≡ a % 65536 * 4294967296 + b % 65536 = omega arith in
-    ap (λ n. bit_and n 0x0000_FFFF_0000_FFFF) whole
-    ∙ masked 32 16 0 (omega arith) 2 (value_of 4294967296 2 digits)
-    ∙ ap (λ ds. value_of 4294967296 2 (map (λ k. (k / 1 % 65536) * 1) ds)) (digits_of-value_of 4294967296 2 digits (omega arith) fit refl)
-    ∙ lower
+    ap (λ n. bit_and n (value_of 4294967296 2 (replicate 2 (2 ^ bits - 1)))) whole
+    ∙ low_bits 32 bits 2 digits within fit refl
+    ∙ omega arith
 
 abbrev pub pairs_of : ℕ → ℕ
 pairs_of n = n - bit_and (n / 256) 0x00FF_00FF_00FF_00FF * 248
@@ -67,7 +63,7 @@ module _ (a b c d e f g h : ℕ) (a_fits : a < 8) (b_fits : b < 8) (c_fits : c <
   upper_bytes_are =
       let moved : bytes / 256 ≡ ((a * 65536 + (b * 256 + c)) * 65536 + (d * 256 + e)) * 65536 + (f * 256 + g) = omega arith in
       ap (λ n. bit_and n 0x00FF_00FF_00FF_00FF) moved
-      ∙ lower_of_four a (b * 256 + c) (d * 256 + e) (f * 256 + g) (omega arith) (omega arith) (omega arith) (omega arith)
+      ∙ lower_of_four 8 (omega arith) a (b * 256 + c) (d * 256 + e) (f * 256 + g) (omega arith) (omega arith) (omega arith) (omega arith)
       ∙ omega arith
 
   bytes_split : bytes ≡ upper_bytes * 248 + pairs
@@ -75,10 +71,11 @@ module _ (a b c d e f g h : ℕ) (a_fits : a < 8) (b_fits : b < 8) (c_fits : c <
   bytes_split = omega arith
 
   upper_pairs_are : bit_and (pairs / 65536) 0x0000_FFFF_0000_FFFF ≡ upper_pairs
+  unfolding value_of
   upper_pairs_are =
       let moved : pairs / 65536 ≡ (a * 8 + b) * 4294967296 + ((c * 8 + d) * 65536 + (e * 8 + f)) = omega arith in
       ap (λ n. bit_and n 0x0000_FFFF_0000_FFFF) moved
-      ∙ lower_of_two (a * 8 + b) ((c * 8 + d) * 65536 + (e * 8 + f)) (omega arith) (omega arith)
+      ∙ lower_of_two 16 (omega arith) (a * 8 + b) ((c * 8 + d) * 65536 + (e * 8 + f)) (omega arith) (omega arith)
       ∙ omega arith
 
   pairs_split : pairs ≡ upper_pairs * 65472 + quads
@@ -95,18 +92,19 @@ module _ (a b c d e f g h : ℕ) (a_fits : a < 8) (b_fits : b < 8) (c_fits : c <
       let is_four : quads_of (pairs_of bytes) ≡ quads = ap quads_of is_two ∙ omega (arith, upper_pairs_are, pairs_split) in
       ap (λ m. m - m / 4294967296 * 4294963200) is_four ∙ omega (arith, quads_split)
 
+-- a number whose digits are below a base is below so many times the unit of the first
+pub below_base : (base n : ℕ) → All (λ d. d < base) (digits_of 256 8 n) → n < base * 256 ^ 7
+unfolding digits_of
+below_base base n fit =
+    let top : n / 256 ^ 7 < base = All-head (λ d. d < base) (n / 256 ^ 7) (digits_of 256 7 (n % 256 ^ 7)) fit in
+    omega (arith, top)
+
 -- the three steps gather the digits of a number
 module _ (n : ℕ) (fit : All (λ d. d < 8) (digits_of 256 8 n)) where
-  fits : n < 256 ^ 8
-  unfolding digits_of
-  fits =
-      let top : n / 256 ^ 7 < 8 = All-head (λ d. d < 8) (n / 256 ^ 7) (digits_of 256 7 (n % 256 ^ 7)) fit in
-      omega (arith, top)
-
   pub gathers : quads_of (pairs_of n) - quads_of (pairs_of n) / 4294967296 * 4294963200 ≡ value_of 8 8 (digits_of 256 8 n)
   unfolding digits_of
   gathers =
-      ap (λ m. quads_of (pairs_of m) - quads_of (pairs_of m) / 4294967296 * 4294963200) (sym (value_of-digits_of 256 8 n (omega arith) fits))
+      ap (λ m. quads_of (pairs_of m) - quads_of (pairs_of m) / 4294967296 * 4294963200) (sym (value_of-digits_of 256 8 n (omega arith) (omega (arith, below_base 8 n fit))))
       ∙ gathered-digits _ _ _ _ _ _ _ _ (fit 0 0 (omega arith)) (fit 1 0 (omega arith)) (fit 2 0 (omega arith)) (fit 3 0 (omega arith))
       (fit 4 0 (omega arith)) (fit 5 0 (omega arith)) (fit 6 0 (omega arith)) (fit 7 0 (omega arith))
 

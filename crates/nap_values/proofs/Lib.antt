@@ -8,6 +8,8 @@ pub mod PublicLaws
 mod MaskLemmas
 mod SumLemmas
 mod PackedLemmas
+mod PackedColourLemmas
+mod PartLemmas
 mod MotionLemmas
 mod SignLemmas
 mod GatherLemmas

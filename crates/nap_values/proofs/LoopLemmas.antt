@@ -1,6 +1,5 @@
 use Rattle.std.proofs.Common.{◌≡◌, ℕ, suc, zero, ◌+◌, ◌-◌, ◌*◌, ◌/◌, ◌%◌, ◌^◌, ◌<◌, ◌≤◌, List, ◌∷◌, map, length, get_or, drop, refl, ap, sym, ◌∙◌, arith, add-one, drop-cons}
 use Rattle.std.proofs.Math.Nat.{pow-suc, mul-div_cancel, one-le-pow, mul-le-mul_right, mod-lt}
-use Rattle.std.proofs.lemmas.Nat.{div_below}
 use Rattle.std.proofs.Math.ListN.{drop_of_length-le}
 use Rattle.nap_values.specs.Digits.{value_of, digits_of}
 
@@ -76,13 +75,6 @@ pub record IsRestAt (base places i unit rest : ℕ) : Type 0 where
   pub room : rest < unit
 
 module _ (base places i unit rest : ℕ) (at : IsRestAt base places i unit rest) (pos : 0 < base) (within : i < places) where
-  pub digit_below : rest / (unit / base) < base
-  digit_below =
-      let split : unit ≡ unit / base * base =
-      unit_split base places i unit pos within at.unit_is ∙ ap (λ u. u * base) (sym (next_unit base places i unit pos within at.unit_is)) in
-      let small : rest < base * (unit / base) = omega (arith, split, at.room) in
-      div_below rest (unit / base) base (next_unit_pos base places i unit pos within at.unit_is) small
-
   pub IsRestAt-more : IsRestAt base places (i + 1) (unit / base) (rest % (unit / base))
   IsRestAt-more =
       let next = next_unit base places i unit pos within at.unit_is in

@@ -1,11 +1,11 @@
-use Rattle.std.proofs.Common.{◌≡◌, ℕ, suc, zero, ◌+◌, ◌-◌, ◌*◌, ◌/◌, ◌%◌, ◌^◌, ◌<◌, ◌≤◌, List, [], ◌∷◌, map, replicate, All, sym, ap, ap₂, ◌∙◌, arith, bit_and, pow-suc}
-use Rattle.std.proofs.Math.Nat.{pow-le-pow_right, pow-zero, mul-zero}
+use Rattle.std.proofs.Common.{◌≡◌, ℕ, suc, zero, ◌+◌, ◌-◌, ◌*◌, ◌/◌, ◌%◌, ◌^◌, ◌<◌, ◌≤◌, List, [], ◌∷◌, map, replicate, take, length, All, refl, sym, ap, ap₂, ◌∙◌, arith, bit_and, div-one, pow-suc}
+use Rattle.std.proofs.Math.Nat.{pow-le-pow_right, pow-zero, mul-zero, mul-div_cancel}
 use Rattle.std.specs.Int.Bits.{and_zero_r}
-use Rattle.std.proofs.lemmas.Nat.{and_block, pow-add, pow_pos, mod_below, div-add-mod'}
+use Rattle.std.proofs.lemmas.Nat.{and_block, and_shr, pow-add, pow_pos, mod_below, div-add-mod'}
 use Rattle.std.proofs.lemmas.List.Elements.{All-nil, All-cons, All-head, All-tail, All-replicate}
 use lib.Bits.{and_high}
 use Rattle.nap_values.specs.Digits.{value_of, digits_of}
-use Rattle.nap_values.proofs.DigitLemmas.{value_of-below}
+use Rattle.nap_values.proofs.DigitLemmas.{value_of-below, digits_of-value_of}
 
 -- The same bits of each digit, where a mask keeps them.
 
@@ -60,3 +60,55 @@ value_of-scaled base (suc places) unit f g (d ∷ ds) all =
 pub everywhere : (P : ℕ → Type 0) (xs : List ℕ) → ((x : ℕ) → P x) → All P xs
 everywhere P [] is = All-nil P
 everywhere P (x ∷ xs) is = All-cons P x xs (is x) (everywhere P xs is)
+
+-- the same digits by two rules
+pub map_same : (f g : ℕ → ℕ) (xs : List ℕ) → All (λ x. f x ≡ g x) xs → map f xs ≡ map g xs
+map_same f g [] same = refl
+map_same f g (x ∷ xs) same =
+    ap₂ (λ y ys. y ∷ ys) (All-head (λ k. f k ≡ g k) x xs same) (map_same f g xs (All-tail (λ k. f k ≡ g k) x xs same))
+
+-- the lowest bits of each digit
+pub low_bits : (width bits places : ℕ) (digits : List ℕ) → bits ≤ width → All (λ d. d < 2 ^ width) digits → length digits ≡ places →
+    bit_and (value_of (2 ^ width) places digits) (value_of (2 ^ width) places (replicate places (2 ^ bits - 1)))
+    ≡ value_of (2 ^ width) places (map (λ d. d % 2 ^ bits) digits)
+low_bits width bits places digits within fit len =
+    let low : ℕ → ℕ = λ d. (d / 2 ^ 0 % 2 ^ bits) * 2 ^ 0 in
+    let whole : bits + 0 ≡ bits = omega arith in
+    let same : (d : ℕ) → low d ≡ d % 2 ^ bits = λ d. ap (λ m. (m % 2 ^ bits) * 1) (div-one d) ∙ omega arith in
+    ap (λ k. bit_and (value_of (2 ^ width) places digits) (value_of (2 ^ width) places (replicate places (2 ^ k - 1)))) (sym whole)
+    ∙ masked width bits 0 (omega arith) places (value_of (2 ^ width) places digits)
+    ∙ ap (λ ds. value_of (2 ^ width) places (map low ds)) (digits_of-value_of (2 ^ width) places digits (pow_pos width) fit len)
+    ∙ ap (value_of (2 ^ width) places) (map_same low (λ d. d % 2 ^ bits) digits (everywhere (λ d. low d ≡ d % 2 ^ bits) digits same))
+
+-- the same bits of each of eight bytes, moved to the lowest place
+pub moved_bits : (low n : ℕ) → 1 + low ≤ 8 → value_of 256 8 (replicate 8 (2 ^ (1 + low) - 2 ^ low)) / 2 ^ low ≡ 0x0101_0101_0101_0101 →
+    bit_and (n / 2 ^ low) 0x0101_0101_0101_0101 ≡ value_of 256 8 (map (λ d. d / 2 ^ low % 2) (digits_of 256 8 n))
+moved_bits low n within mask =
+    let digits = digits_of 256 8 n in
+    let fields = value_of 256 8 (replicate 8 (2 ^ (1 + low) - 2 ^ low)) in
+    ap (bit_and (n / 2 ^ low)) (sym mask)
+    ∙ sym (and_shr n fields low)
+    ∙ ap (λ m. m / 2 ^ low)
+    (masked 8 1 low within 8 n
+    ∙ value_of-scaled 256 8 (2 ^ low) (λ d. (d / 2 ^ low % 2 ^ 1) * 2 ^ low) (λ d. d / 2 ^ low % 2) digits
+    (everywhere (λ d. (d / 2 ^ low % 2 ^ 1) * 2 ^ low ≡ (d / 2 ^ low % 2) * 2 ^ low) digits (λ d. refl)))
+    ∙ mul-div_cancel (value_of 256 8 (map (λ d. d / 2 ^ low % 2) digits)) (pow_pos low)
+
+-- a mask of bytes keeps of each byte what it keeps of that byte alone
+pub masked_bytes : (mask : ℕ) → mask < 256 → (places count : ℕ) (bytes : List ℕ) → All (λ b. b < 256) bytes → length bytes ≡ places →
+    bit_and (value_of 256 places bytes) (value_of 256 places (replicate count mask)) ≡ value_of 256 places (map (λ b. bit_and b mask) (take count bytes))
+unfolding value_of
+masked_bytes mask fits zero count bytes all len = refl
+masked_bytes mask fits (suc places) zero bytes all len = and_zero_r (value_of 256 (suc places) bytes)
+masked_bytes mask fits (suc places) (suc count) (byte ∷ bytes) all len =
+    let others = All-tail (λ b. b < 256) byte bytes all in
+    let unit_is : 256 ^ places ≡ 2 ^ (8 * places) = pow_of_pow 8 places in
+    let rest_fits : value_of 256 places bytes < 2 ^ (8 * places) = omega (arith, unit_is, value_of-below 256 places bytes (omega arith) others) in
+    let mask_fits : value_of 256 places (replicate count mask) < 2 ^ (8 * places) =
+    omega (arith, unit_is, value_of-below 256 places (replicate count mask) (omega arith) (All-replicate (λ b. b < 256) count mask fits)) in
+    rw (
+      unit_is,
+      and_block (8 * places) byte mask (value_of 256 places bytes) (value_of 256 places (replicate count mask)) rest_fits mask_fits,
+      masked_bytes mask fits places count bytes others (omega arith),
+    ) refl
+masked_bytes mask fits _ count bytes all len = absurd (omega arith)

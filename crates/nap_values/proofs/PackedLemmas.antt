@@ -1,4 +1,4 @@
-use Rattle.std.proofs.Common.{◌≡◌, subst, ℕ, suc, zero, ◌+◌, ◌*◌, ◌/◌, ◌%◌, ◌^◌, ◌<◌, List, [], ◌∷◌, map, length, All, refl, sym, ap, ◌∙◌, arith, bit_and}
+use Rattle.std.proofs.Common.{◌≡◌, subst, ℕ, suc, zero, ◌+◌, ◌*◌, ◌/◌, ◌%◌, ◌^◌, ◌<◌, List, [], ◌∷◌, map, length, All, refl, sym, ap, ap₂, ◌∙◌, arith, bit_and}
 use Rattle.std.proofs.lemmas.Nat.{and_shr}
 use Rattle.std.proofs.lemmas.List.{length-map}
 use Rattle.std.proofs.lemmas.List.Elements.{All-head, All-weaker}
@@ -13,7 +13,13 @@ use Rattle.nap_values.proofs.SpellingLemmas.{length-words_of_pairs, words_of_pai
 use Rattle.nap_values.proofs.CoordinateLemmas.{bits_of-signed_of}
 use Rattle.nap_values.proofs.MaskLemmas.{masked, value_of-scaled}
 
--- The two numbers of 24 bits that eight words hold.
+-- The eight words that a number holds, and the two numbers of 24 bits that they hold.
+
+-- eight words are those of their value
+pub words_in-value : (words : List ℕ) → All IsWord words → length words ≡ 8 → words_in (value_of 256 8 words) ≡ words
+unfolding words_in
+words_in-value words all size =
+    digits_of-value_of 256 8 words (omega arith) (All-weaker IsWord (λ word. word < 256) (λ word fits. omega arith) words all) size
 
 -- the words that hold two numbers of 24 bits
 abbrev pub pair_words : ℕ → ℕ → List ℕ
@@ -41,10 +47,8 @@ module _ (x y : ℕ) (x_fits : x < 16777216) (y_fits : y < 16777216) where
       ∙ value_of-digits_of 8 8 y (omega arith) y_fits
 
   pub words_in-packed : words_in (packed x y) ≡ pair_words x y
-  unfolding words_in packed
-  words_in-packed =
-      digits_of-value_of 256 8 (pair_words x y) (omega arith)
-      (All-weaker IsWord (λ word. word < 256) (λ word fits. omega arith) (pair_words x y) pair_words-words) length-pair_words
+  unfolding packed
+  words_in-packed = words_in-value (pair_words x y) pair_words-words length-pair_words
 
   pub packed-words : HoldsWords (packed x y)
   packed-words = rw words_in-packed pair_words-words
@@ -98,6 +102,10 @@ module _ (n : ℕ) (words : HoldsWords n) where
       let top : n / 256 ^ 7 < 64 = All-head IsWord (n / 256 ^ 7) (digits_of 256 7 (n % 256 ^ 7)) words in
       omega (arith, top)
 
+  pub value-words_in : value_of 256 8 (words_in n) ≡ n
+  unfolding words_in
+  value-words_in = value_of-digits_of 256 8 n (omega arith) (omega (arith, holding_fits))
+
   pub x_in-below : x_in n < 16777216
   unfolding x_in
   x_in-below = x_value-below (words_in n) words
@@ -107,10 +115,8 @@ module _ (n : ℕ) (words : HoldsWords n) where
   y_in-below = y_value-below (words_in n) words
 
   pub packed-in : packed (x_in n) (y_in n) ≡ n
-  unfolding packed x_in y_in words_in
-  packed-in =
-      ap (value_of 256 8) (sym (pair_words-values (words_in n) words length-words_in))
-      ∙ value_of-digits_of 256 8 n (omega arith) (omega (arith, holding_fits))
+  unfolding packed x_in y_in
+  packed-in = ap (value_of 256 8) (sym (pair_words-values (words_in n) words length-words_in)) ∙ value-words_in
 
   -- the digits of x, and those of y, by themselves
   pub x_masked : bit_and n 0x3838_3838_3838_3838 ≡ value_of 256 8 (map x_digit (words_in n)) * 8
@@ -145,6 +151,19 @@ module _ (n : ℕ) (words : HoldsWords n) where
 
   pub y_digits_are : digits_of 256 8 (bit_and n 0x0707_0707_0707_0707) ≡ map y_digit (words_in n)
   y_digits_are = ap (digits_of 256 8) y_masked ∙ digits_are y_digit (y_digits-below (words_in n) words)
+
+-- the digits of x of one number with those of y of another
+pub crossed-parts : (m n : ℕ) → HoldsWords m → HoldsWords n →
+    bit_and m 0x3838_3838_3838_3838 + bit_and n 0x0707_0707_0707_0707 ≡ packed (x_in m) (y_in n)
+unfolding x_in y_in
+crossed-parts m n m_words n_words =
+    let xs = digits_of-value_of 8 8 (map x_digit (words_in m)) (omega arith) (x_digits-below (words_in m) m_words)
+    (length-map (words_in m) x_digit ∙ length-words_in m m_words) in
+    let ys = digits_of-value_of 8 8 (map y_digit (words_in n)) (omega arith) (y_digits-below (words_in n) n_words)
+    (length-map (words_in n) y_digit ∙ length-words_in n n_words) in
+    ap₂ (λ x y. x + y) (x_masked m m_words) (y_masked n n_words)
+    ∙ ap₂ (λ x y. value_of 256 8 x * 8 + value_of 256 8 y) (sym xs) (sym ys)
+    ∙ sym (packed-parts (x_in m) (y_in n))
 
 -- a displacement's words are those of its parts
 pub move_words : (n : ℕ) → HoldsWords n → packed (bits_of (signed_of (x_in n))) (bits_of (signed_of (y_in n))) ≡ n

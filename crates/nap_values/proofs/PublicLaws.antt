@@ -6,11 +6,12 @@ use Rattle.nap_values.specs.Coordinates.{Displacement, point_at, moved, displace
 use Rattle.nap_values.specs.Colours.{Components}
 use Rattle.nap_values.specs.TwosComplement.{bits_of}
 use Rattle.nap_values.specs.Operands.{x_digit, y_digit, g_digit, r_digit, b_digit, multi_of, single_of, colour_of}
-use Rattle.nap_values.specs.Spellings.{bytes_of, words_of_triples, move_bytes, point_bytes, addr_bytes, grb_bytes}
+use Rattle.nap_values.specs.Spellings.{bytes_of, move_bytes, point_bytes, addr_bytes, grb_bytes}
 use Rattle.nap_values.specs.Laws.{IsWord, IsOnlySpelling, MovesSpellOnce, PointsSpellOnce, AddressesSpellOnce, ColoursSpellOnce, MissingWordsAreZero, ValuesAreInRange, DisplacementsLeadThere, DisplacementsAreUnique, PointsAreInside}
 use Rattle.nap_values.proofs.DigitLemmas.{value_of-digits_of, digits_of-value_of, value_of-below, length-digits_of, digits_of-below, value_of-append-zeros}
-use Rattle.nap_values.proofs.SpellingLemmas.{words_of-bytes_of, bytes_of-operand_bytes, length-words_of_triples, words_of_triples-words, digits-words_of_triples, words_of_triples-digits, g_digits-below, r_digits-below, b_digits-below}
+use Rattle.nap_values.proofs.SpellingLemmas.{words_of-bytes_of, bytes_of-operand_bytes, g_digits-below, r_digits-below, b_digits-below}
 use Rattle.nap_values.proofs.PackedLemmas.{pair_words, length-pair_words, pair_words-words, x_value-pair_words, y_value-pair_words, pair_words-values, x_value-below, y_value-below}
+use Rattle.nap_values.proofs.PackedColourLemmas.{triple_words, length-triple_words, triple_words-words, values-triple_words, triple_words-values}
 use Rattle.nap_values.proofs.CoordinateLemmas.{bits_of-signed_of, signed_of-bits_of, bits_of-below, signed_of-low, signed_of-high, point_with-in_square, point_with-back}
 
 -- The laws that crates above cite.
@@ -78,35 +79,17 @@ addresses_spell_once number fits =
 pub colours_spell_once : ColoursSpellOnce
 unfolding colour_of grb_bytes
 colours_spell_once c within =
-    let pos4 : 0 < 4 = omega arith in
-    let gs = digits_of 4 8 c.g in
-    let rs = digits_of 4 8 c.r in
-    let bs = digits_of 4 8 c.b in
-    let gs_below = digits_of-below 4 8 c.g pos4 within.0 in
-    let rs_below = digits_of-below 4 8 c.r pos4 within.1 in
-    let bs_below = digits_of-below 4 8 c.b pos4 within.2 in
-    let same_r : length gs ≡ length rs = length-digits_of 4 8 c.g ∙ sym (length-digits_of 4 8 c.r) in
-    let same_b : length gs ≡ length bs = length-digits_of 4 8 c.g ∙ sym (length-digits_of 4 8 c.b) in
-    let digits = digits-words_of_triples gs rs bs same_r same_b gs_below rs_below bs_below in
-    spelling_of_words colour_of 8 c (words_of_triples gs rs bs)
-    (length-words_of_triples gs rs bs same_r same_b ∙ length-digits_of 4 8 c.g)
-    (words_of_triples-words gs rs bs gs_below rs_below bs_below)
-    (rw (
-      digits.0,
-      digits.1,
-      digits.2,
-      value_of-digits_of 4 8 c.g pos4 within.0,
-      value_of-digits_of 4 8 c.r pos4 within.1,
-      value_of-digits_of 4 8 c.b pos4 within.2,
-    ) refl)
-    (λ words all size is.
-    let g_back = digits_of-value_of 4 8 (map g_digit words) pos4 (g_digits-below words all) (length-map words g_digit ∙ size) in
-    let r_back = digits_of-value_of 4 8 (map r_digit words) pos4 (r_digits-below words all) (length-map words r_digit ∙ size) in
-    let b_back = digits_of-value_of 4 8 (map b_digit words) pos4 (b_digits-below words all) (length-map words b_digit ∙ size) in
-    let g_is = sym g_back ∙ ap (λ (k : Components). digits_of 4 8 k.g) is in
-    let r_is = sym r_back ∙ ap (λ (k : Components). digits_of 4 8 k.r) is in
-    let b_is = sym b_back ∙ ap (λ (k : Components). digits_of 4 8 k.b) is in
-    rw (g_is, r_is, b_is) at (sym (words_of_triples-digits words all)))
+    let words = triple_words c.g c.r c.b in
+    let values = values-triple_words c.g c.r c.b within.0 within.1 within.2 in
+    spelling_of_words colour_of 8 c words
+    (length-triple_words c.g c.r c.b within.0 within.1 within.2)
+    (triple_words-words c.g c.r c.b within.0 within.1 within.2)
+    (rw (values.0, values.1, values.2) refl)
+    (λ others all size is.
+    let g_is = ap (λ (k : Components). k.g) is in
+    let r_is = ap (λ (k : Components). k.r) is in
+    let b_is = ap (λ (k : Components). k.b) is in
+    rw (g_is, r_is, b_is) at (triple_words-values others all size))
 
 map-replicate : (f : ℕ → ℕ) (n d : ℕ) → map f (replicate n d) ≡ replicate n (f d)
 map-replicate f zero d = refl

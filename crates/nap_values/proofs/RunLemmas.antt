@@ -1,12 +1,11 @@
-use Rattle.std.proofs.Common.{◌≡◌, ℕ, suc, zero, ◌+◌, ◌-◌, ◌<◌, ◌≤◌, List, ◌++◌, length, replicate, All, sym, ap, ◌∙◌, arith, length-append}
+use Rattle.std.proofs.Common.{◌≡◌, ℕ, suc, zero, ◌+◌, ◌-◌, ◌≤◌, List, ◌++◌, length, replicate, All, sym, ap, ◌∙◌, arith, length-append}
 use Rattle.std.proofs.lemmas.List.{length-replicate}
-use Rattle.std.proofs.lemmas.List.Elements.{All-nil, All-cons, All-append, All-weaker}
-use Rattle.nap_values.specs.Digits.{value_of, digits_of}
-use Rattle.nap_values.specs.Operands.{multi_of}
+use Rattle.std.proofs.lemmas.List.Elements.{All-nil, All-cons, All-append}
+use Rattle.nap_values.specs.Digits.{value_of}
 use Rattle.nap_values.specs.Laws.{IsWord}
 use Rattle.nap_values.specs.Packed.{words_in, HoldsWords}
-use Rattle.nap_values.proofs.DigitLemmas.{digits_of-value_of, value_of-append-zeros}
-use Rattle.nap_values.proofs.PublicLaws.{missing_words_are_zero}
+use Rattle.nap_values.proofs.DigitLemmas.{value_of-append-zeros}
+use Rattle.nap_values.proofs.PackedLemmas.{words_in-value}
 
 -- Fewer words than eight, with zeros in place of those that are missing.
 
@@ -22,16 +21,11 @@ module _ (words : List ℕ) (all : All IsWord words) (few : length words ≤ 8) 
   whole_words : All IsWord (words ++ replicate missing 0)
   whole_words = All-append IsWord words (replicate missing 0) all (zeros-words missing)
 
-  words_in_run : words_in (value_of 256 8 words) ≡ words ++ replicate missing 0
-  unfolding words_in
+  pub words_in_run : words_in (value_of 256 8 words) ≡ words ++ replicate missing 0
   words_in_run =
-      ap (digits_of 256 8) (sym (value_of-append-zeros 256 8 words missing))
-      ∙ digits_of-value_of 256 8 (words ++ replicate missing 0) (omega arith)
-      (All-weaker IsWord (λ word. word < 256) (λ word fits. omega arith) (words ++ replicate missing 0) whole_words)
+      ap words_in (sym (value_of-append-zeros 256 8 words missing))
+      ∙ words_in-value (words ++ replicate missing 0) whole_words
       (length-append words (replicate missing 0) ∙ ap (λ n. length words + n) (length-replicate missing 0) ∙ omega arith)
 
   pub run_holds : HoldsWords (value_of 256 8 words)
   run_holds = rw words_in_run whole_words
-
-  pub run_spells : multi_of (words_in (value_of 256 8 words)) ≡ multi_of words
-  run_spells = ap multi_of words_in_run ∙ (missing_words_are_zero words missing).0

@@ -7,3 +7,4 @@ pub mod Operands
 pub mod Spellings
 pub mod Laws
 pub mod Packed
+pub mod PackedColours

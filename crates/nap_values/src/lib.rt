@@ -7,6 +7,7 @@ mod domain;
 pub mod laws;
 mod operand;
 mod packed;
+mod packed_colours;
 mod point;
 mod spelling;
 mod twos_complement;

@@ -1,10 +1,12 @@
 //! Reading of operands: the values that words spell. A byte carries a word in its low six bits, whatever its others are.
 
-ghost use Rattle.std.specs.Prelude.{◌≡◌, ◌<◌, ◌≤◌, length, take};
+ghost use Rattle.std.specs.Prelude.{◌≡◌, ◌<◌, ◌≤◌, ◌-◌, ◌++◌, length, take, replicate};
 ghost use Rattle.nap_values.specs.Operands.{carried, multi_of, single_of, colour_of};
+ghost use Rattle.nap_values.specs.Packed.{HoldsWords, words_in};
 
 use crate::colours::{Addr, Grb};
 use crate::displacement::Move;
+use crate::packed_colours::{b_bits, g_bits, r_bits};
 use crate::word::Word;
 
 /// The low six bits of each of eight bytes.
@@ -33,9 +35,9 @@ pub fn multi_bytes(operand: &[u8]) -> Move
     ensures { result ≡ multi_of (carried operand.now) }
 {
     if let [first, second, third] = operand {
-        return eight([*first, *second, *third, 0, 0, 0, 0, 0]);
+        return Move::spelled(eight([*first, *second, *third, 0, 0, 0, 0, 0]));
     }
-    several(operand)
+    Move::spelled(several(operand))
 }
 
 /// The displacement that the first three of eight bytes spell.
@@ -46,23 +48,26 @@ pub fn multi_of_three(block: &[u8; 8]) -> Move
     Move::spelled(u64::from_be_bytes(*block) & LOW_OF_THREE)
 }
 
-/// The displacement that any number of bytes spell. It is a call of its own, so that loops over three have room for theirs.
+/// The words that any number of bytes carry, and zero behind them. It is a call of its own, so that loops over three have
+/// room for theirs.
 #[inline(never)]
-fn several(run: &[u8]) -> Move
+fn several(run: &[u8]) -> u64
     requires { length run.now ≤ 8 }
-    ensures { result ≡ multi_of (carried run.now) }
+    ensures holds { HoldsWords result }
+    ensures words { words_in result ≡ carried run.now ++ replicate (8 - length run.now) 0 }
 {
     let mut bytes = [0; MOST];
     bytes[..run.len()].copy_from_slice(run);
     eight(bytes)
 }
 
-/// The displacement that eight bytes spell.
+/// The words that eight bytes carry.
 #[inline]
-fn eight(bytes: [u8; MOST]) -> Move
-    ensures { result ≡ multi_of (carried bytes) }
+fn eight(bytes: [u8; MOST]) -> u64
+    ensures holds { HoldsWords result }
+    ensures words { words_in result ≡ carried bytes }
 {
-    Move::spelled(u64::from_be_bytes(bytes) & LOW)
+    u64::from_be_bytes(bytes) & LOW
 }
 
 /// The words of an operand, a byte for each, and zero behind them.
@@ -116,16 +121,19 @@ pub fn colour_bytes(operand: &[u8]) -> Grb
     requires { length operand.now ≤ 8 }
     ensures { result ≡ colour_of (carried operand.now) }
 {
-    let mut g: u32 = 0;
-    let mut r: u32 = 0;
-    let mut b: u32 = 0;
-    let mut unit = Grb::LIMIT;
-    for byte in operand {
-        unit /= 4;
-        let bits = u32::from(*byte);
-        g += (bits / 32 % 2 * 2 + bits / 4 % 2) * unit;
-        r += (bits / 16 % 2 * 2 + bits / 2 % 2) * unit;
-        b += (bits / 8 % 2 * 2 + bits % 2) * unit;
+    let words = colour_words(operand);
+    Grb::new(g_bits(words), r_bits(words), b_bits(words))
+}
+
+/// The words that the bytes of a colour carry, and zero behind them. Two bytes are read without a call.
+#[inline]
+fn colour_words(run: &[u8]) -> u64
+    requires { length run.now ≤ 8 }
+    ensures holds { HoldsWords result }
+    ensures words { words_in result ≡ carried run.now ++ replicate (8 - length run.now) 0 }
+{
+    if let [first, second] = run {
+        return eight([*first, *second, 0, 0, 0, 0, 0, 0]);
     }
-    Grb::new(g as u16, r as u16, b as u16)
+    several(run)
 }

@@ -102,6 +102,16 @@ pub(crate) fn difference(words: u64, others: u64) -> u64
     x + y
 }
 
+/// The words with the x of the first and the y of the second.
+#[inline]
+pub(crate) fn crossed(first: u64, second: u64) -> u64
+    requires first { HoldsWords first }
+    requires second { HoldsWords second }
+    ensures { result ≡ packed (x_in first) (y_in second) }
+{
+    (first & X) + (second & Y)
+}
+
 /// Whether both x and y are below 2^23.
 #[inline]
 pub(crate) fn is_inside(words: u64) -> bool

@@ -3,7 +3,7 @@
 ghost use Rattle.std.specs.Prelude.{◌≡◌, ◌+◌, ◌<◌, ◌↔◌, IsSome, IfSome};
 
 use crate::displacement::Move;
-use crate::packed::{difference, is_inside, pack, sum, x_bits, y_bits};
+use crate::packed::{crossed, difference, is_inside, pack, sum, x_bits, y_bits};
 use std::fmt;
 use std::marker::Model;
 
@@ -133,6 +133,16 @@ impl Point {
         ensures below { result < 8388608 }
     {
         y_bits(self.words)
+    }
+
+    /// The point straight across from this one, above or below the other.
+    #[inline]
+    pub fn across(self, other: Point) -> Point
+        ensures { result ≡ record { x = other.x; y = self.y } }
+    {
+        Point {
+            words: crossed(other.words(), self.words()),
+        }
     }
 
     /// The point this far away, None outside the square.

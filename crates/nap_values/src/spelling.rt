@@ -1,12 +1,13 @@
 //! Spelling of values: the bytes of their longest operands.
 
-ghost use Rattle.std.specs.Prelude.{◌≡◌, ◌<◌};
+ghost use Rattle.std.specs.Prelude.{◌≡◌};
 ghost use Rattle.nap_values.specs.Coordinates.{IsInSquare};
 ghost use Rattle.nap_values.specs.Packed.{HoldsWords, words_in};
-ghost use Rattle.nap_values.specs.Spellings.{bytes_of, colour_word, move_bytes, point_bytes, addr_bytes, grb_bytes};
+ghost use Rattle.nap_values.specs.Spellings.{bytes_of, move_bytes, point_bytes, addr_bytes, grb_bytes};
 
 use crate::colours::{Addr, Grb};
 use crate::displacement::Move;
+use crate::packed_colours::pack_colour;
 use crate::point::Point;
 use arrayvec::ArrayVec;
 
@@ -19,17 +20,6 @@ fn carrying(words: u64) -> ArrayVec<u8, 8>
     let bytes = 0x4040_4040_4040_4040 + words;
     // LLVM makes one instruction of this, and some twenty of `to_be_bytes`.
     ArrayVec::from(bytes.swap_bytes().to_le_bytes())
-}
-
-/// The six bits that hold two bits of each part of a colour: green, red, blue, green, red, blue.
-fn colour_bits(g: u32, r: u32, b: u32) -> u8
-    requires g_fits { g < 4 }
-    requires r_fits { r < 4 }
-    requires b_fits { b < 4 }
-    ensures value { result ≡ colour_word g r b }
-    ensures below { result < 64 }
-{
-    (g / 2 * 32 + r / 2 * 16 + b / 2 * 8 + g % 2 * 4 + r % 2 * 2 + b % 2) as u8
 }
 
 /// The eight bytes that spell a displacement in a multi-value operand of eight words (PDI operands).
@@ -67,20 +57,9 @@ pub fn put_addr(addr: Addr) -> ArrayVec<u8, 8>
 }
 
 /// The eight bytes that spell a colour in a multi-value operand of eight words (SET COLOR).
+#[inline]
 pub fn put_grb(grb: Grb) -> ArrayVec<u8, 8>
     ensures { result.items ≡ grb_bytes grb }
 {
-    let mut bytes = ArrayVec::new();
-    let mut g = u32::from(grb.g());
-    let mut r = u32::from(grb.r());
-    let mut b = u32::from(grb.b());
-    let mut unit = Grb::LIMIT;
-    for i in 0..8_usize {
-        unit /= 4;
-        bytes.push(64 + colour_bits(g / unit, r / unit, b / unit));
-        g %= unit;
-        r %= unit;
-        b %= unit;
-    }
-    bytes
+    carrying(pack_colour(grb.g(), grb.r(), grb.b()))
 }

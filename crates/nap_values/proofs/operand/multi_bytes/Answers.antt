@@ -1,6 +1,7 @@
-use Rattle.std.proofs.Common.{◌≡◌, ◌∙◌, ℕ, List, [], ◌∷◌, length, get_or, refl, ap, arith}
+use Rattle.std.proofs.Common.{◌≡◌, ◌∙◌, ◌-◌, ℕ, List, [], ◌∷◌, length, get_or, refl, ap, arith}
 use Rattle.nap_values.specs.Operands.{carried, multi_of}
 use Rattle.nap_values.proofs.CarriedLemmas.{zeros_behind}
+use Rattle.nap_values.proofs.PublicLaws.{missing_words_are_zero}
 use Rattle.nap_values.proofs.operand.multi_bytes.Goals as goal
 
 three : (run : List ℕ) → length run ≡ 3 → get_or run 0 0 ∷ get_or run 1 0 ∷ get_or run 2 0 ∷ [] ≡ run
@@ -10,5 +11,13 @@ three _ size = absurd (omega arith)
 pub returns-in-len3 : goal.returns-in-len3
 returns-in-len3 c =
     let run = c.args.operand.now in
-    c.eight.ensures ∙ zeros_behind (get_or run 0 0 ∷ get_or run 1 0 ∷ get_or run 2 0 ∷ []) 5
+    let first = get_or run 0 0 ∷ get_or run 1 0 ∷ get_or run 2 0 ∷ [] in
+    c.spelled.ensures
+    ∙ ap multi_of (c.eight.ensures.words ∙ zeros_behind first 5)
+    ∙ (missing_words_are_zero (carried first) 5).0
     ∙ ap (λ bytes. multi_of (carried bytes)) (three run (omega arith))
+
+pub returns : goal.returns
+returns c =
+    let run = c.args.operand.now in
+    c.spelled-2.ensures ∙ ap multi_of c.several.ensures.words ∙ (missing_words_are_zero (carried run) (8 - length run)).0

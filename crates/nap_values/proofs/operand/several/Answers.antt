@@ -1,12 +1,12 @@
 use Rattle.std.proofs.Common.{◌≡◌, ◌∙◌, ◌++◌, ◌-◌, length, replicate, drop, ap₂}
 use Rattle.std.proofs.lemmas.List.{drop-replicate}
-use Rattle.nap_values.specs.Operands.{carried, multi_of}
+use Rattle.nap_values.specs.Operands.{carried}
 use Rattle.nap_values.proofs.CarriedLemmas.{zeros_behind}
 use Rattle.nap_values.proofs.operand.several.Goals as goal
 
-pub returns : goal.returns
-returns c =
+pub returns-clause-words : goal.returns-clause-words
+returns-clause-words c =
     let run = c.args.run.now in
     let zeros : drop (length run) (replicate 8 0) ≡ replicate (8 - length run) 0 = drop-replicate (length run) 8 0 in
     let copied : c.copy_from_slice.new.self ≡ run = c.copy_from_slice.ensures.after in
-    c.eight.ensures ∙ ap₂ (λ bytes more. multi_of (carried (bytes ++ more))) copied zeros ∙ zeros_behind run (8 - length run)
+    c.eight.ensures.words ∙ ap₂ (λ bytes more. carried (bytes ++ more)) copied zeros ∙ zeros_behind run (8 - length run)

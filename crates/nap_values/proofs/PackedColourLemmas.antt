@@ -1,0 +1,182 @@
+use Rattle.std.proofs.Common.{◌≡◌, ℕ, suc, zero, ◌+◌, ◌-◌, ◌*◌, ◌/◌, ◌%◌, ◌^◌, ◌<◌, ◌≤◌, List, [], ◌∷◌, map, length, replicate, All, refl, sym, ap, ap₂, ◌∙◌, arith, bit_and, div-one}
+use Rattle.std.proofs.lemmas.List.{length-map, take_all}
+use Rattle.std.proofs.lemmas.List.Elements.{All-map, All-weaker}
+use Rattle.std.proofs.lemmas.List.Folds.{map_fixed}
+use Rattle.std.proofs.lemmas.Simd.{map-map}
+use Rattle.nap_values.specs.Digits.{value_of, digits_of}
+use Rattle.nap_values.specs.Operands.{g_digit, r_digit, b_digit}
+use Rattle.nap_values.specs.Spellings.{words_of_triples}
+use Rattle.nap_values.specs.Laws.{IsWord}
+use Rattle.nap_values.specs.Packed.{words_in, HoldsWords}
+use Rattle.nap_values.specs.PackedColours.{packed_colour}
+use Rattle.nap_values.proofs.DigitLemmas.{value_of-digits_of, digits_of-value_of, length-digits_of, digits_of-below}
+use Rattle.nap_values.proofs.SpellingLemmas.{AreTwoBits, length-words_of_triples, words_of_triples-words, digits-words_of_triples, words_of_triples-digits, g_digits-below, r_digits-below, b_digits-below}
+use Rattle.nap_values.proofs.MaskLemmas.{value_of-scaled, everywhere, map_same, moved_bits, masked_bytes}
+use Rattle.nap_values.proofs.PackedLemmas.{words_in-value, length-words_in}
+
+-- The three numbers of 16 bits that eight words hold.
+
+-- the words that hold three numbers of 16 bits
+abbrev pub triple_words : ℕ → ℕ → ℕ → List ℕ
+triple_words g r b = words_of_triples (digits_of 4 8 g) (digits_of 4 8 r) (digits_of 4 8 b)
+
+module _ (g r b : ℕ) (g_fits : g < 65536) (r_fits : r < 65536) (b_fits : b < 65536) where
+  same_length : (n m : ℕ) → length (digits_of 4 8 n) ≡ length (digits_of 4 8 m)
+  same_length n m = length-digits_of 4 8 n ∙ sym (length-digits_of 4 8 m)
+
+  two_bits : (n : ℕ) → n < 65536 → AreTwoBits (digits_of 4 8 n)
+  two_bits n fits = digits_of-below 4 8 n (omega arith) fits
+
+  pub length-triple_words : length (triple_words g r b) ≡ 8
+  length-triple_words =
+      length-words_of_triples (digits_of 4 8 g) (digits_of 4 8 r) (digits_of 4 8 b) (same_length g r) (same_length g b) ∙ length-digits_of 4 8 g
+
+  pub triple_words-words : All IsWord (triple_words g r b)
+  triple_words-words =
+      words_of_triples-words (digits_of 4 8 g) (digits_of 4 8 r) (digits_of 4 8 b) (two_bits g g_fits) (two_bits r r_fits) (two_bits b b_fits)
+
+  pub values-triple_words :
+      (value_of 4 8 (map g_digit (triple_words g r b)) ≡ g)
+      × (value_of 4 8 (map r_digit (triple_words g r b)) ≡ r)
+      × (value_of 4 8 (map b_digit (triple_words g r b)) ≡ b)
+  values-triple_words =
+      let digits =
+      digits-words_of_triples (digits_of 4 8 g) (digits_of 4 8 r) (digits_of 4 8 b) (same_length g r) (same_length g b)
+      (two_bits g g_fits) (two_bits r r_fits) (two_bits b b_fits) in (
+        ap (value_of 4 8) digits.0 ∙ value_of-digits_of 4 8 g (omega arith) g_fits,
+        ap (value_of 4 8) digits.1 ∙ value_of-digits_of 4 8 r (omega arith) r_fits,
+        ap (value_of 4 8) digits.2 ∙ value_of-digits_of 4 8 b (omega arith) b_fits,
+      )
+
+  pub words_in-packed_colour : words_in (packed_colour g r b) ≡ triple_words g r b
+  unfolding packed_colour
+  words_in-packed_colour = words_in-value (triple_words g r b) triple_words-words length-triple_words
+
+  pub packed_colour-words : HoldsWords (packed_colour g r b)
+  packed_colour-words = rw words_in-packed_colour triple_words-words
+
+-- eight words are those of their three numbers
+pub triple_words-values : (words : List ℕ) → All IsWord words → length words ≡ 8 →
+    words ≡ triple_words (value_of 4 8 (map g_digit words)) (value_of 4 8 (map r_digit words)) (value_of 4 8 (map b_digit words))
+triple_words-values words all size =
+    let gs = digits_of-value_of 4 8 (map g_digit words) (omega arith) (g_digits-below words all) (length-map words g_digit ∙ size) in
+    let rs = digits_of-value_of 4 8 (map r_digit words) (omega arith) (r_digits-below words all) (length-map words r_digit ∙ size) in
+    let bs = digits_of-value_of 4 8 (map b_digit words) (omega arith) (b_digits-below words all) (length-map words b_digit ∙ size) in
+    rw (gs, rs, bs) (sym (words_of_triples-digits words all))
+
+-- two bits in each byte, moved so that a mask takes each in its place
+module _ (times mask : ℕ) (place : ℕ → ℕ) (mask_fits : mask < 256)
+    (kept : (d : ℕ) → d < 4 → (d * times < 256) × (bit_and (d * times) mask ≡ place d)) where
+  placed : (ds : List ℕ) → AreTwoBits ds → length ds ≡ 8 →
+      bit_and (value_of 256 8 ds * times) (value_of 256 8 (replicate 8 mask)) ≡ value_of 256 8 (map place ds)
+  placed ds fit len =
+      let moved = map (λ d. d * times) ds in
+      let moved_len : length moved ≡ 8 = length-map ds (λ d. d * times) ∙ len in
+      let moved_value : value_of 256 8 moved ≡ value_of 256 8 ds * times =
+      value_of-scaled 256 8 times (λ d. d * times) (λ d. d) ds (everywhere (λ d. d * times ≡ d * times) ds (λ d. refl))
+      ∙ ap (λ ds. value_of 256 8 ds * times) (map_fixed (λ d. d) ds (everywhere (λ d. d ≡ d) ds (λ d. refl))) in
+      let moved_fit : All (λ d. d < 256) moved =
+      All-map (λ d. d < 256) (λ d. d * times) ds (All-weaker (λ d. d < 4) (λ d. d * times < 256) (λ d fits. (kept d fits).0) ds fit) in
+      ap (λ n. bit_and n (value_of 256 8 (replicate 8 mask))) (sym moved_value)
+      ∙ masked_bytes mask mask_fits 8 8 moved moved_fit moved_len
+      ∙ ap (λ ds. value_of 256 8 (map (λ b. bit_and b mask) ds)) (take_all 8 moved (omega (arith, moved_len)))
+      ∙ ap (value_of 256 8) (map-map (λ b. bit_and b mask) (λ d. d * times) ds
+      ∙ map_same (λ d. bit_and (d * times) mask) place ds
+      (All-weaker (λ d. d < 4) (λ d. bit_and (d * times) mask ≡ place d) (λ d fits. (kept d fits).1) ds fit))
+
+-- where the two bits of a part stand in a word: the higher one three places above the lower one, which has this weight
+abbrev bits_at : ℕ → ℕ → ℕ
+bits_at weight d = d / 2 * (weight * 8) + d % 2 * weight
+
+g_kept : (d : ℕ) → d < 4 → (d * 20 < 256) × (bit_and (d * 20) 0x24 ≡ bits_at 4 d)
+g_kept zero fits = (omega arith, refl)
+g_kept (suc zero) fits = (omega arith, refl)
+g_kept (suc (suc zero)) fits = (omega arith, refl)
+g_kept (suc (suc (suc zero))) fits = (omega arith, refl)
+g_kept (suc (suc (suc (suc d)))) fits = absurd (omega arith)
+
+r_kept : (d : ℕ) → d < 4 → (d * 10 < 256) × (bit_and (d * 10) 0x12 ≡ bits_at 2 d)
+r_kept zero fits = (omega arith, refl)
+r_kept (suc zero) fits = (omega arith, refl)
+r_kept (suc (suc zero)) fits = (omega arith, refl)
+r_kept (suc (suc (suc zero))) fits = (omega arith, refl)
+r_kept (suc (suc (suc (suc d)))) fits = absurd (omega arith)
+
+b_kept : (d : ℕ) → d < 4 → (d * 5 < 256) × (bit_and (d * 5) 0x09 ≡ bits_at 1 d)
+b_kept zero fits = (omega arith, refl)
+b_kept (suc zero) fits = (omega arith, refl)
+b_kept (suc (suc zero)) fits = (omega arith, refl)
+b_kept (suc (suc (suc zero))) fits = (omega arith, refl)
+b_kept (suc (suc (suc (suc d)))) fits = absurd (omega arith)
+
+-- words of three digits have the value of the bits of each
+value_of-words_of_triples : (places : ℕ) (gs rs bs : List ℕ) → length gs ≡ places → length rs ≡ places → length bs ≡ places →
+    value_of 256 places (map (bits_at 4) gs) + value_of 256 places (map (bits_at 2) rs) + value_of 256 places (map (bits_at 1) bs)
+    ≡ value_of 256 places (words_of_triples gs rs bs)
+unfolding value_of words_of_triples
+value_of-words_of_triples zero [] [] [] len_g len_r len_b = refl
+value_of-words_of_triples (suc places) (g ∷ gs) (r ∷ rs) (b ∷ bs) len_g len_r len_b =
+    let rest = value_of-words_of_triples places gs rs bs (omega arith) (omega arith) (omega arith) in
+    omega (arith, rest)
+value_of-words_of_triples _ gs rs bs len_g len_r len_b = absurd (omega arith)
+
+-- the digits of three parts, each in a byte of its own, put together
+module _ (g r b : ℕ) (g_fits : g < 65536) (r_fits : r < 65536) (b_fits : b < 65536) where
+  pub packed_colour-parts :
+      bit_and (value_of 256 8 (digits_of 4 8 g) * 20) 0x2424_2424_2424_2424
+      + bit_and (value_of 256 8 (digits_of 4 8 r) * 10) 0x1212_1212_1212_1212
+      + bit_and (value_of 256 8 (digits_of 4 8 b) * 5) 0x0909_0909_0909_0909
+      ≡ packed_colour g r b
+  unfolding packed_colour value_of
+  packed_colour-parts =
+      let gs = digits_of 4 8 g in
+      let rs = digits_of 4 8 r in
+      let bs = digits_of 4 8 b in
+      ap₂ (λ x y. x + y)
+      (ap₂ (λ x y. x + y)
+      (placed 20 0x24 (bits_at 4) (omega arith) g_kept gs (digits_of-below 4 8 g (omega arith) g_fits) (length-digits_of 4 8 g))
+      (placed 10 0x12 (bits_at 2) (omega arith) r_kept rs (digits_of-below 4 8 r (omega arith) r_fits) (length-digits_of 4 8 r)))
+      (placed 5 0x09 (bits_at 1) (omega arith) b_kept bs (digits_of-below 4 8 b (omega arith) b_fits) (length-digits_of 4 8 b))
+      ∙ value_of-words_of_triples 8 gs rs bs (length-digits_of 4 8 g) (length-digits_of 4 8 r) (length-digits_of 4 8 b)
+
+-- digits of two bits have the value of both bits
+value_of-pairs : (places : ℕ) (high low : ℕ → ℕ) (ds : List ℕ) →
+    value_of 256 places (map high ds) * 2 + value_of 256 places (map low ds) ≡ value_of 256 places (map (λ d. high d * 2 + low d) ds)
+unfolding value_of
+value_of-pairs zero high low ds = refl
+value_of-pairs (suc places) high low [] = refl
+value_of-pairs (suc places) high low (d ∷ ds) = omega (arith, value_of-pairs places high low ds)
+
+-- a number that holds words
+module _ (n : ℕ) (words : HoldsWords n) where
+  -- the lower and the higher bits of a part, where they are moved to the lowest place
+  part_digits : (high low : ℕ) (digit : ℕ → ℕ) → 1 + high ≤ 8 → 1 + low ≤ 8 →
+      value_of 256 8 (replicate 8 (2 ^ (1 + high) - 2 ^ high)) / 2 ^ high ≡ 0x0101_0101_0101_0101 →
+      value_of 256 8 (replicate 8 (2 ^ (1 + low) - 2 ^ low)) / 2 ^ low ≡ 0x0101_0101_0101_0101 →
+      ((word : ℕ) → IsWord word → word / 2 ^ high % 2 * 2 + word / 2 ^ low % 2 ≡ digit word) → All (λ d. d < 4) (map digit (words_in n)) →
+      digits_of 256 8 (bit_and (n / 2 ^ high) 0x0101_0101_0101_0101 * 2 + bit_and (n / 2 ^ low) 0x0101_0101_0101_0101) ≡ map digit (words_in n)
+  unfolding words_in
+  part_digits high low digit high_within low_within high_mask low_mask same fit =
+      let ws = words_in n in
+      let pair : ℕ → ℕ = λ word. word / 2 ^ high % 2 * 2 + word / 2 ^ low % 2 in
+      ap (digits_of 256 8)
+      (ap₂ (λ x y. x * 2 + y) (moved_bits high n high_within high_mask) (moved_bits low n low_within low_mask)
+      ∙ value_of-pairs 8 (λ word. word / 2 ^ high % 2) (λ word. word / 2 ^ low % 2) ws
+      ∙ ap (value_of 256 8) (map_same pair digit ws (All-weaker IsWord (λ word. pair word ≡ digit word) same ws words)))
+      ∙ digits_of-value_of 256 8 (map digit ws) (omega arith)
+      (All-weaker (λ d. d < 4) (λ d. d < 256) (λ d fits. omega arith) (map digit ws) fit)
+      (length-map ws digit ∙ length-words_in n words)
+
+  pub g_digits_are : digits_of 256 8 (bit_and (n / 32) 0x0101_0101_0101_0101 * 2 + bit_and (n / 4) 0x0101_0101_0101_0101) ≡ map g_digit (words_in n)
+  unfolding value_of
+  g_digits_are = part_digits 5 2 g_digit (omega arith) (omega arith) refl refl (λ word fits. omega arith) (g_digits-below (words_in n) words)
+
+  pub r_digits_are : digits_of 256 8 (bit_and (n / 16) 0x0101_0101_0101_0101 * 2 + bit_and (n / 2) 0x0101_0101_0101_0101) ≡ map r_digit (words_in n)
+  unfolding value_of
+  r_digits_are = part_digits 4 1 r_digit (omega arith) (omega arith) refl refl (λ word fits. omega arith) (r_digits-below (words_in n) words)
+
+  pub b_digits_are : digits_of 256 8 (bit_and (n / 8) 0x0101_0101_0101_0101 * 2 + bit_and n 0x0101_0101_0101_0101) ≡ map b_digit (words_in n)
+  unfolding value_of
+  b_digits_are =
+      ap (λ m. digits_of 256 8 (bit_and (n / 8) 0x0101_0101_0101_0101 * 2 + bit_and m 0x0101_0101_0101_0101)) (sym (div-one n))
+      ∙ part_digits 3 0 b_digit (omega arith) (omega arith) refl refl (λ word fits. omega arith) (b_digits-below (words_in n) words)

@@ -1,0 +1,15 @@
+use Rattle.std.proofs.Common.{◌<◌, ◌∙◌, All, ap, sym, subst}
+use Rattle.nap_values.specs.Digits.{value_of}
+use Rattle.nap_values.specs.Packed.{words_in}
+use Rattle.nap_values.specs.PackedColours.{g_in}
+use Rattle.nap_values.proofs.SpellingLemmas.{g_digits-below}
+use Rattle.nap_values.proofs.PackedColourLemmas.{g_digits_are}
+use Rattle.nap_values.proofs.packed_colours.g_bits.Goals as goal
+
+pub gathered-requires : goal.gathered-requires
+gathered-requires c =
+    subst (All (λ d. d < 4)) (sym (g_digits_are c.args.words c.requires)) (g_digits-below (words_in c.args.words) c.requires)
+
+pub returns : goal.returns
+unfolding g_in
+returns c = c.gathered.ensures ∙ ap (value_of 4 8) (g_digits_are c.args.words c.requires)

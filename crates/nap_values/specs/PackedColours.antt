@@ -1,0 +1,21 @@
+use Rattle.std.specs.Prelude.{ℕ, map}
+use Rattle.nap_values.specs.Digits.{value_of, digits_of}
+use Rattle.nap_values.specs.Operands.{g_digit, r_digit, b_digit}
+use Rattle.nap_values.specs.Spellings.{words_of_triples}
+use Rattle.nap_values.specs.Packed.{words_in}
+
+-- the 16 bits that the words hold for green
+unfoldable pub g_in : ℕ → ℕ
+g_in n = value_of 4 8 (map g_digit (words_in n))
+
+-- the 16 bits that the words hold for red
+unfoldable pub r_in : ℕ → ℕ
+r_in n = value_of 4 8 (map r_digit (words_in n))
+
+-- the 16 bits that the words hold for blue
+unfoldable pub b_in : ℕ → ℕ
+b_in n = value_of 4 8 (map b_digit (words_in n))
+
+-- the number whose words hold these 16 bits for green, red and blue
+unfoldable pub packed_colour : ℕ → ℕ → ℕ → ℕ
+packed_colour g r b = value_of 256 8 (words_of_triples (digits_of 4 8 g) (digits_of 4 8 r) (digits_of 4 8 b))

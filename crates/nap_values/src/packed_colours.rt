@@ -1,0 +1,81 @@
+//! Numbers that hold the eight words of a colour, a byte for each, the first in the highest byte. A word has two bits of
+//! each part, the higher of green, red and blue above the lower ones.
+
+ghost use Rattle.std.specs.Prelude.{◌≡◌, ◌<◌, ◌≤◌, All};
+ghost use Rattle.nap_values.specs.Digits.{value_of, digits_of};
+ghost use Rattle.nap_values.specs.Packed.{HoldsWords};
+ghost use Rattle.nap_values.specs.PackedColours.{g_in, r_in, b_in, packed_colour};
+
+/// The bits of green.
+const G: u64 = 0x2424_2424_2424_2424;
+
+/// The bits of red.
+const R: u64 = 0x1212_1212_1212_1212;
+
+/// The bits of blue.
+const B: u64 = 0x0909_0909_0909_0909;
+
+/// The lowest bit of each byte.
+const LOWEST: u64 = 0x0101_0101_0101_0101;
+
+/// Each digit in base 4 of a number of 16 bits, in a byte of its own.
+#[inline]
+fn spread(n: u16) -> u64
+    ensures value { result ≡ value_of 256 8 (digits_of 4 8 n) }
+    ensures bound { result ≤ 0x0303_0303_0303_0303 }
+{
+    let n = u64::from(n);
+    // Two numbers of 8 bits, then four of 4 bits, then eight of 2 bits.
+    let halves = (n + n * 16_777_216) & 0x0000_00FF_0000_00FF;
+    let quarters = (halves + halves * 4096) & 0x000F_000F_000F_000F;
+    (quarters + quarters * 64) & 0x0303_0303_0303_0303
+}
+
+/// The number of 16 bits that has these digits in base 4, a byte for each.
+#[inline]
+fn gathered(digits: u64) -> u16
+    requires { All (λ d. d < 4) (digits_of 256 8 digits) }
+    ensures { result ≡ value_of 4 8 (digits_of 256 8 digits) }
+{
+    // Four numbers of 4 bits, then two of 8 bits, then one of 16 bits.
+    let quarters = (digits + digits / 64) & 0x000F_000F_000F_000F;
+    let halves = (quarters + quarters / 4096) & 0x0000_00FF_0000_00FF;
+    ((halves + halves / 16_777_216) % 65_536) as u16
+}
+
+/// The words that hold these parts of a colour. Two bits are put at two places: at the first the mask keeps the lower
+/// one, and at the second the higher one.
+#[inline]
+pub(crate) fn pack_colour(g: u16, r: u16, b: u16) -> u64
+    ensures value { result ≡ packed_colour g r b }
+    ensures words { HoldsWords result }
+{
+    (spread(g) * 20 & G) + (spread(r) * 10 & R) + (spread(b) * 5 & B)
+}
+
+/// The 16 bits of green.
+#[inline]
+pub(crate) fn g_bits(words: u64) -> u16
+    requires { HoldsWords words }
+    ensures { result ≡ g_in words }
+{
+    gathered((words / 32 & LOWEST) * 2 + (words / 4 & LOWEST))
+}
+
+/// The 16 bits of red.
+#[inline]
+pub(crate) fn r_bits(words: u64) -> u16
+    requires { HoldsWords words }
+    ensures { result ≡ r_in words }
+{
+    gathered((words / 16 & LOWEST) * 2 + (words / 2 & LOWEST))
+}
+
+/// The 16 bits of blue.
+#[inline]
+pub(crate) fn b_bits(words: u64) -> u16
+    requires { HoldsWords words }
+    ensures { result ≡ b_in words }
+{
+    gathered((words / 8 & LOWEST) * 2 + (words & LOWEST))
+}
