@@ -9,6 +9,7 @@ pub mod Decoding
 pub mod Domains
 pub mod Endings
 pub mod Fits
+pub mod Going
 pub mod JoinedRuns
 pub mod Links
 pub mod Outlines

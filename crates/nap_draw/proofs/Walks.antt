@@ -7,7 +7,7 @@ use Rattle.nap_list.specs.declared.entry.Entry.{Entry}
 use Rattle.nap_list.specs.declared.state.Drawing.{Drawing}
 use Rattle.nap_list.specs.declared.state.State.{State}
 use Rattle.nap_list.specs.Entry.{held, WellMade}
-use Rattle.nap_list.specs.State.{with_pen, with_pen_at, drawn, definition_after, last_after, known_after, after, walk, Comes, corner}
+use Rattle.nap_list.specs.State.{with_pen, drawn, definition_after, last_after, known_after, after, walk, Comes, corner}
 use Rattle.nap_list.specs.Agreement.{InMode, Holds}
 use Rattle.nap_list.proofs.PublicLaws.{taking_nothing}
 use Rattle.nap_draw.specs.declared.spans.Figure.{Figure}
@@ -16,7 +16,7 @@ use Rattle.nap_draw.specs.declared.work.Work.{Work}
 use Rattle.nap_draw.specs.declared.fault.DrawFault.{DrawFault}
 use Rattle.nap_draw.specs.Geometry.{end_of}
 use Rattle.nap_list.specs.Batches.{point_on}
-use Rattle.nap_draw.specs.Rule.{Drawn, with_drawing, draws, goes, line_on, rect_on}
+use Rattle.nap_draw.specs.Rule.{Drawn, draws, line_on, rect_on}
 use Rattle.nap_draw.specs.Doing.{landed, stroke_on, stroke_end}
 
 -- Where entries lead that only move the pen.
@@ -94,12 +94,6 @@ stroke_lands (figures.Rect filled) = rect_lands filled
 pub itself : {A : Type 0} (o : Option A) → o ≡ option_map (λ x. x) o
 itself None = refl
 itself (Some x) = refl
-
--- a pen that goes without drawing
-pub goes_end : (work : Work) (ps : List Coordinates) (p : Option Coordinates) → p ≡ end_of None ps →
-    goes work (Some ps) ≡ Ok (record { entries = []; work = with_drawing work (with_pen_at p work.state.drawing); clears = false })
-unfolding walk
-goes_end work ps p is = ap (λ e. Ok (record { entries = []; work = with_drawing work (with_pen_at e work.state.drawing); clears = false })) (sym is)
 
 -- the last of them
 end_last : {A : Type 0} (o : Option A) (x : A) (xs : List A) → end_of o (x ∷ xs) ≡ slice_get (x ∷ xs) (length xs)

@@ -62,6 +62,7 @@ impl Work {
     /// word in its low six bits, whatever its others are. Where it fails the work stays as it was. The room is lent for
     /// the points of the run; what it held before means nothing, and kept by the caller it grows to what the longest run
     /// needs, `RUN_LIMIT` points at most.
+    #[inline(always)]
     pub fn act<S: Sink>(
         &mut self,
         alloc: Global,
@@ -88,6 +89,7 @@ impl Work {
     }
 
     /// Acts by any opcode but RESET.
+    #[inline(always)]
     fn draw<S: Sink>(
         &mut self,
         alloc: Global,
@@ -105,8 +107,8 @@ impl Work {
             Opcode::Domain => self.set_domain(run),
             Opcode::Text => self.set_text(run),
             Opcode::Texture => self.set_texture(run),
-            Opcode::PointSetAbs => self.point_set_abs(room, run),
-            Opcode::PointSetRel => self.point_set_rel(room, run),
+            Opcode::PointSetAbs => self.point_set_abs(run),
+            Opcode::PointSetRel => self.point_set_rel(run),
             Opcode::PointAbs => self.point_abs(room, run, sink),
             Opcode::PointRel => self.point_rel(room, run, sink),
             Opcode::LineAbs => self.line_abs(room, run, sink),

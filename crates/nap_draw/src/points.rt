@@ -1,9 +1,9 @@
 //! POINT SET and POINT.
-ghost use Rattle.std.specs.Prelude.{◌≡◌, [], false, Some, Ok};
+ghost use Rattle.std.specs.Prelude.{Some};
 ghost use Rattle.nap_values.specs.Operands.{carried};
 ghost use Rattle.nap_list.specs.Agreement.{StatesAgree};
 ghost use Rattle.nap_list.specs.Batches.{point_on};
-ghost use Rattle.nap_draw.specs.Rule.{draws, goes, rule};
+ghost use Rattle.nap_draw.specs.Rule.{draws, rule};
 ghost use Rattle.nap_draw.specs.Doing.{Does, Sets, quiet};
 
 use crate::fault::DrawFault;
@@ -12,32 +12,37 @@ use crate::room::{points_into, steps_into};
 use crate::work::Work;
 use nap_codes::Opcode;
 use nap_list::{Batch, Pen, Sink};
-use nap_values::Point;
+use nap_values::{Point, multi_bytes};
 
 impl Work {
-    pub(crate) fn point_set_abs(
-        &mut self,
-        room: &mut Vec<Point>,
-        run: &[u8],
-    ) -> Result<(), DrawFault>
+    /// The pen goes to each of the points.
+    pub(crate) fn point_set_abs(&mut self, run: &[u8]) -> Result<(), DrawFault>
         ensures { Sets (rule self.old Opcode.PointSetAbs (carried run.now)) self.old self.new result }
     {
         some_operand(self, run)?;
-        points_into(room, self.domain, run)?;
-        self.go(room);
+        let mut pen = self.pen();
+        for operand in run.chunks(usize::from(self.domain.multi())) {
+            let Some(point) = multi_bytes(operand).point() else {
+                return Err(DrawFault::Outside);
+            };
+            pen = Pen::At(point);
+        }
+        self.state.drawing.pen = pen;
         Ok(())
     }
 
-    pub(crate) fn point_set_rel(
-        &mut self,
-        room: &mut Vec<Point>,
-        run: &[u8],
-    ) -> Result<(), DrawFault>
+    /// The pen goes on to each of the points.
+    pub(crate) fn point_set_rel(&mut self, run: &[u8]) -> Result<(), DrawFault>
         ensures { Sets (rule self.old Opcode.PointSetRel (carried run.now)) self.old self.new result }
     {
-        let from = start(self, run)?;
-        steps_into(room, from, self.domain, run)?;
-        self.go(room);
+        let mut at = start(self, run)?;
+        for operand in run.chunks(usize::from(self.domain.multi())) {
+            let Some(point) = at.by(multi_bytes(operand)) else {
+                return Err(DrawFault::Outside);
+            };
+            at = point;
+        }
+        self.state.drawing.pen = Pen::At(at);
         Ok(())
     }
 
@@ -67,16 +72,6 @@ impl Work {
         let from = start(self, run)?;
         steps_into(room, from, self.domain, run)?;
         self.dots(room, sink)
-    }
-
-    /// The pen goes to each of the points.
-    fn go(&mut self, points: &[Point])
-        ensures { goes self.old (Some points.now) ≡ Ok (record { entries = []; work = self.new; clears = false }) }
-    {
-        let Some(point) = points.last() else {
-            return;
-        };
-        self.state.drawing.pen = Pen::At(*point);
     }
 
     /// A point at each of the points.

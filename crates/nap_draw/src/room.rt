@@ -20,7 +20,7 @@ pub(crate) fn points_into(
     ensures { Fills (points_at (moves domain.multi (carried run.now))) room.new.items result }
 {
     let size = domain.multi();
-    let mut full = emptied(room, run.len().div_ceil(usize::from(size)));
+    let mut full = emptied(room, run.len(), domain);
     let rest = whole_points(room, size, run)?;
     for operand in rest.chunks(usize::from(size)) {
         let Some(point) = multi_bytes(operand).point() else {
@@ -42,7 +42,7 @@ pub(crate) fn steps_into(
 {
     let size = domain.multi();
     let mut at = from;
-    let mut full = emptied(room, run.len().div_ceil(usize::from(size)));
+    let mut full = emptied(room, run.len(), domain);
     let rest = whole_steps(room, &mut at, size, run)?;
     for operand in rest.chunks(usize::from(size)) {
         let Some(point) = at.by(multi_bytes(operand)) else {
@@ -65,7 +65,7 @@ pub(crate) fn corners_into(
 {
     let size = domain.multi();
     let mut at = from;
-    let mut full = emptied(room, run.len().div_ceil(usize::from(size)));
+    let mut full = emptied(room, run.len(), domain);
     for operand in run.chunks(usize::from(size)) {
         let Some(point) = at.by(multi_bytes(operand)) else {
             return Err(DrawFault::Outside);
@@ -81,7 +81,7 @@ pub(crate) fn pairs_into(room: &mut Vec<Point>, domain: Domain, run: &[u8]) -> R
     ensures { Fills (away (moves domain.multi (carried run.now))) (paired room.new.items) result }
 {
     let size = domain.multi();
-    let mut full = emptied(room, run.len().div_ceil(usize::from(size)));
+    let mut full = emptied(room, run.len(), domain);
     let mut operands = run.chunks(usize::from(size));
     while let Some(first) = operands.next() {
         let Some(second) = operands.next() else {
@@ -187,12 +187,17 @@ fn steps_of_three<'a>(
     Ok(rest)
 }
 
-/// Empties the room, and makes it large enough. Says whether there is no memory for that.
-fn emptied(room: &mut Vec<Point>, count: usize) -> bool
+/// Empties the room, and makes it large enough for the points of so many bytes. Says whether there is no memory for that.
+#[inline(always)]
+fn emptied(room: &mut Vec<Point>, bytes: usize, domain: Domain) -> bool
     ensures { room.new.items ≡ [] }
 {
     room.clear();
-    room.reserve_exact(count).is_err()
+    if bytes <= room.capacity() {
+        return false;
+    }
+    let places = bytes.div_ceil(usize::from(domain.multi()));
+    room.reserve_exact(places).is_err()
 }
 
 /// Want of memory, where a point had no room.

@@ -29,7 +29,7 @@ returns-in_default-span_by c =
 
 pub loop-first-init : goal.loop-first-init
 loop-first-init c = record {
-  size = c.chunks-operands.ensures.size ∙ omega (arith, c.from-2.ensures, c.multi-size.ensures.value);
+  size = c.chunks-operands.ensures.size ∙ omega (arith, c.from.ensures, c.multi-size.ensures.value);
   filling = filling_begins _ _ c.emptied-full.result _ (ap (λ (run : List ℕ). away (moves c.args.domain.multi (carried run))) (sym c.chunks-operands.ensures.rest)) (flat_none c.emptied-full.new.room.items c.emptied-full.ensures);
 }
 

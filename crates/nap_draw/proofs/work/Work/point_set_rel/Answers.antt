@@ -1,13 +1,58 @@
-use Rattle.std.proofs.Common.{Some, sym, ◌∙◌, ap, refl}
+use Rattle.std.proofs.Common.{ℕ, List, sym, ◌∙◌, ap, arith, refl}
+use Rattle.std.specs.Slice.Iter.{chunks_rest, chunks_size}
+use Rattle.nap_values.specs.Coordinates.{moved}
+use Rattle.nap_values.specs.Operands.{carried}
+use Rattle.nap_draw.specs.Operands.{moves}
+use Rattle.nap_draw.specs.Geometry.{end_of, reached}
 use Rattle.nap_draw.specs.Rule.{goes}
-use Rattle.nap_draw.proofs.Acting.{sets_refused, sets_unfilled}
+use Rattle.nap_draw.proofs.Acting.{sets_refused}
+use Rattle.nap_draw.proofs.ByteRuns.{moves_chunk, moves_none}
+use Rattle.nap_draw.proofs.Decoding.{filling_begins, filling_more, filling_none, filling_end}
+use Rattle.nap_draw.proofs.Going.{goes_end, end_behind, pen_reached}
+use Rattle.nap_draw.proofs.Turns.{reached_turn, onward_more, onward_none}
 use Rattle.nap_draw.proofs.work.Work.point_set_rel.Goals as goal
 
-pub returns-in_err-from : goal.returns-in_err-from
-returns-in_err-from c = sets_refused _ _ _ _ c.from_residual.ensures.1 c.in_err-from.ensures.err.0 (c.in_err-from.ensures.err.1 _)
+pub returns-in_err-at : goal.returns-in_err-at
+returns-in_err-at c = sets_refused _ _ _ _ c.from_residual.ensures.1 c.in_err-at.ensures.err.0 (c.in_err-at.ensures.err.1 _)
 
-pub returns-in_err-steps_into : goal.returns-in_err-steps_into
-returns-in_err-steps_into c = sets_unfilled _ _ _ _ _ c.from_residual-in_err-steps_into.ensures.1 (goes c.args.self.now) (c.in_ok-from.ensures.ok _) refl (λ xs. (_, refl)) c.in_err-steps_into.ensures
+pub loop-operand-init : goal.loop-operand-init
+unfolding end_of
+loop-operand-init c =
+    let given = c.into_iter-operand-iterator.ensures.into_iter_gives in
+    record {
+      can = omega (arith, c.from.ensures, c.multi.ensures.value, c.multi.ensures.least, c.chunks-operand-items.ensures.size, ap chunks_size given);
+      finite = tt;
+      size = omega (arith, c.from.ensures, c.multi.ensures.value, c.chunks-operand-items.ensures.size, ap chunks_size given);
+      filling = filling_begins _ _ _ _ (ap (λ (run : List ℕ). reached c.in_ok-at.at (moves c.args.self.now.domain.multi (carried run))) (sym (ap chunks_rest given ∙ c.chunks-operand-items.ensures.rest))) refl;
+    }
+
+pub returns-in_default : goal.returns-in_default
+returns-in_default c =
+    let inv = c.loop-operand.invariant in
+    let steps = c.in-Some.ensures.steps in
+    let cut = moves_chunk c.args.self.now.domain.multi _ _ _ _ inv.size (omega (arith, c.multi.ensures.value, c.multi.ensures.least)) steps.1.0 steps.1.1 steps.1.2 in
+    let none = filling_none _ _ _ _ inv.filling (onward_none _ _ _ (reached_turn _ _ _ _ cut) (sym (c.by.ensures ∙ ap (moved c.loop-operand.at) c.multi_bytes.ensures) ∙ c.in_default.is)) in
+    (refl, c.in_ok-at.ensures.ok _ ∙ ap (goes c.args.self.now) none)
+
+pub loop-operand-preserved : goal.loop-operand-preserved
+loop-operand-preserved c =
+    let inv = c.loop-operand.invariant in
+    let steps = c.in-Some.ensures.steps in
+    let cut = moves_chunk c.args.self.now.domain.multi _ _ _ _ inv.size (omega (arith, c.multi.ensures.value, c.multi.ensures.least)) steps.1.0 steps.1.1 steps.1.2 in
+    record {
+      can = omega (arith, steps.0, inv.can);
+      finite = tt;
+      size = steps.0 ∙ inv.size;
+      filling = filling_more _ _ _ c.in-Some-by.point _ _ _ _ inv.filling
+          (onward_more _ _ _ _ (reached_turn _ _ _ _ cut) (sym (c.by.ensures ∙ ap (moved c.loop-operand.at) c.multi_bytes.ensures) ∙ c.in-Some-by.is))
+          (λ e. e)
+          (λ front e kept. end_behind _ front c.in-Some-by.point);
+    }
 
 pub returns : goal.returns
-returns c = c.in_ok-from.ensures.ok _ ∙ ap (goes c.args.self.now) (c.in_ok-steps_into.ensures ∙ ap Some (sym c.deref.ensures.value)) ∙ c.go.ensures
+unfolding reached
+returns c =
+    let filling = c.loop-operand.invariant.filling in
+    let all = filling_end _ _ _ _ filling (ap (reached _) (moves_none _ _ c.in-None.ensures.steps.1.0)) in
+    let last = pen_reached c.args.self.now _ _ _ filling.front c.in_ok-at.ensures.ok all (filling.kept refl) in
+    c.in_ok-at.ensures.ok _ ∙ (ap (goes c.args.self.now) all ∙ goes_end c.args.self.now filling.front _ last)
