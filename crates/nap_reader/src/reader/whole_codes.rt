@@ -13,7 +13,7 @@ use super::{Reader, Refused, refuse};
 use crate::fault::Fault;
 use crate::operands::whole_run;
 use crate::text::text_bytes;
-use nap_codes::{CharSet, Code, Lexer};
+use nap_codes::{CharSet, Code, Lexer, Opcode};
 use nap_draw::Work;
 use nap_list::Sink;
 use nap_values::Point;
@@ -157,23 +157,25 @@ fn whole_code<S: Sink>(
     };
     let byte = *byte;
     if byte >= 0x20 {
+        if byte < 0x40 {
+            if let Some(op) = lexer.opcode(byte) {
+                return opcode(alloc, work, lexer, op, room, sink, bytes);
+            }
+        }
         if let Some(set) = lexer.characters() {
             return characters(work, set, sink, bytes);
         }
-        if byte < 0x40 {
-            return opcode(alloc, work, lexer, room, sink, bytes);
-        }
         return One::Other;
+    }
+    if lexer.is_shift(byte) {
+        lexer.shift(byte);
+        return One::Acted(1, false);
     }
     if let Some(step) = lexer.format_effector(byte) {
         return match work.control(&Code::Step(step), sink) {
             Ok(()) => One::Acted(1, false),
             Err(fault) => One::Stopped(1, Fault::from(fault), 0),
         };
-    }
-    if lexer.is_shift(byte) {
-        lexer.shift(byte);
-        return One::Acted(1, false);
     }
     One::Other
 }
@@ -203,20 +205,18 @@ fn opcode<S: Sink>(
     alloc: Global,
     work: &mut Work,
     lexer: &Lexer,
+    op: Opcode,
     room: &mut Vec<Point>,
     sink: &mut S,
     bytes: &[u8],
 ) -> One
     requires agrees { StatesAgree work.old.state (S.state sink.old) }
-    requires graphic { (byte : ℕ) (rest : List ℕ) → bytes.now ≡ byte ∷ rest → IsGraphic byte }
+    requires opens { (byte : ℕ) (rest : List ℕ) → bytes.now ≡ byte ∷ rest → IsGraphic byte × (front lexer.now.sets (byte ∷ []) ≡ whole (codes.Op op) 1 lexer.now.sets) }
     ensures one { (t : S) (w : Work) (l : LexerState) (all : List ℕ) (at : ℕ) → drop at all ≡ bytes.now →
         WholeCodes S.Sink t w l sink.old work.old lexer.now false all at → OneMore S.Sink t w l sink.new work.new lexer.now all at result }
     ensures leaves { Leaves S.Sink sink.old sink.new work.new result }
 {
-    let Some((byte, rest)) = bytes.split_first() else {
-        return One::Other;
-    };
-    let Some(op) = lexer.opcode(*byte) else {
+    let Some((_, rest)) = bytes.split_first() else {
         return One::Other;
     };
     let Some(run) = whole_run(rest) else {

@@ -22,12 +22,12 @@ parts_of at all byte run behind whole =
 
 pub act-requires-clause-drawn : goal.act-requires-clause-drawn
 act-requires-clause-drawn g c =
-    opens_drawn c.args.lexer.now.sets (c.in-Some.byte.now ∷ []) (code.Op c.in-Some-opcode.op) 1 c.args.lexer.now.sets c.in-Some-opcode.op c.in-Some-opcode.ensures.front refl
+    opens_drawn c.args.lexer.now.sets (c.in-Some.field-0-0.now ∷ []) (code.Op c.args.op) 1 c.args.lexer.now.sets c.args.op (c.requires.opens _ _ c.in-Some.ensures.cases.0).1 refl
 
 pub returns-in-Ok-clause-one : goal.returns-in-Ok-clause-one
 returns-in-Ok-clause-one g c t w l all at behind before =
-    let byte = c.in-Some.byte.now in
-    let op = c.in-Some-opcode.op in
+    let byte = c.in-Some.field-0-0.now in
+    let op = c.args.op in
     let run : List ℕ = c.in-Some-whole_run.run'.now in
     let is = c.in-Some-whole_run.ensures in
     let whole : drop at all ≡ byte ∷ (run ++ is.next ∷ is.rest) = behind ∙ c.in-Some.ensures.cases.0 ∙ ap (λ (bs : List ℕ). byte ∷ bs) is.behind in
@@ -36,14 +36,14 @@ returns-in-Ok-clause-one g c t w l all at behind before =
     let acts = subst (λ (ws : List ℕ). Acts g.S.Sink told (rule c.args.work.now op ws) c.args.work.now c.act.new.self c.args.sink.now c.act.new.sink (Ok c.in-Ok.clears)) (same_words run is.operands) c.in-Ok.ensures.acts in
     let drawn : Drawn = record { entries = acts.0; work = c.act.new.self; clears = c.in-Ok.clears } in (
       omega arith,
-      codes_run g.S.Sink t w l c.args.sink.now c.args.work.now c.args.lexer.now all at (length run + 1) g.met.S.Sink.took_more (omega arith) few before op byte run parts.0 c.in-Some-opcode.ensures.front is.operands is.short
-          c.act.new.sink drawn is.next is.rest (c.requires.graphic byte c.in-Some.rest.now c.in-Some.ensures.cases.0) parts.1 is.other acts.1 acts.2 c.in-Ok.ensures.clear,
+      codes_run g.S.Sink t w l c.args.sink.now c.args.work.now c.args.lexer.now all at (length run + 1) g.met.S.Sink.took_more (omega arith) few before op byte run parts.0 (c.requires.opens byte c.in-Some.rest.now c.in-Some.ensures.cases.0).1 is.operands is.short
+          c.act.new.sink drawn is.next is.rest (c.requires.opens byte c.in-Some.rest.now c.in-Some.ensures.cases.0).0 parts.1 is.other acts.1 acts.2 c.in-Ok.ensures.clear,
     )
 
 pub returns-in-Err-clause-one : goal.returns-in-Err-clause-one
 returns-in-Err-clause-one g c t w l all at behind before =
-    let byte = c.in-Some.byte.now in
-    let op = c.in-Some-opcode.op in
+    let byte = c.in-Some.field-0-0.now in
+    let op = c.args.op in
     let run : List ℕ = c.in-Some-whole_run.run'.now in
     let is = c.in-Some-whole_run.ensures in
     let whole : drop at all ≡ byte ∷ (run ++ is.next ∷ is.rest) = behind ∙ c.in-Some.ensures.cases.0 ∙ ap (λ (bs : List ℕ). byte ∷ bs) is.behind in
@@ -53,5 +53,5 @@ returns-in-Err-clause-one g c t w l all at behind before =
     subst (λ (k : ℕ). CodesStop g.S.Sink t w l c.act.new.sink all k (at + 0) c.from.result) (omega arith)
     (subst (λ (i : ℕ). CodesStop g.S.Sink t w l c.act.new.sink all (at + (length run + 1) + 1) i c.from.result) (omega arith)
     (subst (CodesStop g.S.Sink t w l c.act.new.sink all (at + (length run + 1) + 1) at) (sym c.from.ensures)
-    (codes_stop_run g.S.Sink t w l c.args.sink.now c.args.work.now c.args.lexer.now all at (length run + 1) g.met.S.Sink.took_more (omega arith) few before op byte run parts.0 c.in-Some-opcode.ensures.front is.operands is.short
+    (codes_stop_run g.S.Sink t w l c.args.sink.now c.args.work.now c.args.lexer.now all at (length run + 1) g.met.S.Sink.took_more (omega arith) few before op byte run parts.0 (c.requires.opens byte c.in-Some.rest.now c.in-Some.ensures.cases.0).1 is.operands is.short
     c.act.new.sink c.in-Err.fault is.next is.rest parts.1 is.other acts.1)))

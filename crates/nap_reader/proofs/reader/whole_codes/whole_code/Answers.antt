@@ -1,6 +1,8 @@
 use Rattle.std.proofs.Common.{◌≡◌, ◌+◌, ◌∷◌, ◌++◌, ℕ, List, [], Err, length, take, refl, ap, sym, ◌∙◌, subst, arith}
+use Rattle.std.proofs.lemmas.Bool.Decides.{nat_tests}
 use Rattle.nap_codes.specs.declared.code.Code.TheVariants as code
 use Rattle.nap_codes.specs.Front as codes
+use Rattle.nap_codes.specs.Laws.{IsGraphic}
 use Rattle.nap_reader.specs.Steps.{CodesStop}
 use Rattle.nap_reader.proofs.CodesLemmas.{codes_shift, codes_step, codes_stop_step}
 use Rattle.nap_reader.proofs.ComingLemmas.{some_first}
@@ -49,4 +51,14 @@ returns-then-is_shift-clause-one g c t w l all at behind before =
       omega arith,
       codes_shift g.S.Sink t w l c.args.sink.now c.args.work.now lexer all at 1 g.met.S.Sink.took_more (omega arith) (omega (arith, first.1, ap length behind)) before code.Shifted b step.1 refl
           (ap (take 1) behind ∙ first.0) front c.shift.new.self refl step.4,
+    )
+
+pub opcode-requires-in-Some-opcode-clause-opens : goal.opcode-requires-in-Some-opcode-clause-opens
+opcode-requires-in-Some-opcode-clause-opens g c byte rest is =
+    let b = c.in-Some.byte.now in
+    let first = some_first c.args.bytes.now b (sym c.in-Some.ensures.value) in
+    let one : byte ∷ [] ≡ b ∷ [] = ap (take 1) (sym is) ∙ first.0 in
+    let same : b ≡ byte = cc in (
+      subst IsGraphic same (grind (arith, nat_tests)),
+      subst (λ (b : ℕ). codes.front c.args.lexer.now.sets (b ∷ []) ≡ codes.whole (code.Op c.in-Some-opcode.op) 1 c.args.lexer.now.sets) same c.in-Some-opcode.ensures.front,
     )
