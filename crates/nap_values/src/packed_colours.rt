@@ -7,13 +7,13 @@ ghost use Rattle.nap_values.specs.Packed.{HoldsWords};
 ghost use Rattle.nap_values.specs.PackedColours.{g_in, r_in, b_in, packed_colour};
 
 /// The bits of green.
-const G: u64 = 0x2424_2424_2424_2424;
+const GREEN: u64 = 0x2424_2424_2424_2424;
 
 /// The bits of red.
-const R: u64 = 0x1212_1212_1212_1212;
+const RED: u64 = 0x1212_1212_1212_1212;
 
 /// The bits of blue.
-const B: u64 = 0x0909_0909_0909_0909;
+const BLUE: u64 = 0x0909_0909_0909_0909;
 
 /// The lowest bit of each byte.
 const LOWEST: u64 = 0x0101_0101_0101_0101;
@@ -50,7 +50,7 @@ pub(crate) fn pack_colour(g: u16, r: u16, b: u16) -> u64
     ensures value { result ≡ packed_colour g r b }
     ensures words { HoldsWords result }
 {
-    (spread(g) * 20 & G) + (spread(r) * 10 & R) + (spread(b) * 5 & B)
+    (spread(g) * 20 & GREEN) + (spread(r) * 10 & RED) + (spread(b) * 5 & BLUE)
 }
 
 /// The 16 bits of green.
