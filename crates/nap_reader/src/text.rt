@@ -1,8 +1,8 @@
 //! The bytes at the front of a piece that are of a text.
-ghost use Rattle.std.specs.Prelude.{All, take, ◌≡◌};
+ghost use Rattle.std.specs.Prelude.{All, drop, length, take, ◌≡◌, ◌≤◌};
 ghost use Rattle.std.specs.List.{prefix_len};
 ghost use Rattle.nap_list.specs.Batches.{IsTyped};
-ghost use Rattle.nap_reader.specs.Prefix.{is_of_text};
+ghost use Rattle.nap_reader.specs.Prefix.{is_from, is_of_text};
 
 use crate::prefix::prefix_from;
 use nap_codes::format_effector;
@@ -15,7 +15,19 @@ pub(crate) fn text_bytes(piece: &[u8]) -> &[u8]
     let mut at = prefix_from(piece, 0x20);
     while at < piece.len() && format_effector(piece[at]).is_some() {
         at += 1;
-        at += prefix_from(&piece[at..], 0x20);
+        at += graphic_bytes(piece, at);
     }
     &piece[..at]
+}
+
+/// How many bytes from this place on are from `20` to `7F`. Behind a format effector there is often none.
+#[inline]
+fn graphic_bytes(piece: &[u8], at: usize) -> usize
+    requires { at ≤ length piece.now }
+    ensures { result ≡ prefix_len (is_from 0x20) (drop at piece.now) }
+{
+    if at == piece.len() || piece[at] < 0x20 {
+        return 0;
+    }
+    prefix_from(&piece[at..], 0x20)
 }

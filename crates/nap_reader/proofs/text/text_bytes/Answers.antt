@@ -1,5 +1,5 @@
-use Rattle.std.proofs.Common.{◌≡◌, List, ◌+◌, ◌-◌, ◌<◌, ℕ, length, take, drop, get_or, ap, sym, ◌∙◌, subst, arith}
-use Rattle.std.proofs.lemmas.List.{get_or-take, length-drop, length-take-le, take_all}
+use Rattle.std.proofs.Common.{◌≡◌, ◌+◌, ◌<◌, drop, get_or, ap, sym, ◌∙◌, subst, arith}
+use Rattle.std.proofs.lemmas.List.{get_or-take, length-drop, length-take-le}
 use Rattle.std.proofs.lemmas.List.Sums.{prefix_len-le-length, prefix_len_passes}
 use Rattle.std.specs.List.{prefix_len}
 use Rattle.std.specs.Option.{is_some}
@@ -14,22 +14,18 @@ loop-at-init c =
     let past = past_graphic piece in
     rw c.prefix_from-at.ensures (past.0, past.1, prefix_len-le-length (is_from 32) piece)
 
--- those behind a place are counted
-counted : (piece : List ℕ) (at : ℕ) → prefix_len (is_from 32) (take (length piece - at) (drop at piece)) ≡ prefix_len (is_from 32) (drop at piece)
-counted piece at = ap (prefix_len (is_from 32)) (take_all (length piece - at) (drop at piece) (omega (arith, length-drop at piece)))
-
 pub overflow_add-at-in-loop-at : goal.overflow_add-at-in-loop-at
 overflow_add-at-in-loop-at c =
     let piece = c.args.piece.now in
     let rest = drop (c.loop-at.at + 1) piece in
-    omega (arith, c.prefix_from-at-in-loop-at.ensures, counted piece (c.loop-at.at + 1), prefix_len-le-length (is_from 32) rest, length-drop (c.loop-at.at + 1) piece)
+    omega (arith, c.graphic_bytes-at.ensures, prefix_len-le-length (is_from 32) rest, length-drop (c.loop-at.at + 1) piece)
 
 pub loop-at-preserved : goal.loop-at-preserved
 loop-at-preserved c =
     let piece = c.args.piece.now in
     let rest = drop (c.loop-at.at + 1) piece in
-    let n = c.prefix_from-at-in-loop-at.result in
-    let is : n ≡ prefix_len (is_from 32) rest = c.prefix_from-at-in-loop-at.ensures ∙ counted piece (c.loop-at.at + 1) in
+    let n = c.graphic_bytes-at.result in
+    let is : n ≡ prefix_len (is_from 32) rest = c.graphic_bytes-at.ensures in
     let past = past_effector piece c.loop-at.at n (omega arith) (ap is_some (sym c.format_effector.ensures) ∙ sym c.is_some.ensures ∙ c.if-is_some.true) is in
     (omega (arith, c.loop-at.invariant.0, past.0), past.1, omega (arith, is, prefix_len-le-length (is_from 32) rest, length-drop (c.loop-at.at + 1) piece))
 
