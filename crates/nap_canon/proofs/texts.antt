@@ -4,6 +4,7 @@ pub mod TextLemmas
 pub mod WalkLemmas
 pub mod WriterLemmas
 pub mod GatheredLemmas
+pub mod LaidLemmas
 pub mod FaultLemmas
 pub mod Rows
 pub mod WritingLemmas

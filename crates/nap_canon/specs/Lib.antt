@@ -16,3 +16,4 @@ pub mod SinkLaws
 pub mod Converting
 pub mod Concluding
 pub mod Batches
+pub mod Gathering

@@ -14,10 +14,9 @@ ghost use Rattle.nap_canon.specs.Writing.{Puts, WritesBytes, WritesCommands, Wri
 use crate::byte_sink::ByteSink;
 use crate::command::{Command, Commands, Flag, bring_colour, bring_pel, bring_pen, bring_texture};
 use crate::form::Form;
-use crate::gathered::ROOM;
+use crate::gathered::Gathered;
 use crate::piece::Piece;
 use crate::tail::Tail;
-use arrayvec::ArrayVec;
 use nap_codes::{GSet, Size, TextStep};
 use nap_list::{Base, Colour, Drawing, Entry, Held, Pen, Shape, State, TextLook, corner};
 use nap_values::{put_addr, put_grb, put_move, put_point};
@@ -72,7 +71,7 @@ pub(crate) struct Writer<T: ByteSink + Drop> {
     tail: Tail,
     state: State,
     /// Operands that are gathered for one write.
-    room: ArrayVec<u8, ROOM>,
+    room: Gathered,
 }
 
 /// The control of a size that has a name.
@@ -117,7 +116,7 @@ impl<T: ByteSink + Drop> Writer<T> {
             form,
             tail: Tail::Apart(GSet::G1),
             state: State::start(),
-            room: ArrayVec::new(),
+            room: Gathered::new(),
         }
     }
 
@@ -144,6 +143,7 @@ impl<T: ByteSink + Drop> Writer<T> {
     }
 
     /// Takes the bytes of an opcode with its operands, behind which the opcodes are in GL.
+    #[inline(always)]
     fn drawn(&mut self, piece: Piece) -> Result<(), T::Fault>
         ensures { WritesBytes T.sent piece (Apart G1) self.old self.new result }
     {
@@ -152,6 +152,7 @@ impl<T: ByteSink + Drop> Writer<T> {
     }
 
     /// Takes controls with the bytes that belong to them.
+    #[inline(always)]
     fn control(&mut self, bytes: &[u8]) -> Result<(), T::Fault>
         ensures { WritesBytes T.sent bytes.now (Apart (gl_of self.old.tail)) self.old self.new result }
     {
@@ -160,12 +161,14 @@ impl<T: ByteSink + Drop> Writer<T> {
     }
 
     /// Takes a control of the C1 set.
+    #[inline(always)]
     fn escape(&mut self, byte: u8) -> Result<(), T::Fault>
         ensures { WritesPiece T.sent (escape byte) self.old self.new result }
     {
         self.control(&[0x1B, byte])
     }
 
+    #[inline(always)]
     fn command(&mut self, command: Command) -> Result<(), T::Fault>
         ensures { WritesPiece T.sent (command_piece command) self.old self.new result }
     {
@@ -222,6 +225,7 @@ impl<T: ByteSink + Drop> Writer<T> {
 
     /// Writes a command, where there is one.
     #[tactic(auto, unfolding(crate::specs::Text::written, crate::specs::Text::tail_after))]
+    #[inline(always)]
     fn tell(&mut self, command: Option<Command>) -> Result<(), T::Fault>
         ensures { WritesCommands T.sent (told command) self.old self.new result }
     {
@@ -232,6 +236,7 @@ impl<T: ByteSink + Drop> Writer<T> {
     }
 
     /// Writes the bring of a colour.
+    #[inline(always)]
     fn lead_colour(
         &mut self,
         base: Base,
@@ -247,6 +252,7 @@ impl<T: ByteSink + Drop> Writer<T> {
 
     /// Writes the bring of the look of text.
     #[tactic(auto, unfolding(crate::specs::Text::written, crate::specs::Text::tail_after, crate::specs::Bring::bring_text))]
+    #[inline(always)]
     fn lead_text(&mut self, old: &TextLook, look: &Option<TextLook>) -> Result<(), T::Fault>
         ensures { WritesCommands T.sent (bring_text old.now look.now) self.old self.new result }
     {
@@ -257,6 +263,7 @@ impl<T: ByteSink + Drop> Writer<T> {
     }
 
     /// Writes the bring of an entry from its texture on.
+    #[inline(always)]
     fn lead_texture(&mut self, old: &Drawing, held: &Held) -> Result<(), T::Fault>
         ensures { WritesCommands T.sent (bring_from_texture old.now held.now) self.old self.new result }
     {
@@ -265,6 +272,7 @@ impl<T: ByteSink + Drop> Writer<T> {
     }
 
     /// Writes the bring of an entry from its colour on.
+    #[inline(always)]
     fn lead_colours(&mut self, old: &Drawing, held: &Held) -> Result<(), T::Fault>
         ensures { WritesCommands T.sent (bring_from_colour old.now held.now) self.old self.new result }
     {
@@ -273,6 +281,7 @@ impl<T: ByteSink + Drop> Writer<T> {
     }
 
     /// Writes the bring of an entry from its pel on.
+    #[inline(always)]
     fn lead_pel(&mut self, old: &Drawing, held: &Held) -> Result<(), T::Fault>
         ensures { WritesCommands T.sent (bring_from_pel old.now held.now) self.old self.new result }
     {
@@ -281,6 +290,7 @@ impl<T: ByteSink + Drop> Writer<T> {
     }
 
     /// Writes the bring of the values that an entry holds.
+    #[inline(always)]
     fn lead(&mut self, held: &Held) -> Result<(), T::Fault>
         ensures { WritesCommands T.sent (bring self.old.state.drawing held.now) self.old self.new result }
     {
@@ -370,6 +380,7 @@ impl<T: ByteSink + Drop> Writer<T> {
 }
 
 /// The values that the entry of a shape holds.
+#[inline(always)]
 fn held(shape: &Shape) -> Held
     ensures { result ≡ held (drawn_shape shape.now) }
 {

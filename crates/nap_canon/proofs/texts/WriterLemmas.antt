@@ -1,6 +1,6 @@
 -- The bytes that a writer sends, part by part.
 
-use Rattle.std.proofs.Common.{Result, Ok, Err, OnOk, Bool, true, false, refl, subst, ℕ, suc, ◌+◌, ◌≡◌, ◌<◌, List, [], ◌∷◌, ◌++◌, length, map, take, drop, get_or, ap, sym, ◌∙◌, append_assoc, append-nil, arith}
+use Rattle.std.proofs.Common.{Result, Ok, Err, OnOk, Bool, true, false, refl, subst, ℕ, suc, ◌+◌, ◌*◌, ◌≡◌, ◌<◌, List, [], ◌∷◌, ◌++◌, length, length-append, map, take, drop, get_or, ap, sym, ◌∙◌, append_assoc, append-nil, arith}
 use Rattle.std.proofs.lemmas.List.{take_more, map-append, take-append-drop}
 use Rattle.std.proofs.Math.Seq.{drop-cons}
 use Rattle.nap_values.specs.Coordinates.{Coordinates, Displacement, displacement_to}
@@ -33,6 +33,13 @@ onward_more now next piece whole from to others i within is step spelled so_far 
 pub move_size : (m : Displacement) → length (move_bytes m) ≡ 8
 unfolding move_bytes words_of_pairs digits_of
 move_size m = refl
+
+pub onward_size : (from : Coordinates) (ps : List Coordinates) → length (onward_bytes from ps) ≡ 8 * length ps
+unfolding onward_bytes
+onward_size from [] = refl
+onward_size from (p ∷ ps) =
+    let step : List ℕ = move_bytes (displacement_to from p) in
+    omega (arith, length-append step (onward_bytes p ps), move_size (displacement_to from p), onward_size p ps)
 
 -- displacements in two parts
 onward_parts : (from : Coordinates) (ps qs : List Coordinates) → onward_bytes from (ps ++ qs) ≡ onward_bytes from ps ++ onward_bytes (last_of from ps) qs

@@ -9,7 +9,7 @@ ghost use Rattle.nap_canon.specs.Writing.{Stays, WritesUpTo};
 
 use crate::byte_sink::ByteSink;
 use crate::form::Form;
-use crate::gathered::{MOST, gather};
+use crate::gathered::MOST;
 use crate::tail::Tail;
 use crate::writer::{Writer, opcodes};
 use nap_codes::{CharSet, GSet};
@@ -115,7 +115,7 @@ impl<T: ByteSink + Drop> Writer<T> {
         requires few { length points.now ≤ 128 }
         ensures { WritesUpTo T.sent (points_bytes points.now) (InRun (run_behind self.old.tail opcode (8 * length points.now))) self.old self.new result }
     {
-        gather(&mut self.room, points);
+        self.room.gather(points);
         self.to.take_counted(self.room.as_slice())?;
         self.tail = self.tail.behind(opcode, self.room.len());
         Ok(())

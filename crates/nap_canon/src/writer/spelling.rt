@@ -11,7 +11,7 @@ ghost use Rattle.nap_canon.specs.Writing.{WritesBytes, WritesPiece, WritesPieces
 
 use crate::byte_sink::ByteSink;
 use crate::form::Form;
-use crate::gathered::{MOST, NEAR, gather_onward, gather_shape};
+use crate::gathered::{MOST, NEAR};
 use crate::piece::Piece;
 use crate::tail::Tail;
 use crate::writer::{LENGTHS, Writer, opcodes};
@@ -56,7 +56,7 @@ impl<T: ByteSink + Drop> Writer<T> {
     {
         let mut from = first;
         for chunk in others.chunks(MOST) {
-            gather_onward(&mut self.room, from, chunk);
+            self.room.gather_onward(from, chunk);
             self.to.take(self.room.as_slice())?;
             from = start_at(from, chunk, chunk.len());
         }
@@ -68,7 +68,7 @@ impl<T: ByteSink + Drop> Writer<T> {
         ensures { WritesPiece T.sent (opcode code (shape_bytes (first ∷ others.now))) self.old self.new result }
     {
         let (near, far) = others.split_at(others.len().min(NEAR));
-        gather_shape(&mut self.room, self.tail.gl(), code, first, near);
+        self.room.gather_shape(self.tail.gl(), code, first, near);
         self.tail = Tail::Apart(GSet::G1);
         self.to.take(self.room.as_slice())?;
         self.onward(start_at(first, near, near.len()), far)
@@ -112,6 +112,7 @@ impl<T: ByteSink + Drop> Writer<T> {
     }
 
     /// A group of operands: behind their opcode, unless they join a run of it.
+    #[inline(always)]
     fn group(&mut self, opcode: u8, operands: &[u8]) -> Result<(), T::Fault>
         requires few { length operands.now ≤ 16 }
         ensures { WritesPiece T.sent (group opcode operands.now) self.old self.new result }
@@ -126,6 +127,7 @@ impl<T: ByteSink + Drop> Writer<T> {
     }
 
     /// The opcode of a point, a line or a rectangle with its operands.
+    #[inline(always)]
     pub(super) fn stroke(&mut self, opcode: u8, operands: &[u8]) -> Result<(), T::Fault>
         requires few { length operands.now ≤ 16 }
         ensures { WritesPiece T.sent (stroke self.old.form opcode operands.now) self.old self.new result }
@@ -137,6 +139,7 @@ impl<T: ByteSink + Drop> Writer<T> {
     }
 
     /// A line, which in the second form goes on from the pen where it starts there.
+    #[inline(always)]
     pub(super) fn line(&mut self, from: Point, to: Point) -> Result<(), T::Fault>
         ensures { WritesPiece T.sent (line_piece self.old.form self.old.state.drawing.pen from to) self.old self.new result }
     {
@@ -147,6 +150,7 @@ impl<T: ByteSink + Drop> Writer<T> {
         self.stroke(opcodes::SET_LINE_ABS, points.as_slice())
     }
 
+    #[inline(always)]
     fn rect(&mut self, filled: bool, from: Point, to: Point) -> Result<(), T::Fault>
         ensures { WritesPiece T.sent (rect_piece self.old.form filled from to) self.old self.new result }
     {
@@ -155,6 +159,7 @@ impl<T: ByteSink + Drop> Writer<T> {
     }
 
     /// A code of the primary characters, behind which they are in GL.
+    #[inline(always)]
     fn primary(&mut self, code: u8) -> Result<(), T::Fault>
         ensures { WritesPiece T.sent (primary code) self.old self.new result }
     {
@@ -164,6 +169,7 @@ impl<T: ByteSink + Drop> Writer<T> {
     }
 
     /// A character: SS2 brings G2 and SS3 brings G3 for it alone, and a DRCS is G3 for that time.
+    #[inline(always)]
     pub(super) fn character(&mut self, set: CharSet, code: u8) -> Result<(), T::Fault>
         ensures { WritesPiece T.sent (char_piece set code) self.old self.new result }
     {

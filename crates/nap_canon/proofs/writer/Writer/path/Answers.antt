@@ -17,7 +17,7 @@ returns-in_err-take g c =
     let far = c.split_at.result.1.now in
     let bytes = c.as_slice.result.now in
     let begun : bytes ≡ (to_opcodes (gl_of w.tail) ++ c.args.code ∷ point_bytes first) ++ onward_bytes first near =
-    c.as_slice.ensures.value ∙ c.gather_shape.ensures ∙ ap (λ (gl : GSet). (to_opcodes gl ++ c.args.code ∷ point_bytes first) ++ onward_bytes first near) c.gl.ensures in
+    c.as_slice.ensures ∙ c.gather_shape.ensures ∙ ap (λ (gl : GSet). (to_opcodes gl ++ c.args.code ∷ point_bytes first) ++ onward_bytes first near) c.gl.ensures in
     let parts : c.args.others.now ≡ near ++ far = c.split_at.ensures.by_index.0 in
     let failure = err_from_is_err_and c.from_residual.result c.from_residual.ensures.1 in
     rw failure.1 (record {
@@ -37,7 +37,7 @@ returns g c =
     let far = c.split_at.result.1.now in
     let bytes = c.as_slice.result.now in
     let begun : bytes ≡ (to_opcodes (gl_of w.tail) ++ c.args.code ∷ point_bytes first) ++ onward_bytes first near =
-    c.as_slice.ensures.value ∙ c.gather_shape.ensures ∙ ap (λ (gl : GSet). (to_opcodes gl ++ c.args.code ∷ point_bytes first) ++ onward_bytes first near) c.gl.ensures in
+    c.as_slice.ensures ∙ c.gather_shape.ensures ∙ ap (λ (gl : GSet). (to_opcodes gl ++ c.args.code ∷ point_bytes first) ++ onward_bytes first near) c.gl.ensures in
     let parts : c.args.others.now ≡ near ++ far = c.split_at.ensures.by_index.0 in
     let last = c.start_at.result in
     let ends : last ≡ last_of first near = c.start_at.ensures ∙ ap (last_of first) (take_all _ near (omega arith)) in
