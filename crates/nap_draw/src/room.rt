@@ -9,7 +9,7 @@ ghost use Rattle.nap_draw.specs.Doing.{Fills, Filling, paired, crossed};
 use crate::fault::DrawFault;
 use crate::spans::span_by;
 use nap_list::corner;
-use nap_values::{Domain, Point, multi_bytes, multi_of_three};
+use nap_values::{Domain, Point, Walk, multi_bytes, multi_of_three};
 
 /// Each operand as a point.
 pub(crate) fn points_into(
@@ -163,11 +163,12 @@ fn steps_of_three<'a>(
     ensures ok { IfOk result (λ rest. Filling (reached at.old (moves 3 (carried run.now))) (reached at.new (moves 3 (carried rest.now))) false (λ front. room.new.items ≡ front)) }
     ensures err { IfErr result (λ fault. (fault ≡ Outside) × (reached at.old (moves 3 (carried run.now)) ≡ None)) }
 {
+    let mut walk = Walk::starting(*at);
     let mut last = *at;
     let mut rest = run;
     while let Some((block, _)) = rest.split_first_chunk::<8>() {
         let (_, others) = rest.split_at(3);
-        let Some(point) = last.by(multi_of_three(block)) else {
+        let Some(point) = walk.advance(multi_of_three(block)) else {
             return Err(DrawFault::Outside);
         };
         room.push_reserved(point);
@@ -176,7 +177,7 @@ fn steps_of_three<'a>(
     }
     while rest.len() >= 3 {
         let (operand, others) = rest.split_at(3);
-        let Some(point) = last.by(multi_bytes(operand)) else {
+        let Some(point) = walk.advance(multi_bytes(operand)) else {
             return Err(DrawFault::Outside);
         };
         room.push_reserved(point);

@@ -1,10 +1,11 @@
-use Rattle.std.proofs.Common.{◌≡◌, ℕ, ◌+◌, ◌-◌, ◌%◌, ◌<◌, arith, Some, None, pos, ◌+ℤ◌, ◌-ℤ◌}
+use Rattle.std.proofs.Common.{◌≡◌, ℕ, ◌+◌, ◌-◌, ◌%◌, ◌<◌, sym, ap, ◌∙◌, arith, Some, None, pos, ◌+ℤ◌, ◌-ℤ◌}
 use Rattle.std.proofs.lemmas.Bool.Decides.{nat_tests}
 use Rattle.std.proofs.lemmas.Int.{ints}
-use Rattle.nap_values.specs.Coordinates.{point_with, point_at}
-use Rattle.nap_values.specs.TwosComplement.{signed_of}
+use Rattle.nap_values.specs.Coordinates.{Coordinates, IsInSquare, point_with, point_at}
+use Rattle.nap_values.specs.TwosComplement.{signed_of, bits_of}
 use Rattle.nap_values.specs.Operands.{multi_of}
 use Rattle.nap_values.specs.Packed.{words_in, HoldsWords, x_in, y_in}
+use Rattle.nap_values.proofs.CoordinateLemmas.{bits_of-signed_of, point_with-back}
 use Rattle.nap_values.proofs.PackedLemmas.{x_in-below, y_in-below}
 
 -- Where the numbers that words hold are inside the unit square.
@@ -23,6 +24,16 @@ spelled_inside n x_below y_below = inside-signed (x_in n) (y_in n) x_below y_bel
 pub spelled_outside : (n : ℕ) → HoldsWords n → (x_in n < 8388608 → y_in n < 8388608 → ⊥) → point_at (multi_of (words_in n)) ≡ None
 unfolding point_at multi_of x_in y_in
 spelled_outside n words outside = outside-signed (x_in n) (y_in n) (x_in-below n words) (y_in-below n words) outside
+
+-- words that spell a point have its coordinates
+pub spelled_back : (n : ℕ) → HoldsWords n → (p : Coordinates) → point_at (multi_of (words_in n)) ≡ Some p → (x_in n ≡ p.x) × (y_in n ≡ p.y) × IsInSquare p
+unfolding point_at multi_of x_in y_in
+spelled_back n words p is =
+    let back = point_with-back (signed_of (x_in n)) (signed_of (y_in n)) p is in (
+      sym (bits_of-signed_of (x_in n) (x_in-below n words)) ∙ ap bits_of back.1,
+      sym (bits_of-signed_of (y_in n) (y_in-below n words)) ∙ ap bits_of back.2,
+      back.0,
+    )
 
 -- where 24 bits of the sums are below 2^23, they are the coordinates of a point, and else there is none
 pub sum_leads : (a b m n : ℕ) → a < 8388608 → b < 8388608 → m < 16777216 → n < 16777216 →

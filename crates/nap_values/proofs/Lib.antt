@@ -11,6 +11,7 @@ mod PackedLemmas
 mod PackedColourLemmas
 mod PartLemmas
 mod MotionLemmas
+mod WalkLemmas
 mod SignLemmas
 mod GatherLemmas
 mod InsideLemmas

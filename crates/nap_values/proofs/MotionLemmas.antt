@@ -62,7 +62,7 @@ module _ (m n : ℕ) (m_words : HoldsWords m) (n_words : HoldsWords n) where
   len : (digit : ℕ → ℕ) (k : ℕ) → HoldsWords k → length (map digit (words_in k)) ≡ 8
   len digit k words = length-map (words_in k) digit ∙ length-words_in k words
 
-  x_added : bit_and ((bit_and m 0x3838_3838_3838_3838 + 0xC7C7_C7C7_C7C7_C7C7 + bit_and n 0x3838_3838_3838_3838) % 18446744073709551616) 0x3838_3838_3838_3838
+  pub x_added : bit_and ((bit_and m 0x3838_3838_3838_3838 + 0xC7C7_C7C7_C7C7_C7C7 + bit_and n 0x3838_3838_3838_3838) % 18446744073709551616) 0x3838_3838_3838_3838
       ≡ value_of 256 8 (digits_of 8 8 ((x_in m + x_in n) % 16777216)) * 8
   unfolding x_in value_of
   x_added =
@@ -73,7 +73,7 @@ module _ (m n : ℕ) (m_words : HoldsWords m) (n_words : HoldsWords n) where
       ∙ masked-sum 3 199 (omega arith) x_byte (xs m) (xs n) 0 (len x_digit m m_words) (len x_digit n n_words) (x_digits-below (words_in m) m_words) (x_digits-below (words_in n) n_words) (omega arith)
       ∙ ap (λ k. value_of 256 8 (digits_of 8 8 (k % 16777216)) * 8) digits
 
-  y_added : bit_and ((bit_and m 0x0707_0707_0707_0707 + 0xF8F8_F8F8_F8F8_F8F8 + bit_and n 0x0707_0707_0707_0707) % 18446744073709551616) 0x0707_0707_0707_0707
+  pub y_added : bit_and ((bit_and m 0x0707_0707_0707_0707 + 0xF8F8_F8F8_F8F8_F8F8 + bit_and n 0x0707_0707_0707_0707) % 18446744073709551616) 0x0707_0707_0707_0707
       ≡ value_of 256 8 (digits_of 8 8 ((y_in m + y_in n) % 16777216))
   unfolding y_in value_of
   y_added =

@@ -176,3 +176,11 @@ packed_zeros = refl
 -- zero holds eight words of no bits
 pub zero_words : HoldsWords 0
 zero_words = subst HoldsWords packed_zeros (packed-words 0 0 (omega arith) (omega arith))
+
+pub x_in-zero : x_in 0 ≡ 0
+unfolding value_of digits_of words_in x_in
+x_in-zero = refl
+
+pub y_in-zero : y_in 0 ≡ 0
+unfolding value_of digits_of words_in y_in
+y_in-zero = refl

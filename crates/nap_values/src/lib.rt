@@ -11,6 +11,7 @@ mod packed_colours;
 mod point;
 mod spelling;
 mod twos_complement;
+mod walk;
 mod word;
 
 pub use colours::{Addr, Grb};
@@ -19,4 +20,5 @@ pub use domain::Domain;
 pub use operand::{colour, colour_bytes, multi, multi_bytes, multi_of_three, single, single_bytes};
 pub use point::Point;
 pub use spelling::{put_addr, put_grb, put_move, put_point};
+pub use walk::Walk;
 pub use word::Word;

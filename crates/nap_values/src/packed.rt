@@ -89,6 +89,28 @@ pub(crate) fn sum(words: u64, others: u64) -> u64
     x + y
 }
 
+/// The sum of x alone, of which 24 bits are kept, where the first words have no bits of y.
+#[inline]
+pub(crate) fn x_advanced(apart: u64, words: u64) -> u64
+    requires apart { packed (x_in apart) 0 ≡ apart }
+    requires below { x_in apart < 16777216 }
+    requires words { HoldsWords words }
+    ensures { result ≡ packed ((x_in apart + x_in words) % 16777216) 0 }
+{
+    apart.wrapping_add((words & X) + BESIDE_X) & X
+}
+
+/// The sum of y alone, of which 24 bits are kept, where the first words have no bits of x.
+#[inline]
+pub(crate) fn y_advanced(apart: u64, words: u64) -> u64
+    requires apart { packed 0 (y_in apart) ≡ apart }
+    requires below { y_in apart < 16777216 }
+    requires words { HoldsWords words }
+    ensures { result ≡ packed 0 ((y_in apart + y_in words) % 16777216) }
+{
+    apart.wrapping_add((words & Y) + BESIDE_Y) & Y
+}
+
 /// The differences of x and of y, of which 24 bits are kept. A borrow goes through the bits beside the digits, which are
 /// all clear.
 #[inline]

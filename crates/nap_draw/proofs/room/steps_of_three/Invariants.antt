@@ -7,6 +7,7 @@ use Rattle.nap_draw.proofs.room.steps_of_three.Given as goal
 
 abbrev pub invariant-loop-block : goal.invariant-loop-block
 invariant-loop-block l = record {
+  stands : l.walk ≡ l.last;
   places : length l.rest + 3 * l.room.len ≤ 3 * l.room.cap + 2;
   filling : Filling (reached l.fn.at (moves 3 (carried l.fn.run))) (reached l.last (moves 3 (carried l.rest))) false (λ front. l.room.items ≡ front);
 }
@@ -16,6 +17,7 @@ decreases-loop-block l = length l.rest
 
 abbrev pub invariant-loop-rest : goal.invariant-loop-rest
 invariant-loop-rest l = record {
+  stands : l.walk ≡ l.last;
   places : length l.rest + 3 * l.room.len ≤ 3 * l.room.cap + 2;
   filling : Filling (reached l.fn.at (moves 3 (carried l.fn.run))) (reached l.last (moves 3 (carried l.rest))) false (λ front. l.room.items ≡ front);
 }

@@ -1,0 +1,45 @@
+use Rattle.std.proofs.Common.{◌∙◌, sym, ap₂, arith}
+use Rattle.nap_values.specs.Coordinates.{moved}
+use Rattle.nap_values.proofs.WalkLemmas.{x_words, y_words, x_again, y_again, joined_words, stands, leads}
+use Rattle.nap_values.proofs.walk.Walk.advance.Goals as goal
+
+pub crossed-requires-clause-first : goal.crossed-requires-clause-first
+crossed-requires-clause-first c = x_words _ _ (omega arith) c.x_advanced-x.ensures
+
+pub crossed-requires-clause-second : goal.crossed-requires-clause-second
+crossed-requires-clause-second c = y_words _ _ (omega arith) c.y_advanced-y.ensures
+
+pub spelled-requires : goal.spelled-requires
+spelled-requires c =
+    joined_words _ _ _ _ _ (omega arith) (omega arith) c.x_advanced-x.ensures c.y_advanced-y.ensures c.crossed.ensures
+
+pub returns-in_err-point-clause-point : goal.returns-in_err-point-clause-point
+returns-in_err-point-clause-point c =
+    c.from_residual.ensures
+    ∙ sym c.in_err-point.was
+    ∙ c.spelled.ensures
+    ∙ leads _ _ _ _ _ _ c.self.invariant.2 c.self.invariant.3 c.words-words.ensures.words c.x_advanced-x.ensures c.y_advanced-y.ensures c.crossed.ensures
+    ∙ ap₂ moved c.self.view_is (ap₂ (λ x y. record { x = x; y = y }) c.words-words.ensures.x c.words-words.ensures.y)
+
+pub invariant_of-self : goal.invariant_of-self
+invariant_of-self c =
+    let there = stands _ _ _ _ _ (omega arith) (omega arith) c.x_advanced-x.ensures c.y_advanced-y.ensures c.crossed.ensures
+    c.in_ok-point.point (sym c.spelled.ensures ∙ c.in_ok-point.was) in (
+      x_again _ _ (omega arith) c.x_advanced-x.ensures,
+      y_again _ _ (omega arith) c.y_advanced-y.ensures,
+      rw there.0 there.2.0,
+      rw there.1 there.2.1,
+    )
+
+pub returns-clause-point : goal.returns-clause-point
+returns-clause-point c =
+    sym c.in_ok-point.was
+    ∙ c.spelled.ensures
+    ∙ leads _ _ _ _ _ _ c.self.invariant.2 c.self.invariant.3 c.words-words.ensures.words c.x_advanced-x.ensures c.y_advanced-y.ensures c.crossed.ensures
+    ∙ ap₂ moved c.self.view_is (ap₂ (λ x y. record { x = x; y = y }) c.words-words.ensures.x c.words-words.ensures.y)
+
+pub returns-clause-place : goal.returns-clause-place
+returns-clause-place c =
+    let there = stands _ _ _ _ _ (omega arith) (omega arith) c.x_advanced-x.ensures c.y_advanced-y.ensures c.crossed.ensures
+    c.in_ok-point.point (sym c.spelled.ensures ∙ c.in_ok-point.was) in
+    ap₂ (λ x y. record { x = x; y = y }) there.0 there.1
