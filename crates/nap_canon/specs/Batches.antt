@@ -1,8 +1,9 @@
-use Rattle.std.specs.Prelude.{ℕ, ◌≡◌, ◌+◌, ◌<◌, ◌≤◌, ◌*◌, ◌/◌, ◌++◌, Bool, true, false, List, [], ◌∷◌, Result, Ok, Err, length, take, drop, slice_index}
+use Rattle.std.specs.Prelude.{ℕ, ◌≡◌, ◌+◌, ◌-◌, ◌<◌, ◌≤◌, ◌*◌, ◌/◌, ◌++◌, ◌⊎◌, if◌then◌else◌, None, Bool, true, false, List, [], ◌∷◌, Result, Ok, Err, length, take, drop, slice_index}
 use Rattle.nap_values.specs.Coordinates.{Coordinates}
 use Rattle.nap_values.specs.Spellings.{point_bytes}
 use Rattle.nap_codes.specs.declared.code_set.CharSet.TheVariants.{Primary}
 use Rattle.nap_codes.specs.declared.code_set.GSet.TheVariants.{G0}
+use Rattle.nap_codes.specs.Tables.{format_effector}
 use Rattle.nap_list.specs.declared.attribute.Pen.TheVariants.{At}
 use Rattle.nap_list.specs.declared.batch.Batch.{Batch}
 use Rattle.nap_list.specs.declared.batch.Batch.TheVariants as batches
@@ -17,7 +18,7 @@ use Rattle.nap_canon.specs.declared.form.Form.TheVariants.{Two}
 use Rattle.nap_canon.specs.declared.tail.Tail.{Tail}
 use Rattle.nap_canon.specs.declared.tail.Tail.TheVariants.{Apart, InRun}
 use Rattle.nap_canon.specs.Sinking.{Canonical, Took, Broke}
-use Rattle.nap_canon.specs.Text.{is_joined, run_behind, written, tail_after, entry_pieces}
+use Rattle.nap_canon.specs.Text.{gl_of, to_opcodes, to_primary, is_joined, run_behind, written, tail_after, entry_pieces}
 
 -- Batches in a sink of canonical text.
 
@@ -37,20 +38,39 @@ abbrev pub SentUpTo : {S : Type 0} → (S → List ℕ → Bool → S → Type 0
 SentUpTo sent s bytes t (Ok _) = sent s bytes false t
 SentUpTo sent s bytes t (Err n) = CutAfter sent s bytes n t
 
+-- an opening and entries of this size were sent, or bytes that hold so many of these whole
+abbrev pub SentWhole : {S : Type 0} → (S → List ℕ → Bool → S → Type 0) → S → List ℕ → ℕ → List ℕ → S → Result (Unit {0}) ℕ → Type 0
+SentWhole sent s opening size bytes t (Ok _) = sent s (opening ++ bytes) false t
+SentWhole sent s opening size bytes t (Err whole) = (n : ℕ) × (whole ≡ (n - length opening) / size) × CutAfter sent s (opening ++ bytes) n t
+
 -- the operands of points, one behind another
 unfoldable pub points_bytes : List Coordinates → List ℕ
 points_bytes [] = []
 points_bytes (p ∷ ps) = point_bytes p ++ points_bytes ps
 
--- so many points join the run of this opcode
+-- so many points join the run of this opcode, or open one where even the first of them joins none
 abbrev pub PointsJoin : Form → Tail → ℕ → ℕ → Type 0
-PointsJoin form tail byte count = (count ≤ 128) × (form ≡ Two) × (is_joined tail byte (8 * count) ≡ true)
+PointsJoin form tail byte count = (count ≤ 126) × (form ≡ Two) × (is_joined tail byte (8 * count) ≡ is_joined tail byte 8)
 
--- so many entries of a batch, from this index on, join the last run or text
+-- so many of these codes join the last text; or they open one, where the first is a character and they are few
+abbrev pub TextJoins : Tail → List ℕ → ℕ → Type 0
+TextJoins tail codes count = (tail ≡ Apart G0) ⊎ ((count ≤ 1023) × ((code : ℕ) (rest : List ℕ) → codes ≡ code ∷ rest → format_effector code ≡ None))
+
+-- so many entries of a batch, from this index on, join the last run or text, or open one
 abbrev pub Joins : Form → Tail → State → Batch → ℕ → ℕ → Type 0
 Joins form tail s (batches.Points points drawing) first count = PointsJoin form tail 0x26 count
 Joins form tail s (batches.Lines from points drawing) first count = PointsJoin form tail 0x28 count × (s.drawing.pen ≡ At (last_of from (take first points.now)))
-Joins form tail s (batches.Text set codes pen drawing) first count = (set ≡ Primary) × (tail ≡ Apart G0)
+Joins form tail s (batches.Text set codes pen drawing) first count = (set ≡ Primary) × TextJoins tail (drop first codes.now) count
+
+-- what stands in front of so many bytes of operands: nothing where they join the run, or else their opcode
+abbrev pub run_opening : Tail → ℕ → ℕ → List ℕ
+run_opening tail byte count = if is_joined tail byte count then [] else (to_opcodes (gl_of tail) ++ byte ∷ [])
+
+-- what stands in front of so many entries
+abbrev pub opening : Tail → Batch → ℕ → List ℕ
+opening tail (batches.Points points drawing) count = run_opening tail 0x26 (8 * count)
+opening tail (batches.Lines from points drawing) count = run_opening tail 0x28 (8 * count)
+opening tail (batches.Text set codes pen drawing) count = to_primary (gl_of tail)
 
 -- the bytes of each of them
 abbrev pub entry_size : Batch → ℕ
@@ -68,12 +88,12 @@ joined_bytes (batches.Text set codes pen drawing) first count = take count (drop
 abbrev pub joined_tail : Tail → Batch → ℕ → Tail
 joined_tail tail (batches.Points points drawing) count = InRun (run_behind tail 0x26 (8 * count))
 joined_tail tail (batches.Lines from points drawing) count = InRun (run_behind tail 0x28 (8 * count))
-joined_tail tail (batches.Text set codes pen drawing) count = tail
+joined_tail tail (batches.Text set codes pen drawing) count = Apart G0
 
 -- how many of so many entries were taken whole
-abbrev pub whole_entries : Batch → ℕ → Result (Unit {0}) ℕ → ℕ
-whole_entries batch count (Ok _) = count
-whole_entries batch count (Err taken) = taken / entry_size batch
+abbrev pub whole_entries : ℕ → Result (Unit {0}) ℕ → ℕ
+whole_entries count (Ok _) = count
+whole_entries count (Err whole) = whole
 
 -- the first entry of a list, whose values are current, was written
 abbrev pub WritesNext : {S : Type 0} → (S → List ℕ → Bool → S → Type 0) → Form → Tail → State → List Entry → S → Tail → S → Bool → Type 0

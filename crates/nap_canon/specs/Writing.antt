@@ -4,7 +4,7 @@ use Rattle.nap_list.specs.State.{after}
 use Rattle.nap_canon.specs.declared.command.Command.{Command}
 use Rattle.nap_canon.specs.declared.tail.Tail.{Tail}
 use Rattle.nap_canon.specs.declared.writer.Writer.{Writer}
-use Rattle.nap_canon.specs.Batches.{SentUpTo}
+use Rattle.nap_canon.specs.Batches.{SentWhole}
 use Rattle.nap_canon.specs.Spelling.{Piece, command_piece}
 use Rattle.nap_canon.specs.Text.{piece_bytes, tail_behind, written, tail_after, entry_pieces}
 
@@ -34,9 +34,9 @@ pub record WritesPieces {T F E : Type 0} (sends : T → List ℕ → Bool → T 
 abbrev pub WritesCommands : {T F E : Type 0} → (T → List ℕ → Bool → T → Type 0) → List Command → Writer T F → Writer T F → Result (Unit {0}) E → Type 0
 WritesCommands sends commands w t r = WritesPieces sends (map command_piece commands) w t r
 
--- these bytes were sent, or some first ones, and the text ends like this where all were
-pub record WritesUpTo {T F : Type 0} (sends : T → List ℕ → Bool → T → Type 0) (bytes : List ℕ) (end : Tail) (w t : Writer T F) (r : Result (Unit {0}) ℕ) : Type 0 where
-  pub sent : SentUpTo sends w.to bytes t.to r
+-- an opening and entries of this size were sent, or so many of these, and the text ends like this where all were
+pub record WritesWhole {T F : Type 0} (sends : T → List ℕ → Bool → T → Type 0) (opening : List ℕ) (size : ℕ) (bytes : List ℕ) (end : Tail) (w t : Writer T F) (r : Result (Unit {0}) ℕ) : Type 0 where
+  pub sent : SentWhole sends w.to opening size bytes t.to r
   pub tail : OnOk r (t.tail ≡ end)
   pub kept : Stays w t
 

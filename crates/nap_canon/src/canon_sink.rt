@@ -8,7 +8,7 @@ ghost use Rattle.nap_canon.specs.SinkLaws.{took_none, took_more, took_broke};
 
 use crate::form::Form;
 use crate::output::Output;
-use crate::writer::{Writer, entry_size};
+use crate::writer::Writer;
 use nap_list::{Batch, BatchFault, Entry, Outlet, Shape, Sink, SinkFault};
 use std::alloc::Global;
 use std::marker::Model;
@@ -109,7 +109,7 @@ impl<O: Outlet + Drop> CanonSink<O> {
         }
         match self.writer.put_joined(batch, first, count) {
             Ok(()) => Ok(count),
-            Err(taken) => Err(taken / entry_size(batch)),
+            Err(whole) => Err(whole),
         }
     }
 

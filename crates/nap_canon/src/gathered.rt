@@ -1,21 +1,25 @@
-//! Operands that are gathered for one write.
+//! Operands and codes that are gathered for one write.
 ghost use Rattle.std.specs.Prelude.{◌≡◌, ◌≤◌, ◌+◌, ◌*◌, ◌++◌, [], ◌∷◌, length};
 ghost use Rattle.nap_values.specs.Spellings.{point_bytes};
-ghost use Rattle.nap_canon.specs.Text.{to_opcodes};
-ghost use Rattle.nap_canon.specs.Batches.{points_bytes};
+ghost use Rattle.nap_canon.specs.Text.{to_opcodes, to_primary};
+ghost use Rattle.nap_canon.specs.Batches.{points_bytes, run_opening};
 ghost use Rattle.nap_canon.specs.Spelling.{onward_bytes};
 ghost use Rattle.nap_canon.specs.Gathering.{laid};
 
+use crate::tail::Tail;
 use arrayvec::ArrayVec;
 use nap_codes::GSet;
 use nap_values::{Point, put_move, put_point};
 use std::marker::Model;
 
-/// At most so many points or displacements are gathered.
+/// At most so many displacements are gathered.
 pub(crate) const MOST: usize = 128;
 
-/// At most so many are gathered behind an opcode, and behind the first point of a shape.
+/// At most so many points are gathered, or displacements behind the first point of a shape.
 pub(crate) const NEAR: usize = 126;
+
+/// At most so many codes are gathered.
+pub(crate) const CODES: usize = 1_023;
 
 /// Where operands are gathered: what leads them comes right before.
 const LEAD: usize = 16;
@@ -69,17 +73,6 @@ impl Gathered {
         self.until - self.from
     }
 
-    /// The operands of points, in place of what it had.
-    #[inline]
-    pub(crate) fn gather(&mut self, points: &[Point])
-        requires few { length points.now ≤ 128 }
-        ensures bytes { self.new ≡ points_bytes points.now }
-        ensures size { length self.new ≡ 8 * length points.now }
-    {
-        self.until = lay_points(&mut self.bytes, points);
-        self.from = LEAD;
-    }
-
     /// The displacements from a point to the others in turn, in place of what it had.
     #[inline]
     pub(crate) fn gather_onward(&mut self, first: Point, others: &[Point])
@@ -90,14 +83,27 @@ impl Gathered {
         self.from = LEAD;
     }
 
-    /// An opcode, behind SO where G1 isn't in GL, with the operands of points, in place of what it had.
+    /// The operands of points, in place of what it had. Nothing stands in front of them where they join the run that
+    /// stands last; or else their opcode does, behind SO where G1 isn't in GL.
     #[inline]
-    pub(crate) fn gather_run(&mut self, gl: GSet, opcode: u8, points: &[Point])
+    pub(crate) fn gather_run(&mut self, tail: Tail, opcode: u8, points: &[Point])
         requires few { length points.now ≤ 126 }
-        ensures { self.new ≡ to_opcodes gl ++ opcode ∷ points_bytes points.now }
+        ensures bytes { self.new ≡ run_opening tail opcode (8 * length points.now) ++ points_bytes points.now }
+        ensures size { length self.new ≡ length (run_opening tail opcode (8 * length points.now)) + 8 * length points.now }
     {
         self.until = lay_points(&mut self.bytes, points);
-        self.from = lay_opcode(&mut self.bytes, LEAD, gl, opcode);
+        self.from = lay_opening(&mut self.bytes, tail, opcode, 8 * points.len());
+    }
+
+    /// Codes of the primary characters, behind SI where G0 isn't in GL, in place of what it had.
+    #[inline]
+    pub(crate) fn gather_text(&mut self, gl: GSet, codes: &[u8])
+        requires few { length codes.now ≤ 1023 }
+        ensures bytes { self.new ≡ to_primary gl ++ codes.now }
+        ensures size { length self.new ≡ length (to_primary gl) + length codes.now }
+    {
+        self.until = lay_codes(&mut self.bytes, codes);
+        self.from = lay_shift(&mut self.bytes, gl);
     }
 
     /// An opcode, behind SO where G1 isn't in GL, with a point and the displacements from it to the others in turn, in
@@ -168,4 +174,42 @@ fn lay_opcode(bytes: &mut [u8; ROOM], before: usize, gl: GSet, opcode: u8) -> us
     }
     bytes[before - 2] = 0x0E;
     before - 2
+}
+
+/// Puts what stands in front of so many bytes of operands right before these, and answers where it begins.
+#[inline(always)]
+fn lay_opening(bytes: &mut [u8; ROOM], tail: Tail, opcode: u8, count: usize) -> usize
+    requires few { count ≤ 1024 }
+    ensures bytes { bytes.new ≡ laid bytes.old result (run_opening tail opcode count) }
+    ensures from { result + length (run_opening tail opcode count) ≡ 16 }
+{
+    if tail.joins(opcode, count) {
+        return LEAD;
+    }
+    lay_opcode(bytes, LEAD, tail.gl(), opcode)
+}
+
+/// Puts codes, and answers where they end.
+#[inline(always)]
+fn lay_codes(bytes: &mut [u8; ROOM], codes: &[u8]) -> usize
+    requires few { length codes.now ≤ 1023 }
+    ensures bytes { bytes.new ≡ laid bytes.old 16 codes.now }
+    ensures until { result ≡ 16 + length codes.now }
+{
+    let until = LEAD + codes.len();
+    bytes[LEAD..until].copy_from_slice(codes);
+    until
+}
+
+/// Puts SI right before codes where G0 isn't in GL, and answers where it begins.
+#[inline(always)]
+fn lay_shift(bytes: &mut [u8; ROOM], gl: GSet) -> usize
+    ensures bytes { bytes.new ≡ laid bytes.old result (to_primary gl) }
+    ensures from { result + length (to_primary gl) ≡ 16 }
+{
+    if gl == GSet::G0 {
+        return LEAD;
+    }
+    bytes[LEAD - 1] = 0x0F;
+    LEAD - 1
 }

@@ -1,5 +1,5 @@
 //! How the text so far ends.
-ghost use Rattle.std.specs.Prelude.{ℕ, ◌≡◌, ◌<◌, ◌≤◌, true};
+ghost use Rattle.std.specs.Prelude.{ℕ, ◌≡◌, ◌<◌, ◌≤◌, nat_le};
 ghost use Rattle.nap_canon.specs.declared.tail.Tail.TheVariants.{InRun};
 ghost use Rattle.nap_canon.specs.Text.{gl_of, length_of, is_joined, run_behind};
 
@@ -48,7 +48,7 @@ impl Tail {
 
     /// How many bytes of operands can still join the run: none if its opcode is another.
     pub(crate) fn room(self, opcode: u8) -> usize
-        ensures { (count : ℕ) → 0 < count → count ≤ result → is_joined self opcode count ≡ true }
+        ensures { (count : ℕ) → 0 < count → is_joined self opcode count ≡ nat_le count result }
     {
         match self {
             Tail::InRun(run) if run.opcode == opcode => RUN_LIMIT.saturating_sub(run.length),

@@ -24,8 +24,6 @@ use nap_values::{put_addr, put_grb, put_move, put_point};
 mod joining;
 mod spelling;
 
-pub(crate) use joining::entry_size;
-
 pub(crate) mod opcodes {
     pub(crate) const RESET: u8 = 0x20;
 

@@ -1,6 +1,6 @@
 -- Entries that join what stands last: each is written as so many bytes, one behind another.
 
-use Rattle.std.proofs.Common.{ℕ, zero, suc, ◌≡◌, ◌+◌, ◌*◌, ◌/◌, ◌%◌, ◌<◌, ◌≤◌, Bool, true, Option, Some, None, Result, Ok, Err, List, [], ◌∷◌, ◌++◌, length, map, take, drop, refl, ap, sym, subst, ◌∙◌, append-nil, append_assoc, length-drop, arith}
+use Rattle.std.proofs.Common.{ℕ, inl, inr, zero, suc, ◌≡◌, ◌+◌, ◌*◌, ◌/◌, ◌-◌, ◌<◌, ◌≤◌, Bool, true, false, Option, Some, None, Result, Ok, Err, List, [], ◌∷◌, ◌++◌, length, map, take, drop, refl, ap, sym, subst, ◌∙◌, append-nil, append_assoc, length-append, length-drop, arith}
 use Rattle.std.specs.Prelude.{⊤}
 use Rattle.std.proofs.lemmas.Bool.{false≢true}
 use Rattle.std.proofs.lemmas.Bool.Decides.{nat_tests}
@@ -35,10 +35,10 @@ use Rattle.nap_canon.specs.declared.form.Form.{Form}
 use Rattle.nap_canon.specs.declared.form.Form.TheVariants.{Two}
 use Rattle.nap_canon.specs.declared.tail.Tail.{Tail}
 use Rattle.nap_canon.specs.declared.tail.Tail.TheVariants.{Apart, InRun}
-use Rattle.nap_canon.specs.Batches.{PointsJoin, Joins, SentUpTo, points_bytes, entry_size, joined_bytes, joined_tail, whole_entries}
+use Rattle.nap_canon.specs.Batches.{PointsJoin, TextJoins, Joins, SentUpTo, SentWhole, points_bytes, run_opening, opening, entry_size, joined_bytes, joined_tail, whole_entries}
 use Rattle.nap_canon.specs.Equality.{same_pen}
 use Rattle.nap_canon.specs.Spelling.{Piece, command_piece, group, stroke, line_piece, step_bytes, typed_piece, typed_piece_as, spelled}
-use Rattle.nap_canon.specs.Text.{is_joined, run_behind, piece_bytes, tail_behind, written, tail_after, entry_pieces, pieces}
+use Rattle.nap_canon.specs.Text.{gl_of, to_opcodes, to_primary, is_joined, run_behind, piece_bytes, tail_behind, written, tail_after, entry_pieces, pieces}
 use Rattle.nap_canon.specs.TextParts.{written-append, tail_after-append}
 use Rattle.nap_canon.proofs.texts.GatheredLemmas.{point_size, points_size}
 use Rattle.nap_canon.proofs.reading.RunLemmas.{same_opcode, room_for}
@@ -129,29 +129,38 @@ next_typed form s batch set codes pen drawing index code rest is at stand e es l
 
 -- what entries are written as that are one piece each
 
--- each entry is written as so many bytes
-unfoldable pub EachWrites : ℕ → Form → Tail → State → List Entry → Type 0
-EachWrites size form tail s [] = ⊤
-EachWrites size form tail s (e ∷ es) = (length (written tail (entry_pieces form s e)) ≡ size) × EachWrites size form (tail_after tail (entry_pieces form s e)) (after s e) es
+-- the first entry is written as so many bytes, and each further one as so many
+unfoldable pub EachWrites : ℕ → ℕ → Form → Tail → State → List Entry → Type 0
+EachWrites lead size form tail s [] = ⊤
+EachWrites lead size form tail s (e ∷ es) = (length (written tail (entry_pieces form s e)) ≡ lead) × EachWrites size size form (tail_after tail (entry_pieces form s e)) (after s e) es
 
-pub record Joined (size : ℕ) (form : Form) (tail : Tail) (s : State) (list : List Entry) (bytes : List ℕ) (end : Tail) : Type 0 where
-  pub each : EachWrites size form tail s list
+pub record Joined (lead size : ℕ) (form : Form) (tail : Tail) (s : State) (list : List Entry) (bytes : List ℕ) (end : Tail) : Type 0 where
+  pub each : EachWrites lead size form tail s list
   pub writes : written tail (pieces form s list) ≡ bytes
   pub ends : tail_after tail (pieces form s list) ≡ end
 
-joined_none : (size : ℕ) (form : Form) (tail : Tail) (s : State) → Joined size form tail s [] [] tail
+joined_none : (lead size : ℕ) (form : Form) (tail : Tail) (s : State) → Joined lead size form tail s [] [] tail
 unfolding EachWrites pieces written tail_after
-joined_none size form tail s = record { each = tt; writes = refl; ends = refl }
+joined_none lead size form tail s = record { each = tt; writes = refl; ends = refl }
 
-joined_more : (size : ℕ) (form : Form) (tail next : Tail) (s : State) (e : Entry) (list : List Entry) (piece : Piece) (first rest : List ℕ) (end : Tail) →
-    entry_pieces form s e ≡ piece ∷ [] → piece_bytes tail piece ≡ first → length first ≡ size → tail_behind tail piece ≡ next →
-    Joined size form next (after s e) list rest end → Joined size form tail s (e ∷ list) (first ++ rest) end
+-- the same in other words
+joined_as : (lead lead' size : ℕ) (form : Form) (tail : Tail) (s : State) (list : List Entry) (bytes bytes' : List ℕ) (end end' : Tail) → lead ≡ lead' → bytes ≡ bytes' → end ≡ end' →
+    Joined lead size form tail s list bytes end → Joined lead' size form tail s list bytes' end'
+joined_as lead lead' size form tail s list bytes bytes' end end' same spelled ends joined = record {
+  each = subst (λ (n : ℕ). EachWrites n size form tail s list) same joined.each;
+  writes = joined.writes ∙ spelled;
+  ends = joined.ends ∙ ends;
+}
+
+joined_more : (lead size : ℕ) (form : Form) (tail next : Tail) (s : State) (e : Entry) (list : List Entry) (piece : Piece) (first rest : List ℕ) (end : Tail) →
+    entry_pieces form s e ≡ piece ∷ [] → piece_bytes tail piece ≡ first → length first ≡ lead → tail_behind tail piece ≡ next →
+    Joined size size form next (after s e) list rest end → Joined lead size form tail s (e ∷ list) (first ++ rest) end
 unfolding EachWrites pieces written tail_after
-joined_more size form tail next s e list piece first rest end is bytes count behind more =
+joined_more lead size form tail next s e list piece first rest end is bytes count behind more =
     let alone : written tail (entry_pieces form s e) ≡ first = one_written form tail s e piece is ∙ bytes in
     let moved : tail_after tail (entry_pieces form s e) ≡ next = one_behind form tail s e piece is ∙ behind in
     record {
-      each = (ap length alone ∙ count, subst (λ (t : Tail). EachWrites size form t (after s e) list) (sym moved) more.each);
+      each = (ap length alone ∙ count, subst (λ (t : Tail). EachWrites size size form t (after s e) list) (sym moved) more.each);
       writes =
           written-append tail (entry_pieces form s e) (pieces form (after s e) list)
           ∙ ap (λ (bs : List ℕ). bs ++ written (tail_after tail (entry_pieces form s e)) (pieces form (after s e) list)) alone
@@ -172,30 +181,53 @@ run_of byte n = InRun (record { opcode = byte; length = n })
 joins_run : (byte n m : ℕ) → n + m ≤ run_limit → is_joined (run_of byte n) byte m ≡ true
 joins_run byte n m room = grind (arith, nat_tests)
 
-module _ (byte n : ℕ) (p : Coordinates) (room : n + 8 ≤ run_limit) where
-  point_joins : is_joined (run_of byte n) byte (length (point_bytes p)) ≡ true
-  point_joins = joins_run byte n (length (point_bytes p)) (omega (arith, room, point_size p))
+-- each entry is written by a point behind this opcode
+unfoldable EachPoint : ℕ → State → List Entry → List Coordinates → Type 0
+EachPoint byte s [] [] = ⊤
+EachPoint byte s [] (p ∷ ps) = ⊥
+EachPoint byte s (e ∷ es) [] = ⊥
+EachPoint byte s (e ∷ es) (p ∷ ps) = (entry_pieces Two s e ≡ group byte (point_bytes p) ∷ []) × EachPoint byte (after s e) es ps
 
-  point_piece : piece_bytes (run_of byte n) (group byte (point_bytes p)) ≡ point_bytes p
-  point_piece = rw point_joins refl
+-- points that join a run
+run_joins : (byte n : ℕ) (s : State) (list : List Entry) (ps : List Coordinates) → EachPoint byte s list ps → n + 8 * length ps ≤ run_limit →
+    Joined 8 8 Two (run_of byte n) s list (points_bytes ps) (run_of byte (n + 8 * length ps))
+unfolding EachPoint points_bytes
+run_joins byte n s [] [] each room = joined_as 8 8 8 Two (run_of byte n) s [] [] [] _ _ refl refl (ap (run_of byte) (omega arith)) (joined_none 8 8 Two (run_of byte n) s)
+run_joins byte n s [] (p ∷ ps) each room = absurd each
+run_joins byte n s (e ∷ es) [] each room = absurd each
+run_joins byte n s (e ∷ es) (p ∷ ps) each room =
+    let joins : is_joined (run_of byte n) byte (length (point_bytes p)) ≡ true = joins_run byte n (length (point_bytes p)) (omega (arith, room, point_size p)) in
+    let bytes : piece_bytes (run_of byte n) (group byte (point_bytes p)) ≡ point_bytes p = rw joins refl in
+    let behind : tail_behind (run_of byte n) (group byte (point_bytes p)) ≡ run_of byte (n + 8) = rw joins (ap (λ (size : ℕ). run_of byte (n + size)) (point_size p)) in
+    joined_as 8 8 8 Two (run_of byte n) s (e ∷ es) _ _ _ _ refl refl (ap (run_of byte) (omega arith))
+    (joined_more 8 8 Two (run_of byte n) (run_of byte (n + 8)) s e es (group byte (point_bytes p)) (point_bytes p) (points_bytes ps) _ each.0 bytes (point_size p) behind
+    (run_joins byte (n + 8) (after s e) es ps each.1 (omega (arith, room))))
 
-  point_behind : tail_behind (run_of byte n) (group byte (point_bytes p)) ≡ run_of byte (n + 8)
-  point_behind = rw point_joins (ap (λ (size : ℕ). run_of byte (n + size)) (point_size p))
+-- points that open a run behind this tail
+run_opens : (tail : Tail) (byte : ℕ) (s : State) (list : List Entry) (ps : List Coordinates) → EachPoint byte s list ps → 0 < length ps → 8 * length ps ≤ run_limit →
+    is_joined tail byte 8 ≡ false → is_joined tail byte (8 * length ps) ≡ false →
+    Joined (length (run_opening tail byte (8 * length ps)) + 8) 8 Two tail s list (run_opening tail byte (8 * length ps) ++ points_bytes ps) (InRun (run_behind tail byte (8 * length ps)))
+unfolding EachPoint points_bytes
+run_opens tail byte s [] [] each some room first all = absurd (omega (arith, some))
+run_opens tail byte s [] (p ∷ ps) each some room first all = absurd each
+run_opens tail byte s (e ∷ es) [] each some room first all = absurd each
+run_opens tail byte s (e ∷ es) (p ∷ ps) each some room first all =
+    let head : List ℕ = to_opcodes (gl_of tail) ++ byte ∷ [] in
+    let apart : is_joined tail byte (length (point_bytes p)) ≡ false = ap (is_joined tail byte) (point_size p) ∙ first in
+    let opens : run_opening tail byte (8 * length (p ∷ ps)) ≡ head = rw all refl in
+    let bytes : piece_bytes tail (group byte (point_bytes p)) ≡ head ++ point_bytes p = rw apart (sym (append_assoc (to_opcodes (gl_of tail)) (byte ∷ []) (point_bytes p))) in
+    let behind : tail_behind tail (group byte (point_bytes p)) ≡ run_of byte 8 = rw apart (ap (run_of byte) (point_size p)) in
+    let ends : run_of byte (8 + 8 * length ps) ≡ InRun (run_behind tail byte (8 * length (p ∷ ps))) = rw all (ap (run_of byte) (omega arith)) in
+    joined_as _ _ 8 Two tail s (e ∷ es) _ _ _ _
+    (length-append head (point_bytes p) ∙ ap (λ (n : ℕ). length head + n) (point_size p) ∙ ap (λ (bs : List ℕ). length bs + 8) (sym opens))
+    (append_assoc head (point_bytes p) (points_bytes ps) ∙ ap (λ (bs : List ℕ). bs ++ points_bytes (p ∷ ps)) (sym opens)) ends
+    (joined_more (length (head ++ point_bytes p)) 8 Two tail (run_of byte 8) s e es (group byte (point_bytes p)) (head ++ point_bytes p) (points_bytes ps) _ each.0 bytes refl behind
+    (run_joins byte 8 (after s e) es ps each.1 (omega (arith, room))))
 
-  -- an entry that is a point behind this opcode
-  point_more : (s : State) (e : Entry) (list : List Entry) (rest : List ℕ) (end : Tail) → entry_pieces Two s e ≡ group byte (point_bytes p) ∷ [] →
-      Joined 8 Two (run_of byte (n + 8)) (after s e) list rest end → Joined 8 Two (run_of byte n) s (e ∷ list) (point_bytes p ++ rest) end
-  point_more s e list rest end is = joined_more 8 Two (run_of byte n) (run_of byte (n + 8)) s e list (group byte (point_bytes p)) (point_bytes p) rest end is point_piece (point_size p) point_behind
-
-points_join : (n : ℕ) (s : State) (d : Drawing) (ps : List Coordinates) → EachStands s (map (point_on d) ps) → n + 8 * length ps ≤ run_limit →
-    Joined 8 Two (run_of 0x26 n) s (map (point_on d) ps) (points_bytes ps) (run_of 0x26 (n + 8 * length ps))
-unfolding points_bytes EachStands
-points_join n s d [] stand room = subst (λ (m : ℕ). Joined 8 Two (run_of 0x26 n) s [] [] (run_of 0x26 m)) (omega arith) (joined_none 8 Two (run_of 0x26 n) s)
-points_join n s d (p ∷ ps) stand room =
-    let e = point_on d p in
-    let rest = points_join (n + 8) (after s e) d ps stand.1 (omega (arith, room)) in
-    subst (λ (m : ℕ). Joined 8 Two (run_of 0x26 n) s (map (point_on d) (p ∷ ps)) (points_bytes (p ∷ ps)) (run_of 0x26 m)) (omega arith)
-    (point_more 0x26 n p (omega (arith, room)) s e (map (point_on d) ps) (points_bytes ps) _ (alone Two s e stand.0) rest)
+points_each : (s : State) (d : Drawing) (ps : List Coordinates) → EachStands s (map (point_on d) ps) → EachPoint 0x26 s (map (point_on d) ps) ps
+unfolding EachPoint EachStands
+points_each s d [] stand = tt
+points_each s d (p ∷ ps) stand = let e = point_on d p in (alone Two s e stand.0, points_each (after s e) d ps stand.1)
 
 same_points : (p : Coordinates) → same_pen (At p) (At p) ≡ true
 same_points p = grind (arith, nat_tests)
@@ -206,16 +238,12 @@ line_from_pen pen from to is =
     let same : same_pen pen (At from) ≡ true = ap (λ (pen : Pen). same_pen pen (At from)) is ∙ same_points from in
     rw same refl
 
-lines_join : (n : ℕ) (s : State) (d : Drawing) (from : Coordinates) (ps : List Coordinates) → s.drawing.pen ≡ At from → EachStands s (lines_on d from ps) → n + 8 * length ps ≤ run_limit →
-    Joined 8 Two (run_of 0x28 n) s (lines_on d from ps) (points_bytes ps) (run_of 0x28 (n + 8 * length ps))
-unfolding points_bytes EachStands lines_on
-lines_join n s d from [] pen stand room = subst (λ (m : ℕ). Joined 8 Two (run_of 0x28 n) s [] [] (run_of 0x28 m)) (omega arith) (joined_none 8 Two (run_of 0x28 n) s)
-lines_join n s d from (p ∷ ps) pen stand room =
+lines_each : (s : State) (d : Drawing) (from : Coordinates) (ps : List Coordinates) → s.drawing.pen ≡ At from → EachStands s (lines_on d from ps) → EachPoint 0x28 s (lines_on d from ps) ps
+unfolding EachPoint EachStands lines_on
+lines_each s d from [] pen stand = tt
+lines_each s d from (p ∷ ps) pen stand =
     let e = entries.Line from p (ink_of d) in
-    let rest = lines_join (n + 8) (after s e) d p ps refl stand.1 (omega (arith, room)) in
-    let piece : entry_pieces Two s e ≡ group 0x28 (point_bytes p) ∷ [] = alone Two s e stand.0 ∙ ap (λ (piece : Piece). piece ∷ []) (line_from_pen s.drawing.pen from p pen) in
-    subst (λ (m : ℕ). Joined 8 Two (run_of 0x28 n) s (lines_on d from (p ∷ ps)) (points_bytes (p ∷ ps)) (run_of 0x28 m)) (omega arith)
-    (point_more 0x28 n p (omega (arith, room)) s e (lines_on d p ps) (points_bytes ps) _ piece rest)
+    (alone Two s e stand.0 ∙ ap (λ (piece : Piece). piece ∷ []) (line_from_pen s.drawing.pen from p pen), lines_each (after s e) d p ps refl stand.1)
 
 -- primary characters, where they are in GL, and moves among them
 
@@ -236,15 +264,33 @@ typed_alone code = by (format_effector code) refl
     by (Some step) is = (effector_bytes (format_effector_known code step is), refl)
     by None is = (refl, refl)
 
-text_joins : (form : Form) (s : State) (hand : Hand) (codes : List ℕ) → EachStands s (text_in Primary hand codes) → Joined 1 form (Apart G0) s (text_in Primary hand codes) codes (Apart G0)
+text_joins : (form : Form) (s : State) (hand : Hand) (codes : List ℕ) → EachStands s (text_in Primary hand codes) → Joined 1 1 form (Apart G0) s (text_in Primary hand codes) codes (Apart G0)
 unfolding EachStands text_in
-text_joins form s hand [] stand = joined_none 1 form (Apart G0) s
+text_joins form s hand [] stand = joined_none 1 1 form (Apart G0) s
 text_joins form s hand (c ∷ cs) stand =
     let e = typed Primary hand c in
     let bytes = typed_alone c in
-    joined_more 1 form (Apart G0) (Apart G0) s e (text_in Primary (record hand { pen = After }) cs) (typed_piece Primary c) (c ∷ []) cs (Apart G0)
+    joined_more 1 1 form (Apart G0) (Apart G0) s e (text_in Primary (record hand { pen = After }) cs) (typed_piece Primary c) (c ∷ []) cs (Apart G0)
     (alone form s e stand.0 ∙ typed_spelled form (taking s.drawing (held e)) Primary hand c) bytes.0 refl bytes.1
     (text_joins form (after s e) (record hand { pen = After }) cs stand.1)
+
+-- the first code brings them there, where it is a character
+text_opens : (form : Form) (tail : Tail) (s : State) (hand : Hand) (codes : List ℕ) (count : ℕ) → 0 < count → count ≤ length codes →
+    ((code : ℕ) (rest : List ℕ) → codes ≡ code ∷ rest → format_effector code ≡ None) → EachStands s (text_in Primary hand (take count codes)) →
+    Joined (length (to_primary (gl_of tail)) + 1) 1 form tail s (text_in Primary hand (take count codes)) (to_primary (gl_of tail) ++ take count codes) (Apart G0)
+unfolding EachStands text_in
+text_opens form tail s hand codes zero some few character stand = absurd (omega (arith, some))
+text_opens form tail s hand [] (suc n) some few character stand = absurd (omega (arith, few))
+text_opens form tail s hand (c ∷ cs) (suc n) some few character stand =
+    let e = typed Primary hand c in
+    let shift : List ℕ = to_primary (gl_of tail) in
+    let is : format_effector c ≡ None = character c cs refl in
+    let bytes : piece_bytes tail (typed_piece Primary c) ≡ shift ++ c ∷ [] = rw is refl in
+    let behind : tail_behind tail (typed_piece Primary c) ≡ Apart G0 = rw is refl in
+    joined_as _ _ 1 form tail s (text_in Primary hand (c ∷ take n cs)) _ _ _ _ (length-append shift (c ∷ [])) (append_assoc shift (c ∷ []) (take n cs)) refl
+    (joined_more (length (shift ++ c ∷ [])) 1 form tail (Apart G0) s e (text_in Primary (record hand { pen = After }) (take n cs)) (typed_piece Primary c) (shift ++ c ∷ []) (take n cs) (Apart G0)
+    (alone form s e stand.0 ∙ typed_spelled form (taking s.drawing (held e)) Primary hand c) bytes refl behind
+    (text_joins form (after s e) (record hand { pen = After }) (take n cs) stand.1))
 
 -- the run that is joined
 
@@ -277,43 +323,57 @@ stands_rest s list zero stand = stand
 stands_rest s [] (suc n) stand = tt
 stands_rest s (e ∷ es) (suc n) stand = stands_rest (after s e) es n stand.1
 
--- points that join the run of this opcode
-behind_run : (form : Form) (tail : Tail) (s : State) (list : List Entry) (qs : List Coordinates) (byte count : ℕ) → PointsJoin form tail byte count → length qs ≡ count →
-    ((n : ℕ) → n + 8 * length qs ≤ run_limit → Joined 8 Two (run_of byte n) s list (points_bytes qs) (run_of byte (n + 8 * length qs))) →
-    Joined 8 form tail s list (points_bytes qs) (InRun (run_behind tail byte (8 * count)))
-behind_run form tail s list qs byte count joins size by =
-    let run = run_joined tail byte (8 * count) joins.2 in
-    let n = run.length in
-    let here = subst (λ (m : ℕ). Joined 8 Two (run_of byte n) s list (points_bytes qs) (run_of byte (n + 8 * m))) size (by n (omega (arith, run.room, size))) in
-    let there : Joined 8 Two (run_of byte n) s list (points_bytes qs) (InRun (run_behind (run_of byte n) byte (8 * count))) = rw (joins_run byte n (8 * count) run.room) here in
-    subst (λ (f : Form). Joined 8 f tail s list (points_bytes qs) (InRun (run_behind tail byte (8 * count)))) (sym joins.1)
-    (subst (λ (t : Tail). Joined 8 Two t s list (points_bytes qs) (InRun (run_behind t byte (8 * count)))) (sym run.is) there)
+-- points that join the run of this opcode, or open one
+behind_run : (form : Form) (tail : Tail) (s : State) (list : List Entry) (qs : List Coordinates) (byte count : ℕ) → PointsJoin form tail byte count → 0 < count → length qs ≡ count →
+    EachPoint byte s list qs →
+    Joined (length (run_opening tail byte (8 * count)) + 8) 8 form tail s list (run_opening tail byte (8 * count) ++ points_bytes qs) (InRun (run_behind tail byte (8 * count)))
+behind_run form tail s list qs byte count joins some size each = by (is_joined tail byte 8) refl
+  where
+    goal : Form → ℕ → Type 0
+    goal form count = Joined (length (run_opening tail byte (8 * count)) + 8) 8 form tail s list (run_opening tail byte (8 * count) ++ points_bytes qs) (InRun (run_behind tail byte (8 * count)))
+
+    by : (b : Bool) → is_joined tail byte 8 ≡ b → goal form count
+    by true is =
+        let all : is_joined tail byte (8 * count) ≡ true = joins.2 ∙ is in
+        let run = run_joined tail byte (8 * count) all in
+        let n = run.length in
+        let ends : run_of byte (n + 8 * length qs) ≡ InRun (run_behind tail byte (8 * count)) =
+        ap (λ (m : ℕ). run_of byte (n + 8 * m)) size ∙ (let here : run_of byte (n + 8 * count) ≡ InRun (run_behind (run_of byte n) byte (8 * count)) = rw (joins_run byte n (8 * count) run.room) refl in here)
+        ∙ ap (λ (t : Tail). InRun (run_behind t byte (8 * count))) (sym run.is) in
+        let opens : [] ≡ run_opening tail byte (8 * count) = rw all refl in
+        let here : Joined 8 8 Two tail s list (points_bytes qs) (run_of byte (n + 8 * length qs)) =
+        subst (λ (t : Tail). Joined 8 8 Two t s list (points_bytes qs) (run_of byte (n + 8 * length qs))) (sym run.is)
+        (run_joins byte n s list qs each (omega (arith, run.room, size))) in
+        subst (λ (f : Form). goal f count) (sym joins.1)
+        (joined_as 8 _ 8 Two tail s list _ _ _ _ (ap (λ (bs : List ℕ). length bs + 8) opens) (ap (λ (bs : List ℕ). bs ++ points_bytes qs) opens) ends here)
+    by false is =
+        subst (λ (f : Form). goal f count) (sym joins.1)
+        (subst (goal Two) size
+        (run_opens tail byte s list qs each (omega (arith, some, size)) (omega (arith, joins.0, size)) is (ap (λ (n : ℕ). is_joined tail byte (8 * n)) size ∙ joins.2 ∙ is)))
 
 -- so many entries of a batch, from this one on, that join what stands last
-pub batch_joins : (form : Form) (tail : Tail) (s : State) (batch : Batch) (first count : ℕ) → count + first ≤ length (listed batch) → EachStands s (drop first (listed batch)) →
-    Joins form tail s batch first count → Joined (entry_size batch) form tail s (take count (drop first (listed batch))) (joined_bytes batch first count) (joined_tail tail batch count)
-batch_joins form tail s (batches.Points points drawing) first count few stand joins =
+pub batch_joins : (form : Form) (tail : Tail) (s : State) (batch : Batch) (first count : ℕ) → 0 < count → count + first ≤ length (listed batch) → EachStands s (drop first (listed batch)) →
+    Joins form tail s batch first count →
+    Joined (length (opening tail batch count) + entry_size batch) (entry_size batch) form tail s (take count (drop first (listed batch))) (opening tail batch count ++ joined_bytes batch first count)
+    (joined_tail tail batch count)
+batch_joins form tail s (batches.Points points drawing) first count some few stand joins =
     let d = drawing.now in
     let ps = points.now in
     let qs = take count (drop first ps) in
     let size : length qs ≡ count = length-take-le count (drop first ps) (omega (arith, few, length-map ps (point_on d), length-drop first ps)) in
     let is : take count (drop first (map (point_on d) ps)) ≡ map (point_on d) qs = ap (take count) (sym (points_rest d ps first)) ∙ sym (points_front d (drop first ps) count) in
-    let list = take count (drop first (map (point_on d) ps)) in
     let stands = subst (EachStands s) is (stands_front s (drop first (map (point_on d) ps)) count stand) in
-    behind_run form tail s list qs 0x26 count joins size
-    (λ n room. subst (λ (list : List Entry). Joined 8 Two (run_of 0x26 n) s list (points_bytes qs) (run_of 0x26 (n + 8 * length qs))) (sym is) (points_join n s d qs stands room))
-batch_joins form tail s (batches.Lines from points drawing) first count few stand joins =
+    behind_run form tail s _ qs 0x26 count joins some size (subst (λ (list : List Entry). EachPoint 0x26 s list qs) (sym is) (points_each s d qs stands))
+batch_joins form tail s (batches.Lines from points drawing) first count some few stand joins =
     let d = drawing.now in
     let ps = points.now in
     let p = last_of from (take first ps) in
     let qs = take count (drop first ps) in
     let size : length qs ≡ count = length-take-le count (drop first ps) (omega (arith, few, lines_count d from ps, length-drop first ps)) in
     let is : take count (drop first (lines_on d from ps)) ≡ lines_on d p qs = ap (take count) (sym (lines_rest d from ps first)) ∙ sym (lines_front d p (drop first ps) count) in
-    let list = take count (drop first (lines_on d from ps)) in
     let stands = subst (EachStands s) is (stands_front s (drop first (lines_on d from ps)) count stand) in
-    behind_run form tail s list qs 0x28 count joins.0 size
-    (λ n room. subst (λ (list : List Entry). Joined 8 Two (run_of 0x28 n) s list (points_bytes qs) (run_of 0x28 (n + 8 * length qs))) (sym is) (lines_join n s d p qs joins.1 stands room))
-batch_joins form tail s (batches.Text set codes pen drawing) first count few stand joins =
+    behind_run form tail s _ qs 0x28 count joins.0 some size (subst (λ (list : List Entry). EachPoint 0x28 s list qs) (sym is) (lines_each s d p qs joins.1 stands))
+batch_joins form tail s (batches.Text set codes pen drawing) first count some few stand joins =
     let hand = record (hand_of drawing.now) { pen = pen } in
     let cs = take count (drop first codes.now) in
     let behind = text_behind set hand codes.now first in
@@ -322,46 +382,74 @@ batch_joins form tail s (batches.Text set codes pen drawing) first count few sta
     let is : list ≡ text_in set h cs = ap (take count) behind.1 ∙ sym (text_front set h (drop first codes.now) count) in
     let all : list ≡ text_in Primary h cs = is ∙ ap (λ (set : CharSet). text_in set h cs) joins.0 in
     let stands = subst (EachStands s) all (stands_front s (drop first (text_in set hand codes.now)) count stand) in
-    subst (λ (t : Tail). Joined 1 form t s list cs t) (sym joins.1)
-    (subst (λ (list : List Entry). Joined 1 form (Apart G0) s list cs (Apart G0)) (sym all) (text_joins form s h cs stands))
+    subst (λ (list : List Entry). Joined (length (to_primary (gl_of tail)) + 1) 1 form tail s list (to_primary (gl_of tail) ++ cs) (Apart G0)) (sym all)
+    (by h stands joins.1)
+  where
+    by : (h : Hand) → EachStands s (text_in Primary h (take count (drop first codes.now))) → TextJoins tail (drop first codes.now) count →
+        Joined (length (to_primary (gl_of tail)) + 1) 1 form tail s (text_in Primary h (take count (drop first codes.now))) (to_primary (gl_of tail) ++ take count (drop first codes.now)) (Apart G0)
+    by h stands (inl is) =
+        subst (λ (t : Tail). Joined (length (to_primary (gl_of t)) + 1) 1 form t s (text_in Primary h (take count (drop first codes.now))) (to_primary (gl_of t) ++ take count (drop first codes.now)) (Apart G0))
+        (sym is) (text_joins form s h (take count (drop first codes.now)) stands)
+    by h stands (inr opens) =
+        let all = text_count set (record (hand_of drawing.now) { pen = pen }) codes.now in
+        text_opens form tail s h (drop first codes.now) count some (omega (arith, few, all, length-drop first codes.now)) opens.1 stands
 
 -- where a written part of them ends
 
--- so many entries in their parts
-pub each_front : (size : ℕ) (form : Form) (tail : Tail) (s : State) (list : List Entry) (k part : ℕ) → EachWrites size form tail s list → k < length list → part < size →
-    (x : Entry) × (rest : List Entry) × (list ≡ take k list ++ x ∷ rest) × (length (written (tail_after tail (pieces form s (take k list))) (entry_pieces form (walk s (take k list)) x)) ≡ size)
-    × (take (size * k + part) (written tail (pieces form s list))
-    ≡ written tail (pieces form s (take k list)) ++ take part (written (tail_after tail (pieces form s (take k list))) (entry_pieces form (walk s (take k list)) x)))
+-- a list that was written so many bytes far: so many entries whole, and a part of the next one
+pub record Parted (form : Form) (tail : Tail) (s : State) (list : List Entry) (k n : ℕ) : Type 0 where
+  pub next : Entry
+  pub rest : List Entry
+  pub parts : list ≡ take k list ++ next ∷ rest
+  pub part : ℕ
+  pub less : part < length (written (tail_after tail (pieces form s (take k list))) (entry_pieces form (walk s (take k list)) next))
+  pub cut : take n (written tail (pieces form s list))
+      ≡ written tail (pieces form s (take k list)) ++ take part (written (tail_after tail (pieces form s (take k list))) (entry_pieces form (walk s (take k list)) next))
+
+-- so many bytes are so many whole entries, the first of this size, and less than one more
+pub record Whole (lead size n k : ℕ) : Type 0 where
+  pub from : 0 < k → lead + size * k ≤ n + size
+  pub to : n < lead + size * k
+
+pub each_front : (lead size : ℕ) (form : Form) (tail : Tail) (s : State) (list : List Entry) (k n : ℕ) → EachWrites lead size form tail s list → k < length list → Whole lead size n k →
+    Parted form tail s list k n
 unfolding EachWrites pieces written tail_after walk
-each_front size form tail s [] k part each less few = absurd (omega (arith, less))
-each_front size form tail s (e ∷ es) zero part each less few = (
-  e,
-  es,
-  refl,
-  each.0,
-  ap (λ (n : ℕ). take n (written tail (entry_pieces form s e ++ pieces form (after s e) es))) (omega arith)
-      ∙ ap (take part) (written-append tail (entry_pieces form s e) (pieces form (after s e) es))
-      ∙ take-append-le part (written tail (entry_pieces form s e)) _ (omega (arith, few, each.0)),
-)
-each_front size form tail s (e ∷ es) (suc k) part each less few =
+each_front lead size form tail s [] k n each less whole = absurd (omega (arith, less))
+each_front lead size form tail s (e ∷ es) zero n each less whole =
+    let few : n < length (written tail (entry_pieces form s e)) = omega (arith, whole.to, each.0) in
+    record {
+      next = e;
+      rest = es;
+      parts = refl;
+      part = n;
+      less = few;
+      cut =
+          ap (take n) (written-append tail (entry_pieces form s e) (pieces form (after s e) es))
+          ∙ take-append-le n (written tail (entry_pieces form s e)) _ (omega (arith, few));
+    }
+each_front lead size form tail s (e ∷ es) (suc k) n each less whole =
     let first = entry_pieces form s e in
     let t = tail_after tail first in
-    let more = each_front size form t (after s e) es k part each.1 (omega (arith, less)) few in
+    let low : lead + size * suc k ≤ n + size = whole.from (omega arith) in
+    let more = each_front size size form t (after s e) es k (n - lead) each.1 (omega (arith, less)) (record { from = λ some. omega (arith, low); to = omega (arith, low, whole.to) }) in
     let front = pieces form (after s e) (take k es) in
-    let next = entry_pieces form (walk (after s e) (take k es)) more.0 in
-    let behind : tail_after tail (first ++ front) ≡ tail_after t front = tail_after-append tail first front in (
-      more.0,
-      more.1,
-      ap (λ (list : List Entry). e ∷ list) more.2,
-      ap (λ (u : Tail). length (written u next)) behind ∙ more.3,
-      ap (λ (bs : List ℕ). take (size * suc k + part) bs) (written-append tail first (pieces form (after s e) es))
-          ∙ ap (λ (n : ℕ). take n (written tail first ++ written t (pieces form (after s e) es))) (omega (arith, each.0))
-          ∙ take-append-add (written tail first) (written t (pieces form (after s e) es)) (size * k + part)
-          ∙ ap (λ (bs : List ℕ). written tail first ++ bs) more.4
-          ∙ sym (append_assoc (written tail first) (written t front) (take part (written (tail_after t front) next)))
-          ∙ ap (λ (bs : List ℕ). bs ++ take part (written (tail_after t front) next)) (sym (written-append tail first front))
-          ∙ ap (λ (u : Tail). written tail (first ++ front) ++ take part (written u next)) (sym behind),
-    )
+    let next = entry_pieces form (walk (after s e) (take k es)) more.next in
+    let behind : tail_after tail (first ++ front) ≡ tail_after t front = tail_after-append tail first front in
+    record {
+      next = more.next;
+      rest = more.rest;
+      parts = ap (λ (list : List Entry). e ∷ list) more.parts;
+      part = more.part;
+      less = subst (λ (u : Tail). more.part < length (written u next)) (sym behind) more.less;
+      cut =
+          ap (take n) (written-append tail first (pieces form (after s e) es))
+          ∙ ap (λ (n : ℕ). take n (written tail first ++ written t (pieces form (after s e) es))) (omega (arith, each.0, low))
+          ∙ take-append-add (written tail first) (written t (pieces form (after s e) es)) (n - lead)
+          ∙ ap (λ (bs : List ℕ). written tail first ++ bs) more.cut
+          ∙ sym (append_assoc (written tail first) (written t front) (take more.part (written (tail_after t front) next)))
+          ∙ ap (λ (bs : List ℕ). bs ++ take more.part (written (tail_after t front) next)) (sym (written-append tail first front))
+          ∙ ap (λ (u : Tail). written tail (first ++ front) ++ take more.part (written u next)) (sym behind);
+    }
 
 -- the bytes of so many, and how many of them were written whole
 
@@ -376,21 +464,34 @@ joined_length (batches.Text set codes pen drawing) first count few =
     let all = text_count set (record (hand_of drawing.now) { pen = pen }) codes.now in
     omega (arith, length-take-le count (drop first codes.now) (omega (arith, few, all, length-drop first codes.now)))
 
--- so many bytes are so many whole entries, and a part of the next one
-pub record Whole (size n count : ℕ) : Type 0 where
-  pub less : n / size < count
-  pub sum : n ≡ size * (n / size) + n % size
-  pub part : n % size < size
+-- bytes of an opening and of entries that were cut
+module _ (begin : List ℕ) (batch : Batch) (first count n : ℕ) (few : count + first ≤ length (listed batch)) (some : 0 < count) (less : n < length (begin ++ joined_bytes batch first count)) where
+  fewer : n < length begin + entry_size batch * count
+  fewer = omega (arith, less, length-append begin (joined_bytes batch first count), joined_length batch first count few)
 
-pub whole_of : (batch : Batch) (first count n : ℕ) → count + first ≤ length (listed batch) → n < length (joined_bytes batch first count) → Whole (entry_size batch) n count
-whole_of batch first count n few less = by batch (subst (λ (m : ℕ). n < m) (joined_length batch first count few) less)
-  where
-    by : (batch : Batch) → n < entry_size batch * count → Whole (entry_size batch) n count
-    by (batches.Points points drawing) less = record { less = omega (arith, less); sum = omega arith; part = omega arith }
-    by (batches.Lines from points drawing) less = record { less = omega (arith, less); sum = omega arith; part = omega arith }
-    by (batches.Text set codes pen drawing) less = record { less = omega (arith, less); sum = omega arith; part = omega arith }
+  pub whole_less : (n - length begin) / entry_size batch < count
+  whole_less = by batch fewer
+    where
+      by : (batch : Batch) → n < length begin + entry_size batch * count → (n - length begin) / entry_size batch < count
+      by (batches.Points points drawing) less = omega (arith, some, less)
+      by (batches.Lines from points drawing) less = omega (arith, some, less)
+      by (batches.Text set codes pen drawing) less = omega (arith, some, less)
 
-pub whole_few : {S : Type 0} (sent : S → List ℕ → Bool → S → Type 0) (a b : S) (batch : Batch) (first count : ℕ) (r : Result (Unit {0}) ℕ) → count + first ≤ length (listed batch) →
-    SentUpTo sent a (joined_bytes batch first count) b r → whole_entries batch count r + first ≤ length (listed batch)
-whole_few sent a b batch first count (Ok x) few put = few
-whole_few sent a b batch first count (Err n) few put = omega (arith, few, (whole_of batch first count n few put.less).less)
+  pub whole_of : Whole (length begin + entry_size batch) (entry_size batch) n ((n - length begin) / entry_size batch)
+  whole_of = by batch
+    where
+      by : (batch : Batch) → Whole (length begin + entry_size batch) (entry_size batch) n ((n - length begin) / entry_size batch)
+      by (batches.Points points drawing) = record { from = λ some. omega (arith, some); to = omega arith }
+      by (batches.Lines from points drawing) = record { from = λ some. omega (arith, some); to = omega arith }
+      by (batches.Text set codes pen drawing) = record { from = λ some. omega (arith, some); to = omega arith }
+
+-- bytes are entries of one byte, behind no opening
+pub whole_bytes : {S : Type 0} (sent : S → List ℕ → Bool → S → Type 0) (s t : S) (bytes : List ℕ) (r : Result (Unit {0}) ℕ) → SentUpTo sent s bytes t r → SentWhole sent s [] 1 bytes t r
+whole_bytes sent s t bytes (Ok x) put = put
+whole_bytes sent s t bytes (Err n) put = (n, omega arith, put)
+
+pub whole_few : {S : Type 0} (sent : S → List ℕ → Bool → S → Type 0) (a b : S) (begin : List ℕ) (batch : Batch) (first count : ℕ) (r : Result (Unit {0}) ℕ) → 0 < count →
+    count + first ≤ length (listed batch) → SentWhole sent a begin (entry_size batch) (joined_bytes batch first count) b r → whole_entries count r + first ≤ length (listed batch)
+whole_few sent a b begin batch first count (Ok x) some few put = few
+whole_few sent a b begin batch first count (Err k) some few put =
+    omega (arith, few, put.1, whole_less begin batch first count put.0 few some put.2.less)

@@ -1,6 +1,6 @@
 -- What a canonical sink that works takes of a batch.
 
-use Rattle.std.proofs.Common.{ℕ, zero, suc, ◌≡◌, ◌+◌, ◌*◌, ◌/◌, ◌%◌, ◌<◌, ◌≤◌, inl, inr, Bool, true, false, List, [], ◌∷◌, ◌++◌, Option, Some, None, Result, Ok, Err, OnOk, OnErr, IsErrOf, is_err, length, map, take, drop, refl, ap, sym, subst, ◌∙◌, append-nil, append_assoc, length-append, length-drop, arith}
+use Rattle.std.proofs.Common.{ℕ, zero, suc, ◌≡◌, ◌+◌, ◌-◌, ◌/◌, ◌<◌, ◌≤◌, inl, inr, Bool, true, false, List, [], ◌∷◌, ◌++◌, Option, Some, None, Result, Ok, Err, OnOk, OnErr, IsErrOf, is_err, length, map, take, drop, refl, ap, sym, subst, ◌∙◌, append-nil, append_assoc, length-append, length-drop, arith}
 use Rattle.std.specs.Prelude.{slice_index}
 use Rattle.std.proofs.lemmas.Bool.{true≢false, false≢true}
 use Rattle.std.proofs.lemmas.List.{take-append-drop, take-take, length-take-le, drop-drop}
@@ -26,12 +26,12 @@ use Rattle.nap_list.specs.Putting.{HaltsAfter, NotTaken, Put, PutSome, Putting, 
 use Rattle.nap_list.specs.PuttingLaws.{put_begins, put_goes, put_halts, put_ends, some_put, stops_at_first, takes_one}
 use Rattle.nap_list.specs.State.{after, walk, hand_of}
 use Rattle.nap_list.proofs.PublicLaws.{batch_stands}
-use Rattle.nap_canon.specs.Batches.{canon_shows, CutAfter, SentUpTo, Joins, WritesNext, PutsFirst, PutsSome, PutsBehind, entry_size, joined_bytes, joined_tail, whole_entries}
+use Rattle.nap_canon.specs.Batches.{canon_shows, CutAfter, SentWhole, Joins, WritesNext, PutsFirst, PutsSome, PutsBehind, opening, entry_size, joined_bytes, joined_tail, whole_entries}
 use Rattle.nap_canon.specs.Sinking.{Sending, Sends, Grows, Canonical, shown, bytes_of, bytes_behind, Took, Broke}
 use Rattle.nap_canon.specs.Sinking as sinking
 use Rattle.nap_canon.specs.Text.{written, entry_pieces}
 use Rattle.nap_canon.specs.SinkLaws.{grows_more, took_none, took_more, took_broke}
-use Rattle.nap_canon.proofs.sinks.JoinLemmas.{Joined, batch_joins, stands_rest, each_front, whole_of}
+use Rattle.nap_canon.proofs.sinks.JoinLemmas.{Joined, batch_joins, stands_rest, each_front, whole_less, whole_of}
 use Rattle.nap_canon.proofs.sinks.SinkingLemmas.{took_answered, broke_answered}
 
 module _ {O : Type 0} (o : outlet.Ghosts O) (s t : Canonical O) (works : o.failed s.outlet ≡ false) where
@@ -102,30 +102,36 @@ pub first_taken : {O E : Type 0} (o : outlet.Ghosts O) (s t : Canonical O) (list
 first_taken o s t list (Ok x) none put = put
 first_taken o s t list (Err x) none put = absurd (true≢false none)
 
--- entries that join what stands last
+-- entries that join what stands last, or open a run
 
 module _ {O S : Type 0} (o : outlet.Ghosts O) (view : S → Sending) (a b : S) (s t : Canonical O) (batch : Batch) (first count : ℕ)
-    (from : view a ≡ shown o s) (to : view b ≡ shown o t) (works : o.failed s.outlet ≡ false) (form : t.form ≡ s.form)
+    (from : view a ≡ shown o s) (to : view b ≡ shown o t) (works : o.failed s.outlet ≡ false) (form : t.form ≡ s.form) (some : 0 < count)
     (few : count + first ≤ length (listed batch)) (stand : EachStands s.state (drop first (listed batch))) (joins : Joins s.form s.tail s.state batch first count) where
   abbrev list : List Entry
   list = drop first (listed batch)
 
+  abbrev size : ℕ
+  size = entry_size batch
+
+  abbrev begin : List ℕ
+  begin = opening s.tail batch count
+
   abbrev bytes : List ℕ
-  bytes = joined_bytes batch first count
+  bytes = begin ++ joined_bytes batch first count
 
   abbrev Sent : S → List ℕ → Bool → S → Type 0
   Sent x bytes broke y = Sends (view x) bytes broke (view y)
 
-  joined : Joined (entry_size batch) s.form s.tail s.state (take count list) bytes (joined_tail s.tail batch count)
-  joined = batch_joins s.form s.tail s.state batch first count few stand joins
+  joined : Joined (length begin + size) size s.form s.tail s.state (take count list) bytes (joined_tail s.tail batch count)
+  joined = batch_joins s.form s.tail s.state batch first count some few stand joins
 
-  size : length (take count list) ≡ count
-  size = length-take-le count list (omega (arith, few, length-drop first (listed batch)))
+  many : length (take count list) ≡ count
+  many = length-take-le count list (omega (arith, few, length-drop first (listed batch)))
 
-  pub joined_took : (r : Result (Unit {0}) ℕ) → r ≡ Ok tt → SentUpTo Sent a bytes b r → OnOk r (t.tail ≡ joined_tail s.tail batch count) →
-      t.state ≡ walk s.state (take (whole_entries batch count r) list) → 0 < count → PutsSome o list s t (Ok count)
-  joined_took (Err n) is sent tail state some = let bad : ⊥ = cc in absurd bad
-  joined_took (Ok x) is sent tail state some =
+  pub joined_took : (r : Result (Unit {0}) ℕ) → r ≡ Ok tt → SentWhole Sent a begin size (joined_bytes batch first count) b r → OnOk r (t.tail ≡ joined_tail s.tail batch count) →
+      t.state ≡ walk s.state (take (whole_entries count r) list) → PutsSome o list s t (Ok count)
+  joined_took (Err n) is sent tail state = let bad : ⊥ = cc in absurd bad
+  joined_took (Ok x) is sent tail state =
       let all : sinking.TakesAll (shown o s) bytes (shown o t) =
       subst (λ (x : Sending). sinking.TakesAll (shown o s) bytes x) to (subst (λ (x : Sending). sinking.TakesAll x bytes (view b)) from sent) in
       let took : Took o s (take count list) t = record {
@@ -147,40 +153,38 @@ module _ {O S : Type 0} (o : outlet.Ghosts O) (view : S → Sending) (a b : S) (
       subst (λ (bs : List ℕ). Grows (view a) bs (view b)) (ap (λ (n : ℕ). front ++ take n byte) none ∙ append-nil front) grows in
       subst (λ (x : Sending). Grows (shown o s) front x) to (subst (λ (x : Sending). Grows x front (view b)) from less)
 
-  joined_cut : (n : ℕ) → CutAfter Sent a bytes n b → t.state ≡ walk s.state (take (n / entry_size batch) list) →
-      Put (canon_shows o) list s t (Err (record { taken = n / entry_size batch; fault = Write }))
+  joined_cut : (n : ℕ) → CutAfter Sent a bytes n b → t.state ≡ walk s.state (take ((n - length begin) / size) list) →
+      Put (canon_shows o) list s t (Err (record { taken = (n - length begin) / size; fault = Write }))
   joined_cut n cut state =
-      let k : ℕ = n / entry_size batch in
-      let part : ℕ = n % entry_size batch in
-      let whole = whole_of batch first count n few cut.less in
-      let some = take count list in
-      let parted = each_front (entry_size batch) s.form s.tail s.state some k part joined.each (omega (arith, whole.less, size)) whole.part in
-      let front = take k some in
-      let same : front ≡ take k list = take-take k count list (omega (arith, whole.less)) in
-      let next = parted.0 in
-      let is : list ≡ front ++ next ∷ (parted.1 ++ drop count list) =
+      let k : ℕ = (n - length begin) / size in
+      let some_whole : k < count = whole_less begin batch first count n few some cut.less in
+      let whole = whole_of begin batch first count n few some cut.less in
+      let those = take count list in
+      let parted = each_front (length begin + size) size s.form s.tail s.state those k n joined.each (omega (arith, some_whole, many)) whole in
+      let front = take k those in
+      let same : front ≡ take k list = take-take k count list (omega (arith, some_whole)) in
+      let next = parted.next in
+      let is : list ≡ front ++ next ∷ (parted.rest ++ drop count list) =
       sym (take-append-drop count list)
-      ∙ ap (λ (list' : List Entry). list' ++ drop count list) parted.2
-      ∙ append_assoc front (next ∷ parted.1) (drop count list) in
-      let cut_is : take n bytes ≡ bytes_of s front ++ take part (bytes_behind s front next) =
-      ap (λ (m : ℕ). take m bytes) whole.sum
-      ∙ ap (take (entry_size batch * k + part)) (sym joined.writes)
-      ∙ parted.4 in
+      ∙ ap (λ (list' : List Entry). list' ++ drop count list) parted.parts
+      ∙ append_assoc front (next ∷ parted.rest) (drop count list) in
+      let cut_is : take n bytes ≡ bytes_of s front ++ take parted.part (bytes_behind s front next) = ap (take n) (sym joined.writes) ∙ parted.cut in
       let broke : Broke o s front next t = record {
-        part = part;
-        less = omega (arith, whole.part, parted.3);
+        part = parted.part;
+        less = parted.less;
         grows = subst (λ (bs : List ℕ). Grows (shown o s) bs (shown o t)) cut_is (cut_grows n cut);
         failed = ap (λ (x : Sending). x.failed) (sym to) ∙ cut.next.failed;
         state = state ∙ ap (walk s.state) (sym same);
       } in
-      breaks_at o s t works list front (parted.1 ++ drop count list) next k is (length-take-le k some (omega (arith, whole.less, size))) broke
+      breaks_at o s t works list front (parted.rest ++ drop count list) next k is (length-take-le k those (omega (arith, some_whole, many))) broke
 
-  pub joined_broke : (r : Result (Unit {0}) ℕ) (taken : ℕ) → r ≡ Err taken → SentUpTo Sent a bytes b r →
-      t.state ≡ walk s.state (take (whole_entries batch count r) list) → PutsSome o list s t (Err (taken / entry_size batch))
-  joined_broke (Ok x) taken is sent state = let bad : ⊥ = cc in absurd bad
-  joined_broke (Err n) taken is sent state =
-      let same : n ≡ taken = cc in
-      subst (λ (n : ℕ). Put (canon_shows o) list s t (Err (record { taken = n / entry_size batch; fault = Write }))) same (joined_cut n sent state)
+  pub joined_broke : (r : Result (Unit {0}) ℕ) (k : ℕ) → r ≡ Err k → SentWhole Sent a begin size (joined_bytes batch first count) b r →
+      t.state ≡ walk s.state (take (whole_entries count r) list) → PutsSome o list s t (Err k)
+  joined_broke (Ok x) k is sent state = let bad : ⊥ = cc in absurd bad
+  joined_broke (Err j) k is sent state =
+      let same : j ≡ k = cc in
+      let cut = joined_cut sent.0 sent.2 (state ∙ ap (λ (j : ℕ). walk s.state (take j list)) sent.1) in
+      subst (λ (k : ℕ). Put (canon_shows o) list s t (Err (record { taken = k; fault = Write }))) (sym sent.1 ∙ same) cut
 
 -- a list that is put part by part
 

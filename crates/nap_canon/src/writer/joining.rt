@@ -1,31 +1,21 @@
-//! Entries of a batch whose values are current. Several that join the last run or text are one write.
-ghost use Rattle.std.specs.Prelude.{◌≡◌, ◌<◌, ◌≤◌, ◌+◌, ◌*◌, ◌∷◌, length, take, drop, IsTrue, ◌↔◌, OnOk, OnErr, is_err};
+//! Entries of a batch whose values are current. Several that join the last run or text, or open one, are one write.
+ghost use Rattle.std.specs.Prelude.{◌≡◌, ◌<◌, ◌≤◌, ◌+◌, ◌*◌, ◌∷◌, ◌⊎◌, length, take, drop, IsTrue, ◌↔◌, OnOk, OnErr, is_err};
 ghost use Rattle.nap_list.specs.Batches.{EachStands, FirstStands, listed};
 ghost use Rattle.nap_list.specs.State.{walk};
-ghost use Rattle.nap_canon.specs.declared.tail.Tail.TheVariants.{InRun};
-ghost use Rattle.nap_canon.specs.Batches.{Joins, PointsJoin, SentUpTo, WritesNext, entry_size, joined_bytes, joined_tail, points_bytes, whole_entries};
-ghost use Rattle.nap_canon.specs.Text.{run_behind};
-ghost use Rattle.nap_canon.specs.Writing.{Stays, WritesUpTo};
+ghost use Rattle.nap_canon.specs.declared.tail.Tail.TheVariants.{Apart, InRun};
+ghost use Rattle.nap_codes.specs.declared.code_set.GSet.TheVariants.{G0};
+ghost use Rattle.nap_canon.specs.Batches.{Joins, PointsJoin, SentWhole, TextJoins, WritesNext, entry_size, joined_bytes, joined_tail, opening, points_bytes, run_opening, whole_entries};
+ghost use Rattle.nap_canon.specs.Text.{gl_of, run_behind, to_primary};
+ghost use Rattle.nap_canon.specs.Writing.{Stays, WritesWhole};
 
 use crate::byte_sink::ByteSink;
 use crate::form::Form;
-use crate::gathered::MOST;
+use crate::gathered::{CODES, NEAR};
 use crate::tail::Tail;
 use crate::writer::{Writer, opcodes};
-use nap_codes::{CharSet, GSet};
+use nap_codes::{CharSet, GSet, format_effector};
 use nap_list::{Batch, Pen, start_at};
 use nap_values::{Point, put_point};
-
-/// How many bytes an entry takes that joins the last run or text.
-#[inline]
-pub(crate) fn entry_size(batch: &Batch) -> usize
-    ensures { result ≡ entry_size batch.now }
-{
-    match batch {
-        Batch::Points { .. } | Batch::Lines { .. } => 8,
-        Batch::Text { .. } => 1,
-    }
-}
 
 impl<T: ByteSink + Drop> Writer<T> {
     /// Whether the values that the first entry of a batch holds are current.
@@ -36,19 +26,42 @@ impl<T: ByteSink + Drop> Writer<T> {
         self.state.drawing.stands_first(batch)
     }
 
-    /// How many of the next `count` points join the run of this opcode in one write: none if there is only one.
+    /// How many of the next `count` points make one write: those that join the run of this opcode, or that open one
+    /// where none joins it. None in the first form.
     #[inline]
     fn joining_points(&self, opcode: u8, count: usize) -> usize
         ensures few { result ≤ count }
         ensures joins { 0 < result → PointsJoin self.now.form self.now.tail opcode result }
     {
-        if self.form != Form::Two || count < 2 {
+        if self.form != Form::Two {
             return 0;
         }
-        count.min(MOST).min(self.tail.room(opcode) / 8)
+        let few = count.min(NEAR);
+        match self.tail.room(opcode) / 8 {
+            0 => few,
+            room => few.min(room),
+        }
     }
 
-    /// How many entries of a batch, from this index on, join the last run or text in one write.
+    /// How many codes of primary characters, from this index on, make one write: all of them where they join the text at
+    /// the end, or else some that open one. None if the first of these is a format effector.
+    #[inline(always)]
+    fn joining_codes(&self, codes: &[u8], first: usize) -> usize
+        requires some { first < length codes.now }
+        ensures few { result + first ≤ length codes.now }
+        ensures joins { 0 < result → TextJoins self.now.tail (drop first codes.now) result }
+    {
+        let count = codes.len() - first;
+        if self.tail == Tail::Apart(GSet::G0) {
+            return count;
+        }
+        if format_effector(item(codes, first)).is_some() {
+            return 0;
+        }
+        count.min(CODES)
+    }
+
+    /// How many entries of a batch, from this index on, make one write: they join the last run or text, or open one.
     #[inline(always)]
     pub(crate) fn joining(&self, batch: &Batch, first: usize) -> usize
         requires some { first < length (listed batch.now) }
@@ -66,10 +79,10 @@ impl<T: ByteSink + Drop> Writer<T> {
                 self.joining_points(opcodes::LINE_ABS, points.len() - first)
             }
             Batch::Text { set, codes, .. } => {
-                if *set != CharSet::Primary || self.tail != Tail::Apart(GSet::G0) {
+                if *set != CharSet::Primary {
                     return 0;
                 }
-                codes.len() - first
+                self.joining_codes(codes, first)
             }
         }
     }
@@ -110,24 +123,53 @@ impl<T: ByteSink + Drop> Writer<T> {
         Ok(())
     }
 
-    /// Writes points that join the run of this opcode. An error has the number of their bytes that were taken.
+    /// Writes points that join the run of this opcode, or open one. An error has the number of those that were taken.
     fn join_run(&mut self, opcode: u8, points: &[Point]) -> Result<(), usize>
-        requires few { length points.now ≤ 128 }
-        ensures { WritesUpTo T.sent (points_bytes points.now) (InRun (run_behind self.old.tail opcode (8 * length points.now))) self.old self.new result }
+        requires few { length points.now ≤ 126 }
+        ensures { WritesWhole T.sent (run_opening self.old.tail opcode (8 * length points.now)) 8 (points_bytes points.now) (InRun (run_behind self.old.tail opcode (8 * length points.now))) self.old self.new result }
     {
-        self.room.gather(points);
-        self.to.take_counted(self.room.as_slice())?;
-        self.tail = self.tail.behind(opcode, self.room.len());
+        let size = 8 * points.len();
+        self.room.gather_run(self.tail, opcode, points);
+        if let Err(taken) = self.to.take_counted(self.room.as_slice()) {
+            return Err(taken.saturating_sub(self.room.len() - size) / 8);
+        }
+        self.tail = self.tail.behind(opcode, size);
         Ok(())
     }
 
-    /// Writes `count` entries of a batch, from this index on, which join the last run or text. An error has the number
-    /// of their bytes that were taken.
+    /// Writes codes of primary characters that open a text. An error has the number of those that were taken.
+    fn open_text(&mut self, codes: &[u8]) -> Result<(), usize>
+        requires few { length codes.now ≤ 1023 }
+        ensures { WritesWhole T.sent (to_primary (gl_of self.old.tail)) 1 codes.now (Apart G0) self.old self.new result }
+    {
+        self.room.gather_text(self.tail.gl(), codes);
+        if let Err(taken) = self.to.take_counted(self.room.as_slice()) {
+            return Err(taken.saturating_sub(self.room.len() - codes.len()));
+        }
+        self.tail = Tail::Apart(GSet::G0);
+        Ok(())
+    }
+
+    /// Writes codes of primary characters that join the text at the end, or open one. An error has the number of those
+    /// that were taken.
+    #[inline(always)]
+    fn join_text(&mut self, codes: &[u8]) -> Result<(), usize>
+        requires few { (self.old.tail ≡ Apart G0) ⊎ (length codes.now ≤ 1023) }
+        ensures { WritesWhole T.sent (to_primary (gl_of self.old.tail)) 1 codes.now (Apart G0) self.old self.new result }
+    {
+        if self.tail == Tail::Apart(GSet::G0) {
+            return self.to.take_counted(codes);
+        }
+        self.open_text(codes)
+    }
+
+    /// Writes `count` entries of a batch, from this index on, which join the last run or text, or open one. An error has
+    /// the number of those that were taken.
     #[inline(always)]
     fn write_joined(&mut self, batch: &Batch, first: usize, count: usize) -> Result<(), usize>
         requires few { count + first ≤ length (listed batch.now) }
         requires joins { Joins self.old.form self.old.tail self.old.state batch.now first count }
-        ensures { WritesUpTo T.sent (joined_bytes batch.now first count) (joined_tail self.old.tail batch.now count) self.old self.new result }
+        ensures { WritesWhole T.sent (opening self.old.tail batch.now count) (entry_size batch.now) (joined_bytes batch.now first count) (joined_tail self.old.tail batch.now count) self.old self.new result }
     {
         match batch {
             Batch::Points { points, .. } => self.join_run(
@@ -138,12 +180,12 @@ impl<T: ByteSink + Drop> Writer<T> {
                 opcodes::LINE_ABS,
                 part(points, first, count),
             ),
-            Batch::Text { codes, .. } => self.to.take_counted(part(codes, first, count)),
+            Batch::Text { codes, .. } => self.join_text(part(codes, first, count)),
         }
     }
 
-    /// Puts `count` entries of a batch, from this index on, which join the last run or text. An error has the number of
-    /// their bytes that were taken.
+    /// Puts `count` entries of a batch, from this index on, which join the last run or text, or open one. An error has
+    /// the number of those that were taken.
     #[inline(always)]
     pub(crate) fn put_joined(
         &mut self,
@@ -151,29 +193,29 @@ impl<T: ByteSink + Drop> Writer<T> {
         first: usize,
         count: usize,
     ) -> Result<(), usize>
+        requires some { 0 < count }
         requires few { count + first ≤ length (listed batch.now) }
         requires stand { EachStands self.old.state (drop first (listed batch.now)) }
         requires joins { Joins self.old.form self.old.tail self.old.state batch.now first count }
-        ensures sent { SentUpTo T.sent self.old.to (joined_bytes batch.now first count) self.new.to result }
+        ensures sent { SentWhole T.sent self.old.to (opening self.old.tail batch.now count) (entry_size batch.now) (joined_bytes batch.now first count) self.new.to result }
         ensures tail { OnOk result (self.new.tail ≡ joined_tail self.old.tail batch.now count) }
         ensures form { self.new.form ≡ self.old.form }
-        ensures state { self.new.state ≡ walk self.old.state (take (whole_entries batch.now count result) (drop first (listed batch.now))) }
+        ensures state { self.new.state ≡ walk self.old.state (take (whole_entries count result) (drop first (listed batch.now))) }
     {
         let put = self.write_joined(batch, first, count);
-        self.state
-            .pass_on(batch, first, whole_entries(batch, count, &put));
+        self.state.pass_on(batch, first, whole_entries(count, &put));
         put
     }
 }
 
 /// How many of `count` entries were written whole.
 #[inline(always)]
-fn whole_entries(batch: &Batch, count: usize, put: &Result<(), usize>) -> usize
-    ensures { result ≡ whole_entries batch.now count put.now }
+fn whole_entries(count: usize, put: &Result<(), usize>) -> usize
+    ensures { result ≡ whole_entries count put.now }
 {
     match put {
         Ok(()) => count,
-        Err(taken) => *taken / entry_size(batch),
+        Err(whole) => *whole,
     }
 }
 

@@ -43,8 +43,8 @@ returns g c =
     let wrote = c.put_joined.ensures in
     subst (λ (s : Canonical _). PutsSome o list s t c.match-put_joined.result) c.self.view_is
     (elim c.match-put_joined.branch [
-      | in-Ok-put_joined b ↦ rw b.result-is (joined_took o (λ to. sending o to.outlet to.written) w.to v.to s t batch first count refl refl works wrote.form few stand joins c.put_joined.result b.in-Ok-put_joined.is
-          wrote.sent wrote.tail wrote.state some)
-      | in-Err-put_joined b ↦ rw (b.result-is, b.entry_size.ensures) (joined_broke o (λ to. sending o to.outlet to.written) w.to v.to s t batch first count refl refl works wrote.form few stand joins
-          c.put_joined.result b.in-Err-put_joined.taken b.in-Err-put_joined.is wrote.sent wrote.state)
+      | in-Ok-put_joined b ↦ rw b.result-is (joined_took o (λ to. sending o to.outlet to.written) w.to v.to s t batch first count refl refl works wrote.form some few stand joins c.put_joined.result b.in-Ok-put_joined.is
+          wrote.sent wrote.tail wrote.state)
+      | in-Err-put_joined b ↦ rw b.result-is (joined_broke o (λ to. sending o to.outlet to.written) w.to v.to s t batch first count refl refl works wrote.form some few stand joins
+          c.put_joined.result b.in-Err-put_joined.whole b.in-Err-put_joined.is wrote.sent wrote.state)
     ])

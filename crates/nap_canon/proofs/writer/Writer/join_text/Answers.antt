@@ -1,0 +1,17 @@
+use Rattle.std.proofs.Common.{rules, ◌≡◌, refl}
+use Rattle.nap_codes.specs.declared.code_set.GSet.TheVariants.{G0}
+use Rattle.nap_canon.specs.declared.tail.Tail.TheVariants.{Apart}
+use Rattle.nap_canon.proofs.sinks.JoinLemmas.{whole_bytes}
+use Rattle.nap_canon.proofs.texts.WriterLemmas.{on_ok_from}
+use Rattle.nap_canon.proofs.writer.Writer.join_text.Goals as goal
+
+pub returns-then-eq : goal.returns-then-eq
+returns-then-eq g c =
+    let w = c.args.self.now in
+    let r = c.take_counted.result in
+    let is : w.tail ≡ Apart G0 = search rules in
+    rw is (record {
+      sent = whole_bytes g.T.ByteSink.sent w.to c.take_counted.new.self c.args.codes.now r c.take_counted.ensures;
+      tail = on_ok_from r refl;
+      kept = (refl, refl);
+    })
