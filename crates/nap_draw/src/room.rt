@@ -10,6 +10,7 @@ use crate::fault::DrawFault;
 use crate::spans::span_by;
 use nap_list::corner;
 use nap_values::{Domain, Point, Walk, multi_bytes, multi_of_three};
+use std::mem::{forget, replace};
 
 /// Each operand as a point.
 pub(crate) fn points_into(
@@ -115,23 +116,27 @@ fn points_of_three<'a>(room: &mut Vec<Point>, run: &'a [u8]) -> Result<&'a [u8],
     ensures ok { IfOk result (λ rest. Filling (points_at (moves 3 (carried run.now))) (points_at (moves 3 (carried rest.now))) false (λ front. room.new.items ≡ front)) }
     ensures err { IfErr result (λ fault. (fault ≡ Outside) × (points_at (moves 3 (carried run.now)) ≡ None)) }
 {
+    let mut points = taken(room);
     let mut rest = run;
     while let Some((block, _)) = rest.split_first_chunk::<8>() {
         let (_, others) = rest.split_at(3);
         let Some(point) = multi_of_three(block).point() else {
+            put_back(room, points);
             return Err(DrawFault::Outside);
         };
-        room.push_reserved(point);
+        points.push_reserved(point);
         rest = others;
     }
     while rest.len() >= 3 {
         let (operand, others) = rest.split_at(3);
         let Some(point) = multi_bytes(operand).point() else {
+            put_back(room, points);
             return Err(DrawFault::Outside);
         };
-        room.push_reserved(point);
+        points.push_reserved(point);
         rest = others;
     }
+    put_back(room, points);
     Ok(rest)
 }
 
@@ -163,29 +168,54 @@ fn steps_of_three<'a>(
     ensures ok { IfOk result (λ rest. Filling (reached at.old (moves 3 (carried run.now))) (reached at.new (moves 3 (carried rest.now))) false (λ front. room.new.items ≡ front)) }
     ensures err { IfErr result (λ fault. (fault ≡ Outside) × (reached at.old (moves 3 (carried run.now)) ≡ None)) }
 {
+    let mut points = taken(room);
     let mut walk = Walk::starting(*at);
     let mut last = *at;
     let mut rest = run;
     while let Some((block, _)) = rest.split_first_chunk::<8>() {
         let (_, others) = rest.split_at(3);
         let Some(point) = walk.advance(multi_of_three(block)) else {
+            put_back(room, points);
             return Err(DrawFault::Outside);
         };
-        room.push_reserved(point);
+        points.push_reserved(point);
         last = point;
         rest = others;
     }
     while rest.len() >= 3 {
         let (operand, others) = rest.split_at(3);
         let Some(point) = walk.advance(multi_bytes(operand)) else {
+            put_back(room, points);
             return Err(DrawFault::Outside);
         };
-        room.push_reserved(point);
+        points.push_reserved(point);
         last = point;
         rest = others;
     }
+    put_back(room, points);
     *at = last;
     Ok(rest)
+}
+
+/// The room's vector, taken out of it: a loop has the pointer and the length of its own vector in registers, where it would
+/// load and store them for each point behind the reference. An empty one stands in the room until it is put back.
+#[inline(always)]
+fn taken(room: &mut Vec<Point>) -> Vec<Point>
+    ensures items { result.items ≡ room.old.items }
+    ensures capacity { vec_capacity result ≡ vec_capacity room.old }
+    ensures after { vec_capacity room.new ≡ 0 }
+{
+    let alloc = *room.allocator();
+    replace(room, Vec::new(alloc))
+}
+
+/// Puts the vector back, on every way out. The empty one holds no memory, so that it is let go with no drop.
+#[inline(always)]
+fn put_back(room: &mut Vec<Point>, points: Vec<Point>)
+    requires { vec_capacity room.old ≡ 0 }
+    ensures { room.new ≡ points }
+{
+    forget(replace(room, points));
 }
 
 /// Empties the room, and makes it large enough for the points of so many bytes. Says whether there is no memory for that.

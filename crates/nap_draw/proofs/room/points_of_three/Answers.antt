@@ -14,6 +14,7 @@ pub loop-block-preserved : goal.loop-block-preserved
 loop-block-preserved c =
     let cut = three_of_eight c.loop-block.rest.now c.in-Some.block.now _ (omega (arith, c.in-Some.ensures.cases.2)) c.in-Some.ensures.cases.0 c.split_at.ensures.back in
     record {
+      vacant = c.loop-block.invariant.vacant;
       places = omega (arith, c.loop-block.invariant.places, c.in-Some.ensures.cases.2, c.split_at.ensures.back_len, c.push_reserved.ensures.len, c.push_reserved.ensures.capacity);
       filling = filling_more _ _ _ c.in-Some-point.point _ _ _ _ c.loop-block.invariant.filling
           (onward_more _ _ _ _ (points_turn _ _ _ cut) (sym (c.point.ensures ∙ ap point_at c.multi_of_three.ensures) ∙ c.in-Some-point.is))
@@ -30,6 +31,7 @@ pub loop-rest-preserved : goal.loop-rest-preserved
 loop-rest-preserved c =
     let cut = moves_turn 3 3 c.loop-rest.rest.now _ _ (omega arith) (omega arith) (omega arith) c.split_at-in-loop-rest.ensures.front c.split_at-in-loop-rest.ensures.back in
     record {
+      vacant = c.loop-rest.invariant.vacant;
       places = omega (arith, c.loop-rest.invariant.places, c.split_at-in-loop-rest.ensures.back_len, c.push_reserved-in-loop-rest.ensures.len, c.push_reserved-in-loop-rest.ensures.capacity);
       filling = filling_more _ _ _ c.in-Some-point-2.point _ _ _ _ c.loop-rest.invariant.filling
           (onward_more _ _ _ _ (points_turn _ _ _ cut) (sym (c.point-in-loop-rest.ensures ∙ ap point_at c.multi_bytes.ensures) ∙ c.in-Some-point-2.is))
