@@ -26,6 +26,10 @@ MEMBERS = re.compile(r"\b(\w+)\s*:(?!:)")
 WORDS = re.compile(r"\w+")
 STRUCT = re.compile(r"(?P<head>(?:#\[[^\]]*\] )*(?:pub(?:\(\w+\))? )?struct [^{;(]*\{)(?P<fields>.*)\}", re.DOTALL)
 PRIVATE = re.compile(r"(?:pub\(\w+\) )?[a-z_]\w*\s*:")
+MODEL = re.compile(r"impl\b.*\bModel\s+for\s+(?P<type>\w+)", re.DOTALL)
+# Stands before a view that no other crate sees.
+WITHIN = "within: "
+UNSEEN = re.compile(rf" ; {WITHIN}.*?\}}(?= ; |$)", re.DOTALL)
 OF_TRAIT = re.compile(r"impl\b.*\bfor\b(?P<type>.*)", re.DOTALL)
 CLAUSE = re.compile(r"\b(?:requires|ensures)\b")
 SHOWN = re.compile(r"(?<=\b)pub (?=\S)")
@@ -65,12 +69,15 @@ class Part(NamedTuple):
         return self.kind != "function" or not OF_TRAIT.search(self.owner) or bool(CLAUSE.search(self.text))
 
     def seen_from(self, crate: str) -> str:
-        """What it says to a crate: one above sees no private fields of a struct, since nothing there can name them.
+        """What it says to a crate: one above sees no private fields of a struct, since nothing there can name them, and
+        no view of a type that has no others.
 
         Whether a definition is public says nothing.
         """
         if self.kind == "definition":
             return SHOWN.sub("", self.text, count=1)
+        if self.kind == "impl":
+            return UNSEEN.sub("", self.text) if crate != self.crate else self.text.replace(WITHIN, "")
         found = STRUCT.fullmatch(self.text) if self.kind == "type" and crate != self.crate else None
         if not found:
             return self.text
@@ -168,6 +175,16 @@ class _Cut:
         self.add("type", frozenset({found["name"]}), frozenset(members), "", f"{attributes} {text}".strip())
         return end
 
+    def hides(self, header: str) -> bool:
+        """Whether a header is that of the model of a struct of this file all of whose fields are private."""
+        model = MODEL.search(header)
+        named = model["type"] if model else ""
+        for part in self.file.parts:
+            found = STRUCT.fullmatch(part.text) if part.kind == "type" and named in part.names else None
+            if found:
+                return all(PRIVATE.match(field) for field in _between_commas(found["fields"]) if field)
+        return False
+
     def owner(self, start: int, found: "re.Match[str]") -> int:
         """Takes a trait or an impl: a part of its own holds its ghost items."""
         opening = self.source.end_of_head(found.end("word"))
@@ -177,7 +194,8 @@ class _Cut:
         self.region(opening + 1, end - 1, header, ghosts)
         names = frozenset({found["name"]}) if found["word"] == "trait" else frozenset()
         members = frozenset(name for name, _ in ghosts) if found["word"] == "trait" else frozenset()
-        text = " ; ".join([header, *(told for _, told in ghosts)])
+        unseen = "view" if self.hides(header) else ""
+        text = " ; ".join([header, *(f"{WITHIN}{told}" if name == unseen else told for name, told in ghosts)])
         self.add(found["word"], names, members, header, text)
         return end
 

@@ -181,6 +181,19 @@ class Sums(unittest.TestCase):
         self.assertFalse(self.changes(QUARTER, LOWEST, "    number: u32,\n    ghost", "    number: u16,\n    ghost"))
         self.assertTrue(self.changes(least, LOWEST, "    number: u32,\n    ghost", "    number: u16,\n    ghost", "low"))
 
+    def test_the_view_of_private_fields(self) -> None:
+        """It counts in its own crate; above that, a value is all that clauses see. What the value is counts there too."""
+        least = "file: src/lib.rt\nold: self.number == LEAST\nnew: true\n"
+        path = self.root / "crates" / LOWEST
+        held = LOW.replace("    ghost small: { is_small number } by { small },\n", "")
+        model = "impl Model for Half {\n    ghost Value = { ℕ };\n\n    ghost view = { λ h. h.number };\n}\n\nimpl Half"
+        path.write_text(held.replace("impl Half", model), "utf-8")
+        self.assertFalse(self.changes(QUARTER, LOWEST, "h.number", "h.number + 0"))
+        self.assertTrue(self.changes(least, LOWEST, "h.number", "h.number + 0", "low"))
+        self.assertTrue(self.changes(QUARTER, LOWEST, "ghost Value = { ℕ }", "ghost Value = { Bool }"))
+        path.write_text(held.replace("impl Half", model).replace("    number: u32,", "    pub number: u32,"), "utf-8")
+        self.assertTrue(self.changes(QUARTER, LOWEST, "h.number", "h.number + 0"))
+
     def test_a_field_of_another_type(self) -> None:
         """A field leads to no type, so one that has a field of the same name doesn't count."""
         other = "struct Other {\n    number: u64,\n}\n\n#[derive(Drop)]\nstruct Kept"
