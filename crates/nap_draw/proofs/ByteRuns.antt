@@ -1,7 +1,7 @@
 use Rattle.std.proofs.Common.{◌≡◌, ◌%◌, ℕ, ◌<◌, ◌≤◌, min, List, [], ◌∷◌, ◌++◌, length, map, take, drop, refl, sym, ◌∙◌, ap, arith}
 use Rattle.std.proofs.lemmas.List.{length-map, map-append, take-map, drop-map}
 use Rattle.nap_values.specs.Operands.{carried, multi_of, single_of}
-use Rattle.nap_draw.specs.Operands.{operands, moves, addresses}
+use Rattle.nap_draw.specs.Operands.{cut, operands, moves, addresses}
 use Rattle.nap_draw.proofs.Cuts as words
 
 -- A run of bytes is cut as the words that they carry.
@@ -23,6 +23,9 @@ operands_none k run none = words.operands_none k (carried run) (carried_length r
 
 pub moves_none : (k : ℕ) (run : List ℕ) → length run ≡ 0 → moves k (carried run) ≡ []
 moves_none k run none = ap (map multi_of) (operands_none k run none)
+
+pub moves_some : (k : ℕ) (run : List ℕ) → 0 < length run → 0 < length (moves k (carried run))
+moves_some k run more = words.moves_some k (carried run) (omega (arith, carried_length run))
 
 pub addresses_none : (k : ℕ) (run : List ℕ) → length run ≡ 0 → addresses k (carried run) ≡ []
 addresses_none k run none = ap (map single_of) (operands_none k run none)
@@ -67,3 +70,12 @@ module _ (k size most value : ℕ) (run left x rest : List ℕ) (all : left ≡ 
       operands k (carried run) ≡ carried x ∷ carried y ∷ operands k (carried behind)
   two_operands still y behind kept parts long more =
       first_operand ∙ ap (λ (os : List (List ℕ)). carried x ∷ os) (operands_chunk k still rest y behind (omega arith) (omega arith) parts long more)
+
+-- a run of one operand of three words
+pub one_of_three : (k : ℕ) (run : List ℕ) → k ≡ 3 → length run ≡ 3 → moves k (carried run) ≡ multi_of (carried run) ∷ []
+unfolding operands cut
+one_of_three k (x ∷ y ∷ z ∷ []) is long = ap (λ (k : ℕ). moves k (carried (x ∷ y ∷ z ∷ []))) is
+one_of_three k [] is long = absurd (omega arith)
+one_of_three k (x ∷ []) is long = absurd (omega arith)
+one_of_three k (x ∷ y ∷ []) is long = absurd (omega arith)
+one_of_three k (x ∷ y ∷ z ∷ z' ∷ run) is long = absurd (omega arith)

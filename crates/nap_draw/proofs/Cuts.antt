@@ -1,7 +1,9 @@
-use Rattle.std.proofs.Common.{◌≡◌, ℕ, suc, zero, ◌+◌, ◌-◌, ◌<◌, ◌≤◌, ◌≢◌, min, List, [], ◌∷◌, ◌++◌, length, map, take, drop, Result, Ok, Err, refl, sym, ◌∙◌, ap, arith, append_assoc, append-nil, length-drop, Bool, true, false, leb}
+use Rattle.std.proofs.Common.{◌≡◌, ℕ, suc, zero, ◌+◌, ◌-◌, ◌*◌, ◌<◌, ◌≤◌, ◌≢◌, min, List, [], ◌∷◌, ◌++◌, length, map, take, drop, Result, Ok, Err, refl, sym, ◌∙◌, ap, arith, append_assoc, append-nil, length-drop, Bool, true, false, leb, nat_lt}
 use Rattle.std.proofs.Math.Nat.{add-div_left, add-mod_left, div-eq_of_lt, mod-eq_of_lt}
 use Rattle.std.proofs.Math.Seq.{take-append_seam, drop-append_seam}
 use Rattle.std.proofs.lemmas.List.{length-map}
+use Rattle.std.proofs.lemmas.Grind.{div_ceil_times}
+use Rattle.std.proofs.lemmas.Nat.{mul-le}
 use Rattle.std.proofs.lemmas.Bool.Decides.{nat_tests}
 use Rattle.std.specs.Int.{div_ceil}
 use Rattle.nap_values.specs.Operands.{multi_of}
@@ -40,6 +42,11 @@ operands_none k (word ∷ words) none = absurd (omega arith)
 
 pub moves_none : (k : ℕ) (run : List ℕ) → length run ≡ 0 → moves k run ≡ []
 moves_none k run none = ap (map multi_of) (operands_none k run none)
+
+pub moves_some : (k : ℕ) (run : List ℕ) → 0 < length run → 0 < length (moves k run)
+unfolding operands
+moves_some k [] more = absurd (omega arith)
+moves_some k (word ∷ words) more = omega (arith, ap (λ (os : List (List ℕ)). length (map multi_of os)) (cut-front k (k - 1) (word ∷ []) words))
 
 -- a run that was cut behind its first operand
 pub moves_turn : (k n : ℕ) (run front after : List ℕ) → 1 ≤ k → 0 < length run →
@@ -124,3 +131,19 @@ pub one_at_most : (k n : ℕ) (run front after : List ℕ) → 1 ≤ k → n ≡
 one_at_most k n [] front after some is first rest none = omega (arith, ap length (moves_none k [] refl))
 one_at_most k n (x ∷ xs) front after some is first rest none =
     omega (arith, ap length (moves_turn k n (x ∷ xs) front after some (omega arith) is first rest))
+
+-- more operands than n, where there are more words than n operands have
+pub more_than : (n k : ℕ) (run : List ℕ) → 1 ≤ k → nat_lt n (length (moves k run)) ≡ nat_lt (n * k) (length run)
+more_than n k run some = ap (nat_lt n) (moves_count_is k run some) ∙ at (nat_lt n (div_ceil (length run) k)) refl
+  where
+    at : (b : Bool) → nat_lt n (div_ceil (length run) k) ≡ b → nat_lt n (div_ceil (length run) k) ≡ nat_lt (n * k) (length run)
+    at true more =
+        let bounds = div_ceil_times (length run) k some in
+        let most : suc n * k ≤ div_ceil (length run) k * k = mul-le (suc n) k (div_ceil (length run) k) k (grind (arith, nat_tests)) (omega arith) in
+        let less : n * k < length run = grind (arith, nat_tests) in
+        grind (arith, nat_tests)
+    at false few =
+        let bounds = div_ceil_times (length run) k some in
+        let most : div_ceil (length run) k * k ≤ n * k = mul-le (div_ceil (length run) k) k n k (grind (arith, nat_tests)) (omega arith) in
+        let least : length run ≤ n * k = grind (arith, nat_tests) in
+        grind (arith, nat_tests)

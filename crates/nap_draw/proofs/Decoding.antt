@@ -94,3 +94,7 @@ nothing_before (Some xs) = refl
 -- nothing is decoded yet
 pub filling_begins : {A : Type 0} (all left : Option (List A)) (full : Bool) (Keeps : List A → Type 0) → all ≡ left → Keeps [] → Filling all left full Keeps
 filling_begins all left full Keeps is none = record { front = []; parts = is ∙ nothing_before left; kept = λ _. none }
+
+-- what is kept at any rate is kept where no growth was refused
+pub filling_even : {A : Type 0} (all left : Option (List A)) (full : Bool) (Keeps : List A → Type 0) → Filling all left false Keeps → Filling all left full Keeps
+filling_even all left full Keeps filling = record { front = filling.front; parts = filling.parts; kept = λ _. filling.kept refl }

@@ -1,6 +1,6 @@
-use Rattle.std.proofs.Common.{◌≡◌, ◌≢◌, ℕ, List, [], ◌∷◌, ◌++◌, false, Option, Some, None, Result, Ok, Err, refl, sym, ap}
+use Rattle.std.proofs.Common.{◌≡◌, ◌≢◌, ℕ, List, [], ◌∷◌, ◌++◌, false, Option, Some, None, Result, Ok, Err, refl, sym, ◌∙◌, ap}
 use Rattle.std.specs.Option.{option_map}
-use Rattle.nap_values.specs.Coordinates.{Coordinates, Displacement, moved}
+use Rattle.nap_values.specs.Coordinates.{Coordinates, Displacement, moved, point_at}
 use Rattle.nap_list.specs.declared.attribute.Pen.{Pen}
 use Rattle.nap_list.specs.declared.attribute.Pen.TheVariants as pens
 use Rattle.nap_list.specs.declared.state.Drawing.{Drawing}
@@ -8,8 +8,8 @@ use Rattle.nap_list.specs.State.{with_pen, with_pen_at, walk}
 use Rattle.nap_draw.specs.declared.work.Work.{Work}
 use Rattle.nap_draw.specs.declared.fault.DrawFault.{DrawFault}
 use Rattle.nap_draw.specs.declared.fault.DrawFault.TheVariants.{Missing}
-use Rattle.nap_draw.specs.Geometry.{onward, end_of, reached}
-use Rattle.nap_draw.specs.Rule.{Drawn, with_drawing, and_then, some_of, pen_point, from_pen, goes, moves_of}
+use Rattle.nap_draw.specs.Geometry.{onward, end_of, reached, points_at}
+use Rattle.nap_draw.specs.Rule.{Drawn, with_drawing, and_then, some_of, pen_point, from_pen, goes, moves_of, with_operands}
 
 -- Where a pen goes without drawing.
 
@@ -65,3 +65,10 @@ pub pen_reached : (work : Work) (run : List ℕ) (from at : Coordinates) (ps : L
     reached from (moves_of work run) ≡ Some ps → end_of (Some from) ps ≡ Some at → with_pen (pens.At at) work.state.drawing ≡ with_pen_at (end_of None ps) work.state.drawing
 pen_reached work run from at ps starts is end =
     ap (λ o. with_pen_at o work.state.drawing) (sym (ends_alike from at (moves_of work run) ps (starts_some work run from starts) is end))
+
+-- a run of one operand sets the pen to its point
+pub sets_once : (work : Work) (run : List ℕ) (m : Displacement) (o : Option Coordinates) → moves_of work run ≡ m ∷ [] → point_at m ≡ o →
+    with_operands work run (λ ms. goes work (points_at ms)) ≡ goes work (option_map (λ p. p ∷ []) o)
+unfolding points_at
+sets_once work run m None is at = ap (λ ms. and_then (some_of ms) (λ ms. goes work (points_at ms))) is ∙ ap (λ o. goes work (onward o (λ _. Some []))) at
+sets_once work run m (Some p) is at = ap (λ ms. and_then (some_of ms) (λ ms. goes work (points_at ms))) is ∙ ap (λ o. goes work (onward o (λ _. Some []))) at

@@ -2,7 +2,8 @@ use Rattle.std.proofs.Common.{◌≡◌, List, [], ◌∷◌, Option, Some, None
 use Rattle.std.specs.Option.{option_map}
 use Rattle.nap_values.specs.Coordinates.{Coordinates, Displacement, point_at, moved}
 use Rattle.nap_list.specs.State.{corner}
-use Rattle.nap_draw.specs.Geometry.{onward, points_at, reached, span_by, away, across}
+use Rattle.nap_draw.specs.Geometry.{onward, points_at, reached, span, span_by, away, across}
+use Rattle.nap_draw.specs.Doing.{crossed}
 
 -- Where operands lead, one further on.
 
@@ -27,6 +28,13 @@ pub across_turn : (p : Coordinates) (ms rest : List Displacement) (m : Displacem
     across p ms ≡ onward (span_by (Some p) m) (λ s. across (corner s.from s.to) rest)
 unfolding across
 across_turn p ms rest m is = ap (across p) is
+
+-- the first is all
+pub across_once : (p : Coordinates) (ms : List Displacement) (m : Displacement) (o : Option Coordinates) → ms ≡ m ∷ [] → moved p m ≡ o →
+    across p ms ≡ option_map (λ q. crossed p (q ∷ [])) o
+unfolding across crossed
+across_once p ms m None is to = across_turn p ms [] m is ∙ ap (λ o. onward (span (Some p) o) (λ s. across (corner s.from s.to) [])) to
+across_once p ms m (Some q) is to = across_turn p ms [] m is ∙ ap (λ o. onward (span (Some p) o) (λ s. across (corner s.from s.to) [])) to
 
 pub away_lacks : (ms rest : List Displacement) (m : Displacement) → ms ≡ m ∷ rest → rest ≡ [] → away ms ≡ None
 unfolding away

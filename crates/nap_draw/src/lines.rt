@@ -14,7 +14,7 @@ use crate::spans::Figure;
 use crate::work::Work;
 use nap_codes::Opcode;
 use nap_list::{Batch, Sink};
-use nap_values::Point;
+use nap_values::{Point, multi_bytes};
 
 impl Work {
     pub(crate) fn line_abs<S: Sink>(
@@ -85,6 +85,12 @@ impl Work {
         ensures { Does S.Sink quiet (rule self.old (if filled then Opcode.RectFilled else Opcode.RectOutlined) (carried run.now)) self.old self.new sink.old sink.new result }
     {
         let from = start(self, run)?;
+        if self.domain.multi() == 3 && run.len() == 3 {
+            let Some(point) = from.by(multi_bytes(run)) else {
+                return Err(DrawFault::Outside);
+            };
+            return self.linked(Figure::Rect(filled), from, &[point], sink);
+        }
         corners_into(room, from, self.domain, run)?;
         self.linked(Figure::Rect(filled), from, room, sink)
     }

@@ -19,6 +19,21 @@ impl Work {
     pub(crate) fn point_set_abs(&mut self, run: &[u8]) -> Result<(), DrawFault>
         ensures { Sets (rule self.old Opcode.PointSetAbs (carried run.now)) self.old self.new result }
     {
+        if self.domain.multi() != 3 || run.len() != 3 {
+            return self.point_set_each(run);
+        }
+        let Some(point) = multi_bytes(run).point() else {
+            return Err(DrawFault::Outside);
+        };
+        self.state.drawing.pen = Pen::At(point);
+        Ok(())
+    }
+
+    /// The same of operands of any number and size.
+    #[inline(never)]
+    fn point_set_each(&mut self, run: &[u8]) -> Result<(), DrawFault>
+        ensures { Sets (rule self.old Opcode.PointSetAbs (carried run.now)) self.old self.new result }
+    {
         some_operand(self, run)?;
         let mut pen = self.pen();
         for operand in run.chunks(usize::from(self.domain.multi())) {

@@ -1,5 +1,6 @@
 //! Decoding of a run into a room of points that the caller lends. What the room held before means nothing.
-ghost use Rattle.std.specs.Prelude.{◌≡◌, ◌+◌, ◌*◌, ◌/◌, ◌≤◌, [], true, false, length, vec_capacity, IfOk, IfErr};
+ghost use Rattle.std.specs.Prelude.{◌≡◌, ◌+◌, ◌*◌, ◌/◌, ◌≤◌, List, [], Option, true, false, length, nat_le, vec_capacity, IfOk, IfErr};
+ghost use Rattle.nap_values.specs.Coordinates.{Coordinates};
 ghost use Rattle.nap_values.specs.Operands.{carried};
 ghost use Rattle.nap_draw.specs.declared.fault.DrawFault.TheVariants.{Memory, Outside};
 ghost use Rattle.nap_draw.specs.Operands.{moves};
@@ -41,11 +42,47 @@ pub(crate) fn steps_into(
 ) -> Result<(), DrawFault>
     ensures { Fills (reached from (moves domain.multi (carried run.now))) room.new.items result }
 {
-    let size = domain.multi();
+    if !cleared_for(room, run.len() / 3) || domain.multi() != 3 {
+        return steps_of_any(room, from, domain, run);
+    }
     let mut at = from;
-    let mut full = emptied(room, run.len(), domain);
-    let rest = whole_steps(room, &mut at, size, run)?;
-    for operand in rest.chunks(usize::from(size)) {
+    let rest = steps_of_three(room, &mut at, run)?;
+    if rest.is_empty() {
+        return Ok(());
+    }
+    more_steps(room, at, domain, rest, false)
+}
+
+/// The same of operands of any size, where the room may have to grow.
+#[inline(never)]
+fn steps_of_any(
+    room: &mut Vec<Point>,
+    from: Point,
+    domain: Domain,
+    run: &[u8],
+) -> Result<(), DrawFault>
+    ensures { Fills (reached from (moves domain.multi (carried run.now))) room.new.items result }
+{
+    let mut at = from;
+    let full = emptied(room, run.len(), domain);
+    let rest = whole_steps(room, &mut at, domain.multi(), run)?;
+    more_steps(room, at, domain, rest, full)
+}
+
+/// The points that the operands reach from this one, behind those in the room. One before may have had no place there.
+#[inline(never)]
+fn more_steps(
+    room: &mut Vec<Point>,
+    from: Point,
+    domain: Domain,
+    run: &[u8],
+    lacks: bool,
+) -> Result<(), DrawFault>
+    ensures { (all : Option (List Coordinates)) → Filling all (reached from (moves domain.multi (carried run.now))) lacks (λ front. room.old.items ≡ front) → Fills all room.new.items result }
+{
+    let mut at = from;
+    let mut full = lacks;
+    for operand in run.chunks(usize::from(domain.multi())) {
         let Some(point) = at.by(multi_bytes(operand)) else {
             return Err(DrawFault::Outside);
         };
@@ -142,6 +179,7 @@ fn points_of_three<'a>(room: &mut Vec<Point>, run: &'a [u8]) -> Result<&'a [u8],
 
 /// The points that whole operands of three words reach from this one, where the room has places for all of them. The point
 /// becomes the last of them, and what is given are the bytes that are left.
+#[inline(always)]
 fn whole_steps<'a>(
     room: &mut Vec<Point>,
     at: &mut Point,
@@ -158,6 +196,7 @@ fn whole_steps<'a>(
     steps_of_three(room, at, run)
 }
 
+#[inline(always)]
 fn steps_of_three<'a>(
     room: &mut Vec<Point>,
     at: &mut Point,
@@ -223,12 +262,21 @@ fn put_back(room: &mut Vec<Point>, points: Vec<Point>)
 fn emptied(room: &mut Vec<Point>, bytes: usize, domain: Domain) -> bool
     ensures { room.new.items ≡ [] }
 {
-    room.clear();
-    if bytes <= room.capacity() {
+    if cleared_for(room, bytes) {
         return false;
     }
     let places = bytes.div_ceil(usize::from(domain.multi()));
     room.reserve_exact(places).is_err()
+}
+
+/// Empties the room, and says whether it has so many places.
+#[inline(always)]
+fn cleared_for(room: &mut Vec<Point>, places: usize) -> bool
+    ensures items { room.new.items ≡ [] }
+    ensures places { result ≡ nat_le places (vec_capacity room.new) }
+{
+    room.clear();
+    places <= room.capacity()
 }
 
 /// Want of memory, where a point had no room.

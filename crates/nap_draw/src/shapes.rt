@@ -1,22 +1,29 @@
 //! ARC and POLYGON, and their SET forms.
-ghost use Rattle.std.specs.Prelude.{◌≡◌, ◌<◌, ◌≤◌, ◌∷◌, Some, length};
+ghost use Rattle.std.specs.Prelude.{◌≡◌, ◌<◌, ◌≤◌, ◌∷◌, Some, length, nat_lt};
 ghost use Rattle.nap_values.specs.Operands.{carried};
 ghost use Rattle.nap_list.specs.Agreement.{StatesAgree};
 ghost use Rattle.nap_list.specs.Limits.{steps_limit};
 ghost use Rattle.nap_list.specs.Shapes.{outline, shape_on};
+ghost use Rattle.nap_draw.specs.Operands.{moves};
 ghost use Rattle.nap_draw.specs.Rule.{draws_one, shape_from_pen, shape_from_point};
 ghost use Rattle.nap_draw.specs.Doing.{Does, quiet, shape_points};
 
 use crate::fault::DrawFault;
-use crate::operands::count;
 use crate::room::steps_into;
 use crate::work::Work;
 use nap_list::{Pen, SHAPE_POINTS, Shape, ShapeKind, Sink};
-use nap_values::{Point, multi_bytes};
+use nap_values::{Domain, Point, multi_bytes};
 use std::alloc::Global;
 
 /// The most displacements of a shape: its points, but for the one that they go on from.
 const MOST_STEPS: usize = SHAPE_POINTS - 1;
+
+/// Whether the run has more displacements than a shape may have. Nothing is divided for that.
+fn many_steps(domain: Domain, run: &[u8]) -> bool
+    ensures { result ≡ nat_lt steps_limit (length (moves domain.multi (carried run.now))) }
+{
+    run.len() > MOST_STEPS * usize::from(domain.multi())
+}
 
 impl Work {
     /// A shape from the pen on.
@@ -32,11 +39,10 @@ impl Work {
         requires { StatesAgree self.old.state (S.state sink.old) }
         ensures { Does S.Sink quiet (shape_from_pen self.old (carried run.now) (shape_on shape filled) (shape_points shape)) self.old self.new sink.old sink.new result }
     {
-        let count = count(self.domain, run);
-        if count == 0 {
+        if run.is_empty() {
             return Err(DrawFault::Missing);
         }
-        if count > MOST_STEPS {
+        if many_steps(self.domain, run) {
             return Err(DrawFault::ManyPoints);
         }
         let from = self.pen_point()?;
@@ -59,11 +65,10 @@ impl Work {
     {
         let size = self.domain.multi();
         let (first, rest) = run.split_at(usize::from(size).min(run.len()));
-        let count = count(self.domain, rest);
-        if count == 0 {
+        if rest.is_empty() {
             return Err(DrawFault::Missing);
         }
-        if count > MOST_STEPS {
+        if many_steps(self.domain, rest) {
             return Err(DrawFault::ManyPoints);
         }
         let Some(from) = multi_bytes(first).point() else {

@@ -1,33 +1,22 @@
-use Rattle.std.proofs.Common.{[], ◌∷◌, ◌++◌, sym, ◌∙◌, ap, arith}
-use Rattle.nap_values.specs.Coordinates.{moved}
+use Rattle.std.proofs.Common.{◌≡◌, ℕ, false, Some, sym, ◌∙◌, ap, subst, refl, arith}
+use Rattle.std.proofs.lemmas.Bool.Decides.{nat_tests}
+use Rattle.nap_values.specs.Operands.{carried}
+use Rattle.nap_draw.specs.Operands.{moves}
 use Rattle.nap_draw.specs.Geometry.{reached}
-use Rattle.nap_draw.proofs.ByteRuns.{moves_chunk, moves_none}
-use Rattle.nap_draw.proofs.Decoding.{filling_more, filling_none, filled, still_kept, pushed}
-use Rattle.nap_draw.proofs.Turns.{reached_turn, onward_more, onward_none}
+use Rattle.nap_draw.specs.Doing.{Filling}
+use Rattle.nap_draw.proofs.ByteRuns.{moves_none}
+use Rattle.nap_draw.proofs.Decoding.{filling_end}
 use Rattle.nap_draw.proofs.room.steps_into.Goals as goal
 
-pub returns-in_default : goal.returns-in_default
-returns-in_default c =
-    let inv = c.loop-operand.invariant in
-    let steps = c.in-Some.ensures.steps in
-    let cut = moves_chunk c.args.domain.multi _ _ _ _ inv.size (omega (arith, c.multi-size.ensures.value, c.multi-size.ensures.least)) steps.1.0 steps.1.1 steps.1.2 in
-    filling_none _ _ _ _ inv.filling (onward_none _ _ _ (reached_turn _ _ _ _ cut) (sym (c.by.ensures ∙ ap (moved c.loop-operand.at) c.multi_bytes.ensures) ∙ c.in_default.is))
-
-pub loop-operand-preserved : goal.loop-operand-preserved
-loop-operand-preserved c =
-    let inv = c.loop-operand.invariant in
-    let steps = c.in-Some.ensures.steps in
-    let cut = moves_chunk c.args.domain.multi _ _ _ _ inv.size (omega (arith, c.multi-size.ensures.value, c.multi-size.ensures.least)) steps.1.0 steps.1.1 steps.1.2 in
-    record {
-      can = omega (arith, steps.0, inv.can);
-      finite = tt;
-      size = steps.0 ∙ inv.size;
-      filling = filling_more _ _ _ c.in-Some-by.point _ _ _ _ inv.filling
-          (onward_more _ _ _ _ (reached_turn _ _ _ _ cut) (sym (c.by.ensures ∙ ap (moved c.loop-operand.at) c.multi_bytes.ensures) ∙ c.in-Some-by.is))
-          (still_kept _ _)
-          (λ front e kept. pushed _ _ _ _ _ _ c.push.ensures.items c.is_err-full.ensures.value e ∙ ap (λ l. l ++ c.in-Some-by.point ∷ []) kept);
-    }
+pub returns-then-is_empty : goal.returns-then-is_empty
+unfolding reached
+returns-then-is_empty c =
+    let filling = c.in_ok-rest.ensures.ok in
+    let three : c.args.domain.multi ≡ 3 = omega (arith, c.multi.ensures.value, c.if-multi-ne3.false) in
+    ap (λ (k : ℕ). reached c.args.from (moves k (carried c.args.run.now))) three
+    ∙ (filling_end _ _ _ _ filling (ap (reached _) (moves_none 3 c.in_ok-rest.rest.now (grind (arith, nat_tests)))) ∙ ap Some (sym (filling.kept refl)))
 
 pub returns : goal.returns
-unfolding reached
-returns c = filled _ _ _ _ _ _ c.loop-operand.invariant.filling (ap (reached _) (moves_none _ _ c.in-None.ensures.steps.1.0)) (λ front kept. kept) c.settled.ensures.ok c.settled.ensures.err
+returns c =
+    let Whole : ℕ → Type 0 = λ k. Filling (reached c.args.from (moves k (carried c.args.run.now))) (reached c.steps_of_three.new.at (moves k (carried c.in_ok-rest.rest.now))) false (λ front. c.steps_of_three.new.room.items ≡ front) in
+    c.more_steps.ensures _ (subst Whole (omega (arith, c.multi.ensures.value, c.if-multi-ne3.false)) c.in_ok-rest.ensures.ok)

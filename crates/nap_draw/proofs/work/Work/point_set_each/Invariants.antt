@@ -5,7 +5,7 @@ use Rattle.nap_list.specs.State.{with_pen, with_pen_at}
 use Rattle.nap_draw.specs.Operands.{moves}
 use Rattle.nap_draw.specs.Geometry.{end_of, points_at}
 use Rattle.nap_draw.specs.Doing.{Filling}
-use Rattle.nap_draw.proofs.work.Work.point_set_abs.Given as goal
+use Rattle.nap_draw.proofs.work.Work.point_set_each.Given as goal
 
 abbrev pub invariant-loop-operand : goal.invariant-loop-operand
 invariant-loop-operand l = record {
