@@ -1,7 +1,7 @@
-use Rattle.std.proofs.Common.{ℕ, suc, zero, ◌≡◌, ◌<◌, ◌≤◌, ◌+◌, List, [], ◌∷◌, ◌++◌, All, Bool, true, false, length, take, drop, get_or, Option, Some, Ok, refl, ap, ap₂, sym, ◌∙◌, subst, arith, append_assoc, length-append}
+use Rattle.std.proofs.Common.{ℕ, suc, zero, ◌≡◌, ◌<◌, ◌≤◌, ◌+◌, ◌≢◌, List, [], ◌∷◌, ◌++◌, All, Bool, true, false, length, take, drop, get_or, Option, Some, Ok, refl, ap, ap₂, sym, ◌∙◌, subst, arith, append_assoc, length-append}
 use Rattle.std.proofs.lemmas.List.Elements.{All-drop, All-head}
 use Rattle.std.proofs.Math.Seq.{get_or-append_seam}
-use Rattle.std.proofs.lemmas.List.{drop-map, drop-take, get_or-drop, get_or-take, take-append-le, take_all, take_more, length-drop, length-map, length-take-le, nil_from_length, take-append-drop, take-map, take-take}
+use Rattle.std.proofs.lemmas.List.{drop-append-le, drop-map, drop-take, get_or-drop, get_or-take, take-append-le, take_all, take_more, length-drop, length-map, length-take-le, nil_from_length, take-append-drop, take-map, take-take}
 use Rattle.nap_codes.specs.declared.code.Code.{Code}
 use Rattle.nap_codes.specs.declared.code.Code.TheVariants as code
 use Rattle.nap_codes.specs.declared.code_set.CharSet.{CharSet}
@@ -70,8 +70,8 @@ first_of [] bs is some = absurd (omega (arith, some, ap length is))
 first_of (x ∷ zs) bs is some = (x, zs, refl)
 
 -- Nothing was taken.
-pub no_codes : {S : Type 0} (g : Ghosts S) (t : S) (work : Work) (lexer : LexerState) (bytes : List ℕ) → lexer.half ≡ [] → WholeCodes g t work lexer t work lexer false bytes 0
-no_codes g t work lexer bytes none = record {
+pub no_codes : {S : Type 0} (g : Ghosts S) (t : S) (work : Work) (lexer : LexerState) (bytes behind : List ℕ) → lexer.half ≡ [] → WholeCodes g t work lexer t work lexer false bytes behind 0
+no_codes g t work lexer bytes behind none = record {
   within = omega arith;
   rested = none;
   clear = λ works. works;
@@ -87,9 +87,11 @@ no_codes g t work lexer bytes none = record {
           run = λ n all before. before;
           passes = λ s o pending k.
               subst (λ (h : Holding). Continues g s o t h pending) (sym same) (subst (λ (ys : List Placed). Continues g s o t h (ys ++ pending)) empty k);
+          none = λ _. (refl, same);
         };
         acted = as_it_was refl refl;
         typed = λ set chars. (refl, refl);
+        none = λ _. (refl, same);
       };
 }
 
@@ -119,33 +121,49 @@ place_last [] x at is = rw (sym is) refl
 place_last (y ∷ ys) x at is = rw (sym is) (place_last ys x (length ys) refl)
 
 -- Where codes stop is in the bytes.
-pub codes_stop_within : {S : Type 0} (g : Ghosts S) (t : S) (work : Work) (lexer : LexerState) (u : S) (bytes : List ℕ) (count index : ℕ) (fault : Fault) → CodesStop g t work lexer u bytes count index fault →
-    (count ≤ length bytes) × (index < count)
-codes_stop_within g t work lexer u bytes count index fault (with_byte before is within least stops) = (within, omega (arith, is, least))
-codes_stop_within g t work lexer u bytes count index fault (in_characters before taken text there is front within stops) = (within, omega (arith, is))
+pub codes_stop_within : {S : Type 0} (g : Ghosts S) (t : S) (work : Work) (lexer : LexerState) (u : S) (bytes behind : List ℕ) (count index : ℕ) (fault : Fault) → CodesStop g t work lexer u bytes behind count index fault →
+    (count ≤ length bytes + 1) × (count ≤ length (bytes ++ behind)) × (index < count) × (index < length bytes)
+codes_stop_within g t work lexer u bytes behind count index fault (with_byte before is within few least there stops) = (omega (arith, is, within), few, omega (arith, is, least), there)
+codes_stop_within g t work lexer u bytes behind count index fault (in_characters before taken text there is front within stops) =
+    (omega (arith, within), omega (arith, within, length-append bytes behind), omega (arith, is), omega (arith, is, within))
 
 -- Whole codes were taken, and then one more, of so many bytes.
-module _ {S : Type 0} (g : Ghosts S) (t : S) (work : Work) (lexer : LexerState) (u : S) (work' : Work) (lexer' : LexerState) (bytes : List ℕ) (at n : ℕ) (more : TookMore g) (some : 0 < n)
-    (few : n ≤ length (drop at bytes)) (before : WholeCodes g t work lexer u work' lexer' false bytes at) where
+module _ {S : Type 0} (g : Ghosts S) (t : S) (work : Work) (lexer : LexerState) (u : S) (work' : Work) (lexer' : LexerState) (bytes behind : List ℕ) (at n : ℕ) (more : TookMore g) (some : 0 < n)
+    (few : n ≤ length (drop at bytes)) (before : WholeCodes g t work lexer u work' lexer' false bytes behind at) where
+  -- with those behind them
+  abbrev all : List ℕ
+  all = bytes ++ behind
+
+  -- the code's bytes are none of those
+  in_bytes : take n (drop at all) ≡ take n (drop at bytes)
+  in_bytes = ap (take n) (drop-append-le at bytes behind before.within) ∙ take-append-le n (drop at bytes) behind few
+
+  within : at + n ≤ length bytes
+  within = omega (arith, few, before.within, length-drop at bytes)
+
+  -- they are some
+  not_none : (xs : List Placed) → bytes_of xs ≡ take (at + n) all → xs ≢ []
+  not_none xs is none = absurd (omega (arith, some, ap length (sym is), ap (λ (xs : List Placed). length (bytes_of xs)) none, length-take-le (at + n) all (omega (arith, within, length-append bytes behind))))
+
   -- what the code's bytes come to, by its first one
-  module _ (h : Holding) (xs : List Placed) (rested : IsRested h work lexer) (is : bytes_of xs ≡ take (at + n) bytes) where
+  module _ (h : Holding) (xs : List Placed) (rested : IsRested h work lexer) (is : bytes_of xs ≡ take (at + n) all) where
     abbrev h' : Holding
     h' = with_codes h work' lexer' false
 
-    parts : (xs ≡ take at xs ++ drop at xs) × (bytes_of (take at xs) ≡ take at bytes) × (bytes_of (drop at xs) ≡ take n (drop at bytes))
-    parts = parts_of xs bytes at n is
+    parts : (xs ≡ take at xs ++ drop at xs) × (bytes_of (take at xs) ≡ take at all) × (bytes_of (drop at xs) ≡ take n (drop at bytes))
+    parts = let p = parts_of xs all at n is in (p.0, p.1, p.2 ∙ in_bytes)
 
-    pub led : LeadsOn g t h u h' (take at xs) (drop at bytes)
+    pub led : LeadsOn g t h u h' (take at xs) (drop at all)
     led = before.leads h (take at xs) rested parts.1
 
     pub code_first : (x : Placed) × (zs : List Placed) × (drop at xs ≡ x ∷ zs)
     code_first = first_of (drop at xs) (take n (drop at bytes)) parts.2 (omega (arith, some, few, length-take-le n (drop at bytes) few))
 
-    first_is : (b : ℕ) (bs : List ℕ) → drop at bytes ≡ b ∷ bs → code_first.0.byte ≡ b
+    first_is : (b : ℕ) (bs : List ℕ) → drop at all ≡ b ∷ bs → code_first.0.byte ≡ b
     first_is b bs next =
         sym (ap (λ (ys : List Placed). get_or (bytes_of ys) 0 0) code_first.2)
-        ∙ ap (λ (ys : List ℕ). get_or ys 0 0) parts.2
-        ∙ get_or-take n (drop at bytes) 0 0 (omega (arith, some, few))
+        ∙ ap (λ (ys : List ℕ). get_or ys 0 0) (parts.2 ∙ sym in_bytes)
+        ∙ get_or-take n (drop at all) 0 0 (omega (arith, some))
         ∙ ap (λ (ys : List ℕ). get_or ys 0 0) next
 
     -- what was taken before leads on to them
@@ -153,15 +171,15 @@ module _ {S : Type 0} (g : Ghosts S) (t : S) (work : Work) (lexer : LexerState) 
     leads_to_code s o pending k =
         let conveyed = led.conveys.passes s o (drop at xs ++ pending) (subst (Continues g s o t h) (ap (λ (ys : List Placed). ys ++ pending) parts.0 ∙ append_assoc (take at xs) (drop at xs) pending) k) in
         subst (λ (ys : List Placed). Continues g s o u h' (ys ++ pending)) (sym code_first.2)
-        (passes_acted g led.conveys.sink led.conveys.holding u h' (drop at bytes) code_first.0 more first_is led.acted s o (code_first.1 ++ pending)
+        (passes_acted g led.conveys.sink led.conveys.holding u h' (drop at all) code_first.0 more first_is led.acted s o (code_first.1 ++ pending)
         (subst (λ (ys : List Placed). Continues g s o led.conveys.sink led.conveys.holding (ys ++ pending)) code_first.2 conveyed))
 
   -- It acts at once.
   pub codes_more : (v : S) (work'' : Work) (lexer'' : LexerState) (clears : Bool) → lexer''.half ≡ [] → (g.failed u ≡ false → g.failed v ≡ false) →
       ((h : Holding) (ys : List Placed) → IsRested h work' lexer' → bytes_of ys ≡ take n (drop at bytes) → Passes g u h ys v (with_codes h work'' lexer'' clears) []) →
-      WholeCodes g t work lexer v work'' lexer'' clears bytes (at + n)
+      WholeCodes g t work lexer v work'' lexer'' clears bytes behind (at + n)
   codes_more v work'' lexer'' clears none clear acts = record {
-    within = omega (arith, few, before.within, length-drop at bytes);
+    within = within;
     rested = none;
     clear = λ works. clear (before.clear works);
     leads = λ h xs rested is. record {
@@ -171,18 +189,20 @@ module _ {S : Type 0} (g : Ghosts S) (t : S) (work : Work) (lexer : LexerState) 
         left = refl;
         run = λ m all before. before;
         passes = λ s o pending k.
-            acts (with_codes h work' lexer' false) (drop at xs) (record { between = rested.between; closed = rested.closed; work = refl; sets = refl; half = before.rested; run = rested.run }) (parts_of xs bytes at n is).2 s o pending
+            acts (with_codes h work' lexer' false) (drop at xs) (record { between = rested.between; closed = rested.closed; work = refl; sets = refl; half = before.rested; run = rested.run }) ((parts_of xs all at n is).2 ∙ in_bytes) s o pending
             (leads_to_code h xs rested is s o pending k);
+        none = λ empty. absurd (not_none xs is empty);
       };
       acted = as_it_was refl refl;
       typed = λ set chars. (refl, refl);
+      none = λ empty. absurd (not_none xs is empty);
     };
   }
 
   -- Characters act.
   pub codes_text : (set : CharSet) (text : List ℕ) (v : S) (work'' : Work) → take n (drop at bytes) ≡ text → All IsTyped text →
       ((b : ℕ) → IsGraphic b → codes.front lexer'.sets (b ∷ []) ≡ codes.whole (code.Char set b) 1 lexer'.sets) → work'' ≡ (drawn work' (draws_codes.text work'.state set text)).work →
-      g.took u (draws_codes.text work'.state set text) v → (g.failed u ≡ false → g.failed v ≡ false) → WholeCodes g t work lexer v work'' lexer' false bytes (at + n)
+      g.took u (draws_codes.text work'.state set text) v → (g.failed u ≡ false → g.failed v ≡ false) → WholeCodes g t work lexer v work'' lexer' false bytes behind (at + n)
   codes_text set text v work'' unit typed chars same took clear =
       codes_more v work'' lexer' false before.rested clear
       (λ h ys rested is s o pending k.
@@ -210,7 +230,7 @@ module _ {S : Type 0} (g : Ghosts S) (t : S) (work : Work) (lexer : LexerState) 
     )
 
     pub codes_step : (v : S) (entries : List Entry) (work'' : Work) → kind_of c ≡ kinds.Acts c → sets ≡ lexer'.sets → code_rule work' c ≡ Ok (record { entries = entries; work = work''; clears = false }) → g.took u entries v →
-        (g.failed u ≡ false → g.failed v ≡ false) → WholeCodes g t work lexer v work'' lexer' false bytes (at + n)
+        (g.failed u ≡ false → g.failed v ≡ false) → WholeCodes g t work lexer v work'' lexer' false bytes behind (at + n)
     codes_step v entries work'' kind same by took clear =
         codes_more v work'' lexer' false before.rested clear
         (λ h ys rested is s o pending k.
@@ -225,7 +245,7 @@ module _ {S : Type 0} (g : Ghosts S) (t : S) (work : Work) (lexer : LexerState) 
         (acts g s o u h rested.between rested.closed x pending k' c 1 sets whole.0 whole.1 c kind
         ∙ ap (drawn_front (record h.machine { sets = sets }) x.place pending) (ap (λ (w : Work). code_rule w c) rested.work ∙ by)) took clear))
 
-    pub codes_shift : (lexer'' : LexerState) → kind_of c ≡ kinds.AddsNothing → lexer'' ≡ record { sets = sets; half = [] } → WholeCodes g t work lexer u work' lexer'' false bytes (at + n)
+    pub codes_shift : (lexer'' : LexerState) → kind_of c ≡ kinds.AddsNothing → lexer'' ≡ record { sets = sets; half = [] } → WholeCodes g t work lexer u work' lexer'' false bytes behind (at + n)
     codes_shift lexer'' kind same =
         codes_more u work' lexer'' false (ap (λ (l : LexerState). l.half) same) (λ works. works)
         (λ h ys rested is s o pending k.
@@ -245,14 +265,14 @@ module _ {S : Type 0} (g : Ghosts S) (t : S) (work : Work) (lexer : LexerState) 
     abbrev pub open_at : Holding → Placed → Holding
     open_at h x = record (with_codes h work' lexer' false) { open_run = Some (record { op = op; place = x.place }); run = words ws }
 
-    opcode_and_run : (h : Holding) (xs : List Placed) (rested : IsRested h work lexer) (is : bytes_of xs ≡ take (at + n) bytes) →
+    opcode_and_run : (h : Holding) (xs : List Placed) (rested : IsRested h work lexer) (is : bytes_of xs ≡ take (at + n) all) →
         ((code_first h xs rested is).0.byte ≡ byte) × (bytes_of (code_first h xs rested is).1 ≡ ws)
     opcode_and_run h xs rested is =
         let first = code_first h xs rested is in
-        let all : first.0.byte ∷ bytes_of first.1 ≡ byte ∷ ws = sym (ap bytes_of first.2) ∙ (parts_of xs bytes at n is).2 ∙ unit in
+        let all : first.0.byte ∷ bytes_of first.1 ≡ byte ∷ ws = sym (ap bytes_of first.2) ∙ (parts_of xs all at n is).2 ∙ in_bytes ∙ unit in
         (ap (λ (ys : List ℕ). get_or ys 0 0) all, ap (drop 1) all)
 
-    pub opens : (h : Holding) (xs : List Placed) (rested : IsRested h work lexer) (is : bytes_of xs ≡ take (at + n) bytes) → Conveys g t h xs
+    pub opens : (h : Holding) (xs : List Placed) (rested : IsRested h work lexer) (is : bytes_of xs ≡ take (at + n) all) → Conveys g t h xs
     opens h xs rested is =
         let x = (code_first h xs rested is).0 in
         let ys = (code_first h xs rested is).1 in
@@ -272,16 +292,17 @@ module _ {S : Type 0} (g : Ghosts S) (t : S) (work : Work) (lexer : LexerState) 
               (subst (λ (half : List ℕ). Continues g s o u (record h' { open_run = Some (record { op = op; place = x.place }); half = half; run = words (bytes_of ys) }) pending) (sym before.rested)
               (words_join g s o u (record { op = op; place = x.place }) ys pending (record h' { half = []; open_run = Some (record { op = op; place = x.place }); run = [] }) rested.between refl opened
               (subst (All (λ b. is_operand_byte b ≡ true)) (sym parts.1) operands) (omega (arith, short, ap length parts.1, length-map ys (λ (x : Placed). x.byte)))));
+          none = λ empty. absurd (not_none xs is empty);
         }
       where
         all_drop : (m i : ℕ) (xs : List Placed) → All (IsAt m) xs → All (IsAt m) (drop i xs)
         all_drop m i xs all = All-drop (IsAt m) i xs all
 
-    pub codes_run : (v : S) (drawn : Drawn) (b : ℕ) (bs : List ℕ) → IsGraphic byte → drop (at + n) bytes ≡ b ∷ bs → is_operand_byte b ≡ false → rule work' op (words ws) ≡ Ok drawn → g.took u drawn.entries v →
-        (g.failed u ≡ false → g.failed v ≡ false) → WholeCodes g t work lexer v drawn.work lexer' drawn.clears bytes (at + n)
+    pub codes_run : (v : S) (drawn : Drawn) (b : ℕ) (bs : List ℕ) → IsGraphic byte → drop (at + n) all ≡ b ∷ bs → is_operand_byte b ≡ false → rule work' op (words ws) ≡ Ok drawn → g.took u drawn.entries v →
+        (g.failed u ≡ false → g.failed v ≡ false) → WholeCodes g t work lexer v drawn.work lexer' drawn.clears bytes behind (at + n)
     unfolding opens
     codes_run v drawn b bs graphic next other by took clear = record {
-      within = omega (arith, few, before.within, length-drop at bytes);
+      within = within;
       rested = before.rested;
       clear = λ works. clear (before.clear works);
       leads = λ h xs rested is.
@@ -299,17 +320,18 @@ module _ {S : Type 0} (g : Ghosts S) (t : S) (work : Work) (lexer : LexerState) 
               holds = ap₂ (λ (open_run : Option OpenRun) (run : List ℕ). record (with_codes h drawn.work lexer' drawn.clears) { open_run = open_run; run = run }) rested.closed rested.run;
             });
             typed = λ set chars. let bad : codes.whole (code.Op op) 1 lexer'.sets ≡ codes.whole (code.Char set byte) 1 lexer'.sets = sym front ∙ chars byte graphic in cc;
+            none = λ empty. absurd (not_none xs is empty);
           };
     }
 
     -- The opcode is refused, or breaks, with the byte behind its run.
-    pub codes_stop_run : (v : S) (fault : DrawFault) (b : ℕ) (bs : List ℕ) → drop (at + n) bytes ≡ b ∷ bs → is_operand_byte b ≡ false →
-        DrawsBy g.took g.broke g.failed (rule work' op (words ws)) u v fault (draws.cause_of fault) → CodesStop g t work lexer v bytes (at + n + 1) at (draw_fault fault)
+    pub codes_stop_run : (v : S) (fault : DrawFault) (b : ℕ) (bs : List ℕ) → drop (at + n) all ≡ b ∷ bs → is_operand_byte b ≡ false →
+        DrawsBy g.took g.broke g.failed (rule work' op (words ws)) u v fault (draws.cause_of fault) → CodesStop g t work lexer v bytes behind (at + n + 1) at (draw_fault fault)
     unfolding opens
     codes_stop_run v fault b bs next other drew =
-        with_byte (at + n) refl (omega (arith, ap length next, length-drop (at + n) bytes)) (omega arith)
+        with_byte (at + n) refl within (omega (arith, ap length next, length-drop (at + n) all)) (omega arith) (omega (arith, some, within))
         (λ h xs x rested is.
-        let split = last_of xs x bytes (at + n) b bs is next in
+        let split = last_of xs x all (at + n) b bs is next in
         let first = code_first h xs rested split.0 in (
           opens h xs rested split.0,
           stops_run g u (open_at h first.0) x v _ (ap is_operand_byte split.1 ∙ other) (record {
@@ -326,31 +348,32 @@ module _ {S : Type 0} (g : Ghosts S) (t : S) (work : Work) (lexer : LexerState) 
   pub codes_stop_step : (c : Code) (byte : ℕ) (v : S) (fault : DrawFault) → n ≡ 1 → take 1 (drop at bytes) ≡ byte ∷ [] →
       codes.front lexer'.sets (byte ∷ []) ≡ codes.whole c 1 lexer'.sets → kind_of c ≡ kinds.Acts c → TookBroke g → WantsMore g →
       DrawsBy g.took g.broke g.failed (code_rule work' c) u v fault (draws.cause_of fault) → (fault ≡ draw_faults.Memory → WantsBy g (code_rule work' c) u v) → (fault ≡ draw_faults.Sink → GivesSome (code_rule work' c)) →
-      CodesStop g t work lexer v bytes (at + 1) at (draw_fault fault)
+      CodesStop g t work lexer v bytes behind (at + 1) at (draw_fault fault)
   codes_stop_step c byte v fault one unit front kind broken law drew wants gives =
-      with_byte at refl (omega (arith, few, some, before.within, length-drop at bytes)) (omega arith)
+      with_byte at refl before.within (omega (arith, some, within, length-append bytes behind)) (omega arith) (omega (arith, some, within))
       (λ h xs x rested is.
-      let split = last_of xs x bytes at byte (drop 1 (drop at bytes)) is (sym (take-append-drop 1 (drop at bytes)) ∙ ap (λ (ys : List ℕ). ys ++ drop 1 (drop at bytes)) unit) in
+      let unit : take 1 (drop at all) ≡ byte ∷ [] = ap (λ (k : ℕ). take k (drop at all)) (sym one) ∙ in_bytes ∙ ap (λ (k : ℕ). take k (drop at bytes)) one ∙ unit in
+      let split = last_of xs x all at byte (drop 1 (drop at all)) is (sym (take-append-drop 1 (drop at all)) ∙ ap (λ (ys : List ℕ). ys ++ drop 1 (drop at all)) unit) in
       let h' = with_codes h work' lexer' false in
       let there = before.leads h xs rested split.0 in
       let whole : codes.front lexer'.sets (lexer'.half ++ x.byte ∷ []) ≡ codes.whole c 1 lexer'.sets =
       ap (λ (half : List ℕ). codes.front lexer'.sets (half ++ x.byte ∷ [])) before.rested ∙ ap (λ (b : ℕ). codes.front lexer'.sets (b ∷ [])) split.1 ∙ front in
       let len : 1 ≡ length (lexer'.half ++ x.byte ∷ []) = sym (ap (λ (half : List ℕ). length (half ++ x.byte ∷ [])) before.rested) in (
         there.conveys,
-        subst (λ (place : ℕ). StopsByte g there.conveys.sink there.conveys.holding x v (refusal (draw_fault fault) place)) (sym (place_last xs x at (omega (arith, ap length split.0, length-map xs (λ (x : Placed). x.byte), length-take-le at bytes before.within))))
-            (stops_acted g there.conveys.sink there.conveys.holding u h' (drop at bytes) x more
-            (λ b bs next. split.1 ∙ ap (λ (ys : List ℕ). get_or ys 0 0) (sym unit) ∙ get_or-take 1 (drop at bytes) 0 0 (omega arith) ∙ ap (λ (ys : List ℕ). get_or ys 0 0) next) there.acted v (refusal (draw_fault fault) x.place)
+        subst (λ (place : ℕ). StopsByte g there.conveys.sink there.conveys.holding x v (refusal (draw_fault fault) place)) (sym (place_last xs x at (omega (arith, ap length split.0, length-map xs (λ (x : Placed). x.byte), length-take-le at all (omega (arith, before.within, length-append bytes behind))))))
+            (stops_acted g there.conveys.sink there.conveys.holding u h' (drop at all) x more
+            (λ b bs next. split.1 ∙ ap (λ (ys : List ℕ). get_or ys 0 0) (sym unit) ∙ get_or-take 1 (drop at all) 0 0 (omega arith) ∙ ap (λ (ys : List ℕ). get_or ys 0 0) next) there.acted v (refusal (draw_fault fault) x.place)
             (stops_code g u h' x v h'.machine (code_rule work' c) rested.closed (λ s o pending k. acts g s o u h' rested.between rested.closed x pending k c 1 lexer'.sets whole len c kind) more broken law fault drew wants gives)),
       ))
 
   -- One of the characters that come isn't taken, or breaks.
   pub codes_stop_text : (set : CharSet) (text : List ℕ) (taken : ℕ) (v : S) (fault : SinkFault) → take (length text) (drop at bytes) ≡ text → 0 < length text → All IsTyped text →
       ((b : ℕ) → IsGraphic b → codes.front lexer'.sets (b ∷ []) ≡ codes.whole (code.Char set b) 1 lexer'.sets) → HaltsAfter (shows_of g) (draws_codes.text work'.state set text) u v taken fault →
-      taken < length text → length text ≤ length (drop at bytes) → CodesStop g t work lexer v bytes (at + taken + 1) (at + taken) (draw_fault (fault_of fault))
+      taken < length text → length text ≤ length (drop at bytes) → CodesStop g t work lexer v bytes behind (at + taken + 1) (at + taken) (draw_fault (fault_of fault))
   codes_stop_text set text taken v fault unit some typed chars halts less long =
       in_characters at taken text refl refl unit (omega (arith, less, long, before.within, length-drop at bytes))
       (λ h xs place rested is.
-      let there = before.leads h xs rested is in
+      let there = before.leads h xs rested (is ∙ sym (take-append-le at bytes behind before.within)) in
       let same = there.typed set chars in (
         there.conveys,
         subst (λ (t : S). StopsText g t there.conveys.holding text taken v (refusal (draw_fault (fault_of fault)) place)) same.0

@@ -1,15 +1,18 @@
-use Rattle.std.proofs.Common.{ℕ, ◌≡◌, ◌≢◌, ◌<◌, ◌≤◌, ◌+◌, ◌-◌, suc, zero, List, [], ◌∷◌, ◌++◌, length, take, drop, None, Some, false, refl, ap, sym, ◌∙◌, subst, arith, append_assoc, length-append}
+use Rattle.std.proofs.Common.{ℕ, ◌≡◌, ◌≢◌, ◌<◌, ◌≤◌, ◌+◌, ◌-◌, suc, zero, List, [], ◌∷◌, ◌++◌, length, take, drop, get_or, None, Some, false, refl, ap, ap₂, sym, ◌∙◌, subst, arith, append_assoc, append-nil, length-append}
 use Rattle.std.specs.Prelude.{slice_get}
-use Rattle.std.proofs.lemmas.List.{drop-drop, length-drop, length-take-le, map-append, take-append-drop}
+use Rattle.std.proofs.lemmas.List.{drop-drop, drop_at, drop_more, length-drop, length-take-le, map-append, nil_from_length, take-append-drop, take-append-le, take_at}
+use Rattle.std.proofs.lemmas.List.Elements.{All-pop}
+use Rattle.std.proofs.Math.Seq.{get_or-append_seam}
 use Rattle.nap_list.specs.declared.sink.Sink.{Ghosts}
 use Rattle.nap_reader.specs.declared.frames.Frame.{Frame}
 use Rattle.nap_reader.specs.declared.reader.Reader.{Reader}
-use Rattle.nap_reader.specs.Framed.{Comes, FramesIn, MovesOn, placed_at, unread}
+use Rattle.nap_reader.specs.Framed.{Comes, FramesIn, Innermost, IsFrame, MovesOn, all_next, behind, placed_at, unread}
 use Rattle.nap_reader.specs.Holding.{Continues, Holding, frames_left, holding_of}
 use Rattle.nap_reader.specs.Pieces.{TakesCodes}
 use Rattle.nap_reader.specs.Steps.{Came, Stretches, TakesBytes, as_it_was, of_body, of_piece}
+use Rattle.nap_reader.specs.Stored.{part}
 use Rattle.nap_reader.specs.Stream.{Placed, all_at, bytes_of, place_at, placed_from}
-use Rattle.nap_reader.proofs.FrameLemmas.{frames-unread, innermost-first, last-frame, length-part, skipped_count}
+use Rattle.nap_reader.proofs.FrameLemmas.{frames-unread, innermost-first, last-frame, length-part, skipped_count, unread-push}
 use Rattle.nap_reader.proofs.StreamLemmas.{bytes_of-all_at, bytes_of-append, bytes_of-placed, length-all_at}
 
 -- What comes next, and what was taken of it.
@@ -151,6 +154,140 @@ comes_first frames piece at fed (c ∷ text) place (in_piece empty all here with
     let same : c ≡ b = cc in
     (text, ap (λ (xs : List Placed). bytes_of xs ++ drop at piece) empty ∙ sym all ∙ ap (λ (c : ℕ). c ∷ text) same)
 
+-- these come first of all
+source_next : (frames : List Placed) (piece : List ℕ) (at fed : ℕ) (text : List ℕ) (place : ℕ) → Source frames piece at fed text place → (more : List ℕ) × (bytes_of frames ++ drop at piece ≡ text ++ more)
+source_next frames piece at fed text place (in_frames rest is) = (
+  bytes_of rest ++ drop at piece,
+  ap (λ (xs : List Placed). bytes_of xs ++ drop at piece) is
+      ∙ ap (λ (bs : List ℕ). bs ++ drop at piece) (bytes_of-append (all_at place text) rest ∙ ap (λ (bs : List ℕ). bs ++ bytes_of rest) (bytes_of-all_at place text))
+      ∙ append_assoc text (bytes_of rest) (drop at piece),
+)
+source_next frames piece at fed text place (in_piece empty all here within) =
+    ([], ap (λ (xs : List Placed). bytes_of xs ++ drop at piece) empty ∙ sym all ∙ sym (append-nil text))
+
+-- and behind them comes what is behind
+pub text_and_behind : (stored : List ℕ) (frames : List Frame) → FramesIn (length stored) frames → (piece text : List ℕ) (at fed place : ℕ) → at ≤ length piece → Comes stored frames piece at fed text place →
+    text ++ behind stored frames piece at text ≡ all_next stored frames piece at
+text_and_behind stored frames framed piece text at fed place within comes =
+    let next = source_next (unread stored frames) piece at fed text place (source_of stored frames framed piece text at fed place within comes) in
+    ap (λ (bs : List ℕ). bs ++ behind stored frames piece at text) (sym (ap (take (length text)) next.1 ∙ take_at text next.0 (length text) refl)) ∙ take-append-drop (length text) (all_next stored frames piece at)
+
+-- frames that are some have a last one
+last_parts : (first : Frame) (others : List Frame) → (before : List Frame) × (frame : Frame) × (first ∷ others ≡ before ++ frame ∷ [])
+last_parts first [] = ([], first, refl)
+last_parts first (next ∷ others) = let parts = last_parts next others in (first ∷ parts.0, parts.1, ap (λ (frames : List Frame). first ∷ frames) parts.2)
+
+-- What comes behind the innermost body.
+behind_body : (stored : List ℕ) (frames : List Frame) (piece text : List ℕ) (at place : ℕ) (inner : Innermost stored frames text place) →
+    behind stored frames piece at text ≡ bytes_of (unread stored inner.before) ++ drop at piece
+behind_body stored frames piece text at place inner =
+    let outer = unread stored inner.before in
+    ap (λ (xs : List Placed). drop (length text) (bytes_of xs ++ drop at piece))
+    (ap (unread stored) inner.last ∙ unread-push stored inner.before inner.frame ∙ ap₂ (λ (m : ℕ) (bs : List ℕ). all_at m bs ++ outer) (sym inner.place_is) (sym inner.text_is))
+    ∙ ap (drop (length text))
+    (ap (λ (bs : List ℕ). bs ++ drop at piece) (bytes_of-append (all_at place text) outer ∙ ap (λ (bs : List ℕ). bs ++ bytes_of outer) (bytes_of-all_at place text)) ∙ append_assoc text (bytes_of outer) (drop at piece))
+    ∙ drop_at text (bytes_of outer ++ drop at piece) (length text) refl
+
+-- a body's bytes, by the first
+first_of_part : (stored : List ℕ) (next end : ℕ) → next < end → end ≤ length stored → part stored next end ≡ get_or stored next 0 ∷ take (end - next - 1) (drop (next + 1) stored)
+first_of_part stored next end some within =
+    let one_more : end - next ≡ suc (end - next - 1) = omega (arith, some) in
+    ap (λ (n : ℕ). take n (drop next stored)) one_more ∙ ap (take (suc (end - next - 1))) (drop_more stored next 0 (omega (arith, some, within)))
+
+-- the next byte of the body outside it
+pub behind_in_body : (stored : List ℕ) (frames : List Frame) → FramesIn (length stored) frames → (piece text : List ℕ) (at place : ℕ) → Innermost stored frames text place → (d : Frame) → 1 < length frames →
+    (rest : List ℕ) × (behind stored frames piece at text ≡ get_or stored (get_or frames (length frames - 2) d).next 0 ∷ rest)
+behind_in_body stored frames framed piece text at place inner d more = by inner.before refl
+  where
+    by : (before : List Frame) → inner.before ≡ before → (rest : List ℕ) × (behind stored frames piece at text ≡ get_or stored (get_or frames (length frames - 2) d).next 0 ∷ rest)
+    by [] none = absurd (omega (arith, more, ap length inner.last, ap (λ (fs : List Frame). length (fs ++ inner.frame ∷ [])) none))
+    by (first ∷ others) is =
+        let parts = last_parts first others in
+        let outer = parts.1 in
+        let all : frames ≡ parts.0 ++ outer ∷ inner.frame ∷ [] = inner.last ∙ ap (λ (fs : List Frame). fs ++ inner.frame ∷ []) (is ∙ parts.2) ∙ append_assoc parts.0 (outer ∷ []) (inner.frame ∷ []) in
+        let there : length frames - 2 ≡ length parts.0 = omega (arith, ap length all, length-append parts.0 (outer ∷ inner.frame ∷ [])) in
+        let second : get_or frames (length frames - 2) d ≡ outer = ap₂ (λ (fs : List Frame) (i : ℕ). get_or fs i d) all there ∙ get_or-append_seam parts.0 outer (inner.frame ∷ []) d in
+        let kept = All-pop (IsFrame (length stored)) frames inner.before (Some inner.frame) inner.last framed in
+        let framed' = last-frame (length stored) inner.before parts.0 outer (is ∙ parts.2) kept.0 in
+        let bytes = take (outer.end - outer.next - 1) (drop (outer.next + 1) stored) in
+        let front : bytes_of (unread stored inner.before) ≡ get_or stored outer.next 0 ∷ (bytes ++ bytes_of (unread stored parts.0)) =
+        ap (λ (fs : List Frame). bytes_of (unread stored fs)) (is ∙ parts.2) ∙ ap bytes_of (unread-push stored parts.0 outer)
+        ∙ bytes_of-append (all_at outer.place (part stored outer.next outer.end)) (unread stored parts.0)
+        ∙ ap (λ (bs : List ℕ). bs ++ bytes_of (unread stored parts.0)) (bytes_of-all_at outer.place (part stored outer.next outer.end) ∙ first_of_part stored outer.next outer.end framed'.0 framed'.1) in (
+          (bytes ++ bytes_of (unread stored parts.0)) ++ drop at piece,
+          behind_body stored frames piece text at place inner ∙ ap (λ (bs : List ℕ). bs ++ drop at piece) front
+              ∙ ap (λ (f : Frame). get_or stored f.next 0 ∷ ((bytes ++ bytes_of (unread stored parts.0)) ++ drop at piece)) (sym second),
+        )
+
+-- else the next of the piece
+pub behind_in_piece : (stored : List ℕ) (frames : List Frame) (piece text : List ℕ) (at place : ℕ) → Innermost stored frames text place → length frames ≤ 1 → at < length piece →
+    (rest : List ℕ) × (behind stored frames piece at text ≡ get_or piece at 0 ∷ rest)
+behind_in_piece stored frames piece text at place inner one within =
+    let none : inner.before ≡ [] = nil_from_length inner.before (omega (arith, one, ap length inner.last, length-append inner.before (inner.frame ∷ []))) in (
+      drop (at + 1) piece,
+      behind_body stored frames piece text at place inner ∙ ap (λ (fs : List Frame). bytes_of (unread stored fs) ++ drop at piece) none ∙ drop_more piece at 0 within,
+    )
+
+-- What came, and what comes then.
+pub came_next : (frames rest : List Placed) (piece : List ℕ) (at until fed : ℕ) (bytes : List ℕ) (xs : List Placed) → Came frames rest piece at until fed bytes xs →
+    bytes_of frames ++ drop at piece ≡ bytes ++ (bytes_of rest ++ drop until piece)
+came_next frames rest piece at until fed bytes xs (of_body some place is split still) =
+    ap (λ (zs : List Placed). bytes_of zs ++ drop at piece) (split ∙ ap (λ (zs : List Placed). zs ++ rest) is)
+    ∙ ap (λ (bs : List ℕ). bs ++ drop at piece) (bytes_of-append (all_at place bytes) rest ∙ ap (λ (bs : List ℕ). bs ++ bytes_of rest) (bytes_of-all_at place bytes))
+    ∙ append_assoc bytes (bytes_of rest) (drop at piece)
+    ∙ ap (λ (n : ℕ). bytes ++ (bytes_of rest ++ drop n piece)) (sym still)
+came_next frames rest piece at until fed bytes xs (of_piece empty none is front further within) =
+    ap (λ (zs : List Placed). bytes_of zs ++ drop at piece) empty
+    ∙ sym (take-append-drop (length bytes) (drop at piece))
+    ∙ ap₂ (λ (bs cs : List ℕ). bs ++ cs) front (drop-drop (length bytes) at piece ∙ ap (λ (n : ℕ). drop n piece) (sym further))
+    ∙ ap (λ (zs : List Placed). bytes ++ (bytes_of zs ++ drop until piece)) (sym none)
+
+-- how much comes then
+pub came_less : (frames rest : List Placed) (piece : List ℕ) (at until fed counted : ℕ) (bytes : List ℕ) (xs : List Placed) → Came frames rest piece at until fed bytes xs → counted + at ≡ fed + until →
+    length rest + length bytes + fed ≡ length frames + counted
+came_less frames rest piece at until fed counted bytes xs (of_body some place is split still) counts =
+    omega (arith, still, counts, ap length split, ap length is, length-append xs rest, length-all_at place bytes)
+came_less frames rest piece at until fed counted bytes xs (of_piece empty none is front further within) counts =
+    omega (arith, further, counts, ap length empty, ap length none)
+
+-- Some bytes come next.
+some_come : (stored : List ℕ) (frames : List Frame) → FramesIn (length stored) frames → (piece : List ℕ) (at fed : ℕ) → (text : List ℕ) × (place : ℕ) × Comes stored frames piece at fed text place
+some_come stored frames framed piece at fed = by frames refl
+  where
+    by : (fs : List Frame) → frames ≡ fs → (text : List ℕ) × (place : ℕ) × Comes stored frames piece at fed text place
+    by [] is = (drop at piece, fed, record { of_piece = λ _. (refl, refl); of_body = λ some. absurd (some is) })
+    by (first ∷ others) is =
+        let parts = last_parts first others in
+        let some = some_frames stored frames framed first others is in (
+          part stored parts.1.next parts.1.end,
+          parts.1.place,
+          record { of_piece = λ none. absurd (some none); of_body = λ _. record { before = parts.0; frame = parts.1; last = is ∙ parts.2; text_is = refl; place_is = refl } },
+        )
+
+-- The byte that comes next came.
+pub byte_next : (stored : List ℕ) (old new : List Frame) → FramesIn (length stored) old → (piece : List ℕ) (at until fed counted : ℕ) → at ≤ length piece → MovesOn stored old new at until fed counted 1 →
+    (b : ℕ) (bs : List ℕ) → all_next stored old piece at ≡ b ∷ bs →
+    (place : ℕ) × Came (unread stored old) (unread stored new) piece at until fed (b ∷ []) (placed_at b place ∷ []) × (counted + at ≡ fed + until)
+byte_next stored old new framed piece at until fed counted within moves b bs is = by there.0 refl
+  where
+    there : (text : List ℕ) × (place : ℕ) × Comes stored old piece at fed text place
+    there = some_come stored old framed piece at fed
+
+    by : (text : List ℕ) → there.0 ≡ text →
+        (place : ℕ) × Came (unread stored old) (unread stored new) piece at until fed (b ∷ []) (placed_at b place ∷ []) × (counted + at ≡ fed + until)
+    by [] none =
+        let nothing = none_comes stored old framed piece there.0 at fed there.1 within there.2 none in
+        absurd (omega (arith, ap length is, length-append (bytes_of (unread stored old)) (drop at piece), ap (λ (xs : List Placed). length (bytes_of xs)) nothing.0, nothing.1, length-drop at piece))
+    by (c ∷ cs) some =
+        let text = there.0 in
+        let few : 1 ≤ length text = omega (arith, ap length some) in
+        let next = source_next (unread stored old) piece at fed text there.1 (source_of stored old framed piece text at fed there.1 within there.2) in
+        let front : take 1 text ≡ b ∷ [] = sym (take-append-le 1 text next.0 few) ∙ ap (take 1) (sym next.1 ∙ is) in (
+          there.1,
+          byte_came stored old new framed piece at until fed counted text there.1 1 within few there.2 moves b refl front,
+          counted_by stored old new framed piece at until fed counted text there.1 1 within few there.2 moves,
+        )
+
 -- The first of these bytes came, and the others come then.
 pub record Parts (frames : List Placed) (piece : List ℕ) (at fed : ℕ) (text : List ℕ) (place k : ℕ) (source : Source frames piece at fed text place) : Type 0 where
   pub xs : List Placed
@@ -166,7 +303,7 @@ pub record Parts (frames : List Placed) (piece : List ℕ) (at fed : ℕ) (text 
   pub places : (i : ℕ) → place_in then i ≡ place_in source (k + i)
   pub placed : (i : ℕ) → i < k → place_at xs i ≡ place_in source i
 
-place_of_all : (place : ℕ) (bs : List ℕ) (i : ℕ) → i < length bs → place_at (all_at place bs) i ≡ place
+pub place_of_all : (place : ℕ) (bs : List ℕ) (i : ℕ) → i < length bs → place_at (all_at place bs) i ≡ place
 place_of_all place [] i less = absurd (omega (arith, less))
 place_of_all place (b ∷ bs) zero less = refl
 place_of_all place (b ∷ bs) (suc i) less = place_of_all place bs i (omega (arith, less))
@@ -251,8 +388,39 @@ pub takes_no_codes : {S : Type 0} {g : Ghosts S} (old new : Reader S g) (piece :
 takes_no_codes {S} {g} old new piece at within live budget charged fed turns sink holding frames = record {
   taken = takes_none old new piece at within live budget charged fed turns sink frames;
   leads = record {
-    conveys = record { sink = old.sink; holding = holding_of old; left = refl; run = λ n all run. run; passes = λ s o pending k. k };
+    conveys = record { sink = old.sink; holding = holding_of old; left = refl; run = λ n all run. run; passes = λ s o pending k. k; none = λ _. (refl, refl) };
     acted = as_it_was sink holding;
     typed = λ set chars. (sink, holding);
+    none = λ _. (sink, holding);
   };
 }
+
+-- What comes of a body that is being read, and of the piece where none is.
+module _ (stored : List ℕ) (frames : List Frame) (text : List ℕ) (place : ℕ) (inner : Innermost stored frames text place) where
+  pub some_inside : frames ≢ []
+  some_inside none = omega (arith, ap length (sym none ∙ inner.last), length-append inner.before (inner.frame ∷ []))
+
+  pub comes_inside : (piece : List ℕ) (at fed : ℕ) → Comes stored frames piece at fed text place
+  comes_inside piece at fed = record { of_piece = λ none. absurd (some_inside none); of_body = λ _. inner }
+
+  pub few_inside : (n : ℕ) → n ≤ length text → n ≤ length (unread stored frames)
+  few_inside n few =
+      omega (
+        arith,
+        ap (λ (xs : List Placed). length xs) (innermost-first stored frames text place n inner),
+        length-append (all_at place (take n text)) (all_at place (drop n text) ++ unread stored inner.before),
+        length-all_at place (take n text),
+        length-take-le n text few,
+      )
+
+  -- it has a byte to give
+  pub text_inside : FramesIn (length stored) frames → 0 < length text
+  text_inside framed =
+      let is = last-frame (length stored) frames inner.before inner.frame inner.last framed in
+      omega (arith, is.0, ap length inner.text_is, length-part stored inner.frame.next inner.frame.end (omega (arith, is.0)) is.1)
+
+pub comes_outside : (stored : List ℕ) (frames : List Frame) (piece : List ℕ) (at fed : ℕ) (text : List ℕ) → frames ≡ [] → text ≡ drop at piece → Comes stored frames piece at fed text fed
+comes_outside stored frames piece at fed text none is = record { of_piece = λ _. (is, refl); of_body = λ some. absurd (some none) }
+
+pub moves_outside : (stored : List ℕ) (frames : List Frame) (at fed n : ℕ) → frames ≡ [] → MovesOn stored frames frames at (at + n) fed (fed + n) n
+moves_outside stored frames at fed n none = record { of_piece = λ _. (none, refl, refl); of_body = λ some. absurd (some none) }

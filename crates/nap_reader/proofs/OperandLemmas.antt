@@ -1,13 +1,14 @@
 -- Operand bytes at the front, and their words.
-use Rattle.std.proofs.Common.{◌≡◌, ℕ, ◌-◌, ◌%◌, ◌<◌, ◌≤◌, true, leb, ltb, List, [], ◌∷◌, ◌++◌, map, Option, Some, sym, take, length, All, subst, refl, ap, ap₂, ◌∙◌, arith}
-use Rattle.std.proofs.lemmas.List.{length-map, length-take-le, map-append, take-take, get_or-take}
-use Rattle.std.proofs.lemmas.List.Sums.{prefix_len-le-length, prefix_len_passes}
+use Rattle.std.proofs.Common.{◌≡◌, ℕ, ◌-◌, ◌%◌, ◌<◌, ◌≤◌, true, leb, ltb, List, [], ◌∷◌, ◌++◌, map, Option, Some, sym, take, drop, get_or, length, All, subst, refl, ap, ap₂, ◌∙◌, arith, append_assoc}
+use Rattle.std.proofs.lemmas.List.{length-drop, length-map, length-take-le, map-append, take-append-drop, take-take, get_or-drop, get_or-take}
+use Rattle.std.proofs.lemmas.List.Sums.{prefix_len-le-length, prefix_len_passes, prefix_len_stops}
 use Rattle.std.proofs.lemmas.List.Elements.{All-head, All-tail}
 use Rattle.std.proofs.lemmas.Bool.{leb-true, ltb-true, and_parts}
 use Rattle.std.specs.List.{prefix_len}
 use Rattle.nap_values.specs.Operands.{carried}
 use Rattle.nap_reader.specs.declared.reader.OpenRun.{OpenRun}
 use Rattle.nap_reader.specs.Holding.{run_by}
+use Rattle.nap_reader.specs.Steps.{IsOver, IsWholeRun}
 use Rattle.nap_reader.specs.Stream.{is_operand_byte}
 
 pub operands_in_front : (bytes : List ℕ) (n : ℕ) → n ≤ prefix_len is_operand_byte bytes → All (λ b. is_operand_byte b ≡ true) (take n bytes)
@@ -22,6 +23,30 @@ operands_of_part piece most n within counted =
     let front = take most piece in
     let least : n ≤ most = omega (arith, counted, prefix_len-le-length is_operand_byte front, length-take-le most piece within) in
     (least, subst (All (λ b. is_operand_byte b ≡ true)) (take-take n most piece least) (operands_in_front front n (omega (arith, counted))))
+
+-- they are a whole run, where another byte comes behind them
+pub whole_run_is : (piece behind : List ℕ) (n : ℕ) → n ≡ prefix_len is_operand_byte piece → (n ≡ length piece → IsOver behind) → IsWholeRun piece behind (take n piece)
+whole_run_is piece behind n counted over = record {
+  within = omega (arith, length-take-le n piece least, least);
+  operands = operands_in_front piece n (omega (arith, counted));
+  rest = drop n piece ++ behind;
+  front = ap (λ (bs : List ℕ). bs ++ behind) (sym (take-append-drop n piece)) ∙ append_assoc (take n piece) (drop n piece) behind;
+  over = by (drop n piece) refl;
+}
+  where
+    least : n ≤ length piece
+    least = omega (arith, counted, prefix_len-le-length is_operand_byte piece)
+
+    by : (bs : List ℕ) → drop n piece ≡ bs → IsOver (drop n piece ++ behind)
+    by [] none = subst IsOver (ap (λ (bs : List ℕ). bs ++ behind) (sym none)) (over (omega (arith, least, ap length none, length-drop n piece)))
+    by (b ∷ bs) some = record {
+      byte = b;
+      rest = bs ++ behind;
+      is = ap (λ (bs : List ℕ). bs ++ behind) some;
+      other =
+          ap is_operand_byte (ap (λ (bs : List ℕ). get_or bs 0 0) (sym some) ∙ get_or-drop n piece 0 0 ∙ ap (λ (i : ℕ). get_or piece i 0) (omega (arith, counted)))
+          ∙ prefix_len_stops is_operand_byte piece 0 (omega (arith, counted, ap length some, length-drop n piece));
+    }
 
 same_word : (b : ℕ) → is_operand_byte b ≡ true → b % 64 ≡ b - 64
 same_word b is =

@@ -1,4 +1,4 @@
-use Rattle.std.proofs.Common.{ℕ, ◌≡◌, ◌≢◌, ◌<◌, ◌≤◌, ◌+◌, ◌⊎◌, List, [], ◌∷◌, ◌++◌, All, length, take, drop, get_or, None, Some, false, Result, Ok, Err, MatchResult, refl, ap, sym, ◌∙◌, subst, inl, inr, arith, append_assoc, append-nil, length-append, take-add}
+use Rattle.std.proofs.Common.{ℕ, ◌≡◌, ◌≢◌, ◌<◌, ◌≤◌, ◌+◌, ◌-◌, ◌⊎◌, List, [], ◌∷◌, ◌++◌, All, length, take, drop, get_or, None, Some, false, Result, Ok, Err, MatchResult, refl, ap, sym, ◌∙◌, subst, inl, inr, arith, append_assoc, append-nil, length-append, take-add}
 use Rattle.std.proofs.lemmas.List.{drop_all, get_or-drop, get_or-take, length-take-le, take_all}
 use Rattle.std.proofs.lemmas.List.Elements.{All-append, All-cons, All-head, All-nil, All-tail, All-weaker}
 use Rattle.nap_list.specs.declared.entry.Entry.{Entry}
@@ -9,15 +9,16 @@ use Rattle.nap_reader.specs.declared.reader.Reader.{Reader}
 use Rattle.nap_reader.specs.Framed.{placed_at}
 use Rattle.nap_reader.specs.Stream.{Placed, Machine, Outcome, begun, bytes_of, is_operand_byte, outcome_from, placed_from}
 use Rattle.nap_reader.specs.Breaking.{BreaksFrom, cause_of}
-use Rattle.nap_reader.specs.Holding.{Continues, Holding, IsOwn, RunAt, frames_left, holding_of}
-use Rattle.nap_reader.specs.Pieces.{Amid, HasTaken, IsAheadTo, IsTakenTo, LeadsTo, RefusesCodes, RefusesStep, TakesByte, TakesCodes, TakesPiece, TakesStep, at_a_code, by_itself, with_name, Reads}
+use Rattle.nap_reader.specs.Holding.{Continues, Holding, IsOwn, RunAt, frames_left, holding_of, to_come}
+use Rattle.nap_reader.specs.Pieces.{Amid, HasTaken, IsAheadTo, IsTakenTo, LeadsFurther, LeadsTo, RefusesStep, StopsFurther, TakesByte, TakesCodes, TakesPiece, TakesStep, at_a_code, by_itself, next_bytes, with_name, Reads}
 use Rattle.nap_reader.specs.Standing.{IsBroken, IsKnown, Stands, StopsBy}
-use Rattle.nap_reader.specs.Steps.{Acted, Came, Firsts, Nexts, NothingComes, Passes, StopsByte, Stretches, Takes, TakesBytes, ahead, as_it_was, behind_run, of_body, of_piece}
+use Rattle.nap_reader.specs.Steps.{Acted, Came, Conveys, Firsts, Nexts, NothingComes, Passes, StaysInText, StopsByte, Stretches, Takes, TakesBytes, ahead, as_it_was, behind_run, of_body, of_piece}
 use Rattle.nap_reader.proofs.BreakingLemmas.{uses_breaks}
 use Rattle.nap_reader.proofs.LeadsLemmas.{TookBroke, TookMore, leads_entries, leads_left, leads_machine, leads_more, leads_unrefused}
 use Rattle.nap_reader.proofs.PartLemmas.{breaks_behind}
 use Rattle.nap_reader.proofs.StandingLemmas.{TookNone, stands_by, taken_more}
 use Rattle.nap_reader.proofs.StepLemmas.{breaks_code, passes_run}
+use Rattle.nap_reader.proofs.StreamLemmas.{bytes_of-placed}
 
 -- How a piece is taken.
 
@@ -211,15 +212,27 @@ module _ {S : Type 0} {g : Ghosts S} (old : Reader S g) (piece : List ℕ) (at u
     amid = called_by empty none is front moved;
   }
 
+-- the first of the bytes that came is the first of those that come next
+pub first_of : (frames rest : List Placed) (piece : List ℕ) (at until fed : ℕ) (bytes : List ℕ) (xs : List Placed) (x : Placed) (ys : List Placed) (b : ℕ) (bs : List ℕ) → xs ≡ x ∷ ys → bytes_of frames ++ drop at piece ≡ b ∷ bs →
+    Came frames rest piece at until fed bytes xs → x.byte ≡ b
+first_of frames rest piece at until fed bytes xs x ys b bs is next (of_body some place all front same) =
+    ap (λ (zs : List ℕ). get_or zs 0 0) (sym (ap (λ (zs : List Placed). bytes_of zs ++ drop at piece) (front ∙ ap (λ (zs : List Placed). zs ++ rest) is)) ∙ next)
+first_of frames rest piece at until fed bytes xs x ys b bs is next (of_piece empty none all front moved within) =
+    let same : x.byte ∷ bytes_of ys ≡ bytes = sym (ap bytes_of is) ∙ ap bytes_of all ∙ bytes_of-placed fed bytes in
+    ap (λ (zs : List ℕ). get_or zs 0 0) (same ∙ sym front)
+    ∙ get_or-take (length bytes) (drop at piece) 0 0 (omega (arith, ap length same))
+    ∙ ap (λ (zs : List ℕ). get_or zs 0 0) (sym (ap (λ (zs : List Placed). bytes_of zs ++ drop at piece) empty) ∙ next)
+
+-- where none came, those that come next are the same
+pub came_none : (frames rest : List Placed) (piece : List ℕ) (at until fed : ℕ) (bytes : List ℕ) (xs : List Placed) → xs ≡ [] → Came frames rest piece at until fed bytes xs → (rest ≡ frames) × (until ≡ at)
+came_none frames rest piece at until fed bytes xs none (of_body some place all front same) = (sym (front ∙ ap (λ (zs : List Placed). zs ++ rest) none), same)
+came_none frames rest piece at until fed bytes xs none (of_piece empty gone all front moved within) =
+    let same : [] ≡ bytes = sym (ap bytes_of none) ∙ ap bytes_of all ∙ bytes_of-placed fed bytes in (gone ∙ sym empty, omega (arith, moved, ap length same))
+
 -- the byte that came is the first of those that come next
 pub first_came : (frames rest : List Placed) (piece : List ℕ) (at until fed : ℕ) (x : Placed) (b : ℕ) (bs : List ℕ) → bytes_of frames ++ drop at piece ≡ b ∷ bs →
     Came frames rest piece at until fed (x.byte ∷ []) (x ∷ []) → x.byte ≡ b
-first_came frames rest piece at until fed x b bs next (of_body some place all front same) =
-    ap (λ (ys : List ℕ). get_or ys 0 0) (sym (ap (λ (zs : List Placed). bytes_of zs ++ drop at piece) front) ∙ next)
-first_came frames rest piece at until fed x b bs next (of_piece empty none all front moved within) =
-    sym (ap (λ (ys : List ℕ). get_or ys 0 0) front)
-    ∙ get_or-take 1 (drop at piece) 0 0 (omega arith)
-    ∙ ap (λ (ys : List ℕ). get_or ys 0 0) (sym (ap (λ (zs : List Placed). bytes_of zs ++ drop at piece) empty) ∙ next)
+first_came frames rest piece at until fed x b bs next came = first_of frames rest piece at until fed (x.byte ∷ []) (x ∷ []) x [] b bs refl next came
 
 -- What was held leads on to the byte that comes, whether the opcode of the open run has acted or not.
 module _ {S : Type 0} (g : Ghosts S) (t : S) (h : Holding) (u : S) (h' : Holding) (next : List ℕ) (x : Placed) (more : TookMore g) (first : (b : ℕ) (bs : List ℕ) → next ≡ b ∷ bs → x.byte ≡ b) where
@@ -379,26 +392,66 @@ advances_stretch old now new piece at until before by h =
           (subst (λ (n : ℕ). Came (frames_left now) (frames_left new) piece at until n t.bytes t.xs) taken.fed t.came);
     }
 
-pub advances_codes : {S : Type 0} {g : Ghosts S} (old now new : Reader S g) (piece : List ℕ) (at until : ℕ) → old.refusal ≡ None → IsTakenTo old now piece at →
-    TakesCodes now new piece at until → IsAheadTo old new piece until
-advances_codes old now new piece at until before by h =
-    let taken = by.taken in
-    let t = h.taken in
-    let c = h.leads.conveys in
-    record {
-      taken = has_taken old now new piece at until taken t;
-      sink = c.sink;
-      holding = c.holding;
-      leads = λ none.
-          advances old piece at until now.sink c.sink (holding_of now) c.holding (frames_left now) (frames_left new) [] t.bytes t.xs before taken.within (by.leads none) (omega (arith, c.left))
-          (λ n all. All-nil (IsAt n)) c.run (λ some. absurd (omega (arith, some))) c.passes
-          (subst (λ (n : ℕ). Came (frames_left now) (frames_left new) piece at until n t.bytes t.xs) taken.fed t.came);
-      acted = h.leads.acted;
-    }
-
 -- No opcode has acted ahead.
 pub still_to : {S : Type 0} {g : Ghosts S} (old now : Reader S g) (piece : List ℕ) (at : ℕ) → IsTakenTo old now piece at → IsAheadTo old now piece at
-still_to old now piece at by = record { taken = by.taken; sink = now.sink; holding = holding_of now; leads = by.leads; acted = as_it_was refl refl }
+still_to old now piece at by = record { taken = by.taken; sink = now.sink; holding = holding_of now; leads = by.leads; acted = as_it_was refl refl; typed = λ set chars. (refl, refl) }
+
+-- Whole codes came, where an opcode may have acted ahead of them.
+module _ {S : Type 0} {g : Ghosts S} (old now : Reader S g) (piece : List ℕ) (at until : ℕ) (before : old.refusal ≡ None) (more : TookMore g) (by : IsAheadTo old now piece at) (bytes : List ℕ) (xs rest : List Placed)
+    (came : Came (frames_left now) rest piece at until now.fed bytes xs) (c : Conveys g now.sink (holding_of now) xs) where
+  -- some bytes lead on
+  pub leads_past : (x : Placed) (ys : List Placed) → xs ≡ x ∷ ys → frames_left old ≡ [] → LeadsTo old piece until c.sink c.holding rest
+  leads_past x ys is empty =
+      advances old piece at until by.sink c.sink by.holding c.holding (frames_left now) rest [] bytes xs before by.taken.within (by.leads empty)
+      (omega (arith, c.left, left_acted g by.sink by.holding now.sink (holding_of now) (next_bytes now piece at) by.acted)) (λ n all. All-nil (IsAt n))
+      (λ n all run. c.run n all (run_acted g by.sink by.holding now.sink (holding_of now) (next_bytes now piece at) n by.acted run)) (λ some. absurd (omega (arith, some)))
+      (λ s o pending k.
+      c.passes s o pending
+      (subst (λ (zs : List Placed). Continues g s o now.sink (holding_of now) (zs ++ pending)) (sym is)
+      (passes_acted g by.sink by.holding now.sink (holding_of now) (next_bytes now piece at) x more (λ b bs there. first_of (frames_left now) rest piece at until now.fed bytes xs x ys b bs is there came) by.acted s o (ys ++ pending)
+      (subst (λ (zs : List Placed). Continues g s o by.sink by.holding (zs ++ pending)) is k))))
+      (subst (λ (n : ℕ). Came (frames_left now) rest piece at until n bytes xs) by.taken.fed came)
+
+  -- where there is none, all is as it was
+  pub leads_none : xs ≡ [] → frames_left old ≡ [] → LeadsTo old piece until by.sink by.holding rest
+  leads_none none empty =
+      let same = came_none (frames_left now) rest piece at until now.fed bytes xs none came in
+      subst (λ (n : ℕ). LeadsTo old piece n by.sink by.holding rest) (sym same.1) (subst (LeadsTo old piece at by.sink by.holding) (sym same.0) (by.leads empty))
+
+  pub acted_none : xs ≡ [] → Acted g by.sink by.holding now.sink (holding_of now) (bytes_of rest ++ drop until piece)
+  acted_none none =
+      let same = came_none (frames_left now) rest piece at until now.fed bytes xs none came in
+      subst (λ (n : ℕ). Acted g by.sink by.holding now.sink (holding_of now) (bytes_of rest ++ drop n piece)) (sym same.1)
+      (subst (λ (frames : List Placed). Acted g by.sink by.holding now.sink (holding_of now) (bytes_of frames ++ drop at piece)) (sym same.0) by.acted)
+
+module _ {S : Type 0} {g : Ghosts S} (old now new : Reader S g) (piece : List ℕ) (at until : ℕ) (before : old.refusal ≡ None) (more : TookMore g) (by : IsAheadTo old now piece at) (h : TakesCodes now new piece at until) where
+  abbrev c : Conveys g now.sink (holding_of now) h.taken.xs
+  c = h.leads.conveys
+
+  pub advances_codes : IsAheadTo old new piece until
+  advances_codes = at_first h.taken.xs refl
+    where
+      at_first : (xs : List Placed) → h.taken.xs ≡ xs → IsAheadTo old new piece until
+      at_first [] none =
+          let same = h.leads.none none in
+          record {
+            taken = has_taken old now new piece at until by.taken h.taken;
+            sink = by.sink;
+            holding = by.holding;
+            leads = leads_none old now piece at until before more by h.taken.bytes h.taken.xs (frames_left new) h.taken.came c none;
+            acted = subst (λ (t : S). Acted g by.sink by.holding t (holding_of new) (next_bytes new piece until)) (sym same.0)
+                (subst (λ (held : Holding). Acted g by.sink by.holding now.sink held (next_bytes new piece until)) (sym same.1)
+                (acted_none old now piece at until before more by h.taken.bytes h.taken.xs (frames_left new) h.taken.came c none));
+            typed = subst (λ (t : S). StaysInText by.sink by.holding t (holding_of new)) (sym same.0) (subst (λ (held : Holding). StaysInText by.sink by.holding now.sink held) (sym same.1) by.typed);
+          }
+      at_first (x ∷ ys) some = record {
+        taken = has_taken old now new piece at until by.taken h.taken;
+        sink = c.sink;
+        holding = c.holding;
+        leads = leads_past old now piece at until before more by h.taken.bytes h.taken.xs (frames_left new) h.taken.came c x ys some;
+        acted = h.leads.acted;
+        typed = h.leads.typed;
+      }
 
 -- A byte was taken, or a call, and what came next at once.
 module _ {S : Type 0} {g : Ghosts S} (old mid : Reader S g) (piece : List ℕ) (at : ℕ) (x : Placed) (before : old.refusal ≡ None) (more : TookMore g)
@@ -409,8 +462,25 @@ module _ {S : Type 0} {g : Ghosts S} (old mid : Reader S g) (piece : List ℕ) (
 
   pub advances_step : (new : Reader S g) (until : ℕ) → TakesStep mid new piece at until x → IsAheadTo old new piece until
   advances_step new until steps =
-      advances_codes old steps.joined new piece steps.mid until before
-      (advances_stretch old steps.turned steps.joined piece steps.after steps.mid before (advances_call steps.turned steps.after steps.takes) steps.joins) steps.codes
+      steps.codes.leads old before
+      (still_to old steps.joined piece steps.mid (advances_stretch old steps.turned steps.joined piece steps.after steps.mid before (advances_call steps.turned steps.after steps.takes) steps.joins))
+
+-- no turn is lost
+turns_by : {S : Type 0} {g : Ghosts S} (old new : Reader S g) (piece : List ℕ) (at until : ℕ) (x : Placed) → TakesByte old new piece at until x → old.turns ≤ new.turns
+turns_by old new piece at until x (by_itself same takes) = omega (arith, takes.counts.turns)
+turns_by old new piece at until x (with_name half named y first nexts second) = omega (arith, first.counts.turns, nexts.turns, second.counts.turns)
+
+-- The next byte came, and was taken, or a call, and what came next at once: less is to come.
+module _ {S : Type 0} {g : Ghosts S} (old now mid new : Reader S g) (piece : List ℕ) (at next until : ℕ) (x : Placed) (before : old.refusal ≡ None) (more : TookMore g) (by : IsAheadTo old now piece at)
+    (nexts : Nexts now mid piece at next x) (step : TakesStep mid new piece next until x) where
+  pub advances_next : IsAheadTo old new piece until
+  advances_next = advances_step old mid piece next x before more (λ turned takes. advances_turn old now mid turned piece at next x before more by nexts takes) new until step
+
+  pub less_to_come : to_come new + (length piece - until) < to_come now + (length piece - at)
+  less_to_come =
+      let after = advances_next.taken in
+      let byte = turns_by mid step.turned piece next step.after x step.takes in
+      omega (arith, now.turned, new.turned, now.within, new.within, by.taken.within, by.taken.fed, by.taken.budget, after.within, after.fed, after.budget, nexts.turns, byte, step.joins.taken.turns, step.codes.turns)
 
 -- Nothing comes any more: the piece was taken.
 acted_last : {S : Type 0} (g : Ghosts S) (t : S) (h : Holding) (u : S) (h' : Holding) (next : List ℕ) → next ≡ [] → Acted g t h u h' next → (u ≡ t) × (h' ≡ h)
@@ -446,7 +516,7 @@ takes_piece {S} {g} old now new piece at before by nothing =
 
 -- What came at once behind a byte.
 pub steps_codes : {S B E : Type 0} {g : Ghosts S} (old turned joined new : Reader S g) (piece : List ℕ) (at after mid until : ℕ) (x : Placed) → TakesByte old turned piece at after x →
-    Stretches turned joined piece after mid → (result : Result B E) → MatchResult result (λ _. TakesCodes joined new piece mid until) (λ _. RefusesCodes joined new piece mid) →
+    Stretches turned joined piece after mid → (result : Result B E) → MatchResult result (λ _. LeadsFurther joined new piece mid until) (λ _. StopsFurther joined new piece mid) →
     MatchResult result (λ _. TakesStep old new piece at until x) (λ _. RefusesStep old new piece at x)
 steps_codes old turned joined new piece at after mid until x takes joins (Ok a) codes =
     record { after = after; turned = turned; takes = takes; mid = mid; joined = joined; joins = joins; codes = codes }
@@ -461,3 +531,11 @@ reads_behind old new piece at until x reads (with_name half named y first nexts 
     let few = reads.few in
     let read = came_within (frames_left half) (frames_left named) piece at until half.fed (y.byte ∷ []) (y ∷ []) reads.within nexts.came in
     record { live = second.live; within = read.1; few = omega (arith, reads.within, read.1, first.counts.fed, nexts.fed, second.counts.fed, few) }
+
+-- a reader that took whole codes reads on behind them
+pub reads_on : {S : Type 0} {g : Ghosts S} (old new : Reader S g) (piece : List ℕ) (at until : ℕ) → Reads old piece at → TakesCodes old new piece at until → Reads new piece until
+reads_on old new piece at until reads codes =
+    let few = reads.few in
+    let t = codes.taken in
+    let read = came_within (frames_left old) (frames_left new) piece at until old.fed t.bytes t.xs reads.within t.came in
+    record { live = t.live; within = read.1; few = omega (arith, reads.within, read.0, read.1, t.fed, few) }

@@ -1,6 +1,6 @@
-use Rattle.std.proofs.Common.{ℕ, ◌≡◌, ◌≢◌, ◌<◌, ◌≤◌, ◌+◌, ◌-◌, List, [], ◌∷◌, ◌++◌, All, length, take, drop, get_or, None, false, refl, ap, sym, ◌∙◌, subst, arith, length-append, length-take}
+use Rattle.std.proofs.Common.{ℕ, ◌≡◌, ◌≢◌, ◌<◌, ◌≤◌, ◌+◌, ◌-◌, List, [], ◌∷◌, ◌++◌, All, length, take, drop, get_or, None, false, Result, Ok, Err, MatchResult, refl, ap, sym, ◌∙◌, subst, arith, length-append, length-take}
 use Rattle.std.proofs.lemmas.List.{length-drop}
-use Rattle.std.proofs.lemmas.List.Elements.{All-head, All-nil}
+use Rattle.std.proofs.lemmas.List.Elements.{All-head}
 use Rattle.nap_list.specs.Batches.{IsTyped}
 use Rattle.nap_list.specs.declared.sink.Sink.{Ghosts}
 use Rattle.nap_list.specs.declared.sink.SinkFault.{SinkFault}
@@ -14,13 +14,13 @@ use Rattle.nap_reader.specs.Framed.{placed_at}
 use Rattle.nap_reader.specs.Stream.{Machine, Outcome, Placed, all_at, begun, bytes_of, placed_from, refusal}
 use Rattle.nap_reader.specs.Breaking.{BreaksFrom, cause_of}
 use Rattle.nap_reader.specs.Holding.{Continues, Holding, frames_left, holding_of}
-use Rattle.nap_reader.specs.Pieces.{IsAheadTo, IsTakenTo, LeadsTo, RefusesCodes, RefusesByte, RefusesPiece, RefusesStep, at_a_code, at_itself, at_name, at_the_byte}
+use Rattle.nap_reader.specs.Pieces.{IsAheadTo, IsTakenTo, LeadsFurther, LeadsTo, RefusesCodes, RefusesByte, RefusesPiece, RefusesStep, StopsFurther, TakesCodes, at_a_code, at_itself, at_name, at_the_byte}
 use Rattle.nap_reader.specs.Standing.{StopsAt, left_of}
 use Rattle.nap_reader.specs.Steps.{Acted, Breaks, Came, Conveys, Firsts, Nexts, Refuses, StopsByte, StopsCode, StopsText, Takes, TextComes, as_it_was, at_byte, in_text, of_body, of_piece}
 use Rattle.nap_reader.proofs.BreakLemmas.{breaks_byte, breaks_place, breaks_there}
 use Rattle.nap_reader.proofs.LeadsLemmas.{TookBroke, TookMore, WantsMore, leads_left, leads_machine, leads_unrefused}
 use Rattle.nap_reader.proofs.PartLemmas.{breaks_more, cut}
-use Rattle.nap_reader.proofs.PieceLemmas.{IsAt, advances, advances_call, advances_stretch, broken_amid, byte_at, came_within, first_came, first_comes, known_amid, known_with, left_acted, length_taken, nothing_leads, still_to, stops_acted, stops_by}
+use Rattle.nap_reader.proofs.PieceLemmas.{IsAt, acted_none, advances_call, advances_codes, advances_stretch, broken_amid, byte_at, came_within, first_came, first_comes, known_amid, known_with, leads_none, leads_past, left_acted, length_taken, nothing_leads, still_to, stops_acted, stops_by}
 use Rattle.nap_reader.proofs.StandingLemmas.{TookNone}
 use Rattle.nap_reader.proofs.StreamLemmas.{bytes_of-all_at, length-all_at}
 use Rattle.nap_reader.proofs.StretchLemmas.{stands_behind_stop}
@@ -182,7 +182,7 @@ stops_first {S} {g} old mid new piece x before more broken wants none first refu
 
 -- Whole codes stop.
 module _ {S : Type 0} {g : Ghosts S} (old now new : Reader S g) (piece : List ℕ) (at : ℕ) (before : old.refusal ≡ None) (more : TookMore g) (broken : TookBroke g) (wants : WantsMore g) (none : TookNone g)
-    (by : IsTakenTo old now piece at) (refuses : RefusesCodes now new piece at) where
+    (by : IsAheadTo old now piece at) (refuses : RefusesCodes now new piece at) where
   abbrev c : Conveys g now.sink (holding_of now) refuses.xs
   c = refuses.conveys
 
@@ -195,19 +195,41 @@ module _ {S : Type 0} {g : Ghosts S} (old now new : Reader S g) (piece : List �
   left : left_of new ≡ c.holding.machine.left
   left = omega (arith, refuses.budget, refuses.charged, c.left)
 
-  leads_before : frames_left old ≡ [] → LeadsTo old piece refuses.until c.sink c.holding refuses.rest
-  leads_before empty =
-      advances old piece at refuses.until now.sink c.sink (holding_of now) c.holding (frames_left now) refuses.rest [] refuses.bytes refuses.xs before by.taken.within (by.leads empty) (omega (arith, c.left))
-      (λ n all. All-nil (IsAt n)) c.run (λ some. absurd (omega (arith, some))) c.passes
-      (subst (λ (n : ℕ). Came (frames_left now) refuses.rest piece at refuses.until n refuses.bytes refuses.xs) by.taken.fed refuses.came)
-
-  alone : frames_left old ≡ [] → (fed : ℕ) → fed ≡ old.fed + refuses.until → StopsCode g c.sink c.holding refuses.rest piece refuses.until fed new.fed new.sink refuses.why → (i : ℕ) × StopsAt old new piece refuses.why i
-  alone empty fed is (at_byte x rest until came counted stops) =
-      stops_byte old new piece refuses.until c.sink c.holding refuses.rest refuses.why before read.1 (leads_before empty) left more broken wants none x stops rest until
+  alone : (t : S) (h : Holding) → LeadsTo old piece refuses.until t h refuses.rest → left_of new ≡ h.machine.left → (fed : ℕ) → fed ≡ old.fed + refuses.until →
+      StopsCode g t h refuses.rest piece refuses.until fed new.fed new.sink refuses.why → (i : ℕ) × StopsAt old new piece refuses.why i
+  alone t h leads left fed is (at_byte x rest until came counted stops) =
+      stops_byte old new piece refuses.until t h refuses.rest refuses.why before read.1 leads left more broken wants none x stops rest until
       (subst (λ (n : ℕ). Came refuses.rest rest piece refuses.until until n (x.byte ∷ []) (x ∷ [])) is came) (omega (arith, counted, is))
-  alone empty fed is (in_text text index came stops) =
-      stops_text old new piece refuses.until c.sink c.holding refuses.rest refuses.why before read.1 (leads_before empty) left more broken wants none text index stops
+  alone t h leads left fed is (in_text text index came stops) =
+      stops_text old new piece refuses.until t h refuses.rest refuses.why before read.1 leads left more broken wants none text index stops
       (subst (λ (n : ℕ). TextComes refuses.rest piece refuses.until n new.fed text index refuses.why.place) is came)
+
+  -- no code acted before the one that stops
+  stops_ahead : refuses.xs ≡ [] → (fed : ℕ) → StopsCode g now.sink (holding_of now) refuses.rest piece refuses.until fed new.fed new.sink refuses.why →
+      StopsCode g by.sink by.holding refuses.rest piece refuses.until fed new.fed new.sink refuses.why
+  stops_ahead empty fed (at_byte x rest until came counted stops) =
+      let acted = acted_none old now piece at refuses.until before more by refuses.bytes refuses.xs refuses.rest refuses.came c empty in
+      at_byte x rest until came counted
+      (stops_acted g by.sink by.holding now.sink (holding_of now) (bytes_of refuses.rest ++ drop refuses.until piece) x more (λ b bs is. first_came refuses.rest rest piece refuses.until until fed x b bs is came) acted new.sink
+      refuses.why stops)
+  stops_ahead empty fed (in_text text index came stops) =
+      let same = by.typed stops.set stops.chars in
+      in_text text index came
+      (subst (λ (t : S). StopsText g t by.holding text index new.sink refuses.why) same.0 (subst (λ (h : Holding). StopsText g now.sink h text index new.sink refuses.why) same.1 stops))
+
+  stops_behind : frames_left old ≡ [] → (i : ℕ) × StopsAt old new piece refuses.why i
+  stops_behind empty = at_first refuses.xs refl
+    where
+      at_first : (xs : List Placed) → refuses.xs ≡ xs → (i : ℕ) × StopsAt old new piece refuses.why i
+      at_first [] gone =
+          let same = c.none gone in
+          alone by.sink by.holding (leads_none old now piece at refuses.until before more by refuses.bytes refuses.xs refuses.rest refuses.came c gone empty)
+          (omega (arith, left, c.left, left_acted g by.sink by.holding now.sink (holding_of now) (bytes_of (frames_left now) ++ drop at piece) by.acted)) refuses.fed is_fed
+          (stops_ahead gone refuses.fed
+          (subst (λ (t : S). StopsCode g t (holding_of now) refuses.rest piece refuses.until refuses.fed new.fed new.sink refuses.why) same.0
+          (subst (λ (h : Holding). StopsCode g c.sink h refuses.rest piece refuses.until refuses.fed new.fed new.sink refuses.why) same.1 refuses.stops)))
+      at_first (x ∷ ys) some =
+          alone c.sink c.holding (leads_past old now piece at refuses.until before more by refuses.bytes refuses.xs refuses.rest refuses.came c x ys some empty) left refuses.fed is_fed refuses.stops
 
   -- how many bytes were taken then
   index_in : (fed : ℕ) → fed ≡ old.fed + refuses.until → StopsCode g c.sink c.holding refuses.rest piece refuses.until fed new.fed new.sink refuses.why → (i : ℕ) × (i < length piece) × (new.fed ≡ old.fed + (i + 1))
@@ -222,7 +244,7 @@ module _ {S : Type 0} {g : Ghosts S} (old now new : Reader S g) (piece : List �
       (refuses.until + index, omega (arith, less, long, length-take (length text) (drop refuses.until piece), length-drop refuses.until piece, read.1), omega (arith, counted, is))
 
   stops_codes : (i : ℕ) × StopsAt old new piece refuses.why i
-  stops_codes = stops_either old new piece refuses.why before (λ empty. alone empty refuses.fed is_fed refuses.stops) (index_in refuses.fed is_fed refuses.stops)
+  stops_codes = stops_either old new piece refuses.why before stops_behind (index_in refuses.fed is_fed refuses.stops)
 
 -- What a refused reader shows of the piece.
 
@@ -239,8 +261,9 @@ refuses_byte old mid new piece x before refuses budget turns clear stops = recor
   more_turns = omega (arith, refuses.latches.counts.turns, turns);
 }
 
-refuses_codes_in : {S : Type 0} {g : Ghosts S} (old now new : Reader S g) (piece : List ℕ) (at : ℕ) → old.refusal ≡ None → TookMore g → TookBroke g → WantsMore g → TookNone g →
-    IsTakenTo old now piece at → RefusesCodes now new piece at → RefusesPiece old new piece
+-- Whole codes stop behind what led so far.
+pub refuses_codes_in : {S : Type 0} {g : Ghosts S} (old now new : Reader S g) (piece : List ℕ) (at : ℕ) → old.refusal ≡ None → TookMore g → TookBroke g → WantsMore g → TookNone g →
+    IsAheadTo old now piece at → RefusesCodes now new piece at → RefusesPiece old new piece
 refuses_codes_in old now new piece at before more broken wants none by refuses =
     let stops : (i : ℕ) × StopsAt old new piece refuses.why i = stops_codes old now new piece at before more broken wants none by refuses in
     let budget : new.budget ≡ old.budget = refuses.budget ∙ by.taken.budget in
@@ -280,5 +303,14 @@ module _ {S : Type 0} {g : Ghosts S} (old mid : Reader S g) (piece : List ℕ) (
   pub refuses_step : RefusesStep mid new piece at x → RefusesPiece old new piece
   refuses_step (at_the_byte refused) = refuses_call refused
   refuses_step (at_a_code turned joined after until takes joins refused) =
-      refuses_codes_in old joined new piece until before more broken wants none
-      (advances_stretch old turned joined piece after until before (advances_call old mid piece at x before more turns turned after takes) joins) refused
+      refused old before (still_to old joined piece until (advances_stretch old turned joined piece after until before (advances_call old mid piece at x before more turns turned after takes) joins))
+
+-- Whole codes came behind what led on so far, or stop there.
+pub codes_behind : {S B E : Type 0} {g : Ghosts S} (old now new : Reader S g) (piece : List ℕ) (at mid until : ℕ) → TookMore g → TookBroke g → WantsMore g → TookNone g → LeadsFurther old now piece at mid →
+    (result : Result B E) → MatchResult result (λ _. TakesCodes now new piece mid until) (λ _. RefusesCodes now new piece mid) →
+    MatchResult result (λ _. LeadsFurther old new piece at until) (λ _. StopsFurther old new piece at)
+codes_behind old now new piece at mid until more broken wants none leads (Ok a) takes = record {
+  turns = omega (arith, leads.turns, takes.taken.turns);
+  leads = λ start before by. advances_codes start now new piece mid until before more (leads.leads start before by) takes;
+}
+codes_behind old now new piece at mid until more broken wants none leads (Err e) refuses = λ start before by. refuses_codes_in start now new piece mid before more broken wants none (leads.leads start before by) refuses

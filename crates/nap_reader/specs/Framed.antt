@@ -1,7 +1,7 @@
 use Rattle.std.specs.Prelude.{◌≡◌, ◌≢◌, ◌<◌, ◌≤◌, ◌+◌, ◌++◌, ℕ, List, [], ◌∷◌, All, drop, length, take}
 use Rattle.nap_reader.specs.declared.frames.Frame.{Frame}
 use Rattle.nap_reader.specs.Stored.{part}
-use Rattle.nap_reader.specs.Stream.{Placed, all_at}
+use Rattle.nap_reader.specs.Stream.{Placed, all_at, bytes_of}
 
 -- What the bodies that are being read have still to give.
 
@@ -42,8 +42,25 @@ pub record Comes (stored : List ℕ) (frames : List Frame) (piece : List ℕ) (a
   pub of_piece : frames ≡ [] → (text ≡ drop at piece) × (place ≡ fed)
   pub of_body : frames ≢ [] → Innermost stored frames text place
 
+-- the bytes of all bodies, and then of the piece
+abbrev pub all_next : List ℕ → List Frame → List ℕ → ℕ → List ℕ
+all_next stored frames piece at = bytes_of (unread stored frames) ++ drop at piece
+
+-- what of them comes behind those that come next
+abbrev pub behind : List ℕ → List Frame → List ℕ → ℕ → List ℕ → List ℕ
+behind stored frames piece at text = drop (length text) (all_next stored frames piece at)
+
 -- so many of them were taken
 pub record MovesOn (stored : List ℕ) (old new : List Frame) (at until fed counted n : ℕ) : Type 0 where
   pub of_piece : old ≡ [] → (new ≡ []) × (until ≡ at + n) × (counted ≡ fed + n)
   pub of_body : old ≢ [] → (until ≡ at) × (counted ≡ fed)
       × ((text : List ℕ) (place : ℕ) → Innermost stored old text place → n ≤ length text → GivesFrom stored old place text n new)
+
+-- so many of them were taken, and then so many more of what came next then
+pub record MovesPast (stored : List ℕ) (old new : List Frame) (at until fed counted n more : ℕ) : Type 0 where
+  pub mid : List Frame
+  pub mid_at : ℕ
+  pub mid_fed : ℕ
+  pub framed : FramesIn (length stored) mid
+  pub first : MovesOn stored old mid at mid_at fed mid_fed n
+  pub then : MovesOn stored mid new mid_at until mid_fed counted more

@@ -1,21 +1,21 @@
-use Rattle.std.specs.Prelude.{All, ◌≡◌, ◌<◌, ◌≤◌, ◌+◌, ◌-◌, ◌^◌, ◌++◌, ℕ, List, [], ◌∷◌, Some, None, false, true, drop, length, take, slice_index}
+use Rattle.std.specs.Prelude.{All, ◌≡◌, ◌<◌, ◌≤◌, ◌+◌, ◌-◌, ◌^◌, ◌++◌, ℕ, List, [], ◌∷◌, Some, None, false, true, length, take, slice_index}
 use Rattle.nap_codes.specs.declared.code_set.CodeSet.TheVariants.{Macros}
 use Rattle.nap_codes.specs.Laws.{IsGraphic}
 use Rattle.nap_list.specs.declared.sink.Sink.{Ghosts}
 use Rattle.nap_reader.specs.declared.fault.Fault.TheVariants as faults
 use Rattle.nap_reader.specs.declared.fault.Refusal.{Refusal}
 use Rattle.nap_reader.specs.declared.reader.Reader.{Reader}
-use Rattle.nap_reader.specs.Framed.{placed_at}
+use Rattle.nap_reader.specs.Framed.{all_next, placed_at}
 use Rattle.nap_reader.specs.Holding.{Continues, Holding, RunAt, frames_left, holding_of}
 use Rattle.nap_reader.specs.Standing.{Stands, StopsAt, budget_of, charged_of, fed_of, refusal_of, sink_of, turns_of}
-use Rattle.nap_reader.specs.Steps.{Acted, Came, Conveys, LeadsOn, Nexts, Refuses, StopsCode, Stretches, Takes, TakesBytes}
-use Rattle.nap_reader.specs.Stream.{Outcome, Placed, begun, bytes_of}
+use Rattle.nap_reader.specs.Steps.{Acted, Came, Conveys, LeadsOn, Nexts, Refuses, StaysInText, StopsCode, Stretches, Takes, TakesBytes}
+use Rattle.nap_reader.specs.Stream.{Outcome, Placed, begun}
 
 -- How a piece is taken. No one sees this.
 
 -- the bytes that come next, of bodies and then of the piece
 abbrev pub next_bytes : {S : Type 0} {g : Ghosts S} → Reader S g → List ℕ → ℕ → List ℕ
-next_bytes reader piece at = bytes_of (frames_left reader) ++ drop at piece
+next_bytes reader piece at = all_next reader.store.bytes reader.frames.stack.items piece at
 
 -- A reader that isn't refused reads this piece from this index on.
 pub record Reads {S : Type 0} {g : Ghosts S} (reader : Reader S g) (piece : List ℕ) (at : ℕ) : Type 0 where
@@ -84,6 +84,7 @@ pub record IsAheadTo {S : Type 0} {g : Ghosts S} (old now : Reader S g) (piece :
   pub holding : Holding
   pub leads : frames_left old ≡ [] → LeadsTo old piece at sink holding (frames_left now)
   pub acted : Acted g sink holding now.sink (holding_of now) (next_bytes now piece at)
+  pub typed : StaysInText sink holding now.sink (holding_of now)
 
 -- Whole codes came, and all were taken.
 pub record TakesCodes {S : Type 0} {g : Ghosts S} (old new : Reader S g) (piece : List ℕ) (at until : ℕ) : Type 0 where
@@ -109,6 +110,15 @@ pub record RefusesCodes {S : Type 0} {g : Ghosts S} (old new : Reader S g) (piec
   pub fed : ℕ
   pub counted : fed + at ≡ old.fed + until
   pub stops : StopsCode g conveys.sink conveys.holding rest piece until fed new.fed new.sink why
+
+-- What of a piece led to the reader before leads on to the one after.
+pub record LeadsFurther {S : Type 0} {g : Ghosts S} (old new : Reader S g) (piece : List ℕ) (at until : ℕ) : Type 0 where
+  pub turns : old.turns ≤ new.turns
+  pub leads : (start : Reader S g) → start.refusal ≡ None → IsAheadTo start old piece at → IsAheadTo start new piece until
+
+-- The reader is refused behind what led to the one before.
+abbrev pub StopsFurther : {S : Type 0} {g : Ghosts S} → Reader S g → Reader S g → List ℕ → ℕ → Type 0
+StopsFurther {S} {g} old new piece at = (start : Reader S g) → start.refusal ≡ None → IsAheadTo start old piece at → RefusesPiece start new piece
 
 -- A call of a macro.
 
@@ -150,10 +160,10 @@ pub record TakesStep {S : Type 0} {g : Ghosts S} (old new : Reader S g) (piece :
   pub mid : ℕ
   pub joined : Reader S g
   pub joins : Stretches turned joined piece after mid
-  pub codes : TakesCodes joined new piece mid until
+  pub codes : LeadsFurther joined new piece mid until
 
 -- The stream is refused at the byte, or at one of the codes, or reading breaks there.
 pub data RefusesStep {S : Type 0} {g : Ghosts S} (old new : Reader S g) (piece : List ℕ) (at : ℕ) (x : Placed) : Type 0 where
   at_the_byte : RefusesByte old new piece at x → RefusesStep old new piece at x
-  at_a_code : (turned joined : Reader S g) (after mid : ℕ) → TakesByte old turned piece at after x → Stretches turned joined piece after mid → RefusesCodes joined new piece mid →
+  at_a_code : (turned joined : Reader S g) (after mid : ℕ) → TakesByte old turned piece at after x → Stretches turned joined piece after mid → StopsFurther joined new piece mid →
       RefusesStep old new piece at x

@@ -128,6 +128,11 @@ pub record IsBetween {S : Type 0} {g : Ghosts S} (reader : Reader S g) : Type 0 
   pub between : reader.open_body ≡ None
   pub closed : reader.open_run ≡ None
 
+-- nothing is half read either
+pub record IsAtRest {S : Type 0} {g : Ghosts S} (reader : Reader S g) : Type 0 where
+  pub between : IsBetween reader
+  pub half : reader.lexer.half ≡ []
+
 -- this run is open
 pub record HasRun {S : Type 0} {g : Ghosts S} (reader : Reader S g) (open_run : OpenRun) : Type 0 where
   pub live : reader.refusal ≡ None
@@ -323,6 +328,10 @@ with_codes h work lexer clears = record h {
   half = lexer.half;
 }
 
+-- a sink is and this is held as it was, where each byte is a character by itself
+abbrev pub StaysInText : {S : Type 0} → S → Holding → S → Holding → Type 0
+StaysInText t h u h' = (set : CharSet) → ((b : ℕ) → IsGraphic b → codes.front h'.machine.sets (b ∷ []) ≡ codes.whole (code.Char set b) 1 h'.machine.sets) → (u ≡ t) × (h' ≡ h)
+
 -- Where bytes lead to that were taken: a sink, and what is held. A run that is open there is at the place of the bytes, where one
 -- that was open before them is.
 pub record Conveys {S : Type 0} (g : Ghosts S) (t : S) (h : Holding) (xs : List Placed) : Type 0 where
@@ -331,47 +340,56 @@ pub record Conveys {S : Type 0} (g : Ghosts S) (t : S) (h : Holding) (xs : List 
   pub left : holding.machine.left ≡ h.machine.left
   pub run : (n : ℕ) → All (λ (x : Placed). x.place ≡ n) xs → RunAt n h.open_run → RunAt n holding.open_run
   pub passes : Passes g t h xs sink holding []
+  pub none : xs ≡ [] → (sink ≡ t) × (holding ≡ h)
 
 -- They were taken, and others come next. The opcode of a run that they end with may have acted, but then no byte is a character
 -- by itself.
 pub record LeadsOn {S : Type 0} (g : Ghosts S) (t : S) (h : Holding) (u : S) (h' : Holding) (xs : List Placed) (next : List ℕ) : Type 0 where
   pub conveys : Conveys g t h xs
   pub acted : Acted g conveys.sink conveys.holding u h' next
-  pub typed : (set : CharSet) → ((b : ℕ) → IsGraphic b → codes.front h'.machine.sets (b ∷ []) ≡ codes.whole (code.Char set b) 1 h'.machine.sets) → (u ≡ conveys.sink) × (h' ≡ conveys.holding)
+  pub typed : StaysInText conveys.sink conveys.holding u h'
+  pub none : xs ≡ [] → (u ≡ t) × (h' ≡ h)
 
--- Whole codes at the front of these bytes acted, so many bytes.
-pub record WholeCodes {S : Type 0} (g : Ghosts S) (t : S) (work : Work) (lexer : LexerState) (u : S) (work' : Work) (lexer' : LexerState) (clears : Bool) (bytes : List ℕ) (count : ℕ) : Type 0 where
+-- The first of these bytes is no operand byte.
+pub record IsOver (bytes : List ℕ) : Type 0 where
+  pub byte : ℕ
+  pub rest : List ℕ
+  pub is : bytes ≡ byte ∷ rest
+  pub other : is_operand_byte byte ≡ false
+
+-- Whole codes at the front of these bytes, behind which those come, acted: so many bytes.
+pub record WholeCodes {S : Type 0} (g : Ghosts S) (t : S) (work : Work) (lexer : LexerState) (u : S) (work' : Work) (lexer' : LexerState) (clears : Bool) (bytes behind : List ℕ) (count : ℕ) : Type 0 where
   pub within : count ≤ length bytes
   pub rested : lexer'.half ≡ []
   pub clear : g.failed t ≡ false → g.failed u ≡ false
-  pub leads : (h : Holding) (xs : List Placed) → IsRested h work lexer → bytes_of xs ≡ take count bytes → LeadsOn g t h u (with_codes h work' lexer' clears) xs (drop count bytes)
+  pub leads : (h : Holding) (xs : List Placed) → IsRested h work lexer → bytes_of xs ≡ take count (bytes ++ behind) → LeadsOn g t h u (with_codes h work' lexer' clears) xs (drop count (bytes ++ behind))
 
--- Whole codes at the front of these bytes acted, and then one is refused or breaks: with the byte that comes then, of which the
--- place is that of the byte with this index; or in characters that come then, at the one with this index.
-pub data CodesStop {S : Type 0} (g : Ghosts S) (t : S) (work : Work) (lexer : LexerState) (u : S) (bytes : List ℕ) (count index : ℕ) (fault : Fault) : Type 0 where
-  with_byte : (before : ℕ) → count ≡ before + 1 → count ≤ length bytes → index ≤ before →
-      ((h : Holding) (xs : List Placed) (x : Placed) → IsRested h work lexer → bytes_of (xs ++ x ∷ []) ≡ take count bytes →
+-- Whole codes at the front of these bytes acted, and then one is refused or breaks: with the byte that comes then, which may be
+-- the first of those behind them, and the place is that of the byte with this index; or in characters that come then, at the one
+-- with this index.
+pub data CodesStop {S : Type 0} (g : Ghosts S) (t : S) (work : Work) (lexer : LexerState) (u : S) (bytes behind : List ℕ) (count index : ℕ) (fault : Fault) : Type 0 where
+  with_byte : (before : ℕ) → count ≡ before + 1 → before ≤ length bytes → count ≤ length (bytes ++ behind) → index ≤ before → index < length bytes →
+      ((h : Holding) (xs : List Placed) (x : Placed) → IsRested h work lexer → bytes_of (xs ++ x ∷ []) ≡ take count (bytes ++ behind) →
       (c : Conveys g t h xs) × StopsByte g c.sink c.holding x u (refusal fault (place_at (xs ++ x ∷ []) index))) →
-      CodesStop g t work lexer u bytes count index fault
+      CodesStop g t work lexer u bytes behind count index fault
   in_characters : (before taken : ℕ) (text : List ℕ) → index ≡ before + taken → count ≡ index + 1 → take (length text) (drop before bytes) ≡ text → count ≤ length bytes →
       ((h : Holding) (xs : List Placed) (place : ℕ) → IsRested h work lexer → bytes_of xs ≡ take before bytes →
       (c : Conveys g t h xs) × StopsText g c.sink c.holding text taken u (refusal fault place)) →
-      CodesStop g t work lexer u bytes count index fault
+      CodesStop g t work lexer u bytes behind count index fault
 
--- These are all operand bytes at the front, and behind them there is another byte.
-pub record IsWholeRun (bytes run : List ℕ) : Type 0 where
-  pub short : length run ≤ run_limit
+-- These are all operand bytes at the front, and behind them there is another byte, which may be the first of those behind.
+pub record IsWholeRun (bytes behind run : List ℕ) : Type 0 where
+  pub within : length run ≤ length bytes
   pub operands : All (λ b. is_operand_byte b ≡ true) run
-  pub next : ℕ
   pub rest : List ℕ
-  pub behind : bytes ≡ run ++ next ∷ rest
-  pub other : is_operand_byte next ≡ false
+  pub front : bytes ++ behind ≡ run ++ rest
+  pub over : IsOver rest
 
 -- One code more, behind those that were taken: it acted, so many bytes; or it is refused or breaks.
-abbrev pub OneMore : {S : Type 0} → Ghosts S → S → Work → LexerState → S → Work → LexerState → List ℕ → ℕ → One → Type 0
-OneMore g t work lexer u work' lexer' bytes at (ones.Acted n clears) = (0 < n) × WholeCodes g t work lexer u work' lexer' clears bytes (at + n)
-OneMore g t work lexer u work' lexer' bytes at (ones.Stopped n fault index) = CodesStop g t work lexer u bytes (at + n) (at + index) fault
-OneMore g t work lexer u work' lexer' bytes at ones.Other = WholeCodes g t work lexer u work' lexer' false bytes at
+abbrev pub OneMore : {S : Type 0} → Ghosts S → S → Work → LexerState → S → Work → LexerState → List ℕ → List ℕ → ℕ → One → Type 0
+OneMore g t work lexer u work' lexer' bytes behind at (ones.Acted n clears) = (0 < n) × WholeCodes g t work lexer u work' lexer' clears bytes behind (at + n)
+OneMore g t work lexer u work' lexer' bytes behind at (ones.Stopped n fault index) = CodesStop g t work lexer u bytes behind (at + n) (at + index) fault
+OneMore g t work lexer u work' lexer' bytes behind at ones.Other = WholeCodes g t work lexer u work' lexer' false bytes behind at
 
 -- What a code leaves of a sink: its state agrees with that of the work, unless the code is refused or breaks. Then its failure
 -- is told.

@@ -1,6 +1,6 @@
 //! The bodies that are being read.
 ghost use Rattle.std.specs.Prelude.{true, ℕ, List, ◌≡◌, ◌<◌, ◌≤◌, ◌+◌, ◌↔◌, [], ◌∷◌, ◌++◌, length, MatchOption, IfSome, OnOk, OnErr};
-ghost use Rattle.nap_reader.specs.Framed.{FramesIn, GivesFrom, Innermost, unread};
+ghost use Rattle.nap_reader.specs.Framed.{Comes, FramesIn, GivesFrom, Innermost, behind, unread};
 
 use crate::store::Span;
 use smallvec::SmallVec;
@@ -59,6 +59,23 @@ impl Frames {
     {
         let frame = self.stack.last()?;
         Some((&bytes[frame.next..frame.end], frame.place))
+    }
+
+    /// The byte that comes behind the innermost body: of the body outside it, else of the piece.
+    pub(crate) fn byte_behind(&self, bytes: &[u8], piece: &[u8], at: usize) -> Option<u8>
+        requires framed { FramesIn (length bytes.now) self.now.stack.items }
+        requires within { at ≤ length piece.now }
+        ensures { IfSome result (λ byte. (text : List ℕ) (fed place : ℕ) → Comes bytes.now self.now.stack.items piece.now at fed text place →
+            (rest : List ℕ) × (behind bytes.now self.now.stack.items piece.now at text ≡ byte ∷ rest)) }
+    {
+        let frames = self.stack.as_slice();
+        if frames.len() > 1 {
+            return Some(bytes[frames[frames.len() - 2].next]);
+        }
+        if frames.is_empty() || at == piece.len() {
+            return None;
+        }
+        Some(piece[at])
     }
 
     /// Takes this many bytes of the innermost body, which has as many.

@@ -1,7 +1,7 @@
 //! The operand bytes at the front of a piece.
-ghost use Rattle.std.specs.Prelude.{All, take, ◌≡◌, ◌≤◌, ◌++◌, true, length, vec_len, IfSome};
+ghost use Rattle.std.specs.Prelude.{All, ℕ, List, take, ◌≡◌, ◌≤◌, ◌++◌, true, length, vec_len, IfSome};
 ghost use Rattle.nap_draw.specs.Limits.{run_limit};
-ghost use Rattle.nap_reader.specs.Steps.{IsWholeRun};
+ghost use Rattle.nap_reader.specs.Steps.{IsOver, IsWholeRun};
 ghost use Rattle.nap_reader.specs.Stream.{is_operand_byte};
 
 use crate::prefix::prefix_from;
@@ -25,16 +25,34 @@ pub(crate) fn take_operands(run: &mut Vec<u8>, piece: &[u8]) -> usize
     count
 }
 
-/// The operand bytes at the front, where another byte comes behind them.
+/// The operand bytes at the front, where another byte comes behind them: one of these, or behind them all.
 #[inline]
-pub(crate) fn whole_run(piece: &[u8]) -> Option<&[u8]>
-    ensures { IfSome result (λ run. IsWholeRun piece.now run.now) }
+pub(crate) fn whole_run(piece: &[u8], ended: bool) -> Option<&[u8]>
+    ensures short { IfSome result (λ run. length run.now ≤ run_limit) }
+    ensures whole { IfSome result (λ run. (behind : List ℕ) → (ended ≡ true → IsOver behind) → IsWholeRun piece.now behind run.now) }
 {
     let count = prefix_from(piece, 0x40);
-    if count == piece.len() || count > RUN_LIMIT {
+    if count > RUN_LIMIT {
         return None;
     }
+    if count == piece.len() {
+        return last_run(piece, ended);
+    }
     Some(&piece[..count])
+}
+
+/// All of these, which are operand bytes, where another byte comes behind them.
+#[inline(never)]
+fn last_run(piece: &[u8], ended: bool) -> Option<&[u8]>
+    requires short { length piece.now ≤ run_limit }
+    requires operands { All (λ b. is_operand_byte b ≡ true) piece.now }
+    ensures short { IfSome result (λ run. length run.now ≤ run_limit) }
+    ensures whole { IfSome result (λ run. (behind : List ℕ) → (ended ≡ true → IsOver behind) → IsWholeRun piece.now behind run.now) }
+{
+    if ended {
+        return Some(piece);
+    }
+    None
 }
 
 /// Whether a byte is one of an operand.

@@ -1,8 +1,10 @@
 //! What comes next: bytes of the innermost body that is being read, else of the piece.
-ghost use Rattle.std.specs.Prelude.{◌≡◌, ◌≢◌, ◌+◌, ◌<◌, ◌≤◌, ◌^◌, [], length};
-ghost use Rattle.nap_reader.specs.Framed.{Comes, FramesIn, MovesOn};
+ghost use Rattle.std.specs.Prelude.{true, ℕ, List, ◌≡◌, ◌+◌, ◌-◌, ◌<◌, ◌≤◌, ◌^◌, [], length};
+ghost use Rattle.nap_reader.specs.Framed.{Comes, FramesIn, MovesOn, MovesPast, behind};
+ghost use Rattle.nap_reader.specs.Steps.{IsOver};
 
 use crate::frames::Frames;
+use crate::operands::is_operand;
 
 /// The bytes that come next, with the place of the first. All bytes of a body have the same place.
 #[inline(always)]
@@ -23,17 +25,17 @@ pub(super) fn coming<'a>(
     }
 }
 
-/// The place of one of the bytes that come next, where the first has this place.
+/// Whether a byte that is no operand comes behind the innermost body.
 #[inline(always)]
-pub(super) fn place_of(frames: &Frames, first: u64, index: usize) -> u64
-    requires { frames.now.stack.items ≡ [] → first + index < 2 ^ 64 }
-    ensures of_piece { frames.now.stack.items ≡ [] → result ≡ first + index }
-    ensures of_body { frames.now.stack.items ≢ [] → result ≡ first }
+pub(super) fn ends_run(frames: &Frames, stored: &[u8], piece: &[u8], at: usize) -> bool
+    requires framed { FramesIn (length stored.now) frames.now.stack.items }
+    requires within { at ≤ length piece.now }
+    ensures { result ≡ true → (text : List ℕ) (fed place : ℕ) → Comes stored.now frames.now.stack.items piece.now at fed text place →
+        IsOver (behind stored.now frames.now.stack.items piece.now at text) }
 {
-    if frames.is_empty() {
-        first + index as u64
-    } else {
-        first
+    match frames.byte_behind(stored, piece, at) {
+        Some(byte) => !is_operand(byte),
+        None => false,
     }
 }
 
@@ -48,7 +50,7 @@ pub(super) fn pass(
     count: usize,
 )
     requires framed { FramesIn (length stored.now) frames.old.stack.items }
-    requires within { frames.old.stack.items ≡ [] → (at.old + count < 2 ^ 63) × (fed.old + count < 2 ^ 63) }
+    requires within { frames.old.stack.items ≡ [] → (at.old + count < 2 ^ 64) × (fed.old + count < 2 ^ 64) }
     requires counted { turns.old + count < 2 ^ 64 }
     ensures turns { turns.new ≡ turns.old + count }
     ensures moves { MovesOn stored.now frames.old.stack.items frames.new.stack.items at.old at.new fed.old fed.new count }
@@ -60,5 +62,32 @@ pub(super) fn pass(
         *fed += count as u64;
     } else {
         frames.skip(stored, count);
+    }
+}
+
+/// This count of bytes is taken: of those that come next, which are so many, and then of what comes behind them.
+#[inline(always)]
+pub(super) fn pass_past(
+    frames: &mut Frames,
+    stored: &[u8],
+    at: &mut usize,
+    fed: &mut u64,
+    turns: &mut u64,
+    many: usize,
+    count: usize,
+)
+    requires framed { FramesIn (length stored.now) frames.old.stack.items }
+    requires within { (at.old + count < 2 ^ 64) × (fed.old + count < 2 ^ 64) }
+    requires counted { turns.old + count < 2 ^ 64 }
+    ensures turns { turns.new ≡ turns.old + count }
+    ensures moves { count ≤ many → MovesOn stored.now frames.old.stack.items frames.new.stack.items at.old at.new fed.old fed.new count }
+    ensures past { many < count → MovesPast stored.now frames.old.stack.items frames.new.stack.items at.old at.new fed.old fed.new many (count - many) }
+    ensures framed { FramesIn (length stored.now) frames.new.stack.items }
+{
+    if count <= many {
+        pass(frames, stored, at, fed, turns, count);
+    } else {
+        pass(frames, stored, at, fed, turns, many);
+        pass(frames, stored, at, fed, turns, count - many);
     }
 }

@@ -1,6 +1,6 @@
 use Rattle.std.proofs.lemmas.Result.{err_from_is_err_and}
 use Rattle.nap_reader.specs.Framed.{placed_at}
-use Rattle.nap_reader.proofs.PieceLemmas.{advances_first, advances_step, advances_turn, takes_piece}
+use Rattle.nap_reader.proofs.PieceLemmas.{advances_first, advances_next, advances_step, advances_turn, less_to_come, takes_piece}
 use Rattle.nap_reader.proofs.StopLemmas.{refuses_first, refuses_step, refuses_turn}
 use Rattle.nap_reader.proofs.reader.Reader.take.Goals as goal
 
@@ -15,16 +15,16 @@ loop-byte-init g c =
     }
 
 pub loop-byte-preserved : goal.loop-byte-preserved
-loop-byte-preserved g c =
-    let old = c.args.self.now in
-    let x = placed_at c.in-Some-next.byte c.in-Some-next.place in
-    record {
-      ahead =
-          advances_step old c.next.new.self c.args.piece.now c.next.new.at x c.requires.live g.met.S.Sink.took_more
-          (λ turned takes.
-          advances_turn old c.loop-byte.self c.next.new.self turned c.args.piece.now c.loop-byte.at c.next.new.at x c.requires.live g.met.S.Sink.took_more c.loop-byte.invariant.ahead c.in-Some-next.ensures takes)
-          c.step-in-Some-next.new.self c.step-in-Some-next.new.at c.in_ok-step-2.ensures;
-    }
+loop-byte-preserved g c = record {
+  ahead =
+      advances_next c.args.self.now c.loop-byte.self c.next.new.self c.step-in-Some-next.new.self c.args.piece.now c.loop-byte.at c.next.new.at c.step-in-Some-next.new.at (placed_at c.in-Some-next.byte c.in-Some-next.place) c.requires.live
+      g.met.S.Sink.took_more c.loop-byte.invariant.ahead c.in-Some-next.ensures c.in_ok-step-2.ensures;
+}
+
+pub loop-byte-smaller : goal.loop-byte-smaller
+loop-byte-smaller g c =
+    less_to_come c.args.self.now c.loop-byte.self c.next.new.self c.step-in-Some-next.new.self c.args.piece.now c.loop-byte.at c.next.new.at c.step-in-Some-next.new.at (placed_at c.in-Some-next.byte c.in-Some-next.place) c.requires.live
+    g.met.S.Sink.took_more c.loop-byte.invariant.ahead c.in-Some-next.ensures c.in_ok-step-2.ensures
 
 pub returns-in_err-step : goal.returns-in_err-step
 returns-in_err-step g c =

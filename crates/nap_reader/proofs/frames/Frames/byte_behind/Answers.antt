@@ -1,0 +1,21 @@
+use Rattle.std.proofs.Common.{◌≡◌, ◌≢◌, ◌<◌, ◌-◌, ℕ, List, [], ◌∷◌, length, slice_index_or, ap, sym, ◌∙◌, subst, arith}
+use Rattle.std.proofs.lemmas.Bool.{eqb-false}
+use Rattle.nap_reader.specs.declared.frames.Frame.{Frame}
+use Rattle.nap_reader.specs.Framed.{behind}
+use Rattle.nap_reader.proofs.ComingLemmas.{behind_in_body, behind_in_piece}
+use Rattle.nap_reader.proofs.frames.Frames.byte_behind.Goals as goal
+
+pub returns-then-frames-gt1 : goal.returns-then-frames-gt1
+returns-then-frames-gt1 c text fed place comes =
+    let stored = c.args.bytes.now in
+    let frames = c.args.self.now.stack.items in
+    let d : Frame = record { next = 0; end = 0; place = 0 } in
+    let more : 1 < length frames = omega (arith, c.if-frames-gt1.true, ap length c.as_slice-frames.ensures) in
+    subst (λ (fs : List Frame). (rest : List ℕ) × (behind stored frames c.args.piece.now c.args.at text ≡ slice_index_or stored (slice_index_or fs (length fs - 2) d).next 0 ∷ rest)) (sym c.as_slice-frames.ensures)
+    (behind_in_body stored frames c.requires.framed c.args.piece.now text c.args.at place (comes.of_body (λ none. absurd (omega (arith, more, ap length none)))) d more)
+
+pub returns : goal.returns
+returns c text fed place comes =
+    let frames = c.args.self.now.stack.items in
+    let some : frames ≢ [] = λ none. absurd (omega (arith, eqb-false _ 0 (sym c.is_empty.ensures ∙ c.if-is_empty.false), ap length c.as_slice-frames.ensures, ap length none)) in
+    behind_in_piece c.args.bytes.now frames c.args.piece.now text c.args.at place (comes.of_body some) (omega (arith, c.if-frames-gt1.false, ap length c.as_slice-frames.ensures)) (omega (arith, c.requires.within, c.if-at-piece.false))
