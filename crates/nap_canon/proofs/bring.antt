@@ -3,5 +3,6 @@
 pub mod EqualityLemmas
 pub mod LeadingLemmas
 pub mod BringLemmas
+pub mod KindLemmas
 pub mod StandingLemmas
 pub mod ModeLemmas

@@ -109,14 +109,3 @@ bring d h =
     ++ (bring_colour d.base d.colour h.colour
     ++ (bring_texture d.texture h.texture
     ++ bring_text d.text h.text)))
-
--- its rests, from a value on
-
-abbrev pub bring_from_texture : Drawing → Held → List Command
-bring_from_texture d h = bring_texture d.texture h.texture ++ bring_text d.text h.text
-
-abbrev pub bring_from_colour : Drawing → Held → List Command
-bring_from_colour d h = bring_colour d.base d.colour h.colour ++ bring_from_texture d h
-
-abbrev pub bring_from_pel : Drawing → Held → List Command
-bring_from_pel d h = bring_pel d.pel h.pel ++ bring_from_colour d h

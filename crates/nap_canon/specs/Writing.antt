@@ -1,12 +1,52 @@
-use Rattle.std.specs.Prelude.{ℕ, ◌≡◌, Bool, List, map, Result, is_err, OnOk, OnErr}
+use Rattle.std.specs.Prelude.{ℕ, ◌≡◌, ◌++◌, Bool, true, false, List, [], ◌∷◌, map, Option, Some, None, Result, is_err, OnOk, OnErr}
 use Rattle.nap_list.specs.declared.entry.Entry.{Entry}
+use Rattle.nap_list.specs.declared.entry.Entry.TheVariants as entries
+use Rattle.nap_list.specs.declared.state.Drawing.{Drawing}
+use Rattle.nap_list.specs.declared.state.State.{State}
 use Rattle.nap_list.specs.State.{after}
 use Rattle.nap_canon.specs.declared.command.Command.{Command}
+use Rattle.nap_canon.specs.declared.form.Form.{Form}
+use Rattle.nap_canon.specs.declared.room.Room.{Room}
+use Rattle.nap_canon.specs.declared.room.spelling.Path.{Path}
 use Rattle.nap_canon.specs.declared.tail.Tail.{Tail}
 use Rattle.nap_canon.specs.declared.writer.Writer.{Writer}
 use Rattle.nap_canon.specs.Batches.{SentWhole}
-use Rattle.nap_canon.specs.Spelling.{Piece, command_piece}
+use Rattle.nap_canon.specs.Spelling.{Piece, command_piece, opcode, shape_bytes, spelled}
 use Rattle.nap_canon.specs.Text.{piece_bytes, tail_behind, written, tail_after, entry_pieces}
+
+-- What is laid for the next write, behind what was laid before.
+
+-- these bytes were laid, and the text ends like this then
+pub record LaysBytes (bytes : List ℕ) (end : Tail) (w t : Room) : Type 0 where
+  pub laid : t.bytes ≡ w.bytes ++ bytes
+  pub tail : t.tail ≡ end
+
+-- a piece was laid
+abbrev pub LaysPiece : Piece → Room → Room → Type 0
+LaysPiece p w t = LaysBytes (piece_bytes w.tail p) (tail_behind w.tail p) w t
+
+-- pieces were laid
+abbrev pub Lays : List Piece → Room → Room → Type 0
+Lays ps w t = LaysBytes (written w.tail ps) (tail_after w.tail ps) w t
+
+-- commands were laid
+abbrev pub LaysCommands : List Command → Room → Room → Type 0
+LaysCommands commands w t = Lays (map command_piece commands) w t
+
+-- the first entry of a list, whose values are current, was laid
+abbrev pub LaysNext : Form → State → List Entry → Room → Room → Type 0
+LaysNext form s list w t = (e : Entry) (es : List Entry) → list ≡ e ∷ es → Lays (entry_pieces form s e) w t
+
+-- whether an entry is no shape through points, so that its bytes are few
+abbrev pub is_short : Entry → Bool
+is_short (entries.Arc filled points ink) = false
+is_short (entries.Poly filled points ink) = false
+is_short _ = true
+
+-- the shape of an entry, where it is one through points
+abbrev pub PathOf : Option Path → Entry → Type 0
+PathOf None e = is_short e ≡ true
+PathOf (Some path) e = (form : Form) (d : Drawing) → spelled form d e ≡ opcode path.opcode (shape_bytes path.points.now) ∷ []
 
 -- What a writer of a text sends.
 
@@ -17,33 +57,27 @@ Stays w t = (t.form ≡ w.form) × (t.state ≡ w.state)
 -- these bytes were sent, and the text ends like this then
 pub record WritesBytes {T F E : Type 0} (sends : T → List ℕ → Bool → T → Type 0) (bytes : List ℕ) (end : Tail) (w t : Writer T F) (r : Result (Unit {0}) E) : Type 0 where
   pub sent : sends w.to bytes (is_err r) t.to
-  pub tail : t.tail ≡ end
+  pub tail : t.room.tail ≡ end
   pub kept : Stays w t
 
--- a piece was sent
-abbrev pub WritesPiece : {T F E : Type 0} → (T → List ℕ → Bool → T → Type 0) → Piece → Writer T F → Writer T F → Result (Unit {0}) E → Type 0
-WritesPiece sends p w t r = WritesBytes sends (piece_bytes w.tail p) (tail_behind w.tail p) w t r
+-- what was laid was sent, and a piece behind it
+abbrev pub WritesLaid : {T F E : Type 0} → (T → List ℕ → Bool → T → Type 0) → Piece → Writer T F → Writer T F → Result (Unit {0}) E → Type 0
+WritesLaid sends p w t r = WritesBytes sends (w.room.bytes ++ piece_bytes w.room.tail p) (tail_behind w.room.tail p) w t r
 
--- pieces were sent, and the text ends with them unless a write failed
-pub record WritesPieces {T F E : Type 0} (sends : T → List ℕ → Bool → T → Type 0) (ps : List Piece) (w t : Writer T F) (r : Result (Unit {0}) E) : Type 0 where
-  pub sent : sends w.to (written w.tail ps) (is_err r) t.to
-  pub tail : OnOk r (t.tail ≡ tail_after w.tail ps)
-  pub kept : Stays w t
-
--- commands were sent
-abbrev pub WritesCommands : {T F E : Type 0} → (T → List ℕ → Bool → T → Type 0) → List Command → Writer T F → Writer T F → Result (Unit {0}) E → Type 0
-WritesCommands sends commands w t r = WritesPieces sends (map command_piece commands) w t r
+-- what was laid was sent, and pieces behind it
+abbrev pub WritesPieces : {T F E : Type 0} → (T → List ℕ → Bool → T → Type 0) → List Piece → Writer T F → Writer T F → Result (Unit {0}) E → Type 0
+WritesPieces sends ps w t r = WritesBytes sends (w.room.bytes ++ written w.room.tail ps) (tail_after w.room.tail ps) w t r
 
 -- an opening and entries of this size were sent, or so many of these, and the text ends like this where all were
 pub record WritesWhole {T F : Type 0} (sends : T → List ℕ → Bool → T → Type 0) (opening : List ℕ) (size : ℕ) (bytes : List ℕ) (end : Tail) (w t : Writer T F) (r : Result (Unit {0}) ℕ) : Type 0 where
   pub sent : SentWhole sends w.to opening size bytes t.to r
-  pub tail : OnOk r (t.tail ≡ end)
+  pub tail : OnOk r (t.room.tail ≡ end)
   pub kept : Stays w t
 
 -- an entry was put: its pieces were sent, and the state is the one that it leaves, or stays where a write failed
 pub record Puts {T F E : Type 0} (sends : T → List ℕ → Bool → T → Type 0) (e : Entry) (w t : Writer T F) (r : Result (Unit {0}) E) : Type 0 where
-  pub sent : sends w.to (written w.tail (entry_pieces w.form w.state e)) (is_err r) t.to
-  pub tail : OnOk r (t.tail ≡ tail_after w.tail (entry_pieces w.form w.state e))
+  pub sent : sends w.to (written w.room.tail (entry_pieces w.form w.state e)) (is_err r) t.to
+  pub tail : OnOk r (t.room.tail ≡ tail_after w.room.tail (entry_pieces w.form w.state e))
   pub form : t.form ≡ w.form
   pub state : OnOk r (t.state ≡ after w.state e)
   pub still : OnErr r (t.state ≡ w.state)

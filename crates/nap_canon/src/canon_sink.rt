@@ -26,7 +26,7 @@ impl<O: Outlet + Drop> Model for CanonSink<O> {
 
     ghost Value = { Canonical O };
 
-    ghost view = { λ s. record { outlet = s.writer.to.outlet; written = s.writer.to.written; form = s.writer.form; tail = s.writer.tail; state = s.writer.state } };
+    ghost view = { λ s. record { outlet = s.writer.to.outlet; written = s.writer.to.written; form = s.writer.form; tail = s.writer.room.tail; state = s.writer.state } };
 }
 
 impl<O: Outlet + Drop> CanonSink<O> {

@@ -1,7 +1,6 @@
 //! How the text so far ends.
 ghost use Rattle.std.specs.Prelude.{ℕ, ◌≡◌, ◌<◌, ◌≤◌, nat_le};
-ghost use Rattle.nap_canon.specs.declared.tail.Tail.TheVariants.{InRun};
-ghost use Rattle.nap_canon.specs.Text.{gl_of, length_of, is_joined, run_behind};
+ghost use Rattle.nap_canon.specs.Text.{gl_of, length_of, is_joined};
 
 use nap_codes::GSet;
 use nap_reader::RUN_LIMIT;
@@ -56,25 +55,13 @@ impl Tail {
         }
     }
 
-    fn length(self) -> usize
+    /// How long the run is that stands last.
+    pub(crate) fn length(self) -> usize
         ensures { result ≡ length_of self }
     {
         match self {
             Tail::Apart(_) => 0,
             Tail::InRun(run) => run.length,
         }
-    }
-
-    /// The tail after this many bytes of operands.
-    pub(crate) fn behind(self, opcode: u8, count: usize) -> Tail
-        requires few { count ≤ 1024 }
-        ensures { result ≡ InRun (run_behind self opcode count) }
-    {
-        let length = if self.joins(opcode, count) {
-            self.length() + count
-        } else {
-            count
-        };
-        Tail::InRun(Run { opcode, length })
     }
 }

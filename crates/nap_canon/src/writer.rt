@@ -1,104 +1,39 @@
 //! Writes the canonical text of entries, one after another.
-ghost use Rattle.std.specs.Prelude.{◌≡◌, is_err, None, OnOk, OnErr};
+ghost use Rattle.std.specs.Prelude.{◌≡◌, ◌≤◌, ◌∷◌, length};
 ghost use Rattle.nap_codes.specs.declared.code_set.GSet.TheVariants.{G1};
 ghost use Rattle.nap_canon.specs.declared.tail.Tail.TheVariants.{Apart};
 ghost use Rattle.nap_list.specs.Entry.{held};
-ghost use Rattle.nap_list.specs.Agreement.{Stands};
-ghost use Rattle.nap_list.specs.Shapes.{drawn_shape};
-ghost use Rattle.nap_list.specs.State.{start, after, with_pen, Fits};
-ghost use Rattle.nap_canon.specs.Bring.{told, bring_colour, bring_text, bring_from_texture, bring_from_colour, bring_from_pel, bring};
-ghost use Rattle.nap_canon.specs.Spelling.{size_byte, flag_byte, escape, command_piece, step_bytes};
+ghost use Rattle.nap_list.specs.Shapes.{drawn_shape, round};
+ghost use Rattle.nap_list.specs.State.{start, taking, Fits};
+ghost use Rattle.nap_canon.specs.Spelling.{onward_bytes, opcode, shape_bytes, shape, spelled};
 ghost use Rattle.nap_canon.specs.Text.{header, gl_of, begun_tail};
-ghost use Rattle.nap_canon.specs.Writing.{Puts, WritesBytes, WritesCommands, WritesPiece};
+ghost use Rattle.nap_canon.specs.Writing.{Puts, WritesBytes, WritesLaid, WritesPieces};
 
 use crate::byte_sink::ByteSink;
-use crate::command::{Command, Commands, Flag, bring_colour, bring_pel, bring_pen, bring_texture};
 use crate::form::Form;
 use crate::gathered::Gathered;
-use crate::piece::Piece;
+use crate::room::{Path, Room, opcodes, path_of, shape_opcode};
 use crate::tail::Tail;
-use nap_codes::{GSet, Size, TextStep};
-use nap_list::{Base, Colour, Drawing, Entry, Held, Pen, Shape, State, TextLook, corner};
-use nap_values::{put_addr, put_grb, put_move, put_point};
+use nap_codes::GSet;
+use nap_list::{Entry, Shape, ShapeKind, State, start_at};
+use nap_values::Point;
 
 mod joining;
-mod spelling;
 
-pub(crate) mod opcodes {
-    pub(crate) const RESET: u8 = 0x20;
+/// At most so many displacements are gathered.
+const MOST: usize = 128;
 
-    pub(crate) const DOMAIN: u8 = 0x21;
-
-    pub(crate) const TEXT: u8 = 0x22;
-
-    pub(crate) const TEXTURE: u8 = 0x23;
-
-    pub(crate) const POINT_SET_ABS: u8 = 0x24;
-
-    pub(crate) const POINT_ABS: u8 = 0x26;
-
-    pub(crate) const LINE_ABS: u8 = 0x28;
-
-    pub(crate) const SET_LINE_ABS: u8 = 0x2A;
-
-    pub(crate) const SET_ARC: u8 = 0x2E;
-
-    pub(crate) const SET_RECT: u8 = 0x32;
-
-    pub(crate) const SET_POLY: u8 = 0x36;
-
-    pub(crate) const FIELD: u8 = 0x38;
-
-    pub(crate) const SET_COLOR: u8 = 0x3C;
-
-    pub(crate) const WAIT: u8 = 0x3D;
-
-    pub(crate) const SELECT_COLOR: u8 = 0x3E;
-
-    pub(crate) const BLINK: u8 = 0x3F;
-}
-
-/// The operand of DOMAIN: eight words and four words.
-const LENGTHS: u8 = 0x5F;
+/// At most so many are gathered behind a bring, an opcode and a point.
+const NEAR: usize = 100;
 
 /// Writes the text of entries.
 #[derive(Drop)]
 pub(crate) struct Writer<T: ByteSink + Drop> {
     to: T,
     form: Form,
-    tail: Tail,
+    /// What is written next.
+    room: Room,
     state: State,
-    /// Operands that are gathered for one write.
-    room: Gathered,
-}
-
-/// The control of a size that has a name.
-fn size_byte(size: Size) -> u8
-    ensures { result ≡ size_byte size }
-{
-    match size {
-        Size::Small => 0x4A,
-        Size::Medium => 0x4B,
-        Size::Normal => 0x4C,
-        Size::Tall => 0x4D,
-        Size::Double => 0x4F,
-    }
-}
-
-/// The control of a mode of text.
-fn flag_byte(flag: Flag, on: bool) -> u8
-    ensures { result ≡ flag_byte flag on }
-{
-    match (flag, on) {
-        (Flag::Reverse, true) => 0x48,
-        (Flag::Reverse, false) => 0x49,
-        (Flag::Underline, true) => 0x59,
-        (Flag::Underline, false) => 0x5A,
-        (Flag::Wrap, true) => 0x55,
-        (Flag::Wrap, false) => 0x56,
-        (Flag::Scroll, true) => 0x57,
-        (Flag::Scroll, false) => 0x58,
-    }
 }
 
 impl<T: ByteSink + Drop> Writer<T> {
@@ -106,23 +41,27 @@ impl<T: ByteSink + Drop> Writer<T> {
     pub(crate) fn new(form: Form, to: T) -> Writer<T>
         ensures to { result.to ≡ to }
         ensures form { result.form ≡ form }
-        ensures tail { result.tail ≡ begun_tail }
+        ensures tail { result.room.tail ≡ begun_tail }
         ensures state { result.state ≡ start }
     {
         Writer {
             to,
             form,
-            tail: Tail::Apart(GSet::G1),
+            room: Room {
+                tail: Tail::Apart(GSet::G1),
+                bytes: Gathered::new(),
+            },
             state: State::start(),
-            room: Gathered::new(),
         }
     }
 
     /// Begins the text: SO brings the opcodes into GL, and DOMAIN makes the operands eight words and four words long.
     pub(crate) fn begin(&mut self) -> Result<(), T::Fault>
-        ensures { WritesBytes T.sent header (Apart (gl_of self.old.tail)) self.old self.new result }
+        ensures { WritesBytes T.sent header (Apart (gl_of self.old.room.tail)) self.old self.new result }
     {
-        self.control(&[0x0E, opcodes::DOMAIN, LENGTHS])
+        self.room.bytes.clear();
+        self.room.header();
+        self.to.take(self.room.bytes.as_slice())
     }
 
     /// What takes the text.
@@ -140,226 +79,109 @@ impl<T: ByteSink + Drop> Writer<T> {
         to
     }
 
-    /// Takes the bytes of an opcode with its operands, behind which the opcodes are in GL.
-    #[inline(always)]
-    fn drawn(&mut self, piece: Piece) -> Result<(), T::Fault>
-        ensures { WritesBytes T.sent piece (Apart G1) self.old self.new result }
+    /// The displacements from a point to the others in turn.
+    fn onward(&mut self, first: Point, others: &[Point]) -> Result<(), T::Fault>
+        ensures { WritesBytes T.sent (onward_bytes first others.now) self.old.room.tail self.old self.new result }
     {
-        self.tail = Tail::Apart(GSet::G1);
-        self.to.take(piece.as_slice())
-    }
-
-    /// Takes controls with the bytes that belong to them.
-    #[inline(always)]
-    fn control(&mut self, bytes: &[u8]) -> Result<(), T::Fault>
-        ensures { WritesBytes T.sent bytes.now (Apart (gl_of self.old.tail)) self.old self.new result }
-    {
-        self.tail = Tail::Apart(self.tail.gl());
-        self.to.take(bytes)
-    }
-
-    /// Takes a control of the C1 set.
-    #[inline(always)]
-    fn escape(&mut self, byte: u8) -> Result<(), T::Fault>
-        ensures { WritesPiece T.sent (escape byte) self.old self.new result }
-    {
-        self.control(&[0x1B, byte])
-    }
-
-    #[inline(always)]
-    fn command(&mut self, command: Command) -> Result<(), T::Fault>
-        ensures { WritesPiece T.sent (command_piece command) self.old self.new result }
-    {
-        let gl = self.tail.gl();
-        match command {
-            Command::PointSet(point) => {
-                self.drawn(Piece::opened(gl, opcodes::POINT_SET_ABS, &put_point(point)))
-            }
-            Command::Pel(pel) => self.drawn(
-                Piece::opcode(gl, opcodes::DOMAIN)
-                    .with(&[LENGTHS])
-                    .with(&put_move(pel)),
-            ),
-            Command::SelectBase => self.drawn(Piece::opcode(gl, opcodes::SELECT_COLOR)),
-            Command::SelectFront(addr) => {
-                self.drawn(Piece::opened(gl, opcodes::SELECT_COLOR, &put_addr(addr)))
-            }
-            Command::SelectPair(front, back) => self.drawn(
-                Piece::opcode(gl, opcodes::SELECT_COLOR)
-                    .with(&put_addr(front))
-                    .with(&put_addr(back)),
-            ),
-            Command::SetColor(grb) => {
-                self.drawn(Piece::opened(gl, opcodes::SET_COLOR, &put_grb(grb)))
-            }
-            Command::Texture(word) => self.drawn(Piece::opcode(gl, opcodes::TEXTURE).word(word)),
-            Command::TextureMask(word, mask) => self.drawn(
-                Piece::opcode(gl, opcodes::TEXTURE)
-                    .word(word)
-                    .with(&put_move(mask)),
-            ),
-            Command::Text(first, second) => {
-                self.drawn(Piece::opcode(gl, opcodes::TEXT).word(first).word(second))
-            }
-            Command::TextSize(first, second, size) => self.drawn(
-                Piece::opcode(gl, opcodes::TEXT)
-                    .word(first)
-                    .word(second)
-                    .with(&put_move(size)),
-            ),
-            Command::Named(size) => self.escape(size_byte(size)),
-            Command::Flag(flag, on) => self.escape(flag_byte(flag, on)),
-        }
-    }
-
-    fn commands(&mut self, commands: &Commands) -> Result<(), T::Fault>
-        ensures { WritesCommands T.sent commands.now self.old self.new result }
-    {
-        for command in commands.as_slice() {
-            self.command(*command)?;
+        let mut from = first;
+        for chunk in others.chunks(MOST) {
+            self.room.bytes.clear();
+            self.room.bytes.onward(from, chunk);
+            self.to.take(self.room.bytes.as_slice())?;
+            from = start_at(from, chunk, chunk.len());
         }
         Ok(())
     }
 
-    /// Writes a command, where there is one.
-    #[tactic(auto, unfolding(crate::specs::Text::written, crate::specs::Text::tail_after))]
-    #[inline(always)]
-    fn tell(&mut self, command: Option<Command>) -> Result<(), T::Fault>
-        ensures { WritesCommands T.sent (told command) self.old self.new result }
-    {
-        match command {
-            Some(command) => self.command(command),
-            None => Ok(()),
-        }
-    }
-
-    /// Writes the bring of a colour.
-    #[inline(always)]
-    fn lead_colour(
-        &mut self,
-        base: Base,
-        old: Colour,
-        colour: Option<Colour>,
-    ) -> Result<(), T::Fault>
-        ensures { WritesCommands T.sent (bring_colour base old colour) self.old self.new result }
-    {
-        let (first, second) = bring_colour(base, old, colour);
-        self.tell(first)?;
-        self.tell(second)
-    }
-
-    /// Writes the bring of the look of text.
-    #[tactic(auto, unfolding(crate::specs::Text::written, crate::specs::Text::tail_after, crate::specs::Bring::bring_text))]
-    #[inline(always)]
-    fn lead_text(&mut self, old: &TextLook, look: &Option<TextLook>) -> Result<(), T::Fault>
-        ensures { WritesCommands T.sent (bring_text old.now look.now) self.old self.new result }
-    {
-        if look.is_none() {
-            return Ok(());
-        }
-        self.commands(&Commands::bring_text(old, look))
-    }
-
-    /// Writes the bring of an entry from its texture on.
-    #[inline(always)]
-    fn lead_texture(&mut self, old: &Drawing, held: &Held) -> Result<(), T::Fault>
-        ensures { WritesCommands T.sent (bring_from_texture old.now held.now) self.old self.new result }
-    {
-        self.tell(bring_texture(old.texture, held.texture))?;
-        self.lead_text(&old.text, &held.text)
-    }
-
-    /// Writes the bring of an entry from its colour on.
-    #[inline(always)]
-    fn lead_colours(&mut self, old: &Drawing, held: &Held) -> Result<(), T::Fault>
-        ensures { WritesCommands T.sent (bring_from_colour old.now held.now) self.old self.new result }
-    {
-        self.lead_colour(old.base, old.colour, held.colour)?;
-        self.lead_texture(old, held)
-    }
-
-    /// Writes the bring of an entry from its pel on.
-    #[inline(always)]
-    fn lead_pel(&mut self, old: &Drawing, held: &Held) -> Result<(), T::Fault>
-        ensures { WritesCommands T.sent (bring_from_pel old.now held.now) self.old self.new result }
-    {
-        self.tell(bring_pel(old.pel, held.pel))?;
-        self.lead_colours(old, held)
-    }
-
-    /// Writes the bring of the values that an entry holds.
-    #[inline(always)]
-    fn lead(&mut self, held: &Held) -> Result<(), T::Fault>
-        ensures { WritesCommands T.sent (bring self.old.state.drawing held.now) self.old self.new result }
-    {
-        let old = self.state.drawing;
-        self.tell(bring_pen(old.pen, held.pen))?;
-        self.lead_pel(&old, held)
-    }
-
-    /// Writes an entry that may come next: its bring, and its spelling.
+    /// Writes what was laid, and a shape through many points, by its opcode.
     #[inline(never)]
-    fn put_led(&mut self, entry: &Entry) -> Result<(), T::Fault>
-        requires { Fits self.old.state entry.now }
-        ensures { Puts T.sent entry.now self.old self.new result }
+    fn long_path(&mut self, code: u8, first: Point, others: &[Point]) -> Result<(), T::Fault>
+        requires many { 100 ≤ length others.now }
+        requires space { length self.old.room.bytes ≤ 198 }
+        ensures { WritesLaid T.sent (opcode code (shape_bytes (first ∷ others.now))) self.old self.new result }
     {
-        self.lead(&entry.held())?;
-        self.spelling(entry)?;
-        self.state.step(entry);
-        Ok(())
+        let (near, far) = others.split_at(NEAR);
+        self.room.shape(code, first, near);
+        self.to.take(self.room.bytes.as_slice())?;
+        self.onward(start_at(first, near, near.len()), far)
     }
 
-    /// Writes a format effector whose values are current.
+    /// Writes what was laid, and a shape by its opcode.
     #[inline(always)]
-    fn put_move(&mut self, step: TextStep) -> Result<(), T::Fault>
-        ensures sent { T.sent self.old.to (step_bytes step) (is_err result) self.new.to }
-        ensures tail { self.new.tail ≡ Apart (gl_of self.old.tail) }
-        ensures form { self.new.form ≡ self.old.form }
-        ensures state { OnOk result (self.new.state ≡ record self.old.state { drawing = with_pen Pen.After self.old.state.drawing; last = None }) }
-        ensures still { OnErr result (self.new.state ≡ self.old.state) }
+    fn path(&mut self, code: u8, first: Point, others: &[Point]) -> Result<(), T::Fault>
+        requires space { length self.old.room.bytes ≤ 198 }
+        ensures { WritesLaid T.sent (opcode code (shape_bytes (first ∷ others.now))) self.old self.new result }
     {
-        self.text_move(step)?;
-        self.state.drawing.pen = Pen::After;
-        self.state.last = None;
-        Ok(())
-    }
-
-    /// Writes an entry that may come next, whose values are current.
-    #[inline(always)]
-    fn put_current(&mut self, entry: &Entry) -> Result<(), T::Fault>
-        requires fits { Fits self.old.state entry.now }
-        requires stand { Stands (held entry.now) self.old.state.drawing }
-        ensures { Puts T.sent entry.now self.old self.new result }
-    {
-        if let Entry::TextMove { step, .. } = entry {
-            return self.put_move(*step);
+        if others.len() > NEAR {
+            return self.long_path(code, first, others);
         }
-        self.spelling(entry)?;
-        pass(&mut self.state, entry);
-        Ok(())
+        self.room.shape(code, first, others);
+        self.to.take(self.room.bytes.as_slice())
     }
 
-    /// Writes an entry that may come next: its bring where a value that it holds isn't current, and its spelling. The
-    /// state stays where this fails.
+    /// Writes what was laid, and a shape through its points.
+    #[inline(never)]
+    fn shape(&mut self, path: Path) -> Result<(), T::Fault>
+        requires space { length self.old.room.bytes ≤ 198 }
+        ensures { WritesLaid T.sent (opcode path.entry.opcode (shape_bytes path.entry.points.now)) self.old self.new result }
+    {
+        let Some((first, others)) = path.points.split_first() else {
+            self.room.opened(path.opcode, &[], &[]);
+            return self.to.take(self.room.bytes.as_slice());
+        };
+        self.path(path.opcode, *first, others)
+    }
+
+    /// Writes what was laid, and an arc through a point and the others in turn. One of a single step goes back to its start.
+    #[inline(always)]
+    fn arc(&mut self, filled: bool, first: Point, others: &[Point]) -> Result<(), T::Fault>
+        requires space { length self.old.room.bytes ≤ 198 }
+        ensures { WritesLaid T.sent (shape 0x2E filled (round (first ∷ others.now))) self.old self.new result }
+    {
+        let code = shape_opcode(opcodes::SET_ARC, filled);
+        if let [point] = others {
+            return self.path(code, first, &[*point, first]);
+        }
+        self.path(code, first, others)
+    }
+
+    /// Writes what was laid, and how the entry of a shape is spelled where the values that it holds stand.
+    #[inline(always)]
+    fn spell_shape(&mut self, shape: &Shape) -> Result<(), T::Fault>
+        requires space { length self.old.room.bytes ≤ 198 }
+        ensures { WritesPieces T.sent (spelled self.old.form (taking self.old.state.drawing (held (drawn_shape shape.now))) (drawn_shape shape.now)) self.old self.new result }
+    {
+        let (from, others) = (shape.from, shape.others);
+        match shape.kind {
+            ShapeKind::Arc => self.arc(shape.filled, from, others),
+            ShapeKind::Poly => {
+                self.path(shape_opcode(opcodes::SET_POLY, shape.filled), from, others)
+            }
+        }
+    }
+
+    /// Writes what was laid, and how an entry is spelled where the values that it holds stand.
+    #[inline(always)]
+    fn spell(&mut self, entry: &Entry) -> Result<(), T::Fault>
+        requires space { length self.old.room.bytes ≤ 198 }
+        ensures { WritesPieces T.sent (spelled self.old.form (taking self.old.state.drawing (held entry.now)) entry.now) self.old self.new result }
+    {
+        if let Some(path) = path_of(entry) {
+            return self.shape(path);
+        }
+        self.room.spelling(self.form, &self.state.drawing, entry);
+        self.to.take(self.room.bytes.as_slice())
+    }
+
+    /// Writes an entry that may come next: its bring, and its spelling. The state stays where this fails.
     pub(crate) fn put_ref(&mut self, entry: &Entry) -> Result<(), T::Fault>
         requires { Fits self.old.state entry.now }
         ensures { Puts T.sent entry.now self.old self.new result }
     {
-        if self.state.drawing.stands(entry) {
-            return self.put_current(entry);
-        }
-        self.put_led(entry)
-    }
-
-    /// Writes a shape that may come next: its bring, and its spelling.
-    #[inline(never)]
-    fn put_led_shape(&mut self, shape: &Shape) -> Result<(), T::Fault>
-        requires { Fits self.old.state (drawn_shape shape.now) }
-        ensures { Puts T.sent (drawn_shape shape.now) self.old self.new result }
-    {
-        self.lead(&held(shape))?;
-        self.lent_shape(shape)?;
-        self.state.step_shape(shape);
+        self.room.bytes.clear();
+        self.room.lead(&self.state.drawing, entry);
+        self.spell(entry)?;
+        self.state.step(entry);
         Ok(())
     }
 
@@ -368,40 +190,11 @@ impl<T: ByteSink + Drop> Writer<T> {
         requires { Fits self.old.state (drawn_shape shape.now) }
         ensures { Puts T.sent (drawn_shape shape.now) self.old self.new result }
     {
-        if !self.state.drawing.stands_shape(shape) {
-            return self.put_led_shape(shape);
-        }
-        self.lent_shape(shape)?;
-        self.state.pass_shape(shape);
+        self.room.bytes.clear();
+        self.room
+            .lead_ink(&self.state.drawing, &shape.drawing.ink());
+        self.spell_shape(shape)?;
+        self.state.step_shape(shape);
         Ok(())
     }
-}
-
-/// The values that the entry of a shape holds.
-#[inline(always)]
-fn held(shape: &Shape) -> Held
-    ensures { result ≡ held (drawn_shape shape.now) }
-{
-    Held {
-        pen: None,
-        pel: Some(shape.drawing.pel),
-        colour: Some(shape.drawing.colour),
-        texture: Some(shape.drawing.texture),
-        text: None,
-    }
-}
-
-/// Goes on to the state that an entry leaves whose values stand.
-#[inline(always)]
-fn pass(state: &mut State, entry: &Entry)
-    requires fits { Fits state.old entry.now }
-    requires stand { Stands (held entry.now) state.old.drawing }
-    ensures { state.new ≡ after state.old entry.now }
-{
-    match entry {
-        Entry::Line { to, .. } => state.drawing.pen = Pen::At(*to),
-        Entry::Rect { from, to, .. } => state.drawing.pen = Pen::At(corner(*from, *to)),
-        _ => return state.step(entry),
-    }
-    state.last = None;
 }

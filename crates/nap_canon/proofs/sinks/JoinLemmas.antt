@@ -58,14 +58,6 @@ one_behind : (form : Form) (tail : Tail) (s : State) (e : Entry) (piece : Piece)
 unfolding tail_after
 one_behind form tail s e piece is = ap (tail_after tail) is
 
-pub writes_one : {S : Type 0} (sent : S → List ℕ → Bool → S → Type 0) (form : Form) (tail : Tail) (s : State) (e : Entry) (piece : Piece) (to to' : S) (tail' : Tail) (broke : Bool) →
-    entry_pieces form s e ≡ piece ∷ [] → sent to (piece_bytes tail piece) broke to' → tail' ≡ tail_behind tail piece →
-    sent to (written tail (entry_pieces form s e)) broke to' × (tail' ≡ tail_after tail (entry_pieces form s e))
-writes_one sent form tail s e piece to to' tail' broke is bytes behind = (
-  subst (λ (bs : List ℕ). sent to bs broke to') (sym (one_written form tail s e piece is)) bytes,
-  behind ∙ sym (one_behind form tail s e piece is),
-)
-
 -- the piece of the entry at an index of a batch, whose values stand
 
 heads : (x y : Entry) (xs ys : List Entry) → x ∷ xs ≡ y ∷ ys → x ≡ y

@@ -1,14 +1,14 @@
 -- Bytes that are put in a room.
 
-use Rattle.std.proofs.Common.{ℕ, ◌≡◌, ◌+◌, ◌≤◌, List, ◌++◌, length, take, drop, ap, sym, ◌∙◌, append_assoc, length-append, arith}
-use Rattle.std.proofs.lemmas.List.{length-take-le, take-take, take-append-le, take_at, drop_at, drop-drop}
+use Rattle.std.proofs.Common.{ℕ, ◌≡◌, ◌+◌, ◌≤◌, List, [], ◌++◌, length, take, drop, ap, sym, ◌∙◌, append_assoc, length-append, take-append-drop, arith}
+use Rattle.std.proofs.lemmas.List.{length-take-le, take_at, drop_at, drop-drop}
 use Rattle.nap_canon.specs.Gathering.{laid}
 
--- what was put stands at its place
-pub laid_stands : (room bytes : List ℕ) (at n : ℕ) → at ≤ length room → length bytes ≡ n → take n (drop at (laid room at bytes)) ≡ bytes
-laid_stands room bytes at n within size =
-    let rest : List ℕ = drop (at + length bytes) room in
-    ap (take n) (drop_at (take at room) (bytes ++ rest) at (length-take-le at room within)) ∙ take_at bytes rest n size
+-- nothing was put
+pub laid_none : (room : List ℕ) (at : ℕ) → room ≡ laid room at []
+laid_none room at =
+    let same : at ≡ at + 0 = omega arith in
+    sym (take-append-drop at room) ∙ ap (λ (k : ℕ). take at room ++ drop k room) same
 
 -- more of it, right behind
 pub laid_behind : (room xs ys : List ℕ) (at end : ℕ) → at + length xs ≡ end → end ≤ length room → laid (laid room at xs) end ys ≡ laid room at (xs ++ ys)
@@ -31,24 +31,10 @@ laid_behind room xs ys at end size within =
     ∙ append_assoc front xs (ys ++ drop (at + length (xs ++ ys)) room)
     ∙ ap (λ (bs : List ℕ). front ++ bs) (sym (append_assoc xs ys (drop (at + length (xs ++ ys)) room)))
 
--- what leads it, right before
-pub laid_before : (room xs ys : List ℕ) (at begin : ℕ) → begin + length xs ≡ at → at ≤ length room → laid (laid room at ys) begin xs ≡ laid room begin (xs ++ ys)
-laid_before room xs ys at begin size within =
+-- what was put at the end of the bytes so far, behind them
+pub laid_ends : (room made xs : List ℕ) (at n : ℕ) → at ≤ length room → made ≡ laid room at xs → n ≡ at + length xs → take n made ≡ take at room ++ xs
+laid_ends room made xs at n within is size =
     let front : List ℕ = take at room in
-    let rest : List ℕ = drop (at + length ys) room in
-    let long : length front ≡ at = length-take-le at room within in
-    let kept : take begin (laid room at ys) ≡ take begin room =
-    take-append-le begin front (ys ++ rest) (omega (arith, long, size)) ∙ take-take begin at room (omega (arith, size)) in
-    let left : drop (begin + length xs) (laid room at ys) ≡ ys ++ rest = ap (λ (k : ℕ). drop k (laid room at ys)) size ∙ drop_at front (ys ++ rest) at long in
-    let until : at + length ys ≡ begin + length (xs ++ ys) = omega (arith, length-append xs ys, size) in
-    ap (λ (bs : List ℕ). bs ++ (xs ++ drop (begin + length xs) (laid room at ys))) kept
-    ∙ ap (λ (bs : List ℕ). take begin room ++ (xs ++ bs)) left
-    ∙ ap (λ (k : ℕ). take begin room ++ (xs ++ (ys ++ drop k room))) until
-    ∙ ap (λ (bs : List ℕ). take begin room ++ bs) (sym (append_assoc xs ys (drop (begin + length (xs ++ ys)) room)))
-
--- what leads it and it stand together
-pub led_stands : (room made lead bytes : List ℕ) (at begin n : ℕ) → made ≡ laid (laid room at bytes) begin lead → begin + length lead ≡ at → at ≤ length room →
-    length lead + length bytes ≡ n → take n (drop begin made) ≡ lead ++ bytes
-led_stands room made lead bytes at begin n is before within size =
-    ap (λ (bs : List ℕ). take n (drop begin bs)) (is ∙ laid_before room lead bytes at begin before within)
-    ∙ laid_stands room (lead ++ bytes) begin n (omega (arith, before, within)) (length-append lead bytes ∙ size)
+    let rest : List ℕ = drop (at + length xs) room in
+    ap (take n) (is ∙ sym (append_assoc front xs rest))
+    ∙ take_at (front ++ xs) rest n (omega (arith, length-append front xs, length-take-le at room within, size))

@@ -1,115 +1,109 @@
--- What a writer sends, as its relations say.
+-- What is laid, and what a writer sends, as their relations say.
 
-use Rattle.std.proofs.Common.{Result, Ok, Err, is_err, Bool, true, false, ℕ, ◌≡◌, List, [], ◌∷◌, ◌++◌, append-nil, map, ap, sym, subst, ◌∙◌}
+use Rattle.std.proofs.Common.{Option, Result, Ok, Err, is_err, Bool, true, false, List, [], ◌∷◌, ◌++◌, ℕ, ◌≡◌, append-nil, append_assoc, map, ap, sym, subst, ◌∙◌}
 use Rattle.std.proofs.lemmas.List.{map-append}
 use Rattle.nap_list.specs.declared.attribute.Held.{Held}
 use Rattle.nap_list.specs.declared.entry.Entry.{Entry}
+use Rattle.nap_list.specs.declared.shape.Shape.{Shape}
+use Rattle.nap_list.specs.declared.shape.ShapeKind.{ShapeKind}
+use Rattle.nap_list.specs.declared.shape.ShapeKind.TheVariants as kinds
+use Rattle.nap_list.specs.declared.state.Drawing.{Drawing}
 use Rattle.nap_list.specs.declared.state.State.{State}
-use Rattle.nap_list.specs.Agreement.{Stands}
 use Rattle.nap_list.specs.Entry.{held}
+use Rattle.nap_list.specs.Shapes.{drawn_shape, outline, round, shape_on}
 use Rattle.nap_list.specs.State.{taking, after}
 use Rattle.nap_canon.specs.declared.command.Command.{Command}
 use Rattle.nap_canon.specs.declared.form.Form.{Form}
+use Rattle.nap_canon.specs.declared.room.Room.{Room}
 use Rattle.nap_canon.specs.declared.tail.Tail.{Tail}
 use Rattle.nap_canon.specs.declared.writer.Writer.{Writer}
-use Rattle.nap_canon.specs.Bring.{bring}
-use Rattle.nap_canon.specs.Spelling.{Piece, command_piece, spelled}
+use Rattle.nap_canon.specs.Bring.{told, bring}
+use Rattle.nap_canon.specs.Spelling.{Piece, command_piece, shape, spelled}
 use Rattle.nap_canon.specs.Text.{piece_bytes, written, tail_after, entry_pieces}
 use Rattle.nap_canon.specs.TextParts.{written-append, tail_after-append}
-use Rattle.nap_canon.specs.Writing.{Puts, WritesCommands, WritesPiece, WritesPieces}
-use Rattle.nap_canon.proofs.sinks.JoinLemmas.{alone}
-use Rattle.nap_canon.proofs.texts.WriterLemmas.{on_ok_from, on_ok_to, sent_both, sent_first}
+use Rattle.nap_canon.specs.Writing.{Lays, LaysPiece, LaysCommands, Puts, WritesLaid, WritesPieces}
 
 -- a piece alone
-pub one_piece : {T F E : Type 0} (sent : T → List ℕ → Bool → T → Type 0) (p : Piece) (w t : Writer T F) (r : Result (Unit {0}) E) → WritesPiece sent p w t r → WritesPieces sent (p ∷ []) w t r
+pub one_piece : (p : Piece) (w t : Room) → LaysPiece p w t → Lays (p ∷ []) w t
 unfolding written tail_after
-one_piece sent p w t r piece = record {
-  sent = subst (λ (bytes : List ℕ). sent w.to bytes (is_err r) t.to) (sym (append-nil (piece_bytes w.tail p))) piece.sent;
-  tail = on_ok_from r piece.tail;
+one_piece p w t piece = record { laid = piece.laid ∙ ap (λ (bs : List ℕ). w.bytes ++ bs) (sym (append-nil (piece_bytes w.tail p))); tail = piece.tail }
+
+-- pieces behind others
+pub both_laid : (front back whole : List Piece) (w m t : Room) → front ++ back ≡ whole → Lays front w m → Lays back m t → Lays whole w t
+both_laid front back whole w m t is first second = record {
+  laid =
+      second.laid
+      ∙ ap (λ (bs : List ℕ). bs ++ written m.tail back) first.laid
+      ∙ append_assoc w.bytes (written w.tail front) (written m.tail back)
+      ∙ ap (λ (u : Tail). w.bytes ++ (written w.tail front ++ written u back)) first.tail
+      ∙ ap (λ (bs : List ℕ). w.bytes ++ bs) (sym (written-append w.tail front back) ∙ ap (written w.tail) is);
+  tail = second.tail ∙ ap (λ (u : Tail). tail_after u back) first.tail ∙ sym (tail_after-append w.tail front back) ∙ ap (tail_after w.tail) is;
+}
+
+-- commands behind others
+pub both_told : (front back whole : List Command) (w m t : Room) → front ++ back ≡ whole → LaysCommands front w m → LaysCommands back m t → LaysCommands whole w t
+both_told front back whole w m t is =
+    both_laid (map command_piece front) (map command_piece back) (map command_piece whole) w m t (sym (map-append command_piece front back) ∙ ap (map command_piece) is)
+
+-- a command, where there is one
+
+pub told_as : (command : Option Command) (whole : List Command) (w t : Room) → told command ≡ whole → LaysCommands (told command) w t → LaysCommands whole w t
+told_as command whole w t is = subst (λ (cs : List Command). LaysCommands cs w t) is
+
+pub told_before : (command : Option Command) (front back : List Command) (w m t : Room) → told command ≡ front → LaysCommands (told command) w m → LaysCommands back m t →
+    LaysCommands (front ++ back) w t
+told_before command front back w m t is = both_told (told command) back (front ++ back) w m t (ap (λ (cs : List Command). cs ++ back) is)
+
+-- an entry that is one piece
+pub lays_one : (form : Form) (s : State) (e : Entry) (piece : Piece) (w t : Room) → entry_pieces form s e ≡ piece ∷ [] → LaysPiece piece w t → Lays (entry_pieces form s e) w t
+lays_one form s e piece w t is put = subst (λ (ps : List Piece). Lays ps w t) (sym is) (one_piece piece w t put)
+
+-- a piece that is written alone
+pub one_written : {T F E : Type 0} (sent : T → List ℕ → Bool → T → Type 0) (p : Piece) (w t : Writer T F) (r : Result (Unit {0}) E) → WritesLaid sent p w t r → WritesPieces sent (p ∷ []) w t r
+unfolding written tail_after
+one_written sent p w t r piece = record {
+  sent = subst (λ (bs : List ℕ). sent w.to (w.room.bytes ++ bs) (is_err r) t.to) (sym (append-nil (piece_bytes w.room.tail p))) piece.sent;
+  tail = piece.tail;
   kept = piece.kept;
 }
 
--- pieces behind others
+-- how a shape that is lent is spelled
 
-module _ {T F : Type 0} (sent : T → List ℕ → Bool → T → Type 0)
-    (more : (s t u : T) (a b : List ℕ) (broke : Bool) → sent s a false t → sent t b broke u → sent s (a ++ b) broke u)
-    (cut : (s t : T) (a b : List ℕ) → sent s a true t → sent s (a ++ b) true t) (w m : Writer T F) (front back whole : List Piece) (is : front ++ back ≡ whole) where
-  -- the first ones failed
-  pub front_fails : {D E : Type 0} {y : D} (x : E) → WritesPieces sent front w m (Err y) → WritesPieces sent whole w m (Err x)
-  front_fails x first = record {
-    sent = sent_first sent more cut w.to m.to (written w.tail front) (written (tail_after w.tail front) back) _
-        (sym (written-append w.tail front back) ∙ ap (written w.tail) is) first.sent;
-    tail = tt;
-    kept = first.kept;
-  }
+pub arc_spelled : (form : Form) (d : Drawing) (s : Shape) → s.kind ≡ kinds.Arc → spelled form d (drawn_shape s) ≡ shape 0x2E s.filled (round (s.from ∷ s.others.now)) ∷ []
+arc_spelled form d s = ap (λ (kind : ShapeKind). spelled form d (shape_on kind s.filled s.drawing.now (outline kind (s.from ∷ s.others.now))))
 
-  -- the others were written behind them
-  pub both_written : {D E : Type 0} (u : Writer T F) (r : Result (Unit {0}) E) → WritesPieces {E = D} sent front w m (Ok tt) → WritesPieces sent back m u r →
-      WritesPieces sent whole w u r
-  both_written u r first second = record {
-    sent = sent_both sent more cut w.to m.to u.to (written w.tail front) (written m.tail back) _ (is_err r)
-        (ap (λ (t : Tail). written w.tail front ++ written t back) first.tail ∙ sym (written-append w.tail front back) ∙ ap (written w.tail) is) first.sent second.sent;
-    tail = on_ok_to r (λ (next : u.tail ≡ tail_after m.tail back). next ∙ ap (λ (t : Tail). tail_after t back) first.tail ∙ sym (tail_after-append w.tail front back) ∙ ap (tail_after w.tail) is)
-        second.tail;
-    kept = (second.kept.0 ∙ first.kept.0, second.kept.1 ∙ first.kept.1);
-  }
-
--- the pieces of commands behind others
-pub commands_join : (front back whole : List Command) → front ++ back ≡ whole → map command_piece front ++ map command_piece back ≡ map command_piece whole
-commands_join front back whole is = sym (map-append command_piece front back) ∙ ap (map command_piece) is
+pub poly_spelled : (form : Form) (d : Drawing) (s : Shape) → s.kind ≡ kinds.Poly → spelled form d (drawn_shape s) ≡ shape 0x36 s.filled (s.from ∷ s.others.now) ∷ []
+poly_spelled form d s = ap (λ (kind : ShapeKind). spelled form d (shape_on kind s.filled s.drawing.now (outline kind (s.from ∷ s.others.now))))
 
 -- an entry behind its bring
 
-module _ {T F : Type 0} (sent : T → List ℕ → Bool → T → Type 0)
-    (more : (s t u : T) (a b : List ℕ) (broke : Bool) → sent s a false t → sent t b broke u → sent s (a ++ b) broke u)
-    (cut : (s t : T) (a b : List ℕ) → sent s a true t → sent s (a ++ b) true t) (w m : Writer T F) (e : Entry) (h : Held) (holds : h ≡ held e) where
-  parts : map command_piece (bring w.state.drawing h) ++ spelled w.form (taking w.state.drawing (held e)) e ≡ entry_pieces w.form w.state e
-  parts = ap (λ (h : Held). map command_piece (bring w.state.drawing h) ++ spelled w.form (taking w.state.drawing (held e)) e) holds
+module _ {T F : Type 0} (sent : T → List ℕ → Bool → T → Type 0) (w : Writer T F) (e : Entry) (h : Held) (holds : h ≡ held e) (clear : List ℕ) (none : clear ≡ []) (r : Room)
+    (brought : LaysCommands (bring w.state.drawing h) (record { tail = w.room.tail; bytes = clear }) r) (u : Writer T F) where
+  abbrev before : List Piece
+  before = map command_piece (bring w.state.drawing h)
 
-  -- the bring failed
-  pub bring_fails : {D E : Type 0} {y : D} (x : E) → WritesCommands sent (bring w.state.drawing h) w m (Err y) → Puts sent e w m (Err x)
-  bring_fails x first =
-      let all = front_fails sent more cut w m (map command_piece (bring w.state.drawing h)) (spelled w.form (taking w.state.drawing (held e)) e) (entry_pieces w.form w.state e) parts x first in
-      record { sent = all.sent; tail = tt; form = first.kept.0; state = tt; still = first.kept.1 }
+  abbrev own : List Piece
+  own = spelled w.form (taking w.state.drawing (held e)) e
 
-  module _ {D : Type 0} (first : WritesCommands {E = D} sent (bring w.state.drawing h) w m (Ok tt)) (u : Writer T F) where
-    -- the spelling in the terms of the start
-    at_start : spelled m.form (taking m.state.drawing (held e)) e ≡ spelled w.form (taking w.state.drawing (held e)) e
-    at_start = ap (λ (f : Form). spelled f (taking m.state.drawing (held e)) e) first.kept.0 ∙ ap (λ (s : State). spelled w.form (taking s.drawing (held e)) e) first.kept.1
+  parts : before ++ own ≡ entry_pieces w.form w.state e
+  parts = ap (λ (h : Held). map command_piece (bring w.state.drawing h) ++ own) holds
 
-    all_written : {E : Type 0} (r : Result (Unit {0}) E) → WritesPieces sent (spelled m.form (taking m.state.drawing (held e)) e) m u r → WritesPieces sent (entry_pieces w.form w.state e) w u r
-    all_written r second =
-        let told : List Piece = map command_piece (bring w.state.drawing h) in
-        both_written sent more cut w m told (spelled m.form (taking m.state.drawing (held e)) e) (entry_pieces w.form w.state e)
-        (ap (λ (ps : List Piece). told ++ ps) at_start ∙ parts) u r first second
+  all : r.bytes ++ written r.tail own ≡ written w.room.tail (entry_pieces w.form w.state e)
+  all =
+      ap (λ (bs : List ℕ). bs ++ written r.tail own) (brought.laid ∙ ap (λ (bs : List ℕ). bs ++ written w.room.tail before) none)
+      ∙ ap (λ (t : Tail). written w.room.tail before ++ written t own) brought.tail
+      ∙ sym (written-append w.room.tail before own)
+      ∙ ap (written w.room.tail) parts
 
-    -- the spelling failed
-    pub spelling_fails : {C E : Type 0} {y : C} (x : E) → WritesPieces sent (spelled m.form (taking m.state.drawing (held e)) e) m u (Err y) → Puts sent e w u (Err x)
-    spelling_fails {y = y} x second = let all = all_written (Err y) second in record { sent = all.sent; tail = tt; form = all.kept.0; state = tt; still = all.kept.1 }
-
-    -- neither failed
-    pub led : {C E : Type 0} → WritesPieces {E = C} sent (spelled m.form (taking m.state.drawing (held e)) e) m u (Ok tt) → (next : State) → next ≡ after u.state e →
-        Puts {E = E} sent e w (record u { state = next }) (Ok tt)
-    led {C = C} second next is =
-        let all = all_written {E = C} (Ok tt) second in
-        record { sent = all.sent; tail = all.tail; form = all.kept.0; state = is ∙ ap (λ (s : State). after s e) all.kept.1; still = tt }
-
--- an entry whose values stand
-
-module _ {T F : Type 0} (sent : T → List ℕ → Bool → T → Type 0) (w : Writer T F) (e : Entry) (stands : Stands (held e) w.state.drawing) (u : Writer T F) where
-  alone_sent : (broke : Bool) → sent w.to (written w.tail (spelled w.form (taking w.state.drawing (held e)) e)) broke u.to → sent w.to (written w.tail (entry_pieces w.form w.state e)) broke u.to
-  alone_sent broke = subst (λ (ps : List Piece). sent w.to (written w.tail ps) broke u.to) (sym (alone w.form w.state e stands))
-
-  -- the spelling failed
-  pub alone_fails : {D E : Type 0} {y : D} (x : E) → WritesPieces sent (spelled w.form (taking w.state.drawing (held e)) e) w u (Err y) → Puts sent e w u (Err x)
-  alone_fails x put = record { sent = alone_sent true put.sent; tail = tt; form = put.kept.0; state = tt; still = put.kept.1 }
+  -- the write failed
+  pub led_fails : {D E : Type 0} {y : D} (x : E) → WritesPieces sent own (record w { room = r }) u (Err y) → Puts sent e w u (Err x)
+  led_fails x put = record { sent = subst (λ (bs : List ℕ). sent w.to bs true u.to) all put.sent; tail = tt; form = put.kept.0; state = tt; still = put.kept.1 }
 
   -- it didn't fail
-  pub alone_put : {D E : Type 0} → WritesPieces {E = D} sent (spelled w.form (taking w.state.drawing (held e)) e) w u (Ok tt) → (next : State) → next ≡ after u.state e →
-      Puts {E = E} sent e w (record u { state = next }) (Ok tt)
-  alone_put put next is = record {
-    sent = alone_sent false put.sent;
-    tail = put.tail ∙ ap (tail_after w.tail) (sym (alone w.form w.state e stands));
+  pub led : {D E : Type 0} → WritesPieces {E = D} sent own (record w { room = r }) u (Ok tt) → (next : State) → next ≡ after u.state e → Puts {E = E} sent e w (record u { state = next }) (Ok tt)
+  led put next is = record {
+    sent = subst (λ (bs : List ℕ). sent w.to bs false u.to) all put.sent;
+    tail = put.tail ∙ ap (λ (t : Tail). tail_after t own) brought.tail ∙ sym (tail_after-append w.room.tail before own) ∙ ap (tail_after w.room.tail) parts;
     form = put.kept.0;
     state = is ∙ ap (λ (s : State). after s e) put.kept.1;
     still = tt;

@@ -6,16 +6,44 @@ ghost use Rattle.nap_canon.specs.declared.tail.Tail.TheVariants.{Apart, InRun};
 ghost use Rattle.nap_codes.specs.declared.code_set.GSet.TheVariants.{G0};
 ghost use Rattle.nap_canon.specs.Batches.{Joins, PointsJoin, SentWhole, TextJoins, WritesNext, entry_size, joined_bytes, joined_tail, opening, points_bytes, run_opening, whole_entries};
 ghost use Rattle.nap_canon.specs.Text.{gl_of, run_behind, to_primary};
-ghost use Rattle.nap_canon.specs.Writing.{Stays, WritesWhole};
+ghost use Rattle.nap_canon.specs.Writing.{LaysNext, WritesWhole};
 
 use crate::byte_sink::ByteSink;
 use crate::form::Form;
-use crate::gathered::{CODES, NEAR};
+use crate::room::{Room, opcodes};
 use crate::tail::Tail;
-use crate::writer::{Writer, opcodes};
+use crate::writer::Writer;
 use nap_codes::{CharSet, GSet, format_effector};
-use nap_list::{Batch, Pen, start_at};
-use nap_values::{Point, put_point};
+use nap_list::{Batch, Pen, State, start_at};
+use nap_values::Point;
+
+/// At most so many points make one write: room for their opcode is left.
+const NEAR: usize = 126;
+
+/// At most so many codes make one write: room for SI is left.
+const CODES: usize = 1_023;
+
+impl Room {
+    /// Lays the entry of a batch at an index, whose values are current.
+    #[inline(always)]
+    fn next(&mut self, form: Form, state: &State, batch: &Batch, index: usize)
+        requires some { index < length (listed batch.now) }
+        requires stand { EachStands state.now (drop index (listed batch.now)) }
+        requires space { length self.old.bytes + 18 ≤ 1024 }
+        ensures { LaysNext form state.now (drop index (listed batch.now)) self.old self.new }
+    {
+        match batch {
+            Batch::Points { points, .. } => self.point(form, item(points, index)),
+            Batch::Lines { from, points, .. } => self.line(
+                form,
+                state.drawing.pen,
+                start_at(*from, points, index),
+                item(points, index),
+            ),
+            Batch::Text { set, codes, .. } => self.typed(*set, item(codes, index)),
+        }
+    }
+}
 
 impl<T: ByteSink + Drop> Writer<T> {
     /// Whether the values that the first entry of a batch holds are current.
@@ -31,13 +59,13 @@ impl<T: ByteSink + Drop> Writer<T> {
     #[inline]
     fn joining_points(&self, opcode: u8, count: usize) -> usize
         ensures few { result ≤ count }
-        ensures joins { 0 < result → PointsJoin self.now.form self.now.tail opcode result }
+        ensures joins { 0 < result → PointsJoin self.now.form self.now.room.tail opcode result }
     {
         if self.form != Form::Two {
             return 0;
         }
         let few = count.min(NEAR);
-        match self.tail.room(opcode) / 8 {
+        match self.room.tail.room(opcode) / 8 {
             0 => few,
             room => few.min(room),
         }
@@ -49,10 +77,10 @@ impl<T: ByteSink + Drop> Writer<T> {
     fn joining_codes(&self, codes: &[u8], first: usize) -> usize
         requires some { first < length codes.now }
         ensures few { result + first ≤ length codes.now }
-        ensures joins { 0 < result → TextJoins self.now.tail (drop first codes.now) result }
+        ensures joins { 0 < result → TextJoins self.now.room.tail (drop first codes.now) result }
     {
         let count = codes.len() - first;
-        if self.tail == Tail::Apart(GSet::G0) {
+        if self.room.tail == Tail::Apart(GSet::G0) {
             return count;
         }
         if format_effector(item(codes, first)).is_some() {
@@ -66,7 +94,7 @@ impl<T: ByteSink + Drop> Writer<T> {
     pub(crate) fn joining(&self, batch: &Batch, first: usize) -> usize
         requires some { first < length (listed batch.now) }
         ensures few { result + first ≤ length (listed batch.now) }
-        ensures joins { 0 < result → Joins self.now.form self.now.tail self.now.state batch.now first result }
+        ensures joins { 0 < result → Joins self.now.form self.now.room.tail self.now.state batch.now first result }
     {
         match batch {
             Batch::Points { points, .. } => {
@@ -87,38 +115,19 @@ impl<T: ByteSink + Drop> Writer<T> {
         }
     }
 
-    /// Writes the entry of a batch at an index, whose values are current.
-    #[inline]
-    fn write_next(&mut self, batch: &Batch, index: usize) -> Result<(), T::Fault>
-        requires some { index < length (listed batch.now) }
-        requires stand { EachStands self.old.state (drop index (listed batch.now)) }
-        ensures next { WritesNext T.sent self.old.form self.old.tail self.old.state (drop index (listed batch.now)) self.old.to self.new.tail self.new.to (is_err result) }
-        ensures kept { Stays self.old self.new }
-    {
-        match batch {
-            Batch::Points { points, .. } => self.stroke(
-                opcodes::POINT_ABS,
-                &put_point(item(points, index)),
-            ),
-            Batch::Lines { from, points, .. } => self.line(
-                start_at(*from, points, index),
-                item(points, index),
-            ),
-            Batch::Text { set, codes, .. } => self.typed(*set, item(codes, index)),
-        }
-    }
-
     /// Puts the entry of a batch at an index, whose values are current.
     #[inline]
     pub(crate) fn put_next(&mut self, batch: &Batch, index: usize) -> Result<(), T::Fault>
         requires some { index < length (listed batch.now) }
         requires stand { EachStands self.old.state (drop index (listed batch.now)) }
-        ensures next { WritesNext T.sent self.old.form self.old.tail self.old.state (drop index (listed batch.now)) self.old.to self.new.tail self.new.to (is_err result) }
+        ensures next { WritesNext T.sent self.old.form self.old.room.tail self.old.state (drop index (listed batch.now)) self.old.to self.new.room.tail self.new.to (is_err result) }
         ensures form { self.new.form ≡ self.old.form }
         ensures state { OnOk result (self.new.state ≡ walk self.old.state (take 1 (drop index (listed batch.now)))) }
         ensures still { OnErr result (self.new.state ≡ self.old.state) }
     {
-        self.write_next(batch, index)?;
+        self.room.bytes.clear();
+        self.room.next(self.form, &self.state, batch, index);
+        self.to.take(self.room.bytes.as_slice())?;
         self.state.pass_on(batch, index, 1);
         Ok(())
     }
@@ -126,38 +135,40 @@ impl<T: ByteSink + Drop> Writer<T> {
     /// Writes points that join the run of this opcode, or open one. An error has the number of those that were taken.
     fn join_run(&mut self, opcode: u8, points: &[Point]) -> Result<(), usize>
         requires few { length points.now ≤ 126 }
-        ensures { WritesWhole T.sent (run_opening self.old.tail opcode (8 * length points.now)) 8 (points_bytes points.now) (InRun (run_behind self.old.tail opcode (8 * length points.now))) self.old self.new result }
+        ensures { WritesWhole T.sent (run_opening self.old.room.tail opcode (8 * length points.now)) 8 (points_bytes points.now) (InRun (run_behind self.old.room.tail opcode (8 * length points.now))) self.old self.new result }
     {
         let size = 8 * points.len();
-        self.room.gather_run(self.tail, opcode, points);
-        if let Err(taken) = self.to.take_counted(self.room.as_slice()) {
-            return Err(taken.saturating_sub(self.room.len() - size) / 8);
+        self.room.bytes.clear();
+        self.room.opening(opcode, size);
+        self.room.bytes.points(points);
+        match self.to.take_counted(self.room.bytes.as_slice()) {
+            Ok(()) => Ok(()),
+            Err(taken) => Err(taken.saturating_sub(self.room.bytes.len() - size) / 8),
         }
-        self.tail = self.tail.behind(opcode, size);
-        Ok(())
     }
 
     /// Writes codes of primary characters that open a text. An error has the number of those that were taken.
     fn open_text(&mut self, codes: &[u8]) -> Result<(), usize>
         requires few { length codes.now ≤ 1023 }
-        ensures { WritesWhole T.sent (to_primary (gl_of self.old.tail)) 1 codes.now (Apart G0) self.old self.new result }
+        ensures { WritesWhole T.sent (to_primary (gl_of self.old.room.tail)) 1 codes.now (Apart G0) self.old self.new result }
     {
-        self.room.gather_text(self.tail.gl(), codes);
-        if let Err(taken) = self.to.take_counted(self.room.as_slice()) {
-            return Err(taken.saturating_sub(self.room.len() - codes.len()));
+        self.room.bytes.clear();
+        self.room.shift();
+        self.room.bytes.codes(codes);
+        match self.to.take_counted(self.room.bytes.as_slice()) {
+            Ok(()) => Ok(()),
+            Err(taken) => Err(taken.saturating_sub(self.room.bytes.len() - codes.len())),
         }
-        self.tail = Tail::Apart(GSet::G0);
-        Ok(())
     }
 
     /// Writes codes of primary characters that join the text at the end, or open one. An error has the number of those
     /// that were taken.
     #[inline(always)]
     fn join_text(&mut self, codes: &[u8]) -> Result<(), usize>
-        requires few { (self.old.tail ≡ Apart G0) ⊎ (length codes.now ≤ 1023) }
-        ensures { WritesWhole T.sent (to_primary (gl_of self.old.tail)) 1 codes.now (Apart G0) self.old self.new result }
+        requires few { (self.old.room.tail ≡ Apart G0) ⊎ (length codes.now ≤ 1023) }
+        ensures { WritesWhole T.sent (to_primary (gl_of self.old.room.tail)) 1 codes.now (Apart G0) self.old self.new result }
     {
-        if self.tail == Tail::Apart(GSet::G0) {
+        if self.room.tail == Tail::Apart(GSet::G0) {
             return self.to.take_counted(codes);
         }
         self.open_text(codes)
@@ -168,8 +179,8 @@ impl<T: ByteSink + Drop> Writer<T> {
     #[inline(always)]
     fn write_joined(&mut self, batch: &Batch, first: usize, count: usize) -> Result<(), usize>
         requires few { count + first ≤ length (listed batch.now) }
-        requires joins { Joins self.old.form self.old.tail self.old.state batch.now first count }
-        ensures { WritesWhole T.sent (opening self.old.tail batch.now count) (entry_size batch.now) (joined_bytes batch.now first count) (joined_tail self.old.tail batch.now count) self.old self.new result }
+        requires joins { Joins self.old.form self.old.room.tail self.old.state batch.now first count }
+        ensures { WritesWhole T.sent (opening self.old.room.tail batch.now count) (entry_size batch.now) (joined_bytes batch.now first count) (joined_tail self.old.room.tail batch.now count) self.old self.new result }
     {
         match batch {
             Batch::Points { points, .. } => self.join_run(
@@ -196,9 +207,9 @@ impl<T: ByteSink + Drop> Writer<T> {
         requires some { 0 < count }
         requires few { count + first ≤ length (listed batch.now) }
         requires stand { EachStands self.old.state (drop first (listed batch.now)) }
-        requires joins { Joins self.old.form self.old.tail self.old.state batch.now first count }
-        ensures sent { SentWhole T.sent self.old.to (opening self.old.tail batch.now count) (entry_size batch.now) (joined_bytes batch.now first count) self.new.to result }
-        ensures tail { OnOk result (self.new.tail ≡ joined_tail self.old.tail batch.now count) }
+        requires joins { Joins self.old.form self.old.room.tail self.old.state batch.now first count }
+        ensures sent { SentWhole T.sent self.old.to (opening self.old.room.tail batch.now count) (entry_size batch.now) (joined_bytes batch.now first count) self.new.to result }
+        ensures tail { OnOk result (self.new.room.tail ≡ joined_tail self.old.room.tail batch.now count) }
         ensures form { self.new.form ≡ self.old.form }
         ensures state { self.new.state ≡ walk self.old.state (take (whole_entries count result) (drop first (listed batch.now))) }
     {

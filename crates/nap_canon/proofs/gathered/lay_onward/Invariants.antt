@@ -6,4 +6,4 @@ use Rattle.nap_canon.proofs.gathered.lay_onward.Given as goal
 -- those so far, and those left, are all of them
 abbrev pub invariant-loop-i : goal.invariant-loop-i
 invariant-loop-i l =
-    (done : List ℕ) × (l.bytes ≡ laid l.fn.bytes 16 done) × (length done ≡ 8 * l.i) × (done ++ onward_bytes l.from (drop l.i l.others) ≡ onward_bytes l.fn.first l.others)
+    (done : List ℕ) × (l.bytes ≡ laid l.fn.bytes l.fn.at done) × (length done ≡ 8 * l.i) × (done ++ onward_bytes l.from (drop l.i l.others) ≡ onward_bytes l.fn.first l.others)

@@ -1,23 +1,28 @@
-use Rattle.std.proofs.Common.{◌≡◌, ◌+◌, ◌++◌, ℕ, List, arith, ◌∙◌, ap, sym, take, refl, length, length-append, take-append-drop}
+use Rattle.std.proofs.Common.{◌≡◌, ◌+◌, ◌++◌, ℕ, List, arith, ◌∙◌, ap, sym, take, refl, length, length-append}
 use Rattle.nap_canon.specs.Batches.{points_bytes}
 use Rattle.nap_canon.specs.Gathering.{laid}
 use Rattle.nap_values.specs.Spellings.{point_bytes}
 use Rattle.nap_canon.proofs.texts.GatheredLemmas.{point_size, points_more, points_all}
-use Rattle.nap_canon.proofs.texts.LaidLemmas.{laid_behind}
+use Rattle.nap_canon.proofs.texts.LaidLemmas.{laid_none, laid_behind}
 use Rattle.nap_canon.proofs.gathered.lay_points.Goals as goal
 
 pub loop-point-init : goal.loop-point-init
 unfolding points_bytes
-loop-point-init c = record { bytes = sym (take-append-drop 16 c.args.bytes.now); until = refl; size = refl }
+loop-point-init c = record { bytes = laid_none c.args.bytes.now c.args.at; until = omega arith; size = refl }
 
-pub lay-requires-clause-whole : goal.lay-requires-clause-whole
-lay-requires-clause-whole c = ap length c.put_point.ensures.bytes ∙ point_size c.point-item.result
-
-pub lay-requires-clause-within : goal.lay-requires-clause-within
-lay-requires-clause-within c = omega (arith, c.loop-point.invariant.until, c.loop-point-test.true, c.requires.few)
+pub lay_bytes-requires : goal.lay_bytes-requires
+lay_bytes-requires c = record {
+  within = omega (
+    arith,
+    c.loop-point.invariant.until,
+    c.loop-point-test.true,
+    c.requires.within,
+    ap length (c.deref.ensures.0 ∙ c.put_point.ensures.bytes) ∙ point_size c.point-item.result,
+  );
+}
 
 pub overflow_add-until : goal.overflow_add-until
-overflow_add-until c = omega (arith, c.loop-point.invariant.until, c.loop-point-test.true, c.requires.few)
+overflow_add-until c = omega (arith, c.loop-point.invariant.until, c.loop-point-test.true, c.requires.within)
 
 pub loop-point-preserved : goal.loop-point-preserved
 loop-point-preserved c =
@@ -30,17 +35,14 @@ loop-point-preserved c =
     let more : points_bytes (take (i + 1) c.args.points.now) ≡ now ++ point_bytes p = points_more c.args.points.now i p c.loop-point-test.true c.point-item.is in
     record {
       bytes =
-          c.lay.ensures
-          ∙ ap (λ (bs : List ℕ). laid c.loop-point.bytes at bs) c.put_point.ensures.bytes
+          c.lay_bytes.ensures
+          ∙ ap (λ (bs : List ℕ). laid c.loop-point.bytes at bs) (c.deref.ensures.0 ∙ c.put_point.ensures.bytes)
           ∙ ap (λ (bs : List ℕ). laid bs at (point_bytes p)) inv.bytes
-          ∙ laid_behind room now (point_bytes p) 16 at (omega (arith, inv.size, inv.until)) (omega (arith, inv.until, c.loop-point-test.true, c.requires.few))
-          ∙ ap (laid room 16) (sym more);
+          ∙ laid_behind room now (point_bytes p) c.args.at at (omega (arith, inv.size, inv.until)) (omega (arith, inv.until, c.loop-point-test.true, c.requires.within))
+          ∙ ap (laid room c.args.at) (sym more);
       until = omega (arith, inv.until);
       size = omega (arith, ap length more, length-append now (point_bytes p), point_size p, inv.size);
     }
 
-pub returns-clause-bytes : goal.returns-clause-bytes
-returns-clause-bytes c = c.loop-point.invariant.bytes ∙ ap (laid c.args.bytes.now 16) (points_all c.args.points.now c.loop-point.point-index (omega arith))
-
-pub returns-clause-until : goal.returns-clause-until
-returns-clause-until c = omega (arith, c.loop-point.invariant.until)
+pub returns : goal.returns
+returns c = c.loop-point.invariant.bytes ∙ ap (laid c.args.bytes.now c.args.at) (points_all c.args.points.now c.loop-point.point-index (omega arith))

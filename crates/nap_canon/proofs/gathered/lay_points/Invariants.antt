@@ -6,7 +6,7 @@ use Rattle.nap_canon.proofs.gathered.lay_points.Given as goal
 -- the points so far
 abbrev pub invariant-loop-point : goal.invariant-loop-point
 invariant-loop-point l = record {
-  bytes : l.bytes ≡ laid l.fn.bytes 16 (points_bytes (take l.point-index l.points));
-  until : l.until ≡ 16 + 8 * l.point-index;
+  bytes : l.bytes ≡ laid l.fn.bytes l.fn.at (points_bytes (take l.point-index l.points));
+  until : l.until ≡ l.fn.at + 8 * l.point-index;
   size : length (points_bytes (take l.point-index l.points)) ≡ 8 * l.point-index;
 }

@@ -11,8 +11,8 @@ returns-then-count-eq0 g c =
     let o = g.O.Outlet in
     let w = c.self.inside.writer in
     let v = c.put_next.new.self in
-    let s : Canonical _ = record { outlet = w.to.outlet; written = w.to.written; form = w.form; tail = w.tail; state = w.state } in
-    let t : Canonical _ = record { outlet = v.to.outlet; written = v.to.written; form = v.form; tail = v.tail; state = v.state } in
+    let s : Canonical _ = record { outlet = w.to.outlet; written = w.to.written; form = w.form; tail = w.room.tail; state = w.state } in
+    let t : Canonical _ = record { outlet = v.to.outlet; written = v.to.written; form = v.form; tail = v.room.tail; state = v.state } in
     let list = drop c.args.first (listed c.args.batch.now) in
     let works : o.failed s.outlet ≡ false = subst (λ (s : Canonical _). o.failed s.outlet ≡ false) (sym c.self.view_is) c.requires.works in
     let some : 0 < length list = omega (arith, c.requires.some, length-drop c.args.first (listed c.args.batch.now)) in
@@ -29,8 +29,8 @@ returns g c =
     let o = g.O.Outlet in
     let w = c.self.inside.writer in
     let v = c.put_joined.new.self in
-    let s : Canonical _ = record { outlet = w.to.outlet; written = w.to.written; form = w.form; tail = w.tail; state = w.state } in
-    let t : Canonical _ = record { outlet = v.to.outlet; written = v.to.written; form = v.form; tail = v.tail; state = v.state } in
+    let s : Canonical _ = record { outlet = w.to.outlet; written = w.to.written; form = w.form; tail = w.room.tail; state = w.state } in
+    let t : Canonical _ = record { outlet = v.to.outlet; written = v.to.written; form = v.form; tail = v.room.tail; state = v.state } in
     let batch = c.args.batch.now in
     let first = c.args.first in
     let count = c.joining-count.result in

@@ -9,7 +9,7 @@ pub returns-then-eq : goal.returns-then-eq
 returns-then-eq g c =
     let w = c.args.self.now in
     let r = c.take_counted.result in
-    let is : w.tail ≡ Apart G0 = search rules in
+    let is : w.room.tail ≡ Apart G0 = search rules in
     rw is (record {
       sent = whole_bytes g.T.ByteSink.sent w.to c.take_counted.new.self c.args.codes.now r c.take_counted.ensures;
       tail = on_ok_from r refl;

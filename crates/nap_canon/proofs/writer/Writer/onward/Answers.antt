@@ -38,7 +38,7 @@ loop-chunk-preserved g c =
         so_far.0 ++ piece,
         g.met.T.ByteSink.sent_more c.args.self.now.to c.loop-chunk.self.to c.take.new.self so_far.0 piece false so_far.1 c.in_ok-take.ensures,
         onward_part so_far.0 piece (onward_bytes c.args.first c.args.others.now) c.loop-chunk.from c.start_at-from.result _ c.in-Some.chunk.now (chunks_rest c.next.new.self)
-            steps.1.0 (c.as_slice.ensures ∙ c.gather_onward.ensures) last so_far.2,
+            steps.1.0 (c.as_slice.ensures ∙ c.onward.ensures.bytes ∙ ap (λ (bs : List ℕ). bs ++ onward_bytes c.loop-chunk.from c.in-Some.chunk.now) c.clear.ensures) last so_far.2,
       );
       tail = inv.tail;
       kept = inv.kept;
@@ -54,7 +54,7 @@ returns-in_err-take g c =
     let failure = err_from_is_err_and c.from_residual.result c.from_residual.ensures.1 in
     rw failure.1 (record {
       sent = sent_second g.T.ByteSink.sent g.met.T.ByteSink.sent_more g.met.T.ByteSink.sent_cut c.args.self.now.to c.loop-chunk.self.to c.take.new.self so_far.0 piece _ whole
-          (onward_part so_far.0 piece whole from (last_of from part) _ part (chunks_rest c.next.new.self) c.in-Some.ensures.steps.1.0 (c.as_slice.ensures ∙ c.gather_onward.ensures) refl so_far.2)
+          (onward_part so_far.0 piece whole from (last_of from part) _ part (chunks_rest c.next.new.self) c.in-Some.ensures.steps.1.0 (c.as_slice.ensures ∙ c.onward.ensures.bytes ∙ ap (λ (bs : List ℕ). bs ++ onward_bytes c.loop-chunk.from c.in-Some.chunk.now) c.clear.ensures) refl so_far.2)
           so_far.1 c.in_err-take.ensures;
       tail = c.loop-chunk.invariant.tail;
       kept = c.loop-chunk.invariant.kept;

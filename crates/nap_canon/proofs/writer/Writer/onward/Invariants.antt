@@ -11,6 +11,6 @@ invariant-loop-chunk g l = record {
   size : chunks_size l.chunk-iterator ≡ 128;
   sent : (done : List ℕ) × g.T.ByteSink.sent l.fn.self.to done false l.self.to
       × (done ++ onward_bytes l.from (chunks_rest l.chunk-iterator) ≡ onward_bytes l.fn.first l.others);
-  tail : l.self.tail ≡ l.fn.self.tail;
+  tail : l.self.room.tail ≡ l.fn.self.room.tail;
   kept : (l.self.form ≡ l.fn.self.form) × (l.self.state ≡ l.fn.self.state);
 }

@@ -30,7 +30,7 @@ returns-in-Lines g c =
     ∙ length-take-le c.args.count (drop c.args.first ps) (omega (arith, c.requires.few, sized_lines _ _ _ _ c.in-Lines.is, length-drop c.args.first ps)) in
     rw c.in-Lines.is (record {
       sent = search rules;
-      tail = subst (λ (n : ℕ). OnOk c.join_run-in-Lines.result (c.join_run-in-Lines.new.self.tail ≡ InRun (run_behind c.args.self.now.tail 0x28 (8 * n)))) size c.join_run-in-Lines.ensures.tail;
+      tail = subst (λ (n : ℕ). OnOk c.join_run-in-Lines.result (c.join_run-in-Lines.new.self.room.tail ≡ InRun (run_behind c.args.self.now.room.tail 0x28 (8 * n)))) size c.join_run-in-Lines.ensures.tail;
       kept = c.join_run-in-Lines.ensures.kept;
     })
 
@@ -46,6 +46,6 @@ join_text-requires g c =
     let size : length c.part-in-Text.result.now ≡ c.args.count =
     ap length c.part-in-Text.ensures
     ∙ length-take-le c.args.count rest (omega (arith, c.requires.few, sized_text _ _ _ _ _ c.in-Text.is, length-drop c.args.first codes)) in
-    let joins : Joins c.args.self.now.form c.args.self.now.tail c.args.self.now.state (batches.Text c.in-Text.set c.in-Text.codes c.in-Text.pen c.in-Text.drawing) c.args.first c.args.count =
-    subst (λ (b : Batch). Joins c.args.self.now.form c.args.self.now.tail c.args.self.now.state b c.args.first c.args.count) c.in-Text.is c.requires.joins in
-    record { few = few_codes c.args.self.now.tail rest c.part-in-Text.result.now c.args.count joins.1 size }
+    let joins : Joins c.args.self.now.form c.args.self.now.room.tail c.args.self.now.state (batches.Text c.in-Text.set c.in-Text.codes c.in-Text.pen c.in-Text.drawing) c.args.first c.args.count =
+    subst (λ (b : Batch). Joins c.args.self.now.form c.args.self.now.room.tail c.args.self.now.state b c.args.first c.args.count) c.in-Text.is c.requires.joins in
+    record { few = few_codes c.args.self.now.room.tail rest c.part-in-Text.result.now c.args.count joins.1 size }
