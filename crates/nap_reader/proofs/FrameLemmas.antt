@@ -1,10 +1,10 @@
-use Rattle.std.proofs.Common.{ℕ, ◌+◌, ◌-◌, ◌≡◌, ◌≤◌, List, [], ◌∷◌, ◌++◌, length, take, drop, get_or, Some, refl, sym, ◌∙◌, ap, ap₂, subst, arith, append_assoc, append-nil, length-append, length-take, length-drop}
+use Rattle.std.proofs.Common.{ℕ, ◌+◌, ◌-◌, ◌≡◌, ◌≤◌, List, [], ◌∷◌, ◌++◌, length, take, drop, get_or, Some, refl, sym, ◌∙◌, ap, ap₂, arith, append_assoc, append-nil, length-append, length-take, length-drop}
 use Rattle.std.proofs.Math.Seq.{get_or-append_seam, take-add}
 use Rattle.std.proofs.lemmas.List.{drop-drop, map-append, length-take-le, take-append-drop, take-take, take_all}
 use Rattle.std.proofs.lemmas.List.Elements.{All-head, All-tail, All-pop}
 use Rattle.nap_reader.specs.declared.frames.Frame.{Frame}
 use Rattle.nap_reader.specs.Stored.{part, StoreState}
-use Rattle.nap_reader.specs.Framed.{placed_at, frame_bytes, unread, GivesFrom, Innermost, IsFrame, FramesIn}
+use Rattle.nap_reader.specs.Framed.{placed_at, frame_bytes, unread, Innermost, IsFrame, FramesIn}
 use Rattle.nap_reader.specs.Stream.{Placed, all_at}
 use Rattle.nap_reader.proofs.StoreLemmas.{part-grown}
 use Rattle.nap_reader.proofs.StreamLemmas.{length-all_at}
@@ -122,12 +122,6 @@ innermost-first bytes frames text place n inner =
     ∙ append_assoc (all_at place (take n text)) (all_at place (drop n text)) (unread bytes inner.before)
 
 -- so many bytes were taken of the innermost body
-pub skipped : (bytes seen taken : List ℕ) (old new : List Frame) (text : List ℕ) (place n : ℕ) → seen ≡ bytes → taken ≡ bytes → Innermost seen old text place → n ≤ length text →
-    ((text : List ℕ) (place : ℕ) → Innermost taken old text place → n ≤ length text → GivesFrom taken old place text n new) → unread bytes old ≡ all_at place (take n text) ++ unread bytes new
-skipped bytes seen taken old new text place n is is' inner few given =
-    subst (λ (bs : List ℕ). unread bs old ≡ all_at place (take n text) ++ unread bs new) is'
-    (given text place (subst (λ (bs : List ℕ). Innermost bs old text place) (is ∙ sym is') inner) few)
-
 pub skipped_count : (bytes : List ℕ) (old new : List Frame) (text : List ℕ) (place n : ℕ) → n ≤ length text → unread bytes old ≡ all_at place (take n text) ++ unread bytes new →
     length (unread bytes old) ≡ n + length (unread bytes new)
 skipped_count bytes old new text place n few is =
