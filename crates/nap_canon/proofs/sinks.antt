@@ -3,4 +3,5 @@
 pub mod SinkingLemmas
 pub mod CutLemmas
 pub mod JoinLemmas
+pub mod FrontLemmas
 pub mod PutLemmas

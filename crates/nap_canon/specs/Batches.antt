@@ -1,4 +1,4 @@
-use Rattle.std.specs.Prelude.{ℕ, ◌≡◌, ◌+◌, ◌-◌, ◌<◌, ◌≤◌, ◌*◌, ◌/◌, ◌++◌, ◌⊎◌, if◌then◌else◌, None, Bool, true, false, List, [], ◌∷◌, Result, Ok, Err, length, take, drop, slice_index}
+use Rattle.std.specs.Prelude.{ℕ, zero, suc, ◌≡◌, ◌+◌, ◌-◌, ◌<◌, ◌≤◌, ◌*◌, ◌/◌, ◌++◌, ◌⊎◌, if◌then◌else◌, None, Bool, true, false, List, [], ◌∷◌, Result, Ok, Err, length, take, drop, slice_index}
 use Rattle.nap_values.specs.Coordinates.{Coordinates}
 use Rattle.nap_values.specs.Spellings.{point_bytes}
 use Rattle.nap_codes.specs.declared.code_set.CharSet.TheVariants.{Primary}
@@ -10,7 +10,8 @@ use Rattle.nap_list.specs.declared.batch.Batch.TheVariants as batches
 use Rattle.nap_list.specs.declared.device.Outlet as outlet
 use Rattle.nap_list.specs.declared.entry.Entry.{Entry}
 use Rattle.nap_list.specs.declared.sink.SinkFault.TheVariants.{Write}
-use Rattle.nap_list.specs.Batches.{last_of}
+use Rattle.nap_list.specs.Batches.{last_of, listed}
+use Rattle.nap_list.specs.State.{walk}
 use Rattle.nap_list.specs.declared.state.State.{State}
 use Rattle.nap_list.specs.Putting.{SinkShows, shows, Put, TakesAll}
 use Rattle.nap_canon.specs.declared.form.Form.{Form}
@@ -18,7 +19,7 @@ use Rattle.nap_canon.specs.declared.form.Form.TheVariants.{Two}
 use Rattle.nap_canon.specs.declared.tail.Tail.{Tail}
 use Rattle.nap_canon.specs.declared.tail.Tail.TheVariants.{Apart, InRun}
 use Rattle.nap_canon.specs.Sinking.{Canonical, Took, Broke}
-use Rattle.nap_canon.specs.Text.{gl_of, to_opcodes, to_primary, is_joined, run_behind, written, tail_after, entry_pieces}
+use Rattle.nap_canon.specs.Text.{gl_of, to_opcodes, to_primary, is_joined, run_behind, written, tail_after, entry_pieces, pieces}
 
 -- Batches in a sink of canonical text.
 
@@ -62,6 +63,10 @@ Joins form tail s (batches.Points points drawing) first count = PointsJoin form 
 Joins form tail s (batches.Lines from points drawing) first count = PointsJoin form tail 0x28 count × (s.drawing.pen ≡ At (last_of from (take first points.now)))
 Joins form tail s (batches.Text set codes pen drawing) first count = (set ≡ Primary) × TextJoins tail (drop first codes.now) count
 
+-- so many behind this one do that where it was put
+abbrev pub JoinsBehind : Form → Tail → Batch → ℕ → ℕ → Type 0
+JoinsBehind form tail batch index count = (s : State) → Joins form tail (walk s (take 1 (drop index (listed batch)))) batch (index + 1) count
+
 -- what stands in front of so many bytes of operands: nothing where they join the run, or else their opcode
 abbrev pub run_opening : Tail → ℕ → ℕ → List ℕ
 run_opening tail byte count = if is_joined tail byte count then [] else (to_opcodes (gl_of tail) ++ byte ∷ [])
@@ -90,15 +95,30 @@ joined_tail tail (batches.Points points drawing) count = InRun (run_behind tail 
 joined_tail tail (batches.Lines from points drawing) count = InRun (run_behind tail 0x28 (8 * count))
 joined_tail tail (batches.Text set codes pen drawing) count = Apart G0
 
+-- what is laid of so many entries, from this one on: nothing of none
+abbrev pub behind_bytes : Tail → Batch → ℕ → ℕ → List ℕ
+behind_bytes tail batch first zero = []
+behind_bytes tail batch first (suc n) = opening tail batch (suc n) ++ joined_bytes batch first (suc n)
+
+-- how the text ends after them
+abbrev pub behind_tail : Tail → Batch → ℕ → Tail
+behind_tail tail batch zero = tail
+behind_tail tail batch (suc n) = joined_tail tail batch (suc n)
+
+-- a list that was written so many bytes far: so many entries whole, and a part of the next one
+pub record Parted (form : Form) (tail : Tail) (s : State) (list : List Entry) (k n : ℕ) : Type 0 where
+  pub next : Entry
+  pub rest : List Entry
+  pub parts : list ≡ take k list ++ next ∷ rest
+  pub part : ℕ
+  pub less : part < length (written (tail_after tail (pieces form s (take k list))) (entry_pieces form (walk s (take k list)) next))
+  pub cut : take n (written tail (pieces form s list))
+      ≡ written tail (pieces form s (take k list)) ++ take part (written (tail_after tail (pieces form s (take k list))) (entry_pieces form (walk s (take k list)) next))
+
 -- how many of so many entries were taken whole
 abbrev pub whole_entries : ℕ → Result (Unit {0}) ℕ → ℕ
 whole_entries count (Ok _) = count
 whole_entries count (Err whole) = whole
-
--- the first entry of a list, whose values are current, was written
-abbrev pub WritesNext : {S : Type 0} → (S → List ℕ → Bool → S → Type 0) → Form → Tail → State → List Entry → S → Tail → S → Bool → Type 0
-WritesNext sent form tail s list to tail' to' broke =
-    (e : Entry) (es : List Entry) → list ≡ e ∷ es → sent to (written tail (entry_pieces form s e)) broke to' × (tail' ≡ tail_after tail (entry_pieces form s e))
 
 -- a front of the list was put, of one entry or more, or the list was put up to an entry that broke
 abbrev pub PutsSome : {O : Type 0} → outlet.Ghosts O → List Entry → Canonical O → Canonical O → Result ℕ ℕ → Type 0

@@ -1,18 +1,18 @@
-use Rattle.std.specs.Prelude.{ℕ, ◌≡◌, ◌++◌, Bool, true, false, List, [], ◌∷◌, map, Option, Some, None, Result, is_err, OnOk, OnErr}
+use Rattle.std.specs.Prelude.{ℕ, ◌≡◌, ◌<◌, ◌≤◌, ◌++◌, length, take, Ok, Err, Bool, true, false, List, [], ◌∷◌, map, Option, Some, None, Result, is_err, OnOk, OnErr}
 use Rattle.nap_list.specs.declared.entry.Entry.{Entry}
 use Rattle.nap_list.specs.declared.entry.Entry.TheVariants as entries
 use Rattle.nap_list.specs.declared.state.Drawing.{Drawing}
 use Rattle.nap_list.specs.declared.state.State.{State}
-use Rattle.nap_list.specs.State.{after}
+use Rattle.nap_list.specs.State.{after, walk}
 use Rattle.nap_canon.specs.declared.command.Command.{Command}
 use Rattle.nap_canon.specs.declared.form.Form.{Form}
 use Rattle.nap_canon.specs.declared.room.Room.{Room}
 use Rattle.nap_canon.specs.declared.room.spelling.Path.{Path}
 use Rattle.nap_canon.specs.declared.tail.Tail.{Tail}
 use Rattle.nap_canon.specs.declared.writer.Writer.{Writer}
-use Rattle.nap_canon.specs.Batches.{SentWhole}
+use Rattle.nap_canon.specs.Batches.{CutAfter, Parted, SentWhole}
 use Rattle.nap_canon.specs.Spelling.{Piece, command_piece, opcode, shape_bytes, spelled}
-use Rattle.nap_canon.specs.Text.{piece_bytes, tail_behind, written, tail_after, entry_pieces}
+use Rattle.nap_canon.specs.Text.{piece_bytes, tail_behind, written, tail_after, entry_pieces, pieces}
 
 -- What is laid for the next write, behind what was laid before.
 
@@ -81,3 +81,27 @@ pub record Puts {T F E : Type 0} (sends : T → List ℕ → Bool → T → Type
   pub form : t.form ≡ w.form
   pub state : OnOk r (t.state ≡ after w.state e)
   pub still : OnErr r (t.state ≡ w.state)
+
+-- so many first entries of a list were put as one
+pub record WritesFront {T F : Type 0} (sends : T → List ℕ → Bool → T → Type 0) (list : List Entry) (w t : Writer T F) (count : ℕ) : Type 0 where
+  pub some : 0 < count
+  pub few : count ≤ length list
+  pub sent : sends w.to (written w.room.tail (pieces w.form w.state (take count list))) false t.to
+  pub tail : t.room.tail ≡ tail_after w.room.tail (pieces w.form w.state (take count list))
+  pub form : t.form ≡ w.form
+  pub state : t.state ≡ walk w.state (take count list)
+
+-- so many were taken whole of first entries of a list that are sent as one
+pub record CutsFront {T F : Type 0} (sends : T → List ℕ → Bool → T → Type 0) (list : List Entry) (w t : Writer T F) (whole : ℕ) : Type 0 where
+  pub count : ℕ
+  pub few : count ≤ length list
+  pub less : whole < count
+  pub far : ℕ
+  pub cut : CutAfter sends w.to (written w.room.tail (pieces w.form w.state (take count list))) far t.to
+  pub parted : Parted w.form w.room.tail w.state (take count list) whole far
+  pub state : t.state ≡ walk w.state (take whole list)
+
+-- a front of a list was put as one, or so many of its entries
+abbrev pub PutsFront : {T F : Type 0} → (T → List ℕ → Bool → T → Type 0) → List Entry → Writer T F → Writer T F → Result ℕ ℕ → Type 0
+PutsFront sends list w t (Ok count) = WritesFront sends list w t count
+PutsFront sends list w t (Err whole) = CutsFront sends list w t whole

@@ -102,10 +102,7 @@ impl<O: Outlet + Drop> CanonSink<O> {
     {
         let count = self.writer.joining(batch, first);
         if count == 0 {
-            return match self.writer.put_next(batch, first) {
-                Ok(()) => Ok(1),
-                Err(_) => Err(0),
-            };
+            return self.writer.put_next(batch, first);
         }
         match self.writer.put_joined(batch, first, count) {
             Ok(()) => Ok(count),

@@ -35,7 +35,7 @@ use Rattle.nap_canon.specs.declared.form.Form.{Form}
 use Rattle.nap_canon.specs.declared.form.Form.TheVariants.{Two}
 use Rattle.nap_canon.specs.declared.tail.Tail.{Tail}
 use Rattle.nap_canon.specs.declared.tail.Tail.TheVariants.{Apart, InRun}
-use Rattle.nap_canon.specs.Batches.{PointsJoin, TextJoins, Joins, SentUpTo, SentWhole, points_bytes, run_opening, opening, entry_size, joined_bytes, joined_tail, whole_entries}
+use Rattle.nap_canon.specs.Batches.{Parted, PointsJoin, TextJoins, Joins, SentUpTo, SentWhole, points_bytes, run_opening, opening, entry_size, joined_bytes, joined_tail, whole_entries}
 use Rattle.nap_canon.specs.Equality.{same_pen}
 use Rattle.nap_canon.specs.Spelling.{Piece, command_piece, group, stroke, line_piece, step_bytes, typed_piece, typed_piece_as, spelled}
 use Rattle.nap_canon.specs.Text.{gl_of, to_opcodes, to_primary, is_joined, run_behind, piece_bytes, tail_behind, written, tail_after, entry_pieces, pieces}
@@ -388,42 +388,32 @@ batch_joins form tail s (batches.Text set codes pen drawing) first count some fe
 
 -- where a written part of them ends
 
--- a list that was written so many bytes far: so many entries whole, and a part of the next one
-pub record Parted (form : Form) (tail : Tail) (s : State) (list : List Entry) (k n : ℕ) : Type 0 where
-  pub next : Entry
-  pub rest : List Entry
-  pub parts : list ≡ take k list ++ next ∷ rest
-  pub part : ℕ
-  pub less : part < length (written (tail_after tail (pieces form s (take k list))) (entry_pieces form (walk s (take k list)) next))
-  pub cut : take n (written tail (pieces form s list))
-      ≡ written tail (pieces form s (take k list)) ++ take part (written (tail_after tail (pieces form s (take k list))) (entry_pieces form (walk s (take k list)) next))
-
 -- so many bytes are so many whole entries, the first of this size, and less than one more
 pub record Whole (lead size n k : ℕ) : Type 0 where
   pub from : 0 < k → lead + size * k ≤ n + size
   pub to : n < lead + size * k
 
-pub each_front : (lead size : ℕ) (form : Form) (tail : Tail) (s : State) (list : List Entry) (k n : ℕ) → EachWrites lead size form tail s list → k < length list → Whole lead size n k →
-    Parted form tail s list k n
-unfolding EachWrites pieces written tail_after walk
-each_front lead size form tail s [] k n each less whole = absurd (omega (arith, less))
-each_front lead size form tail s (e ∷ es) zero n each less whole =
-    let few : n < length (written tail (entry_pieces form s e)) = omega (arith, whole.to, each.0) in
-    record {
-      next = e;
-      rest = es;
-      parts = refl;
-      part = n;
-      less = few;
-      cut =
-          ap (take n) (written-append tail (entry_pieces form s e) (pieces form (after s e) es))
-          ∙ take-append-le n (written tail (entry_pieces form s e)) _ (omega (arith, few));
-    }
-each_front lead size form tail s (e ∷ es) (suc k) n each less whole =
+-- a part of the first entry
+pub parted_first : (form : Form) (tail : Tail) (s : State) (e : Entry) (es : List Entry) (n : ℕ) → n < length (written tail (entry_pieces form s e)) → Parted form tail s (e ∷ es) 0 n
+unfolding pieces written tail_after walk
+parted_first form tail s e es n few = record {
+  next = e;
+  rest = es;
+  parts = refl;
+  part = n;
+  less = few;
+  cut =
+      ap (take n) (written-append tail (entry_pieces form s e) (pieces form (after s e) es))
+      ∙ take-append-le n (written tail (entry_pieces form s e)) _ (omega (arith, few));
+}
+
+-- the first entry, and so many bytes of those behind it
+pub parted_behind : (form : Form) (tail : Tail) (s : State) (e : Entry) (es : List Entry) (k n m : ℕ) → n ≡ length (written tail (entry_pieces form s e)) + m →
+    Parted form (tail_after tail (entry_pieces form s e)) (after s e) es k m → Parted form tail s (e ∷ es) (suc k) n
+unfolding pieces written tail_after walk
+parted_behind form tail s e es k n m is more =
     let first = entry_pieces form s e in
     let t = tail_after tail first in
-    let low : lead + size * suc k ≤ n + size = whole.from (omega arith) in
-    let more = each_front size size form t (after s e) es k (n - lead) each.1 (omega (arith, less)) (record { from = λ some. omega (arith, low); to = omega (arith, low, whole.to) }) in
     let front = pieces form (after s e) (take k es) in
     let next = entry_pieces form (walk (after s e) (take k es)) more.next in
     let behind : tail_after tail (first ++ front) ≡ tail_after t front = tail_after-append tail first front in
@@ -435,17 +425,28 @@ each_front lead size form tail s (e ∷ es) (suc k) n each less whole =
       less = subst (λ (u : Tail). more.part < length (written u next)) (sym behind) more.less;
       cut =
           ap (take n) (written-append tail first (pieces form (after s e) es))
-          ∙ ap (λ (n : ℕ). take n (written tail first ++ written t (pieces form (after s e) es))) (omega (arith, each.0, low))
-          ∙ take-append-add (written tail first) (written t (pieces form (after s e) es)) (n - lead)
+          ∙ ap (λ (n : ℕ). take n (written tail first ++ written t (pieces form (after s e) es))) is
+          ∙ take-append-add (written tail first) (written t (pieces form (after s e) es)) m
           ∙ ap (λ (bs : List ℕ). written tail first ++ bs) more.cut
           ∙ sym (append_assoc (written tail first) (written t front) (take more.part (written (tail_after t front) next)))
           ∙ ap (λ (bs : List ℕ). bs ++ take more.part (written (tail_after t front) next)) (sym (written-append tail first front))
           ∙ ap (λ (u : Tail). written tail (first ++ front) ++ take more.part (written u next)) (sym behind);
     }
 
+pub each_front : (lead size : ℕ) (form : Form) (tail : Tail) (s : State) (list : List Entry) (k n : ℕ) → EachWrites lead size form tail s list → k < length list → Whole lead size n k →
+    Parted form tail s list k n
+unfolding EachWrites
+each_front lead size form tail s [] k n each less whole = absurd (omega (arith, less))
+each_front lead size form tail s (e ∷ es) zero n each less whole = parted_first form tail s e es n (omega (arith, whole.to, each.0))
+each_front lead size form tail s (e ∷ es) (suc k) n each less whole =
+    let low : lead + size * suc k ≤ n + size = whole.from (omega arith) in
+    parted_behind form tail s e es k n (n - lead) (omega (arith, each.0, low))
+    (each_front size size form (tail_after tail (entry_pieces form s e)) (after s e) es k (n - lead) each.1 (omega (arith, less))
+    (record { from = λ some. omega (arith, low); to = omega (arith, low, whole.to) }))
+
 -- the bytes of so many, and how many of them were written whole
 
-joined_length : (batch : Batch) (first count : ℕ) → count + first ≤ length (listed batch) → length (joined_bytes batch first count) ≡ entry_size batch * count
+pub joined_length : (batch : Batch) (first count : ℕ) → count + first ≤ length (listed batch) → length (joined_bytes batch first count) ≡ entry_size batch * count
 joined_length (batches.Points points drawing) first count few =
     points_size (take count (drop first points.now))
     ∙ ap (λ (n : ℕ). 8 * n) (length-take-le count (drop first points.now) (omega (arith, few, length-map points.now (point_on drawing.now), length-drop first points.now)))

@@ -26,13 +26,15 @@ use Rattle.nap_list.specs.Putting.{HaltsAfter, NotTaken, Put, PutSome, Putting, 
 use Rattle.nap_list.specs.PuttingLaws.{put_begins, put_goes, put_halts, put_ends, some_put, stops_at_first, takes_one}
 use Rattle.nap_list.specs.State.{after, walk, hand_of}
 use Rattle.nap_list.proofs.PublicLaws.{batch_stands}
-use Rattle.nap_canon.specs.Batches.{canon_shows, CutAfter, SentWhole, Joins, WritesNext, PutsFirst, PutsSome, PutsBehind, opening, entry_size, joined_bytes, joined_tail, whole_entries}
+use Rattle.nap_canon.specs.declared.writer.Writer.{Writer}
+use Rattle.nap_canon.specs.Writing.{PutsFront}
+use Rattle.nap_canon.specs.Batches.{canon_shows, CutAfter, Parted, SentWhole, Joins, PutsFirst, PutsSome, PutsBehind, opening, entry_size, joined_bytes, joined_tail, whole_entries}
 use Rattle.nap_canon.specs.Sinking.{Sending, Sends, Grows, Canonical, shown, bytes_of, bytes_behind, Took, Broke}
 use Rattle.nap_canon.specs.Sinking as sinking
-use Rattle.nap_canon.specs.Text.{written, entry_pieces}
+use Rattle.nap_canon.specs.Text.{written, entry_pieces, pieces, tail_after}
 use Rattle.nap_canon.specs.SinkLaws.{grows_more, took_none, took_more, took_broke}
 use Rattle.nap_canon.proofs.sinks.JoinLemmas.{Joined, batch_joins, stands_rest, each_front, whole_less, whole_of}
-use Rattle.nap_canon.proofs.sinks.SinkingLemmas.{took_answered, broke_answered}
+use Rattle.nap_canon.proofs.sinks.SinkingLemmas.{broke_answered}
 
 module _ {O : Type 0} (o : outlet.Ghosts O) (s t : Canonical O) (works : o.failed s.outlet ≡ false) where
   -- all of a list
@@ -61,14 +63,6 @@ module _ {O : Type 0} (o : outlet.Ghosts O) (s t : Canonical O) (works : o.faile
       OnErr r (t.state ≡ s.state) → PutSome {A = Unit {0}} (canon_shows o) (e ∷ []) s t (Err Write)
   one_breaks e r failed bytes still =
       some_put (canon_shows o) (Unit {0}) s t (e ∷ []) 0 Write (breaks_at (e ∷ []) [] [] e 0 refl refl (broke_answered o s t e r failed bytes still))
-
-  -- the first entry of a list was written, whose values stand
-  pub next_put : {E : Type 0} (list : List Entry) (r : Result (Unit {0}) E) → 0 < length list → WritesNext Sends s.form s.tail s.state list (shown o s) t.tail (shown o t) (is_err r) →
-      t.form ≡ s.form → OnOk r (t.state ≡ walk s.state (take 1 list)) → OnErr r (t.state ≡ s.state) → PutsFirst o list s t r
-  unfolding walk
-  next_put [] r some wrote form state still = absurd (omega (arith, some))
-  next_put {E = E} (e ∷ es) (Ok x) some wrote form state still = (omega arith, omega arith, takes_all (e ∷ []) (took_answered {E = E} o s t e (Ok x) refl (wrote e es refl).0 form (wrote e es refl).1 state))
-  next_put {E = E} (e ∷ es) (Err x) some wrote form state still = breaks_at (e ∷ es) [] es e 0 refl refl (broke_answered {T = Unit {0}} o s t e (Err x) refl (wrote e es refl).0 still)
 
 -- a sink that has failed takes nothing
 pub still_put : {O : Type 0} (o : outlet.Ghosts O) (s : Canonical O) (list : List Entry) → o.failed s.outlet ≡ true → PutSome {A = Unit {0}} (canon_shows o) list s s (Err Write)
@@ -102,6 +96,70 @@ pub first_taken : {O E : Type 0} (o : outlet.Ghosts O) (s t : Canonical O) (list
 first_taken o s t list (Ok x) none put = put
 first_taken o s t list (Err x) none put = absurd (true≢false none)
 
+-- entries that are one write
+
+module _ {O S : Type 0} (o : outlet.Ghosts O) (view : S → Sending) (a b : S) (s t : Canonical O) (from : view a ≡ shown o s) (to : view b ≡ shown o t) where
+  -- what was taken up to the cut
+  cut_grows : (bytes : List ℕ) (n : ℕ) → CutAfter (λ x bytes broke y. Sends (view x) bytes broke (view y)) a bytes n b → Grows (shown o s) (take n bytes) (shown o t)
+  cut_grows bytes n cut =
+      let front : List ℕ = take n bytes in
+      let byte : List ℕ = slice_index bytes n ∷ [] in
+      let none : cut.next.part ≡ 0 = omega (arith, cut.next.less) in
+      let grows : Grows (view a) (front ++ take cut.next.part byte) (view b) = grows_more (view a) (view cut.mid) (view b) front (take cut.next.part byte) cut.front.grows cut.next.grows in
+      let less : Grows (view a) front (view b) =
+      subst (λ (bs : List ℕ). Grows (view a) bs (view b)) (ap (λ (n : ℕ). front ++ take n byte) none ∙ append-nil front) grows in
+      subst (λ (x : Sending). Grows (shown o s) front x) to (subst (λ (x : Sending). Grows x front (view b)) from less)
+
+  module _ (works : o.failed s.outlet ≡ false) (list : List Entry) (count : ℕ) (few : count ≤ length list) where
+    -- all of them
+    pub front_took : 0 < count → sinking.TakesAll (view a) (bytes_of s (take count list)) (view b) → t.form ≡ s.form → t.tail ≡ tail_after s.tail (pieces s.form s.state (take count list)) →
+        t.state ≡ walk s.state (take count list) → PutsSome o list s t (Ok count)
+    front_took some sent form tail state =
+        let all : sinking.TakesAll (shown o s) (bytes_of s (take count list)) (shown o t) =
+        subst (λ (x : Sending). sinking.TakesAll (shown o s) (bytes_of s (take count list)) x) to
+        (subst (λ (x : Sending). sinking.TakesAll x (bytes_of s (take count list)) (view b)) from sent) in
+        (some, few, takes_all o s t works (take count list) (record { bytes = all; form = form; tail = tail; state = state }))
+
+    -- so many of them whole
+    pub front_cut : (k n : ℕ) → k < count → CutAfter (λ x bytes broke y. Sends (view x) bytes broke (view y)) a (bytes_of s (take count list)) n b →
+        Parted s.form s.tail s.state (take count list) k n → t.state ≡ walk s.state (take k list) → Put (canon_shows o) list s t (Err (record { taken = k; fault = Write }))
+    front_cut k n less cut parted state =
+        let those = take count list in
+        let front = take k those in
+        let same : front ≡ take k list = take-take k count list (omega (arith, less)) in
+        let next = parted.next in
+        let is : list ≡ front ++ next ∷ (parted.rest ++ drop count list) =
+        sym (take-append-drop count list)
+        ∙ ap (λ (list' : List Entry). list' ++ drop count list) parted.parts
+        ∙ append_assoc front (next ∷ parted.rest) (drop count list) in
+        let broke : Broke o s front next t = record {
+          part = parted.part;
+          less = parted.less;
+          grows = subst (λ (bs : List ℕ). Grows (shown o s) bs (shown o t)) parted.cut (cut_grows (bytes_of s those) n cut);
+          failed = ap (λ (x : Sending). x.failed) (sym to) ∙ cut.next.failed;
+          state = state ∙ ap (walk s.state) (sym same);
+        } in
+        breaks_at o s t works list front (parted.rest ++ drop count list) next k is (length-take-le k those (omega (arith, less, length-take-le count list few))) broke
+
+-- what a writer put as one
+module _ {O T F : Type 0} (o : outlet.Ghosts O) (view : T → Sending) (w v : Writer T F) (s t : Canonical O) (from : view w.to ≡ shown o s) (to : view v.to ≡ shown o t)
+    (works : o.failed s.outlet ≡ false) (list : List Entry) where
+  abbrev before : Canonical O
+  before = record { outlet = s.outlet; written = s.written; form = w.form; tail = w.room.tail; state = w.state }
+
+  abbrev behind : Canonical O
+  behind = record { outlet = t.outlet; written = t.written; form = v.form; tail = v.room.tail; state = v.state }
+
+  pub next_put : s ≡ before → t ≡ behind → (r : Result ℕ ℕ) → PutsFront (λ x bytes broke y. Sends (view x) bytes broke (view y)) list w v r → PutsSome o list s t r
+  next_put is ends (Ok count) put =
+      subst (λ (s : Canonical O). PutsSome o list s t (Ok count)) (sym is)
+      (subst (λ (t : Canonical O). PutsSome o list before t (Ok count)) (sym ends)
+      (front_took o view w.to v.to before behind from to works list count put.few put.some put.sent put.form put.tail put.state))
+  next_put is ends (Err k) put =
+      subst (λ (s : Canonical O). PutsSome o list s t (Err k)) (sym is)
+      (subst (λ (t : Canonical O). PutsSome o list before t (Err k)) (sym ends)
+      (front_cut o view w.to v.to before behind from to works list put.count put.few k put.far put.less put.cut put.parted put.state))
+
 -- entries that join what stands last, or open a run
 
 module _ {O S : Type 0} (o : outlet.Ghosts O) (view : S → Sending) (a b : S) (s t : Canonical O) (batch : Batch) (first count : ℕ)
@@ -132,26 +190,8 @@ module _ {O S : Type 0} (o : outlet.Ghosts O) (view : S → Sending) (a b : S) (
       t.state ≡ walk s.state (take (whole_entries count r) list) → PutsSome o list s t (Ok count)
   joined_took (Err n) is sent tail state = let bad : ⊥ = cc in absurd bad
   joined_took (Ok x) is sent tail state =
-      let all : sinking.TakesAll (shown o s) bytes (shown o t) =
-      subst (λ (x : Sending). sinking.TakesAll (shown o s) bytes x) to (subst (λ (x : Sending). sinking.TakesAll x bytes (view b)) from sent) in
-      let took : Took o s (take count list) t = record {
-        bytes = subst (λ (bs : List ℕ). sinking.TakesAll (shown o s) bs (shown o t)) (sym joined.writes) all;
-        form = form;
-        tail = tail ∙ sym joined.ends;
-        state = state;
-      } in
-      (some, omega (arith, few, length-drop first (listed batch)), takes_all o s t works (take count list) took)
-
-  -- what was taken up to the cut
-  cut_grows : (n : ℕ) → CutAfter Sent a bytes n b → Grows (shown o s) (take n bytes) (shown o t)
-  cut_grows n cut =
-      let front : List ℕ = take n bytes in
-      let byte : List ℕ = slice_index bytes n ∷ [] in
-      let none : cut.next.part ≡ 0 = omega (arith, cut.next.less) in
-      let grows : Grows (view a) (front ++ take cut.next.part byte) (view b) = grows_more (view a) (view cut.mid) (view b) front (take cut.next.part byte) cut.front.grows cut.next.grows in
-      let less : Grows (view a) front (view b) =
-      subst (λ (bs : List ℕ). Grows (view a) bs (view b)) (ap (λ (n : ℕ). front ++ take n byte) none ∙ append-nil front) grows in
-      subst (λ (x : Sending). Grows (shown o s) front x) to (subst (λ (x : Sending). Grows x front (view b)) from less)
+      front_took o view a b s t from to works list count (omega (arith, few, length-drop first (listed batch))) some
+      (subst (λ (bs : List ℕ). sinking.TakesAll (view a) bs (view b)) (sym joined.writes) sent) form (tail ∙ sym joined.ends) state
 
   joined_cut : (n : ℕ) → CutAfter Sent a bytes n b → t.state ≡ walk s.state (take ((n - length begin) / size) list) →
       Put (canon_shows o) list s t (Err (record { taken = (n - length begin) / size; fault = Write }))
@@ -159,24 +199,9 @@ module _ {O S : Type 0} (o : outlet.Ghosts O) (view : S → Sending) (a b : S) (
       let k : ℕ = (n - length begin) / size in
       let some_whole : k < count = whole_less begin batch first count n few some cut.less in
       let whole = whole_of begin batch first count n few some cut.less in
-      let those = take count list in
-      let parted = each_front (length begin + size) size s.form s.tail s.state those k n joined.each (omega (arith, some_whole, many)) whole in
-      let front = take k those in
-      let same : front ≡ take k list = take-take k count list (omega (arith, some_whole)) in
-      let next = parted.next in
-      let is : list ≡ front ++ next ∷ (parted.rest ++ drop count list) =
-      sym (take-append-drop count list)
-      ∙ ap (λ (list' : List Entry). list' ++ drop count list) parted.parts
-      ∙ append_assoc front (next ∷ parted.rest) (drop count list) in
-      let cut_is : take n bytes ≡ bytes_of s front ++ take parted.part (bytes_behind s front next) = ap (take n) (sym joined.writes) ∙ parted.cut in
-      let broke : Broke o s front next t = record {
-        part = parted.part;
-        less = parted.less;
-        grows = subst (λ (bs : List ℕ). Grows (shown o s) bs (shown o t)) cut_is (cut_grows n cut);
-        failed = ap (λ (x : Sending). x.failed) (sym to) ∙ cut.next.failed;
-        state = state ∙ ap (walk s.state) (sym same);
-      } in
-      breaks_at o s t works list front (parted.rest ++ drop count list) next k is (length-take-le k those (omega (arith, some_whole, many))) broke
+      let parted = each_front (length begin + size) size s.form s.tail s.state (take count list) k n joined.each (omega (arith, some_whole, many)) whole in
+      front_cut o view a b s t from to works list count (omega (arith, few, length-drop first (listed batch))) k n some_whole
+      (subst (λ (bs : List ℕ). CutAfter Sent a bs n b) (sym joined.writes) cut) parted state
 
   pub joined_broke : (r : Result (Unit {0}) ℕ) (k : ℕ) → r ≡ Err k → SentWhole Sent a begin size (joined_bytes batch first count) b r →
       t.state ≡ walk s.state (take (whole_entries count r) list) → PutsSome o list s t (Err k)

@@ -1,15 +1,16 @@
 //! Entries of a batch whose values are current. Several that join the last run or text, or open one, are one write.
-ghost use Rattle.std.specs.Prelude.{◌≡◌, ◌<◌, ◌≤◌, ◌+◌, ◌*◌, ◌∷◌, ◌⊎◌, length, take, drop, IsTrue, ◌↔◌, OnOk, OnErr, is_err};
+ghost use Rattle.std.specs.Prelude.{◌≡◌, ◌++◌, ◌<◌, ◌≤◌, ◌+◌, ◌*◌, ◌∷◌, ◌⊎◌, length, take, drop, IsTrue, ◌↔◌, OnOk, OnErr, is_err};
 ghost use Rattle.nap_list.specs.Batches.{EachStands, FirstStands, listed};
 ghost use Rattle.nap_list.specs.State.{walk};
 ghost use Rattle.nap_canon.specs.declared.tail.Tail.TheVariants.{Apart, InRun};
 ghost use Rattle.nap_codes.specs.declared.code_set.GSet.TheVariants.{G0};
-ghost use Rattle.nap_canon.specs.Batches.{Joins, PointsJoin, SentWhole, TextJoins, WritesNext, entry_size, joined_bytes, joined_tail, opening, points_bytes, run_opening, whole_entries};
+ghost use Rattle.nap_canon.specs.Batches.{Joins, JoinsBehind, PointsJoin, SentWhole, TextJoins, behind_bytes, behind_tail, entry_size, joined_bytes, joined_tail, opening, points_bytes, run_opening, whole_entries};
 ghost use Rattle.nap_canon.specs.Text.{gl_of, run_behind, to_primary};
-ghost use Rattle.nap_canon.specs.Writing.{LaysNext, WritesWhole};
+ghost use Rattle.nap_canon.specs.Writing.{LaysNext, PutsFront, WritesWhole};
 
 use crate::byte_sink::ByteSink;
 use crate::form::Form;
+use crate::gathered::ROOM;
 use crate::room::{Room, opcodes};
 use crate::tail::Tail;
 use crate::writer::Writer;
@@ -41,6 +42,42 @@ impl Room {
                 item(points, index),
             ),
             Batch::Text { set, codes, .. } => self.typed(*set, item(codes, index)),
+        }
+    }
+
+    /// Lays operands of points that join the run of this opcode, or open one.
+    #[inline(always)]
+    fn run(&mut self, opcode: u8, points: &[Point])
+        requires space { length self.old.bytes + 2 + 8 * length points.now ≤ 1024 }
+        ensures bytes { self.new.bytes ≡ self.old.bytes ++ (run_opening self.old.tail opcode (8 * length points.now) ++ points_bytes points.now) }
+        ensures tail { self.new.tail ≡ InRun (run_behind self.old.tail opcode (8 * length points.now)) }
+    {
+        self.opening(opcode, 8 * points.len());
+        self.bytes.points(points);
+    }
+
+    /// Lays `count` entries of a batch, from this index on, which join the last run or text, or open one.
+    #[inline(always)]
+    fn joined(&mut self, batch: &Batch, first: usize, count: usize)
+        requires few { count + first ≤ length (listed batch.now) }
+        requires space { 0 < count → length self.old.bytes + 2 + 8 * count ≤ 1024 }
+        ensures bytes { self.new.bytes ≡ self.old.bytes ++ behind_bytes self.old.tail batch.now first count }
+        ensures tail { self.new.tail ≡ behind_tail self.old.tail batch.now count }
+    {
+        if count == 0 {
+            return;
+        }
+        match batch {
+            Batch::Points { points, .. } => {
+                self.run(opcodes::POINT_ABS, part(points, first, count));
+            }
+            Batch::Lines { points, .. } => {
+                self.run(opcodes::LINE_ABS, part(points, first, count));
+            }
+            Batch::Text { codes, .. } => {
+                self.shift();
+                self.bytes.codes(part(codes, first, count));
+            }
         }
     }
 }
@@ -115,21 +152,60 @@ impl<T: ByteSink + Drop> Writer<T> {
         }
     }
 
-    /// Puts the entry of a batch at an index, whose values are current.
+    /// How many entries behind this one of a batch, which was laid, join the last run or text, or open one: as many as the
+    /// room has space for.
+    #[inline(always)]
+    fn joining_behind(&self, batch: &Batch, index: usize) -> usize
+        requires some { index < length (listed batch.now) }
+        ensures few { result + (index + 1) ≤ length (listed batch.now) }
+        ensures space { 0 < result → length self.now.room.bytes + 2 + 8 * result ≤ 1024 }
+        ensures joins { 0 < result → JoinsBehind self.now.form self.now.room.tail batch.now index result }
+    {
+        let rest = batch.len() - (index + 1);
+        let count = rest.min((ROOM - 2).saturating_sub(self.room.bytes.len()) / 8);
+        match batch {
+            Batch::Points { .. } => self.joining_points(opcodes::POINT_ABS, count),
+            Batch::Lines { .. } => self.joining_points(opcodes::LINE_ABS, count),
+            Batch::Text { set, codes, .. } => {
+                if *set != CharSet::Primary || rest == 0 {
+                    return 0;
+                }
+                self.joining_codes(codes, index + 1).min(count)
+            }
+        }
+    }
+
+    /// Puts the entry of a batch at an index, whose values are current, and those behind it that make one write with it.
+    /// Returns how many they are; an error has the number of those that were taken.
     #[inline]
-    pub(crate) fn put_next(&mut self, batch: &Batch, index: usize) -> Result<(), T::Fault>
+    pub(crate) fn put_next(&mut self, batch: &Batch, index: usize) -> Result<usize, usize>
         requires some { index < length (listed batch.now) }
         requires stand { EachStands self.old.state (drop index (listed batch.now)) }
-        ensures next { WritesNext T.sent self.old.form self.old.room.tail self.old.state (drop index (listed batch.now)) self.old.to self.new.room.tail self.new.to (is_err result) }
-        ensures form { self.new.form ≡ self.old.form }
-        ensures state { OnOk result (self.new.state ≡ walk self.old.state (take 1 (drop index (listed batch.now)))) }
-        ensures still { OnErr result (self.new.state ≡ self.old.state) }
+        ensures { PutsFront T.sent (drop index (listed batch.now)) self.old self.new result }
     {
         self.room.bytes.clear();
         self.room.next(self.form, &self.state, batch, index);
-        self.to.take(self.room.bytes.as_slice())?;
-        self.state.pass_on(batch, index, 1);
-        Ok(())
+        let lead = self.room.bytes.len();
+        // (their number fits, so the next index does)
+        let _count = batch.len();
+        let more = self.joining_behind(batch, index);
+        self.room.joined(batch, index + 1, more);
+        match self.to.take_counted(self.room.bytes.as_slice()) {
+            Ok(()) => {
+                self.state.pass_on(batch, index, more + 1);
+                Ok(more + 1)
+            }
+            Err(taken) => {
+                if taken < lead {
+                    return Err(0);
+                }
+                let size = entry_size(batch);
+                let begun = self.room.bytes.len() - size * more;
+                let whole = taken.saturating_sub(begun) / size + 1;
+                self.state.pass_on(batch, index, whole);
+                Err(whole)
+            }
+        }
     }
 
     /// Writes points that join the run of this opcode, or open one. An error has the number of those that were taken.
@@ -227,6 +303,17 @@ fn whole_entries(count: usize, put: &Result<(), usize>) -> usize
     match put {
         Ok(()) => count,
         Err(whole) => *whole,
+    }
+}
+
+/// The bytes of each entry of a batch that joins others.
+#[inline(always)]
+fn entry_size(batch: &Batch) -> usize
+    ensures { result ≡ entry_size batch.now }
+{
+    match batch {
+        Batch::Points { .. } | Batch::Lines { .. } => 8,
+        Batch::Text { .. } => 1,
     }
 }
 

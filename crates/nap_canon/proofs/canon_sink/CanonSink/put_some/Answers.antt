@@ -1,10 +1,10 @@
-use Rattle.std.proofs.Common.{◌≡◌, ◌<◌, Result, false, length, drop, refl, sym, subst, arith, length-drop}
+use Rattle.std.proofs.Common.{◌≡◌, ◌<◌, false, drop, refl, sym, subst, arith}
 use Rattle.nap_list.specs.Batches.{EachStands, listed}
-use Rattle.nap_canon.specs.Batches.{PutsFirst, PutsSome}
+use Rattle.nap_canon.specs.Batches.{PutsSome}
 use Rattle.nap_canon.specs.Sinking.{Canonical, sending}
 use Rattle.nap_canon.proofs.sinks.PutLemmas.{next_put, joined_took, joined_broke}
 use Rattle.nap_canon.proofs.canon_sink.CanonSink.put_some.Goals as goal
-use Rattle.nap_canon.proofs.canon_sink.CanonSink.put_some.Goals.{in-Ok, in-Err, in-Ok-put_joined, in-Err-put_joined}
+use Rattle.nap_canon.proofs.canon_sink.CanonSink.put_some.Goals.{in-Ok, in-Err}
 
 pub returns-then-count-eq0 : goal.returns-then-count-eq0
 returns-then-count-eq0 g c =
@@ -15,14 +15,8 @@ returns-then-count-eq0 g c =
     let t : Canonical _ = record { outlet = v.to.outlet; written = v.to.written; form = v.form; tail = v.room.tail; state = v.state } in
     let list = drop c.args.first (listed c.args.batch.now) in
     let works : o.failed s.outlet ≡ false = subst (λ (s : Canonical _). o.failed s.outlet ≡ false) (sym c.self.view_is) c.requires.works in
-    let some : 0 < length list = omega (arith, c.requires.some, length-drop c.args.first (listed c.args.batch.now)) in
-    let wrote = c.put_next.ensures in
-    let put : PutsFirst o list s t c.put_next.result = next_put o s t works list c.put_next.result some wrote.next wrote.form wrote.state wrote.still in
-    subst (λ (s : Canonical _). PutsSome o list s t c.match-put_next.result) c.self.view_is
-    (elim c.match-put_next.branch [
-      | in-Ok b ↦ rw b.result-is (subst (λ (r : Result _ _). PutsFirst o list s t r) b.in-Ok.is put)
-      | in-Err b ↦ rw b.result-is (subst (λ (r : Result _ _). PutsFirst o list s t r) b.in-Err.is put)
-    ])
+    subst (λ (s : Canonical _). PutsSome o list s t c.put_next.result) c.self.view_is
+    (next_put o (λ to. sending o to.outlet to.written) w v s t refl refl works list refl refl c.put_next.result c.put_next.ensures)
 
 pub returns : goal.returns
 returns g c =
@@ -43,8 +37,8 @@ returns g c =
     let wrote = c.put_joined.ensures in
     subst (λ (s : Canonical _). PutsSome o list s t c.match-put_joined.result) c.self.view_is
     (elim c.match-put_joined.branch [
-      | in-Ok-put_joined b ↦ rw b.result-is (joined_took o (λ to. sending o to.outlet to.written) w.to v.to s t batch first count refl refl works wrote.form some few stand joins c.put_joined.result b.in-Ok-put_joined.is
+      | in-Ok b ↦ rw b.result-is (joined_took o (λ to. sending o to.outlet to.written) w.to v.to s t batch first count refl refl works wrote.form some few stand joins c.put_joined.result b.in-Ok.is
           wrote.sent wrote.tail wrote.state)
-      | in-Err-put_joined b ↦ rw b.result-is (joined_broke o (λ to. sending o to.outlet to.written) w.to v.to s t batch first count refl refl works wrote.form some few stand joins
-          c.put_joined.result b.in-Err-put_joined.whole b.in-Err-put_joined.is wrote.sent wrote.state)
+      | in-Err b ↦ rw b.result-is (joined_broke o (λ to. sending o to.outlet to.written) w.to v.to s t batch first count refl refl works wrote.form some few stand joins
+          c.put_joined.result b.in-Err.whole b.in-Err.is wrote.sent wrote.state)
     ])
