@@ -1,4 +1,4 @@
-use Rattle.std.proofs.Common.{◌≡◌, ℕ, suc, zero, ◌+◌, ◌*◌, ◌/◌, ◌%◌, ◌^◌, ◌<◌, List, [], ◌∷◌, ◌++◌, length, replicate, All, refl, ap, arith}
+use Rattle.std.proofs.Common.{◌≡◌, ℕ, suc, zero, ◌+◌, ◌*◌, ◌/◌, ◌%◌, ◌^◌, ◌<◌, ◌≤◌, List, [], ◌∷◌, ◌++◌, length, replicate, take, All, refl, ap, arith}
 use Rattle.std.proofs.Math.Nat.{pow-suc, pow-zero, pow-succ', one-le-pow}
 use Rattle.std.proofs.lemmas.Nat.{div-add-mod', mod_below, div_below, div-mul-add, mod-mul-add, mul-add-lt}
 use Rattle.std.proofs.lemmas.List.Elements.{All-nil, All-cons, All-head, All-tail}
@@ -68,3 +68,11 @@ value_of-append-zeros base zero digits n = refl
 value_of-append-zeros base (suc places) [] zero = refl
 value_of-append-zeros base (suc places) [] (suc n) = omega (arith, value_of-zeros base places n)
 value_of-append-zeros base (suc places) (digit ∷ digits) n = ap (λ v. digit * base ^ places + v) (value_of-append-zeros base places digits n)
+
+-- digits behind the last place are of no weight
+pub value_of-take : (base places count : ℕ) (digits : List ℕ) → places ≤ count → value_of base places (take count digits) ≡ value_of base places digits
+unfolding value_of
+value_of-take base zero count digits few = refl
+value_of-take base (suc places) zero digits few = absurd (omega arith)
+value_of-take base (suc places) (suc count) [] few = refl
+value_of-take base (suc places) (suc count) (digit ∷ digits) few = ap (λ v. digit * base ^ places + v) (value_of-take base places count digits (omega arith))

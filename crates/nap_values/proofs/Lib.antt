@@ -17,3 +17,4 @@ mod GatherLemmas
 mod InsideLemmas
 mod RunLemmas
 mod CarriedLemmas
+mod FrontLemmas

@@ -153,17 +153,20 @@ module _ (n : ℕ) (words : HoldsWords n) where
   y_digits_are = ap (digits_of 256 8) y_masked ∙ digits_are y_digit (y_digits-below (words_in n) words)
 
 -- the digits of x of one number with those of y of another
-pub crossed-parts : (m n : ℕ) → HoldsWords m → HoldsWords n →
-    bit_and m 0x3838_3838_3838_3838 + bit_and n 0x0707_0707_0707_0707 ≡ packed (x_in m) (y_in n)
-unfolding x_in y_in
-crossed-parts m n m_words n_words =
-    let xs = digits_of-value_of 8 8 (map x_digit (words_in m)) (omega arith) (x_digits-below (words_in m) m_words)
-    (length-map (words_in m) x_digit ∙ length-words_in m m_words) in
-    let ys = digits_of-value_of 8 8 (map y_digit (words_in n)) (omega arith) (y_digits-below (words_in n) n_words)
-    (length-map (words_in n) y_digit ∙ length-words_in n n_words) in
-    ap₂ (λ x y. x + y) (x_masked m m_words) (y_masked n n_words)
-    ∙ ap₂ (λ x y. value_of 256 8 x * 8 + value_of 256 8 y) (sym xs) (sym ys)
-    ∙ sym (packed-parts (x_in m) (y_in n))
+module _ (m n : ℕ) (m_words : HoldsWords m) (n_words : HoldsWords n) where
+  pub crossed-parts : bit_and m 0x3838_3838_3838_3838 + bit_and n 0x0707_0707_0707_0707 ≡ packed (x_in m) (y_in n)
+  unfolding x_in y_in
+  crossed-parts =
+      let xs = digits_of-value_of 8 8 (map x_digit (words_in m)) (omega arith) (x_digits-below (words_in m) m_words)
+      (length-map (words_in m) x_digit ∙ length-words_in m m_words) in
+      let ys = digits_of-value_of 8 8 (map y_digit (words_in n)) (omega arith) (y_digits-below (words_in n) n_words)
+      (length-map (words_in n) y_digit ∙ length-words_in n n_words) in
+      ap₂ (λ x y. x + y) (x_masked m m_words) (y_masked n n_words)
+      ∙ ap₂ (λ x y. value_of 256 8 x * 8 + value_of 256 8 y) (sym xs) (sym ys)
+      ∙ sym (packed-parts (x_in m) (y_in n))
+
+  pub crossed-words : HoldsWords (bit_and m 0x3838_3838_3838_3838 + bit_and n 0x0707_0707_0707_0707)
+  crossed-words = subst HoldsWords (sym crossed-parts) (packed-words (x_in m) (y_in n) (x_in-below m m_words) (y_in-below n n_words))
 
 -- a displacement's words are those of its parts
 pub move_words : (n : ℕ) → HoldsWords n → packed (bits_of (signed_of (x_in n))) (bits_of (signed_of (y_in n))) ≡ n
@@ -176,11 +179,3 @@ packed_zeros = refl
 -- zero holds eight words of no bits
 pub zero_words : HoldsWords 0
 zero_words = subst HoldsWords packed_zeros (packed-words 0 0 (omega arith) (omega arith))
-
-pub x_in-zero : x_in 0 ≡ 0
-unfolding value_of digits_of words_in x_in
-x_in-zero = refl
-
-pub y_in-zero : y_in 0 ≡ 0
-unfolding value_of digits_of words_in y_in
-y_in-zero = refl

@@ -18,32 +18,38 @@ y_alone : (y : ℕ) → value_of 256 8 (digits_of 8 8 y) ≡ packed 0 y
 unfolding value_of digits_of
 y_alone y = omega arith ∙ sym (packed-parts 0 y)
 
--- a mask keeps all of them
-x_kept : (apart : ℕ) → HoldsWords apart → bit_and apart 0x3838_3838_3838_3838 ≡ packed (x_in apart) 0
-unfolding value_of digits_of words_in y_in
-x_kept apart words = omega (arith, crossed-parts apart 0 words zero_words)
+-- a mask keeps one of the two numbers that words hold
+module _ (n : ℕ) (words : HoldsWords n) where
+  pub x_kept : bit_and n 0x3838_3838_3838_3838 ≡ packed (x_in n) 0
+  unfolding value_of digits_of words_in y_in
+  x_kept = omega (arith, crossed-parts n 0 words zero_words)
 
-y_kept : (apart : ℕ) → HoldsWords apart → bit_and apart 0x0707_0707_0707_0707 ≡ packed 0 (y_in apart)
-unfolding value_of digits_of words_in x_in
-y_kept apart words = omega (arith, crossed-parts 0 apart zero_words words)
+  pub y_kept : bit_and n 0x0707_0707_0707_0707 ≡ packed 0 (y_in n)
+  unfolding value_of digits_of words_in x_in
+  y_kept = omega (arith, crossed-parts 0 n zero_words words)
 
-module _ (apart n : ℕ) (words : HoldsWords n) where
-  pub x_onward : packed (x_in apart) 0 ≡ apart → x_in apart < 16777216 →
+  pub x_kept-words : HoldsWords (bit_and n 0x3838_3838_3838_3838)
+  x_kept-words = subst HoldsWords (sym x_kept) (packed-words (x_in n) 0 (x_in-below n words) (omega arith))
+
+  pub y_kept-words : HoldsWords (bit_and n 0x0707_0707_0707_0707)
+  y_kept-words = subst HoldsWords (sym y_kept) (packed-words 0 (y_in n) (omega arith) (y_in-below n words))
+
+-- it goes on by that number of other words
+module _ (apart n : ℕ) (held : HoldsWords apart) (words : HoldsWords n) where
+  pub x_onward : packed (x_in apart) 0 ≡ apart →
       bit_and ((apart + (bit_and n 0x3838_3838_3838_3838 + 0xC7C7_C7C7_C7C7_C7C7)) % 18446744073709551616) 0x3838_3838_3838_3838
       ≡ packed ((x_in apart + x_in n) % 16777216) 0
-  x_onward alone below =
-      let held = subst HoldsWords alone (packed-words (x_in apart) 0 below (omega arith)) in
+  x_onward alone =
       let whole : apart + (bit_and n 0x3838_3838_3838_3838 + 0xC7C7_C7C7_C7C7_C7C7) ≡ bit_and apart 0x3838_3838_3838_3838 + 0xC7C7_C7C7_C7C7_C7C7 + bit_and n 0x3838_3838_3838_3838 =
       omega (arith, x_kept apart held, alone) in
       ap (λ k. bit_and (k % 18446744073709551616) 0x3838_3838_3838_3838) whole
       ∙ x_added apart n held words
       ∙ x_alone ((x_in apart + x_in n) % 16777216)
 
-  pub y_onward : packed 0 (y_in apart) ≡ apart → y_in apart < 16777216 →
+  pub y_onward : packed 0 (y_in apart) ≡ apart →
       bit_and ((apart + (bit_and n 0x0707_0707_0707_0707 + 0xF8F8_F8F8_F8F8_F8F8)) % 18446744073709551616) 0x0707_0707_0707_0707
       ≡ packed 0 ((y_in apart + y_in n) % 16777216)
-  y_onward alone below =
-      let held = subst HoldsWords alone (packed-words 0 (y_in apart) (omega arith) below) in
+  y_onward alone =
       let whole : apart + (bit_and n 0x0707_0707_0707_0707 + 0xF8F8_F8F8_F8F8_F8F8) ≡ bit_and apart 0x0707_0707_0707_0707 + 0xF8F8_F8F8_F8F8_F8F8 + bit_and n 0x0707_0707_0707_0707 =
       omega (arith, y_kept apart held, alone) in
       ap (λ k. bit_and (k % 18446744073709551616) 0x0707_0707_0707_0707) whole

@@ -2,7 +2,7 @@
 
 ghost use Rattle.std.specs.Prelude.{◌≡◌, ◌≤ℤ◌, ◌<ℤ◌, ◌↔◌, pos, negsuc, IsSome, IfSome};
 
-use crate::packed::{pack, x_bits, y_bits};
+use crate::packed::Packed;
 use crate::point::Point;
 use crate::twos_complement::{bits, signed};
 use std::fmt;
@@ -89,7 +89,7 @@ impl Move {
         let range = -Self::LIMIT..Self::LIMIT;
         if range.contains(&x) && range.contains(&y) {
             Some(Move {
-                words: pack(bits(x), bits(y)),
+                words: Packed::holding(bits(x), bits(y)).get(),
             })
         } else {
             None
@@ -98,21 +98,20 @@ impl Move {
 
     /// The displacement that these eight words spell.
     #[inline]
-    pub(crate) fn spelled(words: u64) -> Move
-        requires { HoldsWords words }
+    pub(crate) fn spelled(words: Packed) -> Move
         ensures { result ≡ multi_of (words_in words) }
     {
-        Move { words }
+        Move { words: words.get() }
     }
 
     /// The eight words that spell it.
     #[inline]
-    pub(crate) fn words(self) -> u64
+    pub(crate) fn words(self) -> Packed
         ensures words { HoldsWords result }
         ensures x { signed_of (x_in result) ≡ self.x }
         ensures y { signed_of (y_in result) ≡ self.y }
     {
-        self.words
+        Packed::new(self.words)
     }
 
     /// The part from left to right.
@@ -122,7 +121,7 @@ impl Move {
         ensures low { negsuc 8388607 ≤ℤ result }
         ensures high { result <ℤ pos 8388608 }
     {
-        signed(x_bits(self.words))
+        signed(self.words().x_bits())
     }
 
     /// The part from the bottom up.
@@ -132,7 +131,7 @@ impl Move {
         ensures low { negsuc 8388607 ≤ℤ result }
         ensures high { result <ℤ pos 8388608 }
     {
-        signed(y_bits(self.words))
+        signed(self.words().y_bits())
     }
 
     /// The point this far from the origin, None outside the square.

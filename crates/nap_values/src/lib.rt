@@ -13,12 +13,14 @@ mod spelling;
 mod twos_complement;
 mod walk;
 mod word;
+mod word_operands;
 
 pub use colours::{Addr, Grb};
 pub use displacement::Move;
 pub use domain::Domain;
-pub use operand::{colour, colour_bytes, multi, multi_bytes, multi_of_three, single, single_bytes};
+pub use operand::{colour_bytes, multi_bytes, multi_of_three, single_bytes};
 pub use point::Point;
 pub use spelling::{put_addr, put_grb, put_move, put_point};
 pub use walk::Walk;
 pub use word::Word;
+pub use word_operands::{colour, multi, single};

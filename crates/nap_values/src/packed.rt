@@ -1,9 +1,11 @@
-//! Numbers that hold eight words, a byte for each, the first in the highest byte. A word has three bits of x above three
-//! bits of y, so the digits of both in base 8 stand side by side.
+//! Eight words in a number, a byte for each, the first in the highest byte. A word has three bits of x above three bits of
+//! y, so the digits of both in base 8 stand side by side.
 
 ghost use Rattle.std.specs.Prelude.{◌≡◌, ◌+◌, ◌-◌, ◌%◌, ◌<◌, ◌≤◌, ◌↔◌, All, IsTrue};
 ghost use Rattle.nap_values.specs.Digits.{value_of, digits_of};
 ghost use Rattle.nap_values.specs.Packed.{HoldsWords, x_in, y_in, packed};
+
+use std::marker::Model;
 
 /// The digits of x.
 const X: u64 = 0x3838_3838_3838_3838;
@@ -46,99 +48,139 @@ fn gathered(digits: u64) -> u32
     (quads - quads / 4_294_967_296 * 4_294_963_200) as u32
 }
 
-/// The words that hold these 24 bits of x and of y.
-#[inline]
-pub(crate) fn pack(x: u32, y: u32) -> u64
-    requires x_fits { x < 16777216 }
-    requires y_fits { y < 16777216 }
-    ensures value { result ≡ packed x y }
-    ensures words { HoldsWords result }
-{
-    spread(x) * 8 + spread(y)
+/// Eight words, in the number that has them in its bytes.
+#[derive(Clone, Copy, Drop)]
+pub(crate) struct Packed(u64);
+
+impl Model for Packed {
+    ghost use Rattle.std.specs.Prelude.{ℕ};
+    ghost use Rattle.nap_values.specs.Packed.{HoldsWords};
+
+    ghost Value = { ℕ };
+
+    ghost view = { λ p. p.0 };
+
+    ghost invariant = { λ p. HoldsWords p.0 };
+
+    ghost inverse = { λ n. record { 0 = n } };
 }
 
-/// The 24 bits of x.
-#[inline]
-pub(crate) fn x_bits(words: u64) -> u32
-    requires { HoldsWords words }
-    ensures value { result ≡ x_in words }
-    ensures below { result < 16777216 }
-{
-    gathered(words / 8 & Y)
-}
+impl Packed {
+    /// The words that a number holds.
+    #[inline]
+    pub(crate) fn new(number: u64) -> Packed
+        requires { HoldsWords number }
+        ensures { result ≡ number }
+    {
+        Packed(number)
+    }
 
-/// The 24 bits of y.
-#[inline]
-pub(crate) fn y_bits(words: u64) -> u32
-    requires { HoldsWords words }
-    ensures value { result ≡ y_in words }
-    ensures below { result < 16777216 }
-{
-    gathered(words & Y)
-}
+    /// The number that holds them.
+    #[inline]
+    pub(crate) fn get(self) -> u64
+        ensures value { result ≡ self }
+        ensures words { HoldsWords result }
+    {
+        self.0
+    }
 
-/// The sums of x and of y, of which 24 bits are kept. A carry goes through the bits beside the digits, which are all set.
-#[inline]
-pub(crate) fn sum(words: u64, others: u64) -> u64
-    requires words { HoldsWords words }
-    requires others { HoldsWords others }
-    ensures { result ≡ packed ((x_in words + x_in others) % 16777216) ((y_in words + y_in others) % 16777216) }
-{
-    let x = ((words & X) + BESIDE_X).wrapping_add(others & X) & X;
-    let y = ((words & Y) + BESIDE_Y).wrapping_add(others & Y) & Y;
-    x + y
-}
+    /// The words that hold these 24 bits of x and of y.
+    #[inline]
+    pub(crate) fn holding(x: u32, y: u32) -> Packed
+        requires x_fits { x < 16777216 }
+        requires y_fits { y < 16777216 }
+        ensures { result ≡ packed x y }
+    {
+        Packed(spread(x) * 8 + spread(y))
+    }
 
-/// The sum of x alone, of which 24 bits are kept, where the first words have no bits of y.
-#[inline]
-pub(crate) fn x_advanced(apart: u64, words: u64) -> u64
-    requires apart { packed (x_in apart) 0 ≡ apart }
-    requires below { x_in apart < 16777216 }
-    requires words { HoldsWords words }
-    ensures { result ≡ packed ((x_in apart + x_in words) % 16777216) 0 }
-{
-    apart.wrapping_add((words & X) + BESIDE_X) & X
-}
+    /// The 24 bits of x.
+    #[inline]
+    pub(crate) fn x_bits(self) -> u32
+        ensures value { result ≡ x_in self }
+        ensures below { result < 16777216 }
+    {
+        gathered(self.0 / 8 & Y)
+    }
 
-/// The sum of y alone, of which 24 bits are kept, where the first words have no bits of x.
-#[inline]
-pub(crate) fn y_advanced(apart: u64, words: u64) -> u64
-    requires apart { packed 0 (y_in apart) ≡ apart }
-    requires below { y_in apart < 16777216 }
-    requires words { HoldsWords words }
-    ensures { result ≡ packed 0 ((y_in apart + y_in words) % 16777216) }
-{
-    apart.wrapping_add((words & Y) + BESIDE_Y) & Y
-}
+    /// The 24 bits of y.
+    #[inline]
+    pub(crate) fn y_bits(self) -> u32
+        ensures value { result ≡ y_in self }
+        ensures below { result < 16777216 }
+    {
+        gathered(self.0 & Y)
+    }
 
-/// The differences of x and of y, of which 24 bits are kept. A borrow goes through the bits beside the digits, which are
-/// all clear.
-#[inline]
-pub(crate) fn difference(words: u64, others: u64) -> u64
-    requires words { HoldsWords words }
-    requires others { HoldsWords others }
-    ensures { result ≡ packed ((x_in words + (16777216 - x_in others)) % 16777216) ((y_in words + (16777216 - y_in others)) % 16777216) }
-{
-    let x = (words & X).wrapping_sub(others & X) & X;
-    let y = (words & Y).wrapping_sub(others & Y) & Y;
-    x + y
-}
+    /// The words without the bits of y.
+    #[inline]
+    pub(crate) fn x_alone(self) -> Packed
+        ensures { result ≡ packed (x_in self) 0 }
+    {
+        Packed(self.0 & X)
+    }
 
-/// The words with the x of the first and the y of the second.
-#[inline]
-pub(crate) fn crossed(first: u64, second: u64) -> u64
-    requires first { HoldsWords first }
-    requires second { HoldsWords second }
-    ensures { result ≡ packed (x_in first) (y_in second) }
-{
-    (first & X) + (second & Y)
-}
+    /// The words without the bits of x.
+    #[inline]
+    pub(crate) fn y_alone(self) -> Packed
+        ensures { result ≡ packed 0 (y_in self) }
+    {
+        Packed(self.0 & Y)
+    }
 
-/// Whether both x and y are below 2^23.
-#[inline]
-pub(crate) fn is_inside(words: u64) -> bool
-    requires { HoldsWords words }
-    ensures { IsTrue result ↔ ((x_in words < 8388608) × (y_in words < 8388608)) }
-{
-    words & SIGNS == 0
+    /// The words with this x and the y of the others.
+    #[inline]
+    pub(crate) fn crossed(self, others: Packed) -> Packed
+        ensures { result ≡ packed (x_in self) (y_in others) }
+    {
+        Packed((self.0 & X) + (others.0 & Y))
+    }
+
+    /// The sums of x and of y, of which 24 bits are kept. A carry goes through the bits beside the digits, which are all
+    /// set.
+    #[inline]
+    pub(crate) fn sum(self, others: Packed) -> Packed
+        ensures { result ≡ packed ((x_in self + x_in others) % 16777216) ((y_in self + y_in others) % 16777216) }
+    {
+        let x = ((self.0 & X) + BESIDE_X).wrapping_add(others.0 & X) & X;
+        let y = ((self.0 & Y) + BESIDE_Y).wrapping_add(others.0 & Y) & Y;
+        Packed(x + y)
+    }
+
+    /// The sum of x alone, of which 24 bits are kept, where these words have no bits of y.
+    #[inline]
+    pub(crate) fn x_advanced(self, step: Packed) -> Packed
+        requires { packed (x_in self) 0 ≡ self }
+        ensures { result ≡ packed ((x_in self + x_in step) % 16777216) 0 }
+    {
+        Packed(self.0.wrapping_add((step.0 & X) + BESIDE_X) & X)
+    }
+
+    /// The sum of y alone, of which 24 bits are kept, where these words have no bits of x.
+    #[inline]
+    pub(crate) fn y_advanced(self, step: Packed) -> Packed
+        requires { packed 0 (y_in self) ≡ self }
+        ensures { result ≡ packed 0 ((y_in self + y_in step) % 16777216) }
+    {
+        Packed(self.0.wrapping_add((step.0 & Y) + BESIDE_Y) & Y)
+    }
+
+    /// The differences of x and of y, of which 24 bits are kept. A borrow goes through the bits beside the digits, which
+    /// are all clear.
+    #[inline]
+    pub(crate) fn difference(self, others: Packed) -> Packed
+        ensures { result ≡ packed ((x_in self + (16777216 - x_in others)) % 16777216) ((y_in self + (16777216 - y_in others)) % 16777216) }
+    {
+        let x = (self.0 & X).wrapping_sub(others.0 & X) & X;
+        let y = (self.0 & Y).wrapping_sub(others.0 & Y) & Y;
+        Packed(x + y)
+    }
+
+    /// Whether both x and y are below 2^23.
+    #[inline]
+    pub(crate) fn is_inside(self) -> bool
+        ensures { IsTrue result ↔ ((x_in self < 8388608) × (y_in self < 8388608)) }
+    {
+        self.0 & SIGNS == 0
+    }
 }

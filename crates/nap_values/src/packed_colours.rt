@@ -1,10 +1,13 @@
-//! Numbers that hold the eight words of a colour, a byte for each, the first in the highest byte. A word has two bits of
-//! each part, the higher of green, red and blue above the lower ones.
+//! Colours in eight words. A word has two bits of each part, the higher of green, red and blue above the lower ones.
 
 ghost use Rattle.std.specs.Prelude.{◌≡◌, ◌<◌, ◌≤◌, All};
 ghost use Rattle.nap_values.specs.Digits.{value_of, digits_of};
-ghost use Rattle.nap_values.specs.Packed.{HoldsWords};
+ghost use Rattle.nap_values.specs.Operands.{colour_of};
+ghost use Rattle.nap_values.specs.Packed.{words_in};
 ghost use Rattle.nap_values.specs.PackedColours.{g_in, r_in, b_in, packed_colour};
+
+use crate::colours::Grb;
+use crate::packed::Packed;
 
 /// The bits of green.
 const GREEN: u64 = 0x2424_2424_2424_2424;
@@ -46,36 +49,43 @@ fn gathered(digits: u64) -> u16
 /// The words that hold these parts of a colour. Two bits are put at two places: at the first the mask keeps the lower
 /// one, and at the second the higher one.
 #[inline]
-pub(crate) fn pack_colour(g: u16, r: u16, b: u16) -> u64
-    ensures value { result ≡ packed_colour g r b }
-    ensures words { HoldsWords result }
+pub(crate) fn pack_colour(g: u16, r: u16, b: u16) -> Packed
+    ensures { result ≡ packed_colour g r b }
 {
-    (spread(g) * 20 & GREEN) + (spread(r) * 10 & RED) + (spread(b) * 5 & BLUE)
+    Packed::new((spread(g) * 20 & GREEN) + (spread(r) * 10 & RED) + (spread(b) * 5 & BLUE))
+}
+
+/// The colour that these words spell.
+#[inline]
+pub(crate) fn colour_in(words: Packed) -> Grb
+    ensures { result ≡ colour_of (words_in words) }
+{
+    Grb::new(g_bits(words), r_bits(words), b_bits(words))
 }
 
 /// The 16 bits of green.
 #[inline]
-pub(crate) fn g_bits(words: u64) -> u16
-    requires { HoldsWords words }
+fn g_bits(words: Packed) -> u16
     ensures { result ≡ g_in words }
 {
+    let words = words.get();
     gathered((words / 32 & LOWEST) * 2 + (words / 4 & LOWEST))
 }
 
 /// The 16 bits of red.
 #[inline]
-pub(crate) fn r_bits(words: u64) -> u16
-    requires { HoldsWords words }
+fn r_bits(words: Packed) -> u16
     ensures { result ≡ r_in words }
 {
+    let words = words.get();
     gathered((words / 16 & LOWEST) * 2 + (words / 2 & LOWEST))
 }
 
 /// The 16 bits of blue.
 #[inline]
-pub(crate) fn b_bits(words: u64) -> u16
-    requires { HoldsWords words }
+fn b_bits(words: Packed) -> u16
     ensures { result ≡ b_in words }
 {
+    let words = words.get();
     gathered((words / 8 & LOWEST) * 2 + (words & LOWEST))
 }

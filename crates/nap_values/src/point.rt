@@ -3,7 +3,7 @@
 ghost use Rattle.std.specs.Prelude.{◌≡◌, ◌+◌, ◌<◌, ◌↔◌, IsSome, IfSome};
 
 use crate::displacement::Move;
-use crate::packed::{crossed, difference, is_inside, pack, sum, x_bits, y_bits};
+use crate::packed::Packed;
 use std::fmt;
 use std::marker::Model;
 
@@ -86,7 +86,9 @@ impl Point {
         ensures value { IfSome result (λ p. p ≡ record { x = x; y = y }) }
     {
         if x < Self::LIMIT && y < Self::LIMIT {
-            Some(Point { words: pack(x, y) })
+            Some(Point {
+                words: Packed::holding(x, y).get(),
+            })
         } else {
             None
         }
@@ -94,12 +96,12 @@ impl Point {
 
     /// The point that these eight words spell, None outside the square.
     #[inline]
-    pub(crate) fn spelled(words: u64) -> Option<Point>
-        requires { HoldsWords words }
+    pub(crate) fn spelled(words: Packed) -> Option<Point>
         ensures { result ≡ point_at (multi_of (words_in words)) }
     {
-        if is_inside(words) {
-            Some(Point { words })
+        let number = words.get();
+        if words.is_inside() {
+            Some(Point { words: number })
         } else {
             None
         }
@@ -107,14 +109,14 @@ impl Point {
 
     /// The eight words that spell it.
     #[inline]
-    pub(crate) fn words(self) -> u64
+    pub(crate) fn words(self) -> Packed
         ensures words { HoldsWords result }
         ensures x { x_in result ≡ self.x }
         ensures y { y_in result ≡ self.y }
         ensures x_below { x_in result < 8388608 }
         ensures y_below { y_in result < 8388608 }
     {
-        self.words
+        Packed::new(self.words)
     }
 
     /// The coordinate from left to right.
@@ -123,7 +125,7 @@ impl Point {
         ensures value { result ≡ self.x }
         ensures below { result < 8388608 }
     {
-        x_bits(self.words)
+        self.words().x_bits()
     }
 
     /// The coordinate from the bottom up.
@@ -132,7 +134,7 @@ impl Point {
         ensures value { result ≡ self.y }
         ensures below { result < 8388608 }
     {
-        y_bits(self.words)
+        self.words().y_bits()
     }
 
     /// The point straight across from this one, above or below the other.
@@ -141,7 +143,7 @@ impl Point {
         ensures { result ≡ record { x = other.x; y = self.y } }
     {
         Point {
-            words: crossed(other.words(), self.words()),
+            words: other.words().crossed(self.words()).get(),
         }
     }
 
@@ -150,7 +152,7 @@ impl Point {
     pub fn by(self, step: Move) -> Option<Point>
         ensures { result ≡ moved self step }
     {
-        Point::spelled(sum(self.words(), step.words()))
+        Point::spelled(self.words().sum(step.words()))
     }
 
     /// How far it is from here to the other point.
@@ -158,6 +160,6 @@ impl Point {
     pub fn to(self, other: Point) -> Move
         ensures { result ≡ displacement_to self other }
     {
-        Move::spelled(difference(other.words(), self.words()))
+        Move::spelled(other.words().difference(self.words()))
     }
 }

@@ -2,22 +2,22 @@
 
 ghost use Rattle.std.specs.Prelude.{◌≡◌};
 ghost use Rattle.nap_values.specs.Coordinates.{IsInSquare};
-ghost use Rattle.nap_values.specs.Packed.{HoldsWords, words_in};
+ghost use Rattle.nap_values.specs.Packed.{words_in};
 ghost use Rattle.nap_values.specs.Spellings.{bytes_of, move_bytes, point_bytes, addr_bytes, grb_bytes};
 
 use crate::colours::{Addr, Grb};
 use crate::displacement::Move;
+use crate::packed::Packed;
 use crate::packed_colours::pack_colour;
 use crate::point::Point;
 use arrayvec::ArrayVec;
 
-/// The eight bytes that carry the words of a number.
+/// The eight bytes that carry these words.
 #[inline]
-fn carrying(words: u64) -> ArrayVec<u8, 8>
-    requires { HoldsWords words }
+fn carrying(words: Packed) -> ArrayVec<u8, 8>
     ensures { result.items ≡ bytes_of (words_in words) }
 {
-    let bytes = 0x4040_4040_4040_4040 + words;
+    let bytes = 0x4040_4040_4040_4040 + words.get();
     // LLVM makes one instruction of this, and some twenty of `to_be_bytes`.
     ArrayVec::from(bytes.swap_bytes().to_le_bytes())
 }

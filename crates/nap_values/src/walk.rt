@@ -3,7 +3,7 @@
 ghost use Rattle.std.specs.Prelude.{◌≡◌, unwrap_or};
 
 use crate::displacement::Move;
-use crate::packed::{crossed, x_advanced, y_advanced};
+use crate::packed::Packed;
 use crate::point::Point;
 use std::marker::Model;
 
@@ -13,8 +13,8 @@ use std::marker::Model;
 /// It keeps the words of x and of y apart, so that a step takes only the displacement's words apart.
 #[derive(Drop)]
 pub struct Walk {
-    x: u64,
-    y: u64,
+    x: Packed,
+    y: Packed,
 }
 
 impl Model for Walk {
@@ -42,8 +42,8 @@ impl Walk {
         ensures { result ≡ point }
     {
         Walk {
-            x: crossed(point.words(), 0),
-            y: crossed(0, point.words()),
+            x: point.words().x_alone(),
+            y: point.words().y_alone(),
         }
     }
 
@@ -54,9 +54,9 @@ impl Walk {
         ensures place { self.new ≡ unwrap_or result self.old }
     {
         let words = step.words();
-        let x = x_advanced(self.x, words);
-        let y = y_advanced(self.y, words);
-        let point = Point::spelled(crossed(x, y))?;
+        let x = self.x.x_advanced(words);
+        let y = self.y.y_advanced(words);
+        let point = Point::spelled(x.crossed(y))?;
         self.x = x;
         self.y = y;
         Some(point)

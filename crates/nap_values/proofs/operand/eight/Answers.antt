@@ -4,16 +4,17 @@ use Rattle.nap_values.specs.Packed.{HoldsWords, words_in}
 use Rattle.nap_values.proofs.CarriedLemmas.{kept_holds, kept_all}
 use Rattle.nap_values.proofs.operand.eight.Goals as goal
 
-pub returns-clause-holds : goal.returns-clause-holds
+pub new-requires : goal.new-requires
 unfolding value_of
-returns-clause-holds c =
+new-requires c =
     let len : length c.args.bytes ≡ 8 = search rules in
     let fit : (i : ℕ) → get_or c.args.bytes i 0 < 256 = search rules in
     subst (λ n. HoldsWords (bit_and n 0x3F3F_3F3F_3F3F_3F3F)) (sym c.from_be_bytes.ensures) (kept_holds 8 c.args.bytes fit len)
 
-pub returns-clause-words : goal.returns-clause-words
+pub returns : goal.returns
 unfolding value_of
-returns-clause-words c =
+returns c =
     let len : length c.args.bytes ≡ 8 = search rules in
     let fit : (i : ℕ) → get_or c.args.bytes i 0 < 256 = search rules in
-    ap (λ n. words_in (bit_and n 0x3F3F_3F3F_3F3F_3F3F)) c.from_be_bytes.ensures ∙ kept_all 8 c.args.bytes fit len refl
+    ap words_in c.new.ensures
+    ∙ ap (λ n. words_in (bit_and n 0x3F3F_3F3F_3F3F_3F3F)) c.from_be_bytes.ensures ∙ kept_all 8 c.args.bytes fit len refl

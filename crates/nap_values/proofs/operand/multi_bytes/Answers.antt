@@ -13,11 +13,11 @@ returns-in-len3 c =
     let run = c.args.operand.now in
     let first = get_or run 0 0 ∷ get_or run 1 0 ∷ get_or run 2 0 ∷ [] in
     c.spelled.ensures
-    ∙ ap multi_of (c.eight.ensures.words ∙ zeros_behind first 5)
+    ∙ ap multi_of (c.eight.ensures ∙ zeros_behind first 5)
     ∙ (missing_words_are_zero (carried first) 5).0
     ∙ ap (λ bytes. multi_of (carried bytes)) (three run (omega arith))
 
 pub returns : goal.returns
 returns c =
     let run = c.args.operand.now in
-    c.spelled-2.ensures ∙ ap multi_of c.several.ensures.words ∙ (missing_words_are_zero (carried run) (8 - length run)).0
+    c.spelled-2.ensures ∙ ap multi_of c.several.ensures ∙ (missing_words_are_zero (carried run) (8 - length run)).0

@@ -5,13 +5,15 @@ use Rattle.nap_values.specs.Packed.{HoldsWords, words_in}
 use Rattle.nap_values.proofs.CarriedLemmas.{kept_holds, kept_spells}
 use Rattle.nap_values.proofs.operand.multi_of_three.Goals as goal
 
-pub spelled-requires : goal.spelled-requires
+pub new-requires : goal.new-requires
 unfolding value_of
-spelled-requires c =
+new-requires c =
     subst (λ n. HoldsWords (bit_and n 0x3F3F_3F00_0000_0000)) (sym c.from_be_bytes.ensures) (kept_holds 3 c.args.block.now c.fits-block c.told-block)
 
 pub returns : goal.returns
 unfolding value_of
 returns c =
-    c.spelled.ensures ∙ ap (λ n. multi_of (words_in (bit_and n 0x3F3F_3F00_0000_0000))) c.from_be_bytes.ensures
+    c.spelled.ensures
+    ∙ ap (λ n. multi_of (words_in n)) c.new.ensures
+    ∙ ap (λ n. multi_of (words_in (bit_and n 0x3F3F_3F00_0000_0000))) c.from_be_bytes.ensures
     ∙ kept_spells 3 c.args.block.now c.fits-block c.told-block

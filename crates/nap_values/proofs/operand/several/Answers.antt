@@ -4,9 +4,9 @@ use Rattle.nap_values.specs.Operands.{carried}
 use Rattle.nap_values.proofs.CarriedLemmas.{zeros_behind}
 use Rattle.nap_values.proofs.operand.several.Goals as goal
 
-pub returns-clause-words : goal.returns-clause-words
-returns-clause-words c =
+pub returns : goal.returns
+returns c =
     let run = c.args.run.now in
     let zeros : drop (length run) (replicate 8 0) ≡ replicate (8 - length run) 0 = drop-replicate (length run) 8 0 in
     let copied : c.copy_from_slice.new.self ≡ run = c.copy_from_slice.ensures.after in
-    c.eight.ensures.words ∙ ap₂ (λ bytes more. carried (bytes ++ more)) copied zeros ∙ zeros_behind run (8 - length run)
+    c.eight.ensures ∙ ap₂ (λ bytes more. carried (bytes ++ more)) copied zeros ∙ zeros_behind run (8 - length run)

@@ -8,8 +8,9 @@ use Rattle.nap_values.proofs.packed_colours.g_bits.Goals as goal
 
 pub gathered-requires : goal.gathered-requires
 gathered-requires c =
-    subst (All (λ d. d < 4)) (sym (g_digits_are c.args.words c.requires)) (g_digits-below (words_in c.args.words) c.requires)
+    let words = c.get-words.ensures.words in
+    subst (All (λ d. d < 4)) (sym (g_digits_are _ words)) (g_digits-below (words_in _) words)
 
 pub returns : goal.returns
 unfolding g_in
-returns c = c.gathered.ensures ∙ ap (value_of 4 8) (g_digits_are c.args.words c.requires)
+returns c = c.gathered.ensures ∙ ap (value_of 4 8) (g_digits_are _ c.get-words.ensures.words) ∙ ap g_in c.get-words.ensures.value

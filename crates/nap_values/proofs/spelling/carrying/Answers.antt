@@ -1,15 +1,18 @@
 use Rattle.std.proofs.Common.{rules, ◌∙◌, ap}
 use Rattle.std.specs.Int.{w64, to_le_bytes}
+use Rattle.nap_values.specs.Packed.{words_in}
+use Rattle.nap_values.specs.Spellings.{bytes_of}
 use Rattle.nap_values.proofs.PackedLemmas.{holding_fits}
 use Rattle.nap_values.proofs.ByteLemmas.{bytes_of_words}
 use Rattle.nap_values.proofs.spelling.carrying.Goals as goal
 
 pub overflow_add-bytes : goal.overflow_add-bytes
-overflow_add-bytes c = let fits = holding_fits c.args.words c.requires in search rules
+overflow_add-bytes c = let fits = holding_fits c.get-bytes.result c.get-bytes.ensures.words in search rules
 
 pub returns : goal.returns
 returns c =
     c.from.ensures.0
     ∙ c.to_le_bytes.ensures
     ∙ ap (to_le_bytes w64) c.swap_bytes.ensures
-    ∙ bytes_of_words c.args.words c.requires
+    ∙ bytes_of_words c.get-bytes.result c.get-bytes.ensures.words
+    ∙ ap (λ n. bytes_of (words_in n)) c.get-bytes.ensures.value

@@ -11,6 +11,6 @@ returns c =
     let r_fits : c.r.result < 65536 = search rules in
     let b_fits : c.b.result < 65536 = search rules in
     c.carrying.ensures
-    ∙ ap (λ n. bytes_of (words_in n)) c.pack_colour.ensures.value
+    ∙ ap (λ n. bytes_of (words_in n)) c.pack_colour.ensures
     ∙ ap bytes_of (words_in-packed_colour c.g.result c.r.result c.b.result g_fits r_fits b_fits)
     ∙ rw (c.g.ensures, c.r.ensures, c.b.ensures) refl

@@ -1,6 +1,6 @@
-use Rattle.std.proofs.Common.{◌∙◌, ap, ap₂, subst, sym}
-use Rattle.nap_values.specs.Packed.{HoldsWords, x_in, y_in}
-use Rattle.nap_values.proofs.PackedLemmas.{packed-words, packed-in, x_in-packed, y_in-packed, x_in-below, y_in-below}
+use Rattle.std.proofs.Common.{◌≡◌, ◌∙◌, ap, ap₂}
+use Rattle.nap_values.specs.Packed.{packed, x_in, y_in}
+use Rattle.nap_values.proofs.PackedLemmas.{packed-in, x_in-packed, y_in-packed, x_in-below, y_in-below}
 use Rattle.nap_values.proofs.point.Point.across.Goals as goal
 
 pub invariant_of-result : goal.invariant_of-result
@@ -9,11 +9,11 @@ invariant_of-result c =
     let here = c.words-2.ensures in
     let x_fits = x_in-below c.words.result there.words in
     let y_fits = y_in-below c.words-2.result here.words in
-    let words = subst HoldsWords (sym c.crossed.ensures) (packed-words (x_in c.words.result) (y_in c.words-2.result) x_fits y_fits) in (
-      words,
-      packed-in c.crossed.result words,
-      rw (c.crossed.ensures, x_in-packed (x_in c.words.result) (y_in c.words-2.result) x_fits y_fits) there.x_below,
-      rw (c.crossed.ensures, y_in-packed (x_in c.words.result) (y_in c.words-2.result) x_fits y_fits) here.y_below,
+    let is : c.get.result ≡ packed (x_in c.words.result) (y_in c.words-2.result) = c.get.ensures.value ∙ c.crossed.ensures in (
+      c.get.ensures.words,
+      packed-in c.get.result c.get.ensures.words,
+      rw (is, x_in-packed (x_in c.words.result) (y_in c.words-2.result) x_fits y_fits) there.x_below,
+      rw (is, y_in-packed (x_in c.words.result) (y_in c.words-2.result) x_fits y_fits) here.y_below,
     )
 
 pub returns : goal.returns
@@ -22,6 +22,7 @@ returns c =
     let here = c.words-2.ensures in
     let x_fits = x_in-below c.words.result there.words in
     let y_fits = y_in-below c.words-2.result here.words in
+    let is : c.get.result ≡ packed (x_in c.words.result) (y_in c.words-2.result) = c.get.ensures.value ∙ c.crossed.ensures in
     ap₂ (λ x y. record { x = x; y = y })
-    (ap x_in c.crossed.ensures ∙ x_in-packed (x_in c.words.result) (y_in c.words-2.result) x_fits y_fits ∙ there.x)
-    (ap y_in c.crossed.ensures ∙ y_in-packed (x_in c.words.result) (y_in c.words-2.result) x_fits y_fits ∙ here.y)
+    (ap x_in is ∙ x_in-packed (x_in c.words.result) (y_in c.words-2.result) x_fits y_fits ∙ there.x)
+    (ap y_in is ∙ y_in-packed (x_in c.words.result) (y_in c.words-2.result) x_fits y_fits ∙ here.y)

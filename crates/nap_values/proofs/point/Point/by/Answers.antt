@@ -1,15 +1,12 @@
-use Rattle.std.proofs.Common.{◌∙◌, refl, sym, ap, ap₂, subst}
+use Rattle.std.proofs.Common.{◌∙◌, refl, ap, ap₂}
 use Rattle.nap_values.specs.Coordinates.{point_at, point_with, moved}
 use Rattle.nap_values.specs.Operands.{multi_of}
 use Rattle.nap_values.specs.TwosComplement.{signed_of}
-use Rattle.nap_values.specs.Packed.{HoldsWords, x_in, y_in}
+use Rattle.nap_values.specs.Packed.{x_in, y_in}
 use Rattle.nap_values.proofs.PackedLemmas.{x_in-below, y_in-below}
-use Rattle.nap_values.proofs.MotionLemmas.{kept-words, kept-x, kept-y}
+use Rattle.nap_values.proofs.MotionLemmas.{kept-x, kept-y}
 use Rattle.nap_values.proofs.InsideLemmas.{sum_leads}
 use Rattle.nap_values.proofs.point.Point.by.Goals as goal
-
-pub spelled-requires : goal.spelled-requires
-spelled-requires c = subst HoldsWords (sym c.sum.ensures) (kept-words _ _)
 
 pub returns : goal.returns
 unfolding point_at multi_of moved x_in y_in

@@ -1,14 +1,11 @@
-use Rattle.std.proofs.Common.{◌∙◌, refl, sym, ap, ap₂, subst}
+use Rattle.std.proofs.Common.{◌∙◌, refl, ap, ap₂}
 use Rattle.nap_values.specs.Coordinates.{displacement_to}
 use Rattle.nap_values.specs.Operands.{multi_of}
 use Rattle.nap_values.specs.TwosComplement.{signed_of}
-use Rattle.nap_values.specs.Packed.{HoldsWords, x_in, y_in}
-use Rattle.nap_values.proofs.MotionLemmas.{kept-words, kept-x, kept-y}
+use Rattle.nap_values.specs.Packed.{x_in, y_in}
+use Rattle.nap_values.proofs.MotionLemmas.{kept-x, kept-y}
 use Rattle.nap_values.proofs.InsideLemmas.{way_is}
 use Rattle.nap_values.proofs.point.Point.to.Goals as goal
-
-pub spelled-requires : goal.spelled-requires
-spelled-requires c = subst HoldsWords (sym c.difference.ensures) (kept-words _ _)
 
 pub returns : goal.returns
 unfolding multi_of displacement_to x_in y_in

@@ -1,17 +1,7 @@
 use Rattle.std.proofs.Common.{◌∙◌, sym, ap₂, arith}
 use Rattle.nap_values.specs.Coordinates.{moved}
-use Rattle.nap_values.proofs.WalkLemmas.{x_words, y_words, x_again, y_again, joined_words, stands, leads}
+use Rattle.nap_values.proofs.WalkLemmas.{x_again, y_again, stands, leads}
 use Rattle.nap_values.proofs.walk.Walk.advance.Goals as goal
-
-pub crossed-requires-clause-first : goal.crossed-requires-clause-first
-crossed-requires-clause-first c = x_words _ _ (omega arith) c.x_advanced-x.ensures
-
-pub crossed-requires-clause-second : goal.crossed-requires-clause-second
-crossed-requires-clause-second c = y_words _ _ (omega arith) c.y_advanced-y.ensures
-
-pub spelled-requires : goal.spelled-requires
-spelled-requires c =
-    joined_words _ _ _ _ _ (omega arith) (omega arith) c.x_advanced-x.ensures c.y_advanced-y.ensures c.crossed.ensures
 
 pub returns-in_err-point-clause-point : goal.returns-in_err-point-clause-point
 returns-in_err-point-clause-point c =

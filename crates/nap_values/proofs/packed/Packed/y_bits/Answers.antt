@@ -3,17 +3,17 @@ use Rattle.nap_values.specs.Digits.{value_of}
 use Rattle.nap_values.specs.Packed.{words_in, y_in}
 use Rattle.nap_values.proofs.SpellingLemmas.{y_digits-below}
 use Rattle.nap_values.proofs.PackedLemmas.{y_digits_are, y_in-below}
-use Rattle.nap_values.proofs.packed.y_bits.Goals as goal
+use Rattle.nap_values.proofs.packed.Packed.y_bits.Goals as goal
 
 pub gathered-requires : goal.gathered-requires
 gathered-requires c =
-    subst (All (λ d. d < 8)) (sym (y_digits_are c.args.words c.requires)) (y_digits-below (words_in c.args.words) c.requires)
+    subst (All (λ d. d < 8)) (sym (y_digits_are _ c.self.invariant)) (y_digits-below (words_in _) c.self.invariant)
 
 pub returns-clause-value : goal.returns-clause-value
 unfolding y_in
-returns-clause-value c = c.gathered.ensures ∙ ap (value_of 8 8) (y_digits_are c.args.words c.requires)
+returns-clause-value c = rw (← c.self.view_is) (c.gathered.ensures ∙ ap (value_of 8 8) (y_digits_are _ c.self.invariant))
 
 pub returns-clause-below : goal.returns-clause-below
 unfolding y_in
 returns-clause-below c =
-    subst (λ n. n < 16777216) (sym (c.gathered.ensures ∙ ap (value_of 8 8) (y_digits_are c.args.words c.requires))) (y_in-below c.args.words c.requires)
+    subst (λ n. n < 16777216) (sym (c.gathered.ensures ∙ ap (value_of 8 8) (y_digits_are _ c.self.invariant))) (y_in-below _ c.self.invariant)

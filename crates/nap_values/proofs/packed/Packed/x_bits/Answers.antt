@@ -3,17 +3,17 @@ use Rattle.nap_values.specs.Digits.{value_of}
 use Rattle.nap_values.specs.Packed.{words_in, x_in}
 use Rattle.nap_values.proofs.SpellingLemmas.{x_digits-below}
 use Rattle.nap_values.proofs.PackedLemmas.{x_digits_are, x_in-below}
-use Rattle.nap_values.proofs.packed.x_bits.Goals as goal
+use Rattle.nap_values.proofs.packed.Packed.x_bits.Goals as goal
 
 pub gathered-requires : goal.gathered-requires
 gathered-requires c =
-    subst (All (λ d. d < 8)) (sym (x_digits_are c.args.words c.requires)) (x_digits-below (words_in c.args.words) c.requires)
+    subst (All (λ d. d < 8)) (sym (x_digits_are _ c.self.invariant)) (x_digits-below (words_in _) c.self.invariant)
 
 pub returns-clause-value : goal.returns-clause-value
 unfolding x_in
-returns-clause-value c = c.gathered.ensures ∙ ap (value_of 8 8) (x_digits_are c.args.words c.requires)
+returns-clause-value c = rw (← c.self.view_is) (c.gathered.ensures ∙ ap (value_of 8 8) (x_digits_are _ c.self.invariant))
 
 pub returns-clause-below : goal.returns-clause-below
 unfolding x_in
 returns-clause-below c =
-    subst (λ n. n < 16777216) (sym (c.gathered.ensures ∙ ap (value_of 8 8) (x_digits_are c.args.words c.requires))) (x_in-below c.args.words c.requires)
+    subst (λ n. n < 16777216) (sym (c.gathered.ensures ∙ ap (value_of 8 8) (x_digits_are _ c.self.invariant))) (x_in-below _ c.self.invariant)
