@@ -2,8 +2,8 @@ use Rattle.std.proofs.Common.{ℕ, ◌+◌, ◌≡◌, List, [], ◌++◌, Resul
 use Rattle.std.specs.Io.KnownBytes.{Consumes}
 use Rattle.std.proofs.KnownBytes.{Appends-nil}
 use Rattle.std.proofs.lemmas.List.{take-append-drop}
-use Rattle.nap_list.specs.declared.device.Inlet as inlet
-use Rattle.nap_list.specs.declared.device.Outlet as outlet
+use Rattle.nap_list.specs.declared.device.inlet.Inlet as inlet
+use Rattle.nap_list.specs.declared.device.outlet.Outlet as outlet
 use Rattle.nap_list.specs.Reading.{reading}
 use Rattle.nap_batch.specs.declared.request.RequestLine.{RequestLine}
 use Rattle.nap_batch.specs.declared.service.Ended.{Ended}

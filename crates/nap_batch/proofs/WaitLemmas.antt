@@ -1,7 +1,7 @@
 use Rattle.std.proofs.Common.{ℕ, ◌+◌, ◌-◌, ◌≤◌, ◌≡◌, ◌≢◌, List, [], ◌∷◌, ◌++◌, Option, None, Some, Result, Ok, Err, length, refl, ap, sym, subst, ◌∙◌, inl, inr, append-nil, append_assoc, length-append, arith}
 use Rattle.std.specs.Io.KnownBytes.{Consumes, IsAtEnd, Keeps}
 use Rattle.std.proofs.KnownBytes.{Consumes-nil, Consumes-trans}
-use Rattle.nap_list.specs.declared.device.Inlet as inlet
+use Rattle.nap_list.specs.declared.device.inlet.Inlet as inlet
 use Rattle.nap_list.specs.Limits.{reads_limit}
 use Rattle.nap_list.specs.Reading.{Reading, NoneFailed, reading}
 use Rattle.nap_batch.specs.declared.held.Stop.TheVariants as stop

@@ -1,7 +1,7 @@
 use Rattle.std.specs.Prelude.{ℕ, ◌≡◌, ◌≢◌, ◌⊎◌, ◌+◌, ◌-◌, ◌^◌, Bool, true, false, List, [], ◌∷◌, ◌++◌, Option, Result, Ok, Err, All, codes, flat_map, length, min, take}
 use Rattle.std.specs.Io.KnownBytes.{Appends, Consumes}
-use Rattle.nap_list.specs.declared.device.Inlet as inlet
-use Rattle.nap_list.specs.declared.device.Outlet as outlet
+use Rattle.nap_list.specs.declared.device.inlet.Inlet as inlet
+use Rattle.nap_list.specs.declared.device.outlet.Outlet as outlet
 use Rattle.nap_list.specs.Flushing as flushing
 use Rattle.nap_list.specs.Reading.{Reading}
 use Rattle.nap_command.specs.declared.failure.Failure.TheVariants as failure

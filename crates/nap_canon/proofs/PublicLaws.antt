@@ -1,6 +1,6 @@
 -- The proofs of the laws.
 
-use Rattle.nap_list.specs.declared.device.Outlet as outlet
+use Rattle.nap_list.specs.declared.device.outlet.Outlet as outlet
 use Rattle.nap_canon.specs.declared.form.Form.TheVariants.{One, Two}
 use Rattle.nap_canon.specs.Sinking.{WritesText}
 use Rattle.nap_canon.specs.Laws.{BringLeads, TextOfPrefix, TextIsPlain, PlainOperandLengths, TextIsRead, TextLeads, FormsAgree, CanonicalStreamsAgree}

@@ -10,7 +10,7 @@ use Rattle.nap_command.specs.declared.command.Action.{Action}
 use Rattle.nap_command.specs.declared.command.Action.TheVariants as action
 use Rattle.nap_command.specs.declared.command.Command.{Command}
 use Rattle.nap_command.specs.Devices.{Devices}
-use Rattle.nap_list.specs.declared.device.Inlet as inlet
+use Rattle.nap_list.specs.declared.device.inlet.Inlet as inlet
 use Rattle.nap_command.specs.Commands.{Ran}
 use Rattle.nap_batch.specs.Sessions.{Served}
 use Rattle.nap_cli.specs.declared.words.Job.{Job}

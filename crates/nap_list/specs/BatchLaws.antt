@@ -7,7 +7,6 @@ use Rattle.nap_list.specs.declared.attribute.Hand.{Hand}
 use Rattle.nap_list.specs.declared.attribute.Pen.TheVariants.{After}
 use Rattle.nap_list.specs.declared.batch.Batch.{Batch}
 use Rattle.nap_list.specs.declared.batch.Batch.TheVariants as batches
-use Rattle.nap_list.specs.declared.entry.Entry.TheVariants as entries
 use Rattle.nap_list.specs.declared.state.Drawing.{Drawing}
 use Rattle.nap_list.specs.State.{hand_of}
 use Rattle.nap_list.specs.Batches.{point_on, line_on, lines_on, text_in, typed, listed, last_of}

@@ -1,5 +1,5 @@
 use Rattle.std.specs.Prelude.{ℕ, ◌≡◌, ◌+◌, ◌-◌, ◌^◌, Bool, true, false, min}
-use Rattle.nap_list.specs.declared.device.Outlet as outlet
+use Rattle.nap_list.specs.declared.device.outlet.Outlet as outlet
 
 -- how often an output was flushed, so often before, that is flushed once it is written, and not where a write has failed
 abbrev pub flushed : Bool → ℕ → ℕ

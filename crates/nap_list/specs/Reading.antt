@@ -1,6 +1,6 @@
 use Rattle.std.specs.Prelude.{ℕ, ◌≡◌, ◌⊎◌, ◌+◌, ◌-◌, ◌<◌, ◌≤◌, Bool, true, List, Option, length}
 use Rattle.std.specs.Io.KnownBytes.{IsAtEnd}
-use Rattle.nap_list.specs.declared.device.Inlet as inlet
+use Rattle.nap_list.specs.declared.device.inlet.Inlet as inlet
 use Rattle.nap_list.specs.Limits.{reads_limit}
 
 -- What an input shows of having been read for a while: the bytes left, whether it failed before and by now, and how

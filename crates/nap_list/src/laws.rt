@@ -3,7 +3,7 @@ ghost use Rattle.std.specs.Prelude.{◌≡◌};
 ghost use Rattle.nap_list.specs.Laws.{WalksJoin, FitsJoin, StartAgrees, TakingNothing, LegalNeverBreaks, BatchStands, TextLeaves, TypedMade};
 ghost use Rattle.nap_list.specs.Agreement.{AgreeingFits};
 ghost use Rattle.nap_list.specs.Limits.{points_limit, reads_limit, known_limit};
-ghost use Rattle.nap_list.specs.declared.device.TheConstants.{READS};
+ghost use Rattle.nap_list.specs.declared.device.inlet.TheConstants.{READS};
 ghost use Rattle.nap_list.specs.declared.known.TheConstants.{KNOWN};
 ghost use Rattle.nap_list.specs.declared.points.TheConstants.{SHAPE_POINTS};
 

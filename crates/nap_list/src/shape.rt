@@ -1,9 +1,7 @@
 //! Arcs and polygons whose points and values are lent.
-ghost use Rattle.std.specs.Prelude.{◌≡◌, ◌↔◌, ◌∷◌, length, take, IsTrue, IfOk, OnOk, None, Some, slice_get};
-ghost use Rattle.nap_list.specs.Agreement.{Stands};
-ghost use Rattle.nap_list.specs.Entry.{held};
+ghost use Rattle.std.specs.Prelude.{◌≡◌, ◌∷◌, IfOk, OnOk, None, Some, slice_get};
 ghost use Rattle.nap_list.specs.Shapes.{drawn_shape, round, shape_end, shape_entry, shape_points};
-ghost use Rattle.nap_list.specs.State.{after, with_pen};
+ghost use Rattle.nap_list.specs.State.{after};
 
 use crate::attribute::{Ink, Pen};
 use crate::entry::Entry;
@@ -113,43 +111,14 @@ fn round(points: &mut Points, start: Point) -> Result<(), AllocError>
     Ok(())
 }
 
-impl Drawing {
-    /// Whether each value that a shape holds stands already.
-    #[inline(always)]
-    pub fn stands_shape(&self, shape: &Shape) -> bool
-        ensures { IsTrue result ↔ Stands (held (drawn_shape shape.now)) self.now }
-    {
-        self.pel == shape.drawing.pel
-            && self.texture == shape.drawing.texture
-            && self.colour_stands(shape.drawing.colour)
-    }
-}
-
 impl State {
-    /// The pen comes to a point by an entry that leaves nothing else.
-    #[inline(always)]
-    fn land(&mut self, at: Point)
-        ensures { self.new ≡ record self.old { drawing = with_pen (Pen.At at) self.old.drawing; last = None } }
-    {
-        self.drawing.pen = Pen::At(at);
-        self.last = None;
-    }
-
     /// Goes on to the state that a shape leaves.
     #[inline(always)]
     pub fn step_shape(&mut self, shape: &Shape)
         ensures { self.new ≡ after self.old (drawn_shape shape.now) }
     {
         self.drawing.take_ink(&shape.drawing.ink());
-        self.land(shape.end());
-    }
-
-    /// Goes on to the state that a shape leaves whose values stand.
-    #[inline(always)]
-    pub fn pass_shape(&mut self, shape: &Shape)
-        requires { Stands (held (drawn_shape shape.now)) self.old.drawing }
-        ensures { self.new ≡ after self.old (drawn_shape shape.now) }
-    {
-        self.land(shape.end());
+        self.drawing.pen = Pen::At(shape.end());
+        self.last = None;
     }
 }

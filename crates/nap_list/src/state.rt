@@ -402,10 +402,7 @@ impl State {
 
     /// Opens a definition, whose drawing begins with the pen at the start.
     fn open(&mut self, what: Definition)
-        ensures definition { self.new.definition ≡ Some (record { what = what; saved = self.old.drawing }) }
-        ensures drawing { self.new.drawing ≡ with_pen Pen.Start self.old.drawing }
-        ensures last { self.new.last ≡ self.old.last }
-        ensures known { self.new.known ≡ self.old.known }
+        ensures { self.new ≡ record self.old { drawing = with_pen Pen.Start self.old.drawing; definition = Some (record { what = what; saved = self.old.drawing }) } }
     {
         self.definition = Some(Opened {
             what,
@@ -416,10 +413,7 @@ impl State {
 
     /// Ends the definition that is open, and puts the values back.
     fn close(&mut self)
-        ensures definition { self.new.definition ≡ None }
-        ensures drawing { self.new.drawing ≡ saved_values self.old.definition self.old.drawing }
-        ensures last { self.new.last ≡ self.old.last }
-        ensures known { self.new.known ≡ self.old.known }
+        ensures { self.new ≡ record self.old { drawing = saved_values self.old.definition self.old.drawing; definition = None } }
     {
         if let Some(opened) = self.definition {
             self.drawing = opened.saved;
@@ -430,9 +424,7 @@ impl State {
     /// The effect of the entry on the values and on the definition that is open.
     #[inline(always)]
     fn act(&mut self, entry: &Entry)
-        ensures drawing { self.new.drawing ≡ drawn self.old.definition self.old.drawing entry.now }
-        ensures definition { self.new.definition ≡ definition_after self.old.definition self.old.drawing entry.now }
-        ensures known { self.new.known ≡ self.old.known }
+        ensures { self.new ≡ record self.old { drawing = drawn self.old.definition self.old.drawing entry.now; definition = definition_after self.old.definition self.old.drawing entry.now } }
     {
         match entry {
             Entry::Point { at, .. } => self.drawing.pen = Pen::At(*at),

@@ -1,6 +1,6 @@
 use Rattle.std.specs.Prelude.{◌≡◌, ◌≢◌, ◌+◌, ◌<◌, ◌≤◌, ◌++◌, ℕ, List, Bool, true, false, Option, Some, None, Result, Ok, Err, length, take, slice_index, ⊤}
 use Rattle.std.specs.Io.KnownBytes.{Consumes}
-use Rattle.nap_list.specs.declared.device.Inlet as inlet
+use Rattle.nap_list.specs.declared.device.inlet.Inlet as inlet
 use Rattle.nap_list.specs.declared.sink.Sink.{Ghosts}
 use Rattle.nap_list.specs.Reading.{Reading, NoneFailed, IsCutOff, IsReadWhole, reading}
 use Rattle.nap_reader.specs.declared.fault.Fault.TheVariants as faults

@@ -6,7 +6,7 @@ use Rattle.std.specs.Io.KnownBytes.{Keeps}
 use Rattle.std.proofs.KnownBytes.{Appends-kept, Appends-nil}
 use Rattle.std.proofs.lemmas.List.{take_more, take-append-drop}
 use Rattle.std.proofs.Math.Bool.{or-true}
-use Rattle.nap_list.specs.declared.device.Outlet as outlet
+use Rattle.nap_list.specs.declared.device.outlet.Outlet as outlet
 use Rattle.nap_canon.specs.Batches.{CutAfter}
 use Rattle.nap_canon.specs.Sinking.{Sending, sending, TakesPart, Sends}
 use Rattle.nap_canon.specs.SinkLaws.{sends_more, sends_cut}

@@ -12,7 +12,7 @@ use Rattle.nap_list.specs.declared.attribute.Hand.{Hand}
 use Rattle.nap_list.specs.declared.attribute.Held.{Held}
 use Rattle.nap_list.specs.declared.batch.Batch.{Batch}
 use Rattle.nap_list.specs.declared.batch.Batch.TheVariants as batches
-use Rattle.nap_list.specs.declared.device.Outlet as outlet
+use Rattle.nap_list.specs.declared.device.outlet.Outlet as outlet
 use Rattle.nap_list.specs.declared.entry.Entry.{Entry}
 use Rattle.nap_list.specs.declared.sink.SinkFault.{SinkFault}
 use Rattle.nap_list.specs.declared.sink.SinkFault.TheVariants.{Write}

@@ -5,7 +5,7 @@ use Rattle.std.proofs.lemmas.List.{length-take-le, take_all}
 use Rattle.std.proofs.lemmas.Bool.{true≢false, false≢true}
 use Rattle.std.proofs.Math.Bool.{or-false}
 use Rattle.std.specs.Io.KnownBytes.{Appends}
-use Rattle.nap_list.specs.declared.device.Outlet as outlet
+use Rattle.nap_list.specs.declared.device.outlet.Outlet as outlet
 use Rattle.nap_canon.specs.declared.tail.Tail.{Tail}
 use Rattle.nap_canon.specs.declared.form.Form.{Form}
 use Rattle.nap_canon.specs.declared.form.Form.TheVariants.{Two}
