@@ -16,6 +16,7 @@ pub mod Outlines
 pub mod PublicLaws
 pub mod RangeLemmas
 pub mod Rows
+pub mod ShapeStarts
 pub mod Still
 pub mod Texts
 pub mod Turns

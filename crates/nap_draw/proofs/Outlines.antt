@@ -18,7 +18,7 @@ use Rattle.nap_list.specs.Shapes.{outline, round, shape_end, shape_on}
 use Rattle.nap_draw.specs.declared.work.Work.{Work}
 use Rattle.nap_draw.specs.Rule.{Drawn, moves_of, and_then, some_of, few_of, first_of, pen_point, draws_one}
 use Rattle.nap_draw.proofs.Cuts.{moves_turn, run_some, one_at_most}
-use Rattle.nap_draw.specs.Doing.{pen_moved, shape_points}
+use Rattle.nap_draw.specs.Doing.{drawn_from, pen_moved, shape_points}
 use Rattle.nap_list.specs.Limits.{points_limit, steps_limit}
 use Rattle.nap_draw.specs.Geometry.{onward, reached, arc_points, poly_points}
 use Rattle.nap_values.specs.Operands.{multi_of}
@@ -125,10 +125,6 @@ module _ (work : Work) (kind : ShapeKind) (filled : Bool) where
   abbrev on : Drawing → List Coordinates → Entry
   on = shape_on kind filled
 
-  -- a shape through this point and those that these lead to
-  abbrev pub drawn_from : Coordinates → Option (List Coordinates) → Result Drawn DrawFault
-  drawn_from p o = draws_one work on (option_map (λ qs. outline kind (p ∷ qs)) o)
-
   abbrev from_pen : List Displacement → Result Drawn DrawFault
   from_pen ms = and_then (pen_point work.state.drawing.pen) (λ p. draws_one work on (shape_points kind p ms))
 
@@ -150,7 +146,7 @@ module _ (work : Work) (kind : ShapeKind) (filled : Bool) where
   pub pen_lost : (ms : List Displacement) (fault : DrawFault) → 0 < length ms → length ms ≤ steps_limit → Err fault ≡ pen_point work.state.drawing.pen → checked ms ≡ Err fault
   pen_lost ms fault some few is = pen_few ms some few ∙ ap (λ r. and_then r (λ p. draws_one work on (shape_points kind p ms))) (sym is)
 
-  pub pen_goes : (ms : List Displacement) (p : Coordinates) → 0 < length ms → length ms ≤ steps_limit → Ok p ≡ pen_point work.state.drawing.pen → checked ms ≡ drawn_from p (reached p ms)
+  pub pen_goes : (ms : List Displacement) (p : Coordinates) → 0 < length ms → length ms ≤ steps_limit → Ok p ≡ pen_point work.state.drawing.pen → checked ms ≡ drawn_from work kind filled p (reached p ms)
   pen_goes ms p some few is =
       pen_few ms some few ∙ (ap (λ r. and_then r (λ p. draws_one work on (shape_points kind p ms))) (sym is) ∙ ap (draws_one work on) (outlined kind p ms))
 
@@ -171,7 +167,7 @@ module _ (work : Work) (kind : ShapeKind) (filled : Bool) where
   none_first (m ∷ []) few = refl
   none_first (m ∷ n ∷ ms) few = absurd (omega arith)
 
-  module _ (size most n : ℕ) (run front after : List ℕ) (value : size ≡ work.domain.multi) (least : 1 ≤ size) (same : most ≡ size) (is : n ≡ min most (length run))
+  module _ (n : ℕ) (run front after : List ℕ) (least : 1 ≤ work.domain.multi) (is : n ≡ min work.domain.multi (length run))
       (first : front ≡ take n run) (rest : after ≡ drop n run) where
     pub point_missing : length (moves_of work after) ≡ 0 → rest_checked (moves_of work run) ≡ Err Missing
     point_missing none = none_first (moves_of work run) (one_at_most work.domain.multi n run front after (omega arith) (omega arith) first rest none)
@@ -191,5 +187,5 @@ module _ (work : Work) (kind : ShapeKind) (filled : Bool) where
         ∙ ap (λ o. draws_one work on (option_and_then (λ p. shape_points kind p (moves_of work after)) o)) at)
 
     pub point_goes : (p : Coordinates) → 0 < length (moves_of work after) → length (moves_of work after) ≤ steps_limit → point_at (multi_of front) ≡ Some p →
-        rest_checked (moves_of work run) ≡ drawn_from p (reached p (moves_of work after))
+        rest_checked (moves_of work run) ≡ drawn_from work kind filled p (reached p (moves_of work after))
     point_goes p some few at = point_few (Some p) some few at ∙ ap (draws_one work on) (outlined kind p (moves_of work after))

@@ -4,8 +4,8 @@ use Rattle.nap_values.specs.Coordinates.{Coordinates, Displacement, point_at}
 use Rattle.nap_codes.specs.declared.opcode.Opcode.TheVariants as opcodes
 use Rattle.nap_draw.specs.declared.spans.Span.{Span}
 use Rattle.nap_draw.specs.declared.work.Work.{Work}
-use Rattle.nap_draw.specs.Geometry.{onward, points_at, span, between, away, across}
-use Rattle.nap_draw.specs.Rule.{from_pen, with_pairs, draws, rect_on, rule}
+use Rattle.nap_draw.specs.Geometry.{onward, points_at, span, between, across}
+use Rattle.nap_draw.specs.Rule.{from_pen, draws, rect_on, rule}
 use Rattle.nap_draw.specs.Doing.{paired}
 
 -- Rules in other words.
@@ -28,14 +28,9 @@ between_points (m ∷ []) even = absurd (omega arith)
 between_points (m ∷ n ∷ ms) even =
     ap (λ (rest : Option (List Span)). onward (span (point_at m) (point_at n)) (λ _. rest)) (between_points ms (omega arith)) ∙ pair_first (point_at m) (point_at n) (points_at ms)
 
--- the rows of rectangles, filled or not
+-- the row of rectangles, filled or not
 
 pub rect_rule : (work : Work) (filled : Bool) (run : List ℕ) →
     rule work (cond filled opcodes.RectFilled opcodes.RectOutlined) run ≡ from_pen work run (λ p ms. draws work (rect_on filled) (across p ms))
 rect_rule work true run = refl
 rect_rule work false run = refl
-
-pub set_rect_rule : (work : Work) (filled : Bool) (run : List ℕ) →
-    rule work (cond filled opcodes.SetRectFilled opcodes.SetRectOutlined) run ≡ with_pairs work run (λ ms. draws work (rect_on filled) (away ms))
-set_rect_rule work true run = refl
-set_rect_rule work false run = refl

@@ -1,4 +1,4 @@
-use Rattle.std.specs.Prelude.{ℕ, zero, suc, ◌≡◌, ◌++◌, IsErrOf, Bool, true, false, List, [], ◌∷◌, Option, Some, None, option_map, Result, Ok, Err}
+use Rattle.std.specs.Prelude.{ℕ, zero, suc, min, ◌≡◌, ◌++◌, IsErrOf, Bool, true, false, List, [], ◌∷◌, Option, Some, None, option_map, Result, Ok, Err}
 use Rattle.nap_values.specs.Coordinates.{Coordinates, Displacement}
 use Rattle.nap_list.specs.declared.attribute.Hand.{Hand}
 use Rattle.nap_list.specs.declared.attribute.Ink.{Ink}
@@ -17,6 +17,7 @@ use Rattle.nap_list.specs.declared.sink.Sink.{Ghosts}
 use Rattle.nap_list.specs.declared.sink.SinkFault.{SinkFault}
 use Rattle.nap_list.specs.Entry.{held, WellMade}
 use Rattle.nap_list.specs.Putting as puts
+use Rattle.nap_list.specs.Shapes.{outline, shape_on}
 use Rattle.nap_list.specs.Shown.{shows_of}
 use Rattle.nap_list.specs.State.{Comes, walk, with_pen, corner, ink_of}
 use Rattle.nap_list.specs.Agreement.{Holds}
@@ -25,8 +26,10 @@ use Rattle.nap_draw.specs.declared.fault.DrawFault.TheVariants as faults
 use Rattle.nap_draw.specs.declared.spans.Span.{Span}
 use Rattle.nap_draw.specs.declared.spans.Figure.{Figure}
 use Rattle.nap_draw.specs.declared.spans.Figure.TheVariants as figures
+use Rattle.nap_draw.specs.declared.shapes.ShapeStart.{ShapeStart}
+use Rattle.nap_draw.specs.declared.shapes.ShapeStart.TheVariants as starts
 use Rattle.nap_draw.specs.declared.work.Work.{Work}
-use Rattle.nap_draw.specs.Rule.{Drawn}
+use Rattle.nap_draw.specs.Rule.{Drawn, draws_one, shape_from_pen, shape_from_point}
 use Rattle.nap_draw.specs.Geometry.{joined, arc_points, poly_points}
 use Rattle.nap_draw.specs.Draws.{Cause, stream, memory, device, DrawsBy, cause_of}
 use Rattle.nap_draw.specs.Acts.{WantsBy, GivesSome}
@@ -63,6 +66,20 @@ stroke_on figure d s = stroke figure (ink_of d) s
 abbrev pub shape_points : ShapeKind → Coordinates → List Displacement → Option (List Coordinates)
 shape_points kinds.Arc p ms = arc_points p ms
 shape_points kinds.Poly p ms = poly_points p ms
+
+-- a shape by where it starts
+abbrev pub shape_from : ShapeStart → Work → List ℕ → (Drawing → List Coordinates → Entry) → (Coordinates → List Displacement → Option (List Coordinates)) → Result Drawn DrawFault
+shape_from starts.AtPen = shape_from_pen
+shape_from starts.AtOperand = shape_from_point
+
+-- how many of a run's n bytes the operand has that a shape starts at
+abbrev pub start_size : ShapeStart → ℕ → ℕ → ℕ
+start_size starts.AtPen k n = 0
+start_size starts.AtOperand k n = min k n
+
+-- a shape through this point and those that follow, where none is outside the square
+abbrev pub drawn_from : Work → ShapeKind → Bool → Coordinates → Option (List Coordinates) → Result Drawn DrawFault
+drawn_from work kind filled p qs = draws_one work (shape_on kind filled) (option_map (λ qs. outline kind (p ∷ qs)) qs)
 
 -- the state after an entry that only moves the pen, and is no character
 abbrev pub pen_moved : State → Pen → State

@@ -1,4 +1,4 @@
-//! Characters, and the controls that repeat them (C1 set).
+//! Characters, one by one and many at once (G sets).
 ghost use Rattle.std.specs.Prelude.{◌≡◌, All, OnOk, MatchResult};
 ghost use Rattle.nap_codes.specs.declared.code.Code.TheVariants as codes;
 ghost use Rattle.nap_list.specs.Entry.{IsCode};
@@ -11,11 +11,9 @@ ghost use Rattle.nap_draw.specs.Rule.{drawn};
 ghost use Rattle.nap_draw.specs.Doing.{Obeys};
 
 use crate::fault::DrawFault;
-use crate::putting::put_copies;
 use crate::work::Work;
 use nap_codes::CharSet;
 use nap_list::{Batch, BatchFault, Entry, LastChar, Pen, Sink, last_typed};
-use nap_values::Word;
 
 impl Work {
     /// Puts characters of a set and the format effectors of one byte among them in turn, as `text` and `control` do each.
@@ -65,33 +63,5 @@ impl Work {
         self.state.drawing.pen = Pen::After;
         self.state.last = Some(LastChar { set, code });
         Ok(())
-    }
-
-    /// REPEAT: the last character again, this many times.
-    pub(crate) fn repeat<S: Sink>(&mut self, count: Word, sink: &mut S) -> Result<(), DrawFault>
-        requires { StatesAgree self.old.state (S.state sink.old) }
-        ensures { Obeys S.Sink (code_rule self.old (codes.Repeat count)) self.old self.new sink.old sink.new result }
-    {
-        let Some(last) = self.state.last else {
-            return Err(DrawFault::NothingToRepeat);
-        };
-        if count.get() == 0 {
-            return Ok(());
-        }
-        put_copies(self.hand(), last, count, sink)?;
-        self.state.drawing.pen = Pen::After;
-        Ok(())
-    }
-
-    /// REPEAT TO EOL: the last character again, up to the end of the line.
-    pub(crate) fn repeat_to_end<S: Sink>(&mut self, sink: &mut S) -> Result<(), DrawFault>
-        requires { StatesAgree self.old.state (S.state sink.old) }
-        ensures { Obeys S.Sink (code_rule self.old codes.ToEol) self.old self.new sink.old sink.new result }
-    {
-        if self.state.last.is_none() {
-            return Err(DrawFault::NothingToRepeat);
-        }
-        let hand = self.hand();
-        self.single(Entry::ToEol { hand }, Pen::After, sink)
     }
 }

@@ -3,7 +3,7 @@ ghost use Rattle.std.specs.Prelude.{◌≡◌};
 ghost use Rattle.nap_values.specs.Operands.{carried};
 ghost use Rattle.nap_list.specs.Agreement.{StatesAgree};
 ghost use Rattle.nap_draw.specs.Operands.{addresses};
-ghost use Rattle.nap_draw.specs.Rule.{selected, colours_as, maps, with_drawing, rule};
+ghost use Rattle.nap_draw.specs.Rule.{selected, maps, with_drawing, rule};
 ghost use Rattle.nap_draw.specs.Doing.{Does, Sets, quiet};
 
 use crate::fault::DrawFault;
@@ -32,14 +32,7 @@ impl Work {
         if run.len() > usize::from(size) {
             return Err(DrawFault::ManyColours);
         }
-        self.set(colour_bytes(run), sink)
-    }
-
-    /// A new colour: of mode 0, or at the address that is chosen.
-    fn set<S: Sink>(&mut self, grb: Grb, sink: &mut S) -> Result<(), DrawFault>
-        requires { StatesAgree self.old.state (S.state sink.old) }
-        ensures { Does S.Sink quiet (colours_as self.old self.old.state.drawing.colour grb) self.old self.new sink.old sink.new result }
-    {
+        let grb = colour_bytes(run);
         match self.colour() {
             Colour::Own(_) => {
                 self.become_direct(grb);

@@ -2,26 +2,35 @@
 #![tactic(auto)]
 
 mod act;
+mod applied;
+mod batches;
 mod characters;
+mod codes;
 mod colours;
 mod controls;
+mod copied;
 mod definitions;
 mod domain;
 mod fault;
 mod field;
+mod figures;
 pub mod laws;
 mod lines;
 mod look;
 mod operands;
+mod pairs;
 mod points;
 mod putting;
+mod rects;
+mod repeating;
 mod room;
 mod shapes;
 mod spans;
 mod times;
 mod work;
 
-pub use act::{RUN_LIMIT, apply};
-pub use controls::{control, text};
+pub use act::RUN_LIMIT;
+pub use applied::apply;
+pub use copied::{control, text};
 pub use fault::DrawFault;
 pub use work::{Effects, Work};

@@ -1,9 +1,7 @@
 //! POINT SET and POINT.
-ghost use Rattle.std.specs.Prelude.{Some};
 ghost use Rattle.nap_values.specs.Operands.{carried};
 ghost use Rattle.nap_list.specs.Agreement.{StatesAgree};
-ghost use Rattle.nap_list.specs.Batches.{point_on};
-ghost use Rattle.nap_draw.specs.Rule.{draws, rule};
+ghost use Rattle.nap_draw.specs.Rule.{rule};
 ghost use Rattle.nap_draw.specs.Doing.{Does, Sets, quiet};
 
 use crate::fault::DrawFault;
@@ -11,7 +9,7 @@ use crate::operands::{some_operand, start};
 use crate::room::{points_into, steps_into};
 use crate::work::Work;
 use nap_codes::Opcode;
-use nap_list::{Batch, Pen, Sink};
+use nap_list::{Pen, Sink};
 use nap_values::{Point, multi_bytes};
 
 impl Work {
@@ -87,16 +85,5 @@ impl Work {
         let from = start(self, run)?;
         steps_into(room, from, self.domain, run)?;
         self.dots(room, sink)
-    }
-
-    /// A point at each of the points.
-    fn dots<S: Sink>(&mut self, points: &[Point], sink: &mut S) -> Result<(), DrawFault>
-        requires { StatesAgree self.old.state (S.state sink.old) }
-        ensures { Does S.Sink quiet (draws self.old point_on (Some points.now)) self.old self.new sink.old sink.new result }
-    {
-        let drawing = &self.state.drawing;
-        sink.put_batch(&Batch::Points { points, drawing })?;
-        self.land(points.last().copied());
-        Ok(())
     }
 }

@@ -1,0 +1,41 @@
+//! The controls that repeat the last character (C1 set).
+ghost use Rattle.nap_codes.specs.declared.code.Code.TheVariants as codes;
+ghost use Rattle.nap_list.specs.Agreement.{StatesAgree};
+ghost use Rattle.nap_draw.specs.Codes.{code_rule};
+ghost use Rattle.nap_draw.specs.Doing.{Obeys};
+
+use crate::fault::DrawFault;
+use crate::putting::put_copies;
+use crate::work::Work;
+use nap_list::{Entry, Pen, Sink};
+use nap_values::Word;
+
+impl Work {
+    /// REPEAT: the last character again, this many times.
+    pub(crate) fn repeat<S: Sink>(&mut self, count: Word, sink: &mut S) -> Result<(), DrawFault>
+        requires { StatesAgree self.old.state (S.state sink.old) }
+        ensures { Obeys S.Sink (code_rule self.old (codes.Repeat count)) self.old self.new sink.old sink.new result }
+    {
+        let Some(last) = self.state.last else {
+            return Err(DrawFault::NothingToRepeat);
+        };
+        if count.get() == 0 {
+            return Ok(());
+        }
+        put_copies(self.hand(), last, count, sink)?;
+        self.state.drawing.pen = Pen::After;
+        Ok(())
+    }
+
+    /// REPEAT TO EOL: the last character again, up to the end of the line.
+    pub(crate) fn repeat_to_end<S: Sink>(&mut self, sink: &mut S) -> Result<(), DrawFault>
+        requires { StatesAgree self.old.state (S.state sink.old) }
+        ensures { Obeys S.Sink (code_rule self.old codes.ToEol) self.old self.new sink.old sink.new result }
+    {
+        if self.state.last.is_none() {
+            return Err(DrawFault::NothingToRepeat);
+        }
+        let hand = self.hand();
+        self.single(Entry::ToEol { hand }, Pen::After, sink)
+    }
+}
