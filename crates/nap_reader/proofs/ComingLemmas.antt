@@ -1,6 +1,6 @@
-use Rattle.std.proofs.Common.{ℕ, ◌≡◌, ◌≢◌, ◌<◌, ◌≤◌, ◌+◌, ◌-◌, suc, zero, List, [], ◌∷◌, ◌++◌, length, take, drop, get_or, None, Some, false, refl, ap, ap₂, sym, ◌∙◌, subst, arith, append_assoc, append-nil, length-append}
+use Rattle.std.proofs.Common.{ℕ, ◌≡◌, ◌≢◌, ◌<◌, ◌≤◌, ◌+◌, ◌-◌, ◌⊎◌, inl, inr, suc, zero, List, [], ◌∷◌, ◌++◌, length, take, drop, get_or, None, Some, false, refl, ap, ap₂, sym, ◌∙◌, subst, arith, append_assoc, append-nil, length-append}
 use Rattle.std.specs.Prelude.{slice_get}
-use Rattle.std.proofs.lemmas.List.{drop-drop, drop_at, drop_more, length-drop, length-take-le, map-append, nil_from_length, take-append-drop, take-append-le, take_at}
+use Rattle.std.proofs.lemmas.List.{drop-drop, drop_all, drop_at, drop_more, length-drop, length-take-le, map-append, nil_from_length, take-append-drop, take-append-le, take_at}
 use Rattle.std.proofs.lemmas.List.Elements.{All-pop}
 use Rattle.std.proofs.Math.Seq.{get_or-append_seam}
 use Rattle.nap_list.specs.declared.sink.Sink.{Ghosts}
@@ -227,6 +227,19 @@ behind_in_piece stored frames piece text at place inner one within =
       drop (at + 1) piece,
       behind_body stored frames piece text at place inner ∙ ap (λ (fs : List Frame). bytes_of (unread stored fs) ++ drop at piece) none ∙ drop_more piece at 0 within,
     )
+
+-- else nothing
+pub none_behind : (stored : List ℕ) (frames : List Frame) (piece text : List ℕ) (at fed place : ℕ) → length frames ≤ 1 → (frames ≡ []) ⊎ (length piece ≤ at) → Comes stored frames piece at fed text place →
+    behind stored frames piece at text ≡ []
+none_behind stored [] piece text at fed place one none comes =
+    let front = (comes.of_piece refl).0 in
+    ap (λ (bs : List ℕ). drop (length bs) (drop at piece)) front ∙ drop_all (length (drop at piece)) (drop at piece) (omega arith)
+none_behind stored (first ∷ others) piece text at fed place one (inl none) comes = let bad : ⊥ = cc in absurd bad
+none_behind stored (first ∷ others) piece text at fed place one (inr all) comes =
+    let frames = first ∷ others in
+    let inner = comes.of_body (λ none. let bad : ⊥ = cc in bad) in
+    let none : inner.before ≡ [] = nil_from_length inner.before (omega (arith, one, ap length inner.last, length-append inner.before (inner.frame ∷ []))) in
+    behind_body stored frames piece text at place inner ∙ ap (λ (fs : List Frame). bytes_of (unread stored fs) ++ drop at piece) none ∙ drop_all at piece all
 
 -- What came, and what comes then.
 pub came_next : (frames rest : List Placed) (piece : List ℕ) (at until fed : ℕ) (bytes : List ℕ) (xs : List Placed) → Came frames rest piece at until fed bytes xs →

@@ -1,11 +1,12 @@
 -- Operand bytes at the front, and their words.
-use Rattle.std.proofs.Common.{◌≡◌, ℕ, ◌-◌, ◌%◌, ◌<◌, ◌≤◌, true, leb, ltb, List, [], ◌∷◌, ◌++◌, map, Option, Some, sym, take, drop, get_or, length, All, subst, refl, ap, ap₂, ◌∙◌, arith, append_assoc}
-use Rattle.std.proofs.lemmas.List.{length-drop, length-map, length-take-le, map-append, take-append-drop, take-take, get_or-drop, get_or-take}
+use Rattle.std.proofs.Common.{◌≡◌, ◌⊎◌, inr, Bool, false, ℕ, ◌-◌, ◌%◌, ◌<◌, ◌≤◌, true, leb, ltb, None, MatchOption, IfSome, List, [], ◌∷◌, ◌++◌, map, Option, Some, sym, take, drop, get_or, length, All, subst, refl, ap, ap₂, ◌∙◌, arith, append_assoc}
+use Rattle.std.proofs.lemmas.List.{length-drop, length-map, length-take-le, map-append, take-append-drop, take-take, take_all, get_or-drop, get_or-take}
 use Rattle.std.proofs.lemmas.List.Sums.{prefix_len-le-length, prefix_len_passes, prefix_len_stops}
 use Rattle.std.proofs.lemmas.List.Elements.{All-head, All-tail}
 use Rattle.std.proofs.lemmas.Bool.{leb-true, ltb-true, and_parts}
 use Rattle.std.specs.List.{prefix_len}
 use Rattle.nap_values.specs.Operands.{carried}
+use Rattle.nap_draw.specs.Limits.{run_limit}
 use Rattle.nap_reader.specs.declared.reader.OpenRun.{OpenRun}
 use Rattle.nap_reader.specs.Holding.{run_by}
 use Rattle.nap_reader.specs.Steps.{IsOver, IsWholeRun}
@@ -47,6 +48,27 @@ whole_run_is piece behind n counted over = record {
           ap is_operand_byte (ap (λ (bs : List ℕ). get_or bs 0 0) (sym some) ∙ get_or-drop n piece 0 0 ∙ ap (λ (i : ℕ). get_or piece i 0) (omega (arith, counted)))
           ∙ prefix_len_stops is_operand_byte piece 0 (omega (arith, counted, ap length some, length-drop n piece));
     }
+
+-- the same, where they are all of the piece
+pub last_run_is : {R : Type 0} (now : R → List ℕ) (piece : List ℕ) (n : ℕ) → n ≡ prefix_len is_operand_byte piece → n ≡ length piece → (ended : Bool) (result : Option R) →
+    MatchOption result (ended ≡ false) (λ run. (ended ≡ true) × (now run ≡ piece)) →
+    IfSome result (λ run. (behind : List ℕ) → (ended ≡ true → IsOver behind) → IsWholeRun piece behind (now run))
+last_run_is {R} now piece n counted all ended None none = tt
+last_run_is {R} now piece n counted all ended (Some run) some = λ behind over.
+    subst (IsWholeRun piece behind) (take_all n piece (omega (arith, all)) ∙ sym some.1) (whole_run_is piece behind n counted (λ _. over some.0))
+
+-- and how many there are
+pub last_run_short : {R : Type 0} (now : R → List ℕ) (piece : List ℕ) (n : ℕ) → n ≤ run_limit → n ≡ length piece → (ended : Bool) (result : Option R) →
+    MatchOption result (ended ≡ false) (λ run. (ended ≡ true) × (now run ≡ piece)) → IfSome result (λ run. length (now run) ≤ run_limit)
+last_run_short {R} now piece n few all ended None none = tt
+last_run_short {R} now piece n few all ended (Some run) some = omega (arith, few, all, ap length some.1)
+
+-- and why there is none
+pub last_run_none : {R : Type 0} (now : R → List ℕ) (piece : List ℕ) (n : ℕ) → n ≡ prefix_len is_operand_byte piece → n ≡ length piece → (ended : Bool) (result : Option R) →
+    MatchOption result (ended ≡ false) (λ run. (ended ≡ true) × (now run ≡ piece)) → result ≡ None →
+    (run_limit < prefix_len is_operand_byte piece) ⊎ ((ended ≡ false) × (prefix_len is_operand_byte piece ≡ length piece))
+last_run_none {R} now piece n counted all ended None none is = inr (none, sym counted ∙ all)
+last_run_none {R} now piece n counted all ended (Some run) some is = let bad : ⊥ = cc in absurd bad
 
 same_word : (b : ℕ) → is_operand_byte b ≡ true → b % 64 ≡ b - 64
 same_word b is =

@@ -1,5 +1,7 @@
-use Rattle.std.specs.Prelude.{All, ◌≡◌, ◌<◌, ◌≤◌, ◌+◌, ◌-◌, ◌^◌, ◌++◌, ℕ, List, [], ◌∷◌, Some, None, false, true, length, take, slice_index}
+use Rattle.std.specs.Prelude.{All, ◌≡◌, ◌≢◌, ◌<◌, ◌≤◌, ◌+◌, ◌-◌, ◌^◌, ◌++◌, ◌⊎◌, ℕ, List, [], ◌∷◌, Some, None, false, true, length, take, slice_index}
 use Rattle.nap_codes.specs.declared.code_set.CodeSet.TheVariants.{Macros}
+use Rattle.nap_codes.specs.declared.code_set.CodeSets.{CodeSets}
+use Rattle.nap_codes.specs.CodeSets.{set_at}
 use Rattle.nap_codes.specs.Laws.{IsGraphic}
 use Rattle.nap_list.specs.declared.sink.Sink.{Ghosts}
 use Rattle.nap_reader.specs.declared.fault.Fault.TheVariants as faults
@@ -8,7 +10,7 @@ use Rattle.nap_reader.specs.declared.reader.Reader.{Reader}
 use Rattle.nap_reader.specs.Framed.{all_next, placed_at}
 use Rattle.nap_reader.specs.Holding.{Continues, Holding, RunAt, frames_left, holding_of}
 use Rattle.nap_reader.specs.Standing.{Stands, StopsAt, budget_of, charged_of, fed_of, refusal_of, sink_of, turns_of}
-use Rattle.nap_reader.specs.Steps.{Acted, Came, Conveys, LeadsOn, Nexts, Refuses, StaysInText, StopsCode, Stretches, Takes, TakesBytes}
+use Rattle.nap_reader.specs.Steps.{Acted, Came, Conveys, IsAtRest, LeadsOn, Nexts, Refuses, StaysInText, StopsCode, Stretches, Takes, TakesBytes}
 use Rattle.nap_reader.specs.Stream.{Outcome, Placed, begun}
 
 -- How a piece is taken. No one sees this.
@@ -22,6 +24,18 @@ pub record Reads {S : Type 0} {g : Ghosts S} (reader : Reader S g) (piece : List
   pub live : reader.refusal ≡ None
   pub within : at ≤ length piece
   pub few : fed_of reader + (length piece - at) < 2 ^ 63
+
+-- It reads there where nothing is open or half read.
+pub record ReadsAtRest {S : Type 0} {g : Ghosts S} (reader : Reader S g) (piece : List ℕ) (at : ℕ) : Type 0 where
+  pub reads : Reads reader piece at
+  pub rested : IsAtRest reader
+
+-- The first of these bytes may begin whole codes: it is a control, or there are no macros in GL.
+pub record MayBegin (sets : CodeSets) (bytes : List ℕ) : Type 0 where
+  pub byte : ℕ
+  pub rest : List ℕ
+  pub is : bytes ≡ byte ∷ rest
+  pub may : (byte < 0x20) ⊎ (set_at sets sets.gl ≢ Macros)
 
 -- All of the piece was taken.
 pub record TakesPiece {S : Type 0} {g : Ghosts S} (old new : Reader S g) (piece : List ℕ) : Type 0 where

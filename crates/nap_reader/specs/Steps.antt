@@ -23,8 +23,8 @@ use Rattle.nap_reader.specs.declared.fault.Fault.{Fault}
 use Rattle.nap_reader.specs.declared.fault.Fault.TheVariants as faults
 use Rattle.nap_reader.specs.declared.fault.Refusal.{Refusal}
 use Rattle.nap_reader.specs.declared.reader.OpenRun.{OpenRun}
-use Rattle.nap_reader.specs.declared.reader.whole_codes.One.{One}
-use Rattle.nap_reader.specs.declared.reader.whole_codes.One.TheVariants as ones
+use Rattle.nap_reader.specs.declared.reader.one_code.One.{One}
+use Rattle.nap_reader.specs.declared.reader.one_code.One.TheVariants as ones
 use Rattle.nap_reader.specs.declared.reader.Reader.{Reader}
 use Rattle.nap_reader.specs.Bodies as bodies
 use Rattle.nap_reader.specs.Bodies.{no_names}

@@ -1,5 +1,5 @@
 //! The bodies that are being read.
-ghost use Rattle.std.specs.Prelude.{true, ℕ, List, ◌≡◌, ◌<◌, ◌≤◌, ◌+◌, ◌↔◌, [], ◌∷◌, ◌++◌, length, MatchOption, IfSome, OnOk, OnErr};
+ghost use Rattle.std.specs.Prelude.{true, ℕ, List, ◌≡◌, ◌<◌, ◌≤◌, ◌+◌, ◌↔◌, [], ◌∷◌, ◌++◌, length, MatchOption, OnOk, OnErr};
 ghost use Rattle.nap_reader.specs.Framed.{Comes, FramesIn, GivesFrom, Innermost, behind, unread};
 
 use crate::store::Span;
@@ -65,8 +65,8 @@ impl Frames {
     pub(crate) fn byte_behind(&self, bytes: &[u8], piece: &[u8], at: usize) -> Option<u8>
         requires framed { FramesIn (length bytes.now) self.now.stack.items }
         requires within { at ≤ length piece.now }
-        ensures { IfSome result (λ byte. (text : List ℕ) (fed place : ℕ) → Comes bytes.now self.now.stack.items piece.now at fed text place →
-            (rest : List ℕ) × (behind bytes.now self.now.stack.items piece.now at text ≡ byte ∷ rest)) }
+        ensures { (text : List ℕ) (fed place : ℕ) → Comes bytes.now self.now.stack.items piece.now at fed text place →
+            MatchOption result (behind bytes.now self.now.stack.items piece.now at text ≡ []) (λ byte. (rest : List ℕ) × (behind bytes.now self.now.stack.items piece.now at text ≡ byte ∷ rest)) }
     {
         let frames = self.stack.as_slice();
         if frames.len() > 1 {

@@ -1,5 +1,6 @@
 //! The operand bytes at the front of a piece.
-ghost use Rattle.std.specs.Prelude.{All, ℕ, List, take, ◌≡◌, ◌≤◌, ◌++◌, true, length, vec_len, IfSome};
+ghost use Rattle.std.specs.Prelude.{All, ℕ, List, take, ◌≡◌, ◌<◌, ◌≤◌, ◌++◌, ◌⊎◌, false, true, length, vec_len, None, IfSome, MatchOption};
+ghost use Rattle.std.specs.List.{prefix_len};
 ghost use Rattle.nap_draw.specs.Limits.{run_limit};
 ghost use Rattle.nap_reader.specs.Steps.{IsOver, IsWholeRun};
 ghost use Rattle.nap_reader.specs.Stream.{is_operand_byte};
@@ -25,11 +26,13 @@ pub(crate) fn take_operands(run: &mut Vec<u8>, piece: &[u8]) -> usize
     count
 }
 
-/// The operand bytes at the front, where another byte comes behind them: one of these, or behind them all.
+/// The operand bytes at the front, if they are no more than a run may have, and another byte comes behind them: one of these,
+/// or behind them all.
 #[inline]
 pub(crate) fn whole_run(piece: &[u8], ended: bool) -> Option<&[u8]>
     ensures short { IfSome result (λ run. length run.now ≤ run_limit) }
     ensures whole { IfSome result (λ run. (behind : List ℕ) → (ended ≡ true → IsOver behind) → IsWholeRun piece.now behind run.now) }
+    ensures none { result ≡ None → (run_limit < prefix_len is_operand_byte piece.now) ⊎ ((ended ≡ false) × (prefix_len is_operand_byte piece.now ≡ length piece.now)) }
 {
     let count = prefix_from(piece, 0x40);
     if count > RUN_LIMIT {
@@ -41,13 +44,10 @@ pub(crate) fn whole_run(piece: &[u8], ended: bool) -> Option<&[u8]>
     Some(&piece[..count])
 }
 
-/// All of these, which are operand bytes, where another byte comes behind them.
+/// All of these, where another byte comes behind them.
 #[inline(never)]
 fn last_run(piece: &[u8], ended: bool) -> Option<&[u8]>
-    requires short { length piece.now ≤ run_limit }
-    requires operands { All (λ b. is_operand_byte b ≡ true) piece.now }
-    ensures short { IfSome result (λ run. length run.now ≤ run_limit) }
-    ensures whole { IfSome result (λ run. (behind : List ℕ) → (ended ≡ true → IsOver behind) → IsWholeRun piece.now behind run.now) }
+    ensures { MatchOption result (ended ≡ false) (λ run. (ended ≡ true) × (run.now ≡ piece.now)) }
 {
     if ended {
         return Some(piece);

@@ -27,6 +27,8 @@ mod bodies;
 mod calls;
 mod codes;
 mod coming;
+mod next_codes;
+mod one_code;
 mod runs;
 mod steps;
 mod stretches;

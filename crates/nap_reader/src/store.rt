@@ -133,11 +133,11 @@ impl Store {
 
     /// Where the body of the name is.
     pub(crate) fn span(&self, name: u8) -> Span
-        requires { IsGraphic name }
+        requires { name < 0x80 }
         ensures body { part_at self.now.bytes result ≡ body_of self.now.names name }
         ensures within { IsBefore (length self.now.bytes) result }
     {
-        self.spans[usize::from(name - 0x20)]
+        self.spans[usize::from(name.saturating_sub(0x20))]
     }
 
     /// All bytes that were stored.

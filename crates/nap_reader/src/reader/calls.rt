@@ -1,6 +1,5 @@
 //! Calls of macros.
 ghost use Rattle.std.specs.Prelude.{◌≡◌, ◌++◌, ◌+◌, ◌<◌, ◌≤◌, ◌↔◌, ℕ, List, None, Some, IsTrue, length, MatchOption, MatchResult};
-ghost use Rattle.nap_codes.specs.Laws.{IsGraphic};
 ghost use Rattle.nap_reader.specs.Budgets.{most_budget};
 ghost use Rattle.nap_reader.specs.Framed.{FramesIn, unread};
 ghost use Rattle.nap_reader.specs.Stored.{part_at};
@@ -65,7 +64,7 @@ impl<S: Sink> Reader<S> {
     /// Calls the macro of this name.
     pub(super) fn call(&mut self, name: u8, place: u64) -> Result<(), Refused>
         requires live { self.old.refusal ≡ None }
-        requires named { IsGraphic name }
+        requires low { name < 0x80 }
         ensures { MatchResult result (λ _. Presents self.old self.new (body_of self.old.store.names name) place) (λ _. RefusesCall self.old self.new (body_of self.old.store.names name) place) }
     {
         let span = self.store.span(name);

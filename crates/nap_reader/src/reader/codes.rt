@@ -1,5 +1,5 @@
-//! One byte: of a body, of a run, or of a code.
-ghost use Rattle.std.specs.Prelude.{◌≡◌, None, Some, IfOk, IfErr, IsOk, IsErr, MatchResult};
+//! A byte of a code, where no run is open, and no body.
+ghost use Rattle.std.specs.Prelude.{◌≡◌, Some, IfOk, IfErr, IsOk, IsErr, MatchResult};
 ghost use Rattle.nap_reader.specs.Faults.{draw_fault};
 ghost use Rattle.nap_reader.specs.Stream.{refusal};
 
@@ -7,7 +7,6 @@ use super::{OpenRun, Reader, Refused, refuse};
 use crate::body::OpenBody;
 use crate::fault::{Fault, Refusal};
 use crate::kind::Kind;
-use crate::operands::is_operand;
 use nap_codes::{Code, Step};
 use nap_draw::DrawFault;
 use nap_list::Sink;
@@ -15,25 +14,6 @@ use nap_list::Sink;
 impl<S: Sink> Reader<S> {
     ghost use Rattle.nap_reader.specs.Framed.{placed_at};
     ghost use Rattle.nap_reader.specs.Steps.{IsBetween, Refuses, Takes};
-
-    /// Takes one byte, which has this place.
-    #[inline(always)]
-    pub(super) fn take_byte(&mut self, byte: u8, place: u64) -> Result<(), Refused>
-        requires { self.old.refusal ≡ None }
-        ensures { MatchResult result (λ _. Takes self.old self.new (placed_at byte place)) (λ _. Refuses self.old self.new (placed_at byte place)) }
-    {
-        if let Some(body) = self.open_body {
-            return self.read_body(body, byte, place);
-        }
-        let Some(open_run) = self.open_run else {
-            return self.lex(byte, place);
-        };
-        if is_operand(byte) {
-            return self.join(open_run, byte, place);
-        }
-        self.close(open_run)?;
-        self.lex(byte, place)
-    }
 
     /// Takes a byte where no run is open, and no body. Most codes are one byte, which needs no step of the lexer.
     #[inline(always)]

@@ -1,5 +1,5 @@
 //! What comes next: bytes of the innermost body that is being read, else of the piece.
-ghost use Rattle.std.specs.Prelude.{true, ℕ, List, ◌≡◌, ◌+◌, ◌-◌, ◌<◌, ◌≤◌, ◌^◌, [], length};
+ghost use Rattle.std.specs.Prelude.{ℕ, List, ◌≡◌, ◌+◌, ◌-◌, ◌<◌, ◌≤◌, ◌^◌, ◌↔◌, [], length, IsTrue};
 ghost use Rattle.nap_reader.specs.Framed.{Comes, FramesIn, MovesOn, MovesPast, behind};
 ghost use Rattle.nap_reader.specs.Steps.{IsOver};
 
@@ -30,8 +30,8 @@ pub(super) fn coming<'a>(
 pub(super) fn ends_run(frames: &Frames, stored: &[u8], piece: &[u8], at: usize) -> bool
     requires framed { FramesIn (length stored.now) frames.now.stack.items }
     requires within { at ≤ length piece.now }
-    ensures { result ≡ true → (text : List ℕ) (fed place : ℕ) → Comes stored.now frames.now.stack.items piece.now at fed text place →
-        IsOver (behind stored.now frames.now.stack.items piece.now at text) }
+    ensures { (text : List ℕ) (fed place : ℕ) → Comes stored.now frames.now.stack.items piece.now at fed text place →
+        IsTrue result ↔ IsOver (behind stored.now frames.now.stack.items piece.now at text) }
 {
     match frames.byte_behind(stored, piece, at) {
         Some(byte) => !is_operand(byte),

@@ -1,9 +1,11 @@
-use Rattle.std.proofs.Common.{◌≡◌, ◌≢◌, ◌<◌, ◌-◌, ℕ, List, [], ◌∷◌, length, slice_index_or, ap, sym, ◌∙◌, subst, arith}
-use Rattle.std.proofs.lemmas.Bool.{eqb-false}
+use Rattle.std.proofs.Common.{◌≡◌, ◌≢◌, ◌<◌, ◌≤◌, ◌-◌, inl, inr, ℕ, List, [], ◌∷◌, length, slice_index_or, ap, sym, ◌∙◌, subst, arith}
+use Rattle.std.proofs.lemmas.Bool.{eqb-false, eqb-true}
+use Rattle.std.proofs.lemmas.List.{nil_from_length}
 use Rattle.nap_reader.specs.declared.frames.Frame.{Frame}
 use Rattle.nap_reader.specs.Framed.{behind}
-use Rattle.nap_reader.proofs.ComingLemmas.{behind_in_body, behind_in_piece}
+use Rattle.nap_reader.proofs.ComingLemmas.{behind_in_body, behind_in_piece, none_behind}
 use Rattle.nap_reader.proofs.frames.Frames.byte_behind.Goals as goal
+use Rattle.nap_reader.proofs.frames.Frames.byte_behind.Goals.{then-is_empty-via-then-is_empty, then-is_empty-via-else-is_empty+then-at-piece}
 
 pub returns-then-frames-gt1 : goal.returns-then-frames-gt1
 returns-then-frames-gt1 c text fed place comes =
@@ -19,3 +21,15 @@ returns c text fed place comes =
     let frames = c.args.self.now.stack.items in
     let some : frames ≢ [] = λ none. absurd (omega (arith, eqb-false _ 0 (sym c.is_empty.ensures ∙ c.if-is_empty.false), ap length c.as_slice-frames.ensures, ap length none)) in
     behind_in_piece c.args.bytes.now frames c.args.piece.now text c.args.at place (comes.of_body some) (omega (arith, c.if-frames-gt1.false, ap length c.as_slice-frames.ensures)) (omega (arith, c.requires.within, c.if-at-piece.false))
+
+pub returns-then-is_empty : goal.returns-then-is_empty
+returns-then-is_empty c text fed place comes =
+    let frames = c.args.self.now.stack.items in
+    let one : length frames ≤ 1 = omega (arith, c.if-frames-gt1.false, ap length c.as_slice-frames.ensures) in
+    elim c.then-is_empty.branch [
+      | then-is_empty-via-then-is_empty w ↦
+          none_behind c.args.bytes.now frames c.args.piece.now text c.args.at fed place one
+          (inl (nil_from_length frames (omega (arith, eqb-true _ 0 (sym c.is_empty.ensures ∙ w.if-is_empty.true), ap length c.as_slice-frames.ensures)))) comes
+      | then-is_empty-via-else-is_empty+then-at-piece w ↦
+          none_behind c.args.bytes.now frames c.args.piece.now text c.args.at fed place one (inr (omega (arith, w.if-at-piece.true))) comes
+    ]

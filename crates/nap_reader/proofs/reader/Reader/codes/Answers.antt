@@ -6,10 +6,12 @@ use Rattle.nap_reader.proofs.reader.Reader.codes.Goals as goal
 
 pub loop-self-init : goal.loop-self-init
 loop-self-init g c = record {
-  reads = c.requires;
-  rested = record {
-    between = record { live = c.requires.live; between = c.in_default.is; closed = c.in_default-open_run.is };
-    half = c.at_rest.ensures.rests.0 c.if-not-at_rest.false;
+  ready = record {
+    reads = c.requires;
+    rested = record {
+      between = record { live = c.requires.live; between = c.in_default.is; closed = c.in_default-open_run.is };
+      half = c.at_rest.ensures.rests.0 c.if-not-at_rest.false;
+    };
   };
   leads = record { turns = omega arith; leads = λ start before by. by };
 }
@@ -23,8 +25,7 @@ loop-self-preserved g c =
     let until = c.codes_of_body.new.at in
     let codes = c.in_ok-codes_of_body.ensures.codes in
     record {
-      reads = reads_on now new piece at until c.loop-self.invariant.reads codes;
-      rested = c.in_ok-codes_of_body.ensures.rested;
+      ready = record { reads = reads_on now new piece at until c.loop-self.invariant.ready.reads codes; rested = c.in_ok-codes_of_body.ensures.rested };
       leads = record {
         turns = omega (arith, c.loop-self.invariant.leads.turns, codes.taken.turns);
         leads = λ start before by. advances_codes start now new piece at until before g.met.S.Sink.took_more (c.loop-self.invariant.leads.leads start before by) codes;

@@ -1,3 +1,4 @@
+use Rattle.std.specs.Prelude.{◌↔◌, IsTrue}
 use Rattle.std.proofs.Common.{◌≡◌, ◌<◌, ◌≤◌, ◌+◌, ◌-◌, ℕ, List, Option, MatchOption, IfSome, false, true, length, refl, ap, sym, subst, arith}
 use Rattle.std.proofs.lemmas.Bool.{eqb-true}
 use Rattle.nap_reader.specs.declared.fault.Fault.{Fault}
@@ -14,6 +15,9 @@ use Rattle.nap_reader.proofs.reader.Reader.codes_of_body.Goals.{After-pass_past,
 
 pub returns-in_default-clause-codes : goal.returns-in_default-clause-codes
 returns-in_default-clause-codes g c = takes_no_codes c.args.self.now _ c.args.piece.now c.args.at.now c.requires.reads.within c.requires.reads.live refl refl refl refl refl refl refl
+
+pub returns-then-not-may_begin-clause-codes : goal.returns-then-not-may_begin-clause-codes
+returns-then-not-may_begin-clause-codes g c = takes_no_codes c.args.self.now _ c.args.piece.now c.args.at.now c.requires.reads.within c.requires.reads.live refl refl refl refl refl refl refl
 
 -- the bytes that come next, what comes behind them, and how many were taken, as the store has them
 inner : (g : Over) (c : After-whole_codes-whole g) → Innermost c.args.self.now.store.bytes c.args.self.now.frames.stack.items c.in-Some.bytes.now c.in-Some.place
@@ -34,8 +38,9 @@ taken : (g : Over) (c : After-whole_codes-whole g) →
 taken g c = c.whole_codes-whole.ensures.taken (next_behind g c)
     (λ ended.
     let r = c.args.self.now in
-    subst (λ (bytes : List ℕ). Comes bytes r.frames.stack.items c.args.piece.now c.args.at.now r.fed c.in-Some.bytes.now c.in-Some.place → IsOver (behind bytes r.frames.stack.items c.args.piece.now c.args.at.now c.in-Some.bytes.now))
-    c.bytes-2.ensures (c.ends_run-ended.ensures ended c.in-Some.bytes.now r.fed c.in-Some.place) (comes g c))
+    (subst (λ (bytes : List ℕ). Comes bytes r.frames.stack.items c.args.piece.now c.args.at.now r.fed c.in-Some.bytes.now c.in-Some.place →
+    IsTrue c.ends_run-ended.result ↔ IsOver (behind bytes r.frames.stack.items c.args.piece.now c.args.at.now c.in-Some.bytes.now))
+    c.bytes-2.ensures (c.ends_run-ended.ensures c.in-Some.bytes.now r.fed c.in-Some.place) (comes g c)).0 ended)
 
 moves : (g : Over) (c : After-pass_past g) → c.whole_codes-whole.result.count ≤ length c.in-Some.bytes.now →
     MovesOn c.args.self.now.store.bytes c.args.self.now.frames.stack.items c.pass_past.new.frames.stack.items c.args.at.now c.pass_past.new.at c.args.self.now.fed c.pass_past.new.fed c.whole_codes-whole.result.count

@@ -51,16 +51,16 @@ few g c =
     few_codes g.S.Sink r.sink r.work r.lexer whole.new.sink whole.new.work whole.new.lexer whole.result.clears (rest_of c.args.piece.now c.args.at.now) (others g c) whole.result.count whole.result.stop (none_behind g c) (taken g c)
 
 few_left : (g : Over) (c : After-whole_codes-whole g) → c.whole_codes-whole.result.count + c.args.at.now ≤ length c.args.piece.now
-few_left g c = omega (arith, few g c, ap length (rest_is c.args.piece.now c.args.at.now), length-drop c.args.at.now c.args.piece.now, c.requires.reads.within)
+few_left g c = omega (arith, few g c, ap length (rest_is c.args.piece.now c.args.at.now), length-drop c.args.at.now c.args.piece.now, c.requires.ready.reads.within)
 
 pub overflow_add-self : goal.overflow_add-self
 overflow_add-self g c =
     let r = c.args.self.now in
     let at = goal.at.overflow_add-self g c in
-    omega (arith, few_left g at.After-whole_codes-whole, r.turned, r.small, c.requires.reads.few)
+    omega (arith, few_left g at.After-whole_codes-whole, r.turned, r.small, c.requires.ready.reads.few)
 
 pub overflow_add-self-2 : goal.overflow_add-self-2
-overflow_add-self-2 g c = let at = goal.at.overflow_add-self-2 g c in omega (arith, few_left g at.After-whole_codes-whole, c.requires.reads.few)
+overflow_add-self-2 g c = let at = goal.at.overflow_add-self-2 g c in omega (arith, few_left g at.After-whole_codes-whole, c.requires.ready.reads.few)
 
 pub overflow_add-at : goal.overflow_add-at
 overflow_add-at g c = let at = goal.at.overflow_add-at g c in omega (arith, few_left g at.After-whole_codes-whole)
@@ -77,7 +77,7 @@ overflow_add-first g c =
     codes_stop_within g.S.Sink r.sink r.work r.lexer whole.new.sink text others whole.result.count stop.index stop.fault
     (subst (λ (o : Option (Fault × ℕ)). MatchOption o (WholeCodes g.S.Sink r.sink r.work r.lexer whole.new.sink whole.new.work whole.new.lexer whole.result.clears text others whole.result.count)
     (λ s. CodesStop g.S.Sink r.sink r.work r.lexer whole.new.sink text others whole.result.count s.1 s.0)) stop.is (taken g at.After-whole_codes-whole)) in
-    omega (arith, stopped.2, few_left g at.After-whole_codes-whole, c.requires.reads.few)
+    omega (arith, stopped.2, few_left g at.After-whole_codes-whole, c.requires.ready.reads.few)
 
 pub invariant_of-self-in-None-clause-framed : goal.invariant_of-self-in-None-clause-framed
 invariant_of-self-in-None-clause-framed g c =
@@ -88,8 +88,8 @@ invariant_of-self-in-None-clause-turned g c =
     let r = c.args.self.now in
     omega (arith, ap (λ (store : StoreState). length (unread store.bytes r.frames.stack.items)) c.clear_if.ensures, r.turned)
 
-pub returns-then-is_empty : goal.returns-then-is_empty
-returns-then-is_empty g c = takes_no_codes c.args.self.now _ c.args.piece.now c.args.at.now c.requires.reads.within c.requires.reads.live refl refl refl refl refl refl refl
+pub returns-then-not-may_begin : goal.returns-then-not-may_begin
+returns-then-not-may_begin g c = takes_no_codes c.args.self.now _ c.args.piece.now c.args.at.now c.requires.ready.reads.within c.requires.ready.reads.live refl refl refl refl refl refl refl
 
 pub returns-in-Some : goal.returns-in-Some
 returns-in-Some g c =
@@ -100,7 +100,7 @@ returns-in-Some g c =
     let n = whole.result.count in
     let text = rest_of c.args.piece.now c.args.at.now in
     rw c.refuse.ensures.answer
-    (refuses_codes r _ c.args.piece.now c.args.at.now (c.args.at.now + n) text r.fed n c.requires.rested.between c.requires.rested.half c.requires.reads.within (few g at.After-whole_codes-whole) (comes g at.After-whole_codes-whole)
+    (refuses_codes r _ c.args.piece.now c.args.at.now (c.args.at.now + n) text r.fed n c.requires.ready.rested.between c.requires.ready.rested.half c.requires.ready.reads.within (few g at.After-whole_codes-whole) (comes g at.After-whole_codes-whole)
     (moves_outside r.store.bytes r.frames.stack.items c.args.at.now r.fed n c.requires.none) refl refl refl refl stop.index (r.fed + stop.index) stop.fault
     (subst (λ (o : Option (Fault × ℕ)). MatchOption o (WholeCodes g.S.Sink r.sink r.work r.lexer whole.new.sink whole.new.work whole.new.lexer whole.result.clears text (others g at.After-whole_codes-whole) n)
     (λ s. CodesStop g.S.Sink r.sink r.work r.lexer whole.new.sink text (others g at.After-whole_codes-whole) n s.1 s.0)) stop.is (taken g at.After-whole_codes-whole))
@@ -119,9 +119,9 @@ returns-in-None g c =
       half = whole.new.lexer.half;
       body = store.body;
     } in
-    takes_codes r _ c.args.piece.now c.args.at.now (c.args.at.now + n) text r.fed n c.requires.rested.between c.requires.rested.half c.requires.reads.within (few g at.After-whole_codes-whole) (comes g at.After-whole_codes-whole)
+    takes_codes r _ c.args.piece.now c.args.at.now (c.args.at.now + n) text r.fed n c.requires.ready.rested.between c.requires.ready.rested.half c.requires.ready.reads.within (few g at.After-whole_codes-whole) (comes g at.After-whole_codes-whole)
     (moves_outside r.store.bytes r.frames.stack.items c.args.at.now r.fed n c.requires.none) (ap (λ (store : StoreState). store.bytes) c.clear_if.ensures) refl
     refl refl whole.result.clears
     (subst (λ (o : Option (Fault × ℕ)). MatchOption o (WholeCodes g.S.Sink r.sink r.work r.lexer whole.new.sink whole.new.work whole.new.lexer whole.result.clears text (others g at.After-whole_codes-whole) n)
     (λ s. CodesStop g.S.Sink r.sink r.work r.lexer whole.new.sink text (others g at.After-whole_codes-whole) n s.1 s.0)) c.in-None.is (taken g at.After-whole_codes-whole))
-    (ap h c.clear_if.ensures) c.requires.reads.live
+    (ap h c.clear_if.ensures) c.requires.ready.reads.live

@@ -99,10 +99,10 @@ returns-in-Acts g c =
     still_between g.S.Sink s o r.sink (holding_of r) c.requires.between c.requires.closed x pending k c.in-Code.code step.0 step.1 step.2 step.3 _ c.requires.between refl refl c.requires.closed
     (ap (λ (lexer : LexerState). lexer.half) step.4))
 
-pub call-requires-clause-named : goal.call-requires-clause-named
-call-requires-clause-named g c =
+pub call-requires-clause-low : goal.call-requires-clause-low
+call-requires-clause-low g c =
     let step = code_of _ c.args.self.now.lexer c.args.byte c.in-Code.code c.step.new.self c.in-Code.ensures.steps in
-    subst KindMade (sym c.in-Calls.ensures) (front_kind_made _ _ c.in-Code.code step.0 step.1 step.2)
+    (subst KindMade (sym c.in-Calls.ensures) (front_kind_made _ _ c.in-Code.code step.0 step.1 step.2)).1
 
 pub returns-in-Calls : goal.returns-in-Calls
 returns-in-Calls g c =

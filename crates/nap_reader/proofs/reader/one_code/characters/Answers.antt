@@ -5,7 +5,7 @@ use Rattle.nap_reader.specs.Steps.{CodesStop}
 use Rattle.nap_reader.proofs.CodesLemmas.{codes_stop_text, codes_text}
 use Rattle.nap_reader.proofs.PrefixLemmas.{at_front}
 use Rattle.nap_reader.proofs.TextLemmas.{halts_less}
-use Rattle.nap_reader.proofs.reader.whole_codes.characters.Goals as goal
+use Rattle.nap_reader.proofs.reader.one_code.characters.Goals as goal
 
 pub overflow_add-result : goal.overflow_add-result
 overflow_add-result g c =

@@ -8,7 +8,7 @@ use Rattle.nap_reader.specs.Steps.{CodesStop, IsWholeRun}
 use Rattle.nap_reader.proofs.CodesLemmas.{codes_run, codes_stop_run}
 use Rattle.nap_reader.proofs.OperandLemmas.{same_words}
 use Rattle.nap_reader.proofs.ReadingLemmas.{opens_drawn}
-use Rattle.nap_reader.proofs.reader.whole_codes.opcode.Goals as goal
+use Rattle.nap_reader.proofs.reader.one_code.opcode.Goals as goal
 
 -- the opcode with its run, and what is behind them
 record Parts (at : ℕ) (all behind : List ℕ) (byte : ℕ) (run rest : List ℕ) : Type 0 where
