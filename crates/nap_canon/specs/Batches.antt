@@ -115,11 +115,6 @@ pub record Parted (form : Form) (tail : Tail) (s : State) (list : List Entry) (k
   pub cut : take n (written tail (pieces form s list))
       ≡ written tail (pieces form s (take k list)) ++ take part (written (tail_after tail (pieces form s (take k list))) (entry_pieces form (walk s (take k list)) next))
 
--- how many of so many entries were taken whole
-abbrev pub whole_entries : ℕ → Result (Unit {0}) ℕ → ℕ
-whole_entries count (Ok _) = count
-whole_entries count (Err whole) = whole
-
 -- a front of the list was put, of one entry or more, or the list was put up to an entry that broke
 abbrev pub PutsSome : {O : Type 0} → outlet.Ghosts O → List Entry → Canonical O → Canonical O → Result ℕ ℕ → Type 0
 PutsSome o list s t (Ok count) = (0 < count) × (count ≤ length list) × TakesAll (canon_shows o) (take count list) s t

@@ -17,3 +17,4 @@ pub mod Converting
 pub mod Concluding
 pub mod Batches
 pub mod Gathering
+pub mod TextAnswers

@@ -7,7 +7,7 @@ use Rattle.nap_list.specs.State.{after, walk}
 use Rattle.nap_canon.specs.declared.command.Command.{Command}
 use Rattle.nap_canon.specs.declared.form.Form.{Form}
 use Rattle.nap_canon.specs.declared.room.Room.{Room}
-use Rattle.nap_canon.specs.declared.room.spelling.Path.{Path}
+use Rattle.nap_canon.specs.declared.room.figures.Path.{Path}
 use Rattle.nap_canon.specs.declared.tail.Tail.{Tail}
 use Rattle.nap_canon.specs.declared.writer.Writer.{Writer}
 use Rattle.nap_canon.specs.Batches.{CutAfter, Parted, SentWhole}

@@ -104,10 +104,7 @@ impl<O: Outlet + Drop> CanonSink<O> {
         if count == 0 {
             return self.writer.put_next(batch, first);
         }
-        match self.writer.put_joined(batch, first, count) {
-            Ok(()) => Ok(count),
-            Err(whole) => Err(whole),
-        }
+        self.writer.put_joined(batch, first, count)
     }
 
     /// Takes a batch from this index on, where the values of each entry are current. An error has the number of the

@@ -1,5 +1,5 @@
 //! Bytes that are gathered for one write.
-ghost use Rattle.std.specs.Prelude.{◌≡◌, ◌≤◌, ◌<◌, ◌+◌, ◌*◌, ◌++◌, [], ◌∷◌, length};
+ghost use Rattle.std.specs.Prelude.{◌≡◌, ◌≤◌, ◌+◌, ◌*◌, ◌++◌, [], ◌∷◌, length};
 ghost use Rattle.nap_canon.specs.Batches.{points_bytes};
 ghost use Rattle.nap_canon.specs.Spelling.{onward_bytes};
 ghost use Rattle.nap_canon.specs.Gathering.{laid};

@@ -10,6 +10,7 @@ mod form;
 mod gathered;
 pub mod laws;
 mod output;
+mod parts;
 mod plain;
 mod ranges;
 mod room;

@@ -2,6 +2,7 @@
 ghost use Rattle.std.specs.Prelude.{◌≡◌, ◌↔◌, ℕ, IsErrOf, IfOk, OnOk};
 ghost use Rattle.nap_list.specs.State.{Legal, AllFit, BreaksAt, start};
 ghost use Rattle.nap_list.specs.Range.{AllInRange};
+ghost use Rattle.nap_canon.specs.TextAnswers.{AnswersText};
 ghost use Rattle.nap_canon.specs.Laws.{IsReadAs};
 ghost use Rattle.nap_canon.specs.Plain.{IsPlain};
 ghost use Rattle.nap_canon.specs.Text.{text_in, text, text1};
@@ -39,14 +40,9 @@ fn write(alloc: Global, form: Form, entries: &[Entry]) -> Result<Vec<u8>, AllocE
     Ok(sink.close().into_inner())
 }
 
+/// The text, in this form, of a legal display list. A fault but `Memory` is found before any memory is taken.
 fn canon_in(alloc: Global, form: Form, entries: &[Entry]) -> Result<Vec<u8>, CanonFault>
-    ensures illegal { (index : ℕ) → IsErrOf result (CanonFault.Illegal index) ↔ BreaksAt index entries.now }
-    ensures legal { IfOk result (λ bytes. Legal entries.now) }
-    ensures range { IfOk result (λ bytes. AllInRange entries.now) }
-    ensures text { IfOk result (λ bytes. bytes.items ≡ text_in form entries.now) }
-    ensures plain { IfOk result (λ bytes. IsPlain bytes.items) }
-    ensures read_back { IfOk result (λ bytes. (budget : ℕ) → IsReadAs budget bytes.items entries.now) }
-    ensures memory { IsErrOf result CanonFault.Memory → Legal entries.now }
+    ensures { AnswersText form entries.now result }
 {
     if let Err(index) = legal(entries) {
         return Err(CanonFault::Illegal(index));

@@ -1,5 +1,5 @@
 //! Writes the canonical text of entries, one after another.
-ghost use Rattle.std.specs.Prelude.{◌≡◌, ◌≤◌, ◌∷◌, length};
+ghost use Rattle.std.specs.Prelude.{◌≡◌, ◌≤◌, ◌+◌, ◌∷◌, length};
 ghost use Rattle.nap_codes.specs.declared.code_set.GSet.TheVariants.{G1};
 ghost use Rattle.nap_canon.specs.declared.tail.Tail.TheVariants.{Apart};
 ghost use Rattle.nap_list.specs.Entry.{held};
@@ -97,7 +97,7 @@ impl<T: ByteSink + Drop> Writer<T> {
     #[inline(never)]
     fn long_path(&mut self, code: u8, first: Point, others: &[Point]) -> Result<(), T::Fault>
         requires many { 100 ≤ length others.now }
-        requires space { length self.old.room.bytes ≤ 198 }
+        requires space { length self.old.room.bytes + 810 ≤ 1024 }
         ensures { WritesLaid T.sent (opcode code (shape_bytes (first ∷ others.now))) self.old self.new result }
     {
         let (near, far) = others.split_at(NEAR);
@@ -109,7 +109,7 @@ impl<T: ByteSink + Drop> Writer<T> {
     /// Writes what was laid, and a shape by its opcode.
     #[inline(always)]
     fn path(&mut self, code: u8, first: Point, others: &[Point]) -> Result<(), T::Fault>
-        requires space { length self.old.room.bytes ≤ 198 }
+        requires { length self.old.room.bytes + 810 ≤ 1024 }
         ensures { WritesLaid T.sent (opcode code (shape_bytes (first ∷ others.now))) self.old self.new result }
     {
         if others.len() > NEAR {
@@ -122,7 +122,7 @@ impl<T: ByteSink + Drop> Writer<T> {
     /// Writes what was laid, and a shape through its points.
     #[inline(never)]
     fn shape(&mut self, path: Path) -> Result<(), T::Fault>
-        requires space { length self.old.room.bytes ≤ 198 }
+        requires { length self.old.room.bytes ≤ 162 }
         ensures { WritesLaid T.sent (opcode path.entry.opcode (shape_bytes path.entry.points.now)) self.old self.new result }
     {
         let Some((first, others)) = path.points.split_first() else {
@@ -135,7 +135,7 @@ impl<T: ByteSink + Drop> Writer<T> {
     /// Writes what was laid, and an arc through a point and the others in turn. One of a single step goes back to its start.
     #[inline(always)]
     fn arc(&mut self, filled: bool, first: Point, others: &[Point]) -> Result<(), T::Fault>
-        requires space { length self.old.room.bytes ≤ 198 }
+        requires { length self.old.room.bytes ≤ 72 }
         ensures { WritesLaid T.sent (shape 0x2E filled (round (first ∷ others.now))) self.old self.new result }
     {
         let code = shape_opcode(opcodes::SET_ARC, filled);
@@ -148,7 +148,7 @@ impl<T: ByteSink + Drop> Writer<T> {
     /// Writes what was laid, and how the entry of a shape is spelled where the values that it holds stand.
     #[inline(always)]
     fn spell_shape(&mut self, shape: &Shape) -> Result<(), T::Fault>
-        requires space { length self.old.room.bytes ≤ 198 }
+        requires { length self.old.room.bytes ≤ 72 }
         ensures { WritesPieces T.sent (spelled self.old.form (taking self.old.state.drawing (held (drawn_shape shape.now))) (drawn_shape shape.now)) self.old self.new result }
     {
         let (from, others) = (shape.from, shape.others);
@@ -163,7 +163,7 @@ impl<T: ByteSink + Drop> Writer<T> {
     /// Writes what was laid, and how an entry is spelled where the values that it holds stand.
     #[inline(always)]
     fn spell(&mut self, entry: &Entry) -> Result<(), T::Fault>
-        requires space { length self.old.room.bytes ≤ 198 }
+        requires { length self.old.room.bytes ≤ 162 }
         ensures { WritesPieces T.sent (spelled self.old.form (taking self.old.state.drawing (held entry.now)) entry.now) self.old self.new result }
     {
         if let Some(path) = path_of(entry) {

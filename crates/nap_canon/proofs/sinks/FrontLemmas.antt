@@ -1,6 +1,6 @@
--- An entry, and those that join behind it: they are one write.
+-- Entries that are one write: those that join what stands last, and an entry with those that join behind it.
 
-use Rattle.std.proofs.Common.{Bool, false, ℕ, zero, suc, ◌≡◌, ◌+◌, ◌*◌, ◌/◌, ◌-◌, ◌<◌, ◌≤◌, List, [], ◌∷◌, ◌++◌, length, take, drop, refl, ap, sym, subst, ◌∙◌, length-append, length-drop, arith}
+use Rattle.std.proofs.Common.{Bool, false, Result, Ok, Err, ℕ, zero, suc, ◌≡◌, ◌+◌, ◌*◌, ◌/◌, ◌-◌, ◌<◌, ◌≤◌, List, [], ◌∷◌, ◌++◌, length, take, drop, refl, ap, sym, subst, ◌∙◌, length-append, length-drop, arith}
 use Rattle.std.proofs.lemmas.List.{drop-drop, length-take-le}
 use Rattle.nap_values.specs.Coordinates.{Coordinates}
 use Rattle.nap_list.specs.declared.attribute.Pen.TheVariants.{At}
@@ -14,11 +14,65 @@ use Rattle.nap_canon.specs.declared.form.Form.{Form}
 use Rattle.nap_canon.specs.declared.tail.Tail.{Tail}
 use Rattle.nap_canon.specs.declared.room.Room.{Room}
 use Rattle.nap_canon.specs.declared.writer.Writer.{Writer}
-use Rattle.nap_canon.specs.Writing.{CutsFront, LaysNext, WritesFront}
+use Rattle.nap_canon.specs.Writing.{CutsFront, LaysNext, WritesFront, WritesWhole}
 use Rattle.nap_canon.specs.Batches.{CutAfter, Joins, JoinsBehind, Parted, behind_bytes, behind_tail, opening, entry_size, joined_bytes, joined_tail}
 use Rattle.nap_canon.specs.Text.{written, tail_after, entry_pieces, pieces}
 use Rattle.nap_canon.specs.TextParts.{written-append, tail_after-append}
 use Rattle.nap_canon.proofs.sinks.JoinLemmas.{Joined, batch_joins, each_front, joined_length, parted_behind, parted_first, whole_less, whole_of}
+
+-- what a writer put of a batch from one entry on, whose entries join what stands last, or open a run or a text
+
+module _ {T F : Type 0} (sends : T → List ℕ → Bool → T → Type 0) (w v : Writer T F) (batch : Batch) (first count : ℕ) (some : 0 < count) (few : count + first ≤ length (listed batch))
+    (stand : EachStands w.state (drop first (listed batch))) (joins : Joins w.form w.room.tail w.state batch first count) where
+  abbrev from : List Entry
+  from = drop first (listed batch)
+
+  abbrev each_size : ℕ
+  each_size = entry_size batch
+
+  abbrev opens : List ℕ
+  opens = opening w.room.tail batch count
+
+  abbrev sent_bytes : List ℕ
+  sent_bytes = opens ++ joined_bytes batch first count
+
+  abbrev Wrote : Result (Unit {0}) ℕ → Type 0
+  Wrote r = WritesWhole sends opens each_size (joined_bytes batch first count) (joined_tail w.room.tail batch count) w v r
+
+  as_joined : Joined (length opens + each_size) each_size w.form w.room.tail w.state (take count from) sent_bytes (joined_tail w.room.tail batch count)
+  as_joined = batch_joins w.form w.room.tail w.state batch first count some few stand joins
+
+  within_list : count ≤ length from
+  within_list = omega (arith, few, length-drop first (listed batch))
+
+  pub joined_whole : {x : Unit {0}} → Wrote (Ok x) → (s : State) → s ≡ walk v.state (take count from) → WritesFront sends from w (record v { state = s }) count
+  joined_whole put s is = record {
+    some = some;
+    few = within_list;
+    sent = subst (λ (bs : List ℕ). sends w.to bs false v.to) (sym as_joined.writes) put.sent;
+    tail = put.tail ∙ sym as_joined.ends;
+    form = put.kept.0;
+    state = is ∙ ap (λ (s : State). walk s (take count from)) put.kept.1;
+  }
+
+  pub joined_cut : (k : ℕ) → Wrote (Err k) → (s : State) → s ≡ walk v.state (take k from) → CutsFront sends from w (record v { state = s }) k
+  joined_cut k put s is =
+      let n : ℕ = put.sent.0 in
+      let cut : CutAfter sends w.to sent_bytes n v.to = put.sent.2 in
+      let j : ℕ = (n - length opens) / each_size in
+      let some_whole : j < count = whole_less opens batch first count n few some cut.less in
+      let parted : Parted w.form w.room.tail w.state (take count from) j n =
+      each_front (length opens + each_size) each_size w.form w.room.tail w.state (take count from) j n as_joined.each (omega (arith, some_whole, length-take-le count from within_list))
+      (whole_of opens batch first count n few some cut.less) in
+      record {
+        count = count;
+        few = within_list;
+        less = omega (arith, some_whole, put.sent.1);
+        far = n;
+        cut = subst (λ (bs : List ℕ). CutAfter sends w.to bs n v.to) (sym as_joined.writes) cut;
+        parted = subst (λ (k : ℕ). Parted w.form w.room.tail w.state (take count from) k n) (sym put.sent.1) parted;
+        state = is ∙ ap (λ (s : State). walk s (take k from)) put.kept.1;
+      }
 
 line_ends : (s : State) (d : Drawing) (from : Coordinates) (ps : List Coordinates) (index : ℕ) → index < length ps →
     (walk s (take 1 (drop index (lines_on d from ps)))).drawing.pen ≡ At (last_of from (take (suc index) ps))

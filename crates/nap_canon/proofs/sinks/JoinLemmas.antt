@@ -35,7 +35,7 @@ use Rattle.nap_canon.specs.declared.form.Form.{Form}
 use Rattle.nap_canon.specs.declared.form.Form.TheVariants.{Two}
 use Rattle.nap_canon.specs.declared.tail.Tail.{Tail}
 use Rattle.nap_canon.specs.declared.tail.Tail.TheVariants.{Apart, InRun}
-use Rattle.nap_canon.specs.Batches.{Parted, PointsJoin, TextJoins, Joins, SentUpTo, SentWhole, points_bytes, run_opening, opening, entry_size, joined_bytes, joined_tail, whole_entries}
+use Rattle.nap_canon.specs.Batches.{Parted, PointsJoin, TextJoins, Joins, SentUpTo, SentWhole, points_bytes, run_opening, opening, entry_size, joined_bytes, joined_tail}
 use Rattle.nap_canon.specs.Equality.{same_pen}
 use Rattle.nap_canon.specs.Spelling.{Piece, command_piece, group, stroke, line_piece, step_bytes, typed_piece, typed_piece_as, spelled}
 use Rattle.nap_canon.specs.Text.{gl_of, to_opcodes, to_primary, is_joined, run_behind, piece_bytes, tail_behind, written, tail_after, entry_pieces, pieces}
@@ -483,8 +483,8 @@ pub whole_bytes : {S : Type 0} (sent : S → List ℕ → Bool → S → Type 0)
 whole_bytes sent s t bytes (Ok x) put = put
 whole_bytes sent s t bytes (Err n) put = (n, omega arith, put)
 
-pub whole_few : {S : Type 0} (sent : S → List ℕ → Bool → S → Type 0) (a b : S) (begin : List ℕ) (batch : Batch) (first count : ℕ) (r : Result (Unit {0}) ℕ) → 0 < count →
-    count + first ≤ length (listed batch) → SentWhole sent a begin (entry_size batch) (joined_bytes batch first count) b r → whole_entries count r + first ≤ length (listed batch)
-whole_few sent a b begin batch first count (Ok x) some few put = few
-whole_few sent a b begin batch first count (Err k) some few put =
+-- fewer of them were written whole
+pub whole_few : {S : Type 0} (sent : S → List ℕ → Bool → S → Type 0) (a b : S) (begin : List ℕ) (batch : Batch) (first count k : ℕ) → 0 < count →
+    count + first ≤ length (listed batch) → SentWhole sent a begin (entry_size batch) (joined_bytes batch first count) b (Err k) → k + first ≤ length (listed batch)
+whole_few sent a b begin batch first count k some few put =
     omega (arith, few, put.1, whole_less begin batch first count put.0 few some put.2.less)

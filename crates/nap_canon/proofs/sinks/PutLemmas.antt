@@ -1,6 +1,6 @@
 -- What a canonical sink that works takes of a batch.
 
-use Rattle.std.proofs.Common.{ℕ, zero, suc, ◌≡◌, ◌+◌, ◌-◌, ◌/◌, ◌<◌, ◌≤◌, inl, inr, Bool, true, false, List, [], ◌∷◌, ◌++◌, Option, Some, None, Result, Ok, Err, OnOk, OnErr, IsErrOf, is_err, length, map, take, drop, refl, ap, sym, subst, ◌∙◌, append-nil, append_assoc, length-append, length-drop, arith}
+use Rattle.std.proofs.Common.{ℕ, zero, suc, ◌≡◌, ◌+◌, ◌<◌, ◌≤◌, inl, inr, Bool, true, false, List, [], ◌∷◌, ◌++◌, Option, Some, None, Result, Ok, Err, OnOk, OnErr, IsErrOf, is_err, length, map, take, drop, refl, ap, sym, subst, ◌∙◌, append-nil, append_assoc, length-append, length-drop, arith}
 use Rattle.std.specs.Prelude.{slice_index}
 use Rattle.std.proofs.lemmas.Bool.{true≢false, false≢true}
 use Rattle.std.proofs.lemmas.List.{take-append-drop, take-take, length-take-le, drop-drop}
@@ -28,12 +28,12 @@ use Rattle.nap_list.specs.State.{after, walk, hand_of}
 use Rattle.nap_list.proofs.PublicLaws.{batch_stands}
 use Rattle.nap_canon.specs.declared.writer.Writer.{Writer}
 use Rattle.nap_canon.specs.Writing.{PutsFront}
-use Rattle.nap_canon.specs.Batches.{canon_shows, CutAfter, Parted, SentWhole, Joins, PutsFirst, PutsSome, PutsBehind, opening, entry_size, joined_bytes, joined_tail, whole_entries}
-use Rattle.nap_canon.specs.Sinking.{Sending, Sends, Grows, Canonical, shown, bytes_of, bytes_behind, Took, Broke}
+use Rattle.nap_canon.specs.Batches.{canon_shows, CutAfter, Parted, PutsFirst, PutsSome, PutsBehind}
+use Rattle.nap_canon.specs.Sinking.{Sending, Sends, Grows, Canonical, shown, bytes_of, Took, Broke}
 use Rattle.nap_canon.specs.Sinking as sinking
 use Rattle.nap_canon.specs.Text.{written, entry_pieces, pieces, tail_after}
 use Rattle.nap_canon.specs.SinkLaws.{grows_more, took_none, took_more, took_broke}
-use Rattle.nap_canon.proofs.sinks.JoinLemmas.{Joined, batch_joins, stands_rest, each_front, whole_less, whole_of}
+use Rattle.nap_canon.proofs.sinks.JoinLemmas.{stands_rest}
 use Rattle.nap_canon.proofs.sinks.SinkingLemmas.{broke_answered}
 
 module _ {O : Type 0} (o : outlet.Ghosts O) (s t : Canonical O) (works : o.failed s.outlet ≡ false) where
@@ -159,57 +159,6 @@ module _ {O T F : Type 0} (o : outlet.Ghosts O) (view : T → Sending) (w v : Wr
       subst (λ (s : Canonical O). PutsSome o list s t (Err k)) (sym is)
       (subst (λ (t : Canonical O). PutsSome o list before t (Err k)) (sym ends)
       (front_cut o view w.to v.to before behind from to works list put.count put.few k put.far put.less put.cut put.parted put.state))
-
--- entries that join what stands last, or open a run
-
-module _ {O S : Type 0} (o : outlet.Ghosts O) (view : S → Sending) (a b : S) (s t : Canonical O) (batch : Batch) (first count : ℕ)
-    (from : view a ≡ shown o s) (to : view b ≡ shown o t) (works : o.failed s.outlet ≡ false) (form : t.form ≡ s.form) (some : 0 < count)
-    (few : count + first ≤ length (listed batch)) (stand : EachStands s.state (drop first (listed batch))) (joins : Joins s.form s.tail s.state batch first count) where
-  abbrev list : List Entry
-  list = drop first (listed batch)
-
-  abbrev size : ℕ
-  size = entry_size batch
-
-  abbrev begin : List ℕ
-  begin = opening s.tail batch count
-
-  abbrev bytes : List ℕ
-  bytes = begin ++ joined_bytes batch first count
-
-  abbrev Sent : S → List ℕ → Bool → S → Type 0
-  Sent x bytes broke y = Sends (view x) bytes broke (view y)
-
-  joined : Joined (length begin + size) size s.form s.tail s.state (take count list) bytes (joined_tail s.tail batch count)
-  joined = batch_joins s.form s.tail s.state batch first count some few stand joins
-
-  many : length (take count list) ≡ count
-  many = length-take-le count list (omega (arith, few, length-drop first (listed batch)))
-
-  pub joined_took : (r : Result (Unit {0}) ℕ) → r ≡ Ok tt → SentWhole Sent a begin size (joined_bytes batch first count) b r → OnOk r (t.tail ≡ joined_tail s.tail batch count) →
-      t.state ≡ walk s.state (take (whole_entries count r) list) → PutsSome o list s t (Ok count)
-  joined_took (Err n) is sent tail state = let bad : ⊥ = cc in absurd bad
-  joined_took (Ok x) is sent tail state =
-      front_took o view a b s t from to works list count (omega (arith, few, length-drop first (listed batch))) some
-      (subst (λ (bs : List ℕ). sinking.TakesAll (view a) bs (view b)) (sym joined.writes) sent) form (tail ∙ sym joined.ends) state
-
-  joined_cut : (n : ℕ) → CutAfter Sent a bytes n b → t.state ≡ walk s.state (take ((n - length begin) / size) list) →
-      Put (canon_shows o) list s t (Err (record { taken = (n - length begin) / size; fault = Write }))
-  joined_cut n cut state =
-      let k : ℕ = (n - length begin) / size in
-      let some_whole : k < count = whole_less begin batch first count n few some cut.less in
-      let whole = whole_of begin batch first count n few some cut.less in
-      let parted = each_front (length begin + size) size s.form s.tail s.state (take count list) k n joined.each (omega (arith, some_whole, many)) whole in
-      front_cut o view a b s t from to works list count (omega (arith, few, length-drop first (listed batch))) k n some_whole
-      (subst (λ (bs : List ℕ). CutAfter Sent a bs n b) (sym joined.writes) cut) parted state
-
-  pub joined_broke : (r : Result (Unit {0}) ℕ) (k : ℕ) → r ≡ Err k → SentWhole Sent a begin size (joined_bytes batch first count) b r →
-      t.state ≡ walk s.state (take (whole_entries count r) list) → PutsSome o list s t (Err k)
-  joined_broke (Ok x) k is sent state = let bad : ⊥ = cc in absurd bad
-  joined_broke (Err j) k is sent state =
-      let same : j ≡ k = cc in
-      let cut = joined_cut sent.0 sent.2 (state ∙ ap (λ (j : ℕ). walk s.state (take j list)) sent.1) in
-      subst (λ (k : ℕ). Put (canon_shows o) list s t (Err (record { taken = k; fault = Write }))) (sym sent.1 ∙ same) cut
 
 -- a list that is put part by part
 

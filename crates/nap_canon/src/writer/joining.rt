@@ -1,21 +1,21 @@
 //! Entries of a batch whose values are current. Several that join the last run or text, or open one, are one write.
-ghost use Rattle.std.specs.Prelude.{◌≡◌, ◌++◌, ◌<◌, ◌≤◌, ◌+◌, ◌*◌, ◌∷◌, ◌⊎◌, length, take, drop, IsTrue, ◌↔◌, OnOk, OnErr, is_err};
+ghost use Rattle.std.specs.Prelude.{◌≡◌, ◌<◌, ◌≤◌, ◌+◌, ◌*◌, ◌⊎◌, length, drop, IsTrue, ◌↔◌};
 ghost use Rattle.nap_list.specs.Batches.{EachStands, FirstStands, listed};
-ghost use Rattle.nap_list.specs.State.{walk};
 ghost use Rattle.nap_canon.specs.declared.tail.Tail.TheVariants.{Apart, InRun};
 ghost use Rattle.nap_codes.specs.declared.code_set.GSet.TheVariants.{G0};
-ghost use Rattle.nap_canon.specs.Batches.{Joins, JoinsBehind, PointsJoin, SentWhole, TextJoins, behind_bytes, behind_tail, entry_size, joined_bytes, joined_tail, opening, points_bytes, run_opening, whole_entries};
+ghost use Rattle.nap_canon.specs.Batches.{Joins, JoinsBehind, PointsJoin, TextJoins, entry_size, joined_bytes, joined_tail, opening, points_bytes, run_opening};
 ghost use Rattle.nap_canon.specs.Text.{gl_of, run_behind, to_primary};
-ghost use Rattle.nap_canon.specs.Writing.{LaysNext, PutsFront, WritesWhole};
+ghost use Rattle.nap_canon.specs.Writing.{PutsFront, WritesWhole};
 
 use crate::byte_sink::ByteSink;
 use crate::form::Form;
 use crate::gathered::ROOM;
-use crate::room::{Room, opcodes};
+use crate::parts::{item, part};
+use crate::room::opcodes;
 use crate::tail::Tail;
 use crate::writer::Writer;
 use nap_codes::{CharSet, GSet, format_effector};
-use nap_list::{Batch, Pen, State, start_at};
+use nap_list::{Batch, Pen, start_at};
 use nap_values::Point;
 
 /// At most so many points make one write: room for their opcode is left.
@@ -23,64 +23,6 @@ const NEAR: usize = 126;
 
 /// At most so many codes make one write: room for SI is left.
 const CODES: usize = 1_023;
-
-impl Room {
-    /// Lays the entry of a batch at an index, whose values are current.
-    #[inline(always)]
-    fn next(&mut self, form: Form, state: &State, batch: &Batch, index: usize)
-        requires some { index < length (listed batch.now) }
-        requires stand { EachStands state.now (drop index (listed batch.now)) }
-        requires space { length self.old.bytes + 18 ≤ 1024 }
-        ensures { LaysNext form state.now (drop index (listed batch.now)) self.old self.new }
-    {
-        match batch {
-            Batch::Points { points, .. } => self.point(form, item(points, index)),
-            Batch::Lines { from, points, .. } => self.line(
-                form,
-                state.drawing.pen,
-                start_at(*from, points, index),
-                item(points, index),
-            ),
-            Batch::Text { set, codes, .. } => self.typed(*set, item(codes, index)),
-        }
-    }
-
-    /// Lays operands of points that join the run of this opcode, or open one.
-    #[inline(always)]
-    fn run(&mut self, opcode: u8, points: &[Point])
-        requires space { length self.old.bytes + 2 + 8 * length points.now ≤ 1024 }
-        ensures bytes { self.new.bytes ≡ self.old.bytes ++ (run_opening self.old.tail opcode (8 * length points.now) ++ points_bytes points.now) }
-        ensures tail { self.new.tail ≡ InRun (run_behind self.old.tail opcode (8 * length points.now)) }
-    {
-        self.opening(opcode, 8 * points.len());
-        self.bytes.points(points);
-    }
-
-    /// Lays `count` entries of a batch, from this index on, which join the last run or text, or open one.
-    #[inline(always)]
-    fn joined(&mut self, batch: &Batch, first: usize, count: usize)
-        requires few { count + first ≤ length (listed batch.now) }
-        requires space { 0 < count → length self.old.bytes + 2 + 8 * count ≤ 1024 }
-        ensures bytes { self.new.bytes ≡ self.old.bytes ++ behind_bytes self.old.tail batch.now first count }
-        ensures tail { self.new.tail ≡ behind_tail self.old.tail batch.now count }
-    {
-        if count == 0 {
-            return;
-        }
-        match batch {
-            Batch::Points { points, .. } => {
-                self.run(opcodes::POINT_ABS, part(points, first, count));
-            }
-            Batch::Lines { points, .. } => {
-                self.run(opcodes::LINE_ABS, part(points, first, count));
-            }
-            Batch::Text { codes, .. } => {
-                self.shift();
-                self.bytes.codes(part(codes, first, count));
-            }
-        }
-    }
-}
 
 impl<T: ByteSink + Drop> Writer<T> {
     /// Whether the values that the first entry of a batch holds are current.
@@ -97,6 +39,7 @@ impl<T: ByteSink + Drop> Writer<T> {
     fn joining_points(&self, opcode: u8, count: usize) -> usize
         ensures few { result ≤ count }
         ensures joins { 0 < result → PointsJoin self.now.form self.now.room.tail opcode result }
+        ensures some { 0 < count → self.now.form ≡ Form.Two → 0 < result }
     {
         if self.form != Form::Two {
             return 0;
@@ -115,6 +58,7 @@ impl<T: ByteSink + Drop> Writer<T> {
         requires some { first < length codes.now }
         ensures few { result + first ≤ length codes.now }
         ensures joins { 0 < result → TextJoins self.now.room.tail (drop first codes.now) result }
+        ensures some { TextJoins self.now.room.tail (drop first codes.now) 1 → 0 < result }
     {
         let count = codes.len() - first;
         if self.room.tail == Tail::Apart(GSet::G0) {
@@ -132,6 +76,7 @@ impl<T: ByteSink + Drop> Writer<T> {
         requires some { first < length (listed batch.now) }
         ensures few { result + first ≤ length (listed batch.now) }
         ensures joins { 0 < result → Joins self.now.form self.now.room.tail self.now.state batch.now first result }
+        ensures some { Joins self.now.form self.now.room.tail self.now.state batch.now first 1 → 0 < result }
     {
         match batch {
             Batch::Points { points, .. } => {
@@ -271,38 +216,31 @@ impl<T: ByteSink + Drop> Writer<T> {
         }
     }
 
-    /// Puts `count` entries of a batch, from this index on, which join the last run or text, or open one. An error has
-    /// the number of those that were taken.
+    /// Puts `count` entries of a batch, from this index on, which join the last run or text, or open one. Returns their
+    /// number; an error has the number of those that were taken.
     #[inline(always)]
     pub(crate) fn put_joined(
         &mut self,
         batch: &Batch,
         first: usize,
         count: usize,
-    ) -> Result<(), usize>
+    ) -> Result<usize, usize>
         requires some { 0 < count }
         requires few { count + first ≤ length (listed batch.now) }
         requires stand { EachStands self.old.state (drop first (listed batch.now)) }
         requires joins { Joins self.old.form self.old.room.tail self.old.state batch.now first count }
-        ensures sent { SentWhole T.sent self.old.to (opening self.old.room.tail batch.now count) (entry_size batch.now) (joined_bytes batch.now first count) self.new.to result }
-        ensures tail { OnOk result (self.new.room.tail ≡ joined_tail self.old.room.tail batch.now count) }
-        ensures form { self.new.form ≡ self.old.form }
-        ensures state { self.new.state ≡ walk self.old.state (take (whole_entries count result) (drop first (listed batch.now))) }
+        ensures { PutsFront T.sent (drop first (listed batch.now)) self.old self.new result }
     {
-        let put = self.write_joined(batch, first, count);
-        self.state.pass_on(batch, first, whole_entries(count, &put));
-        put
-    }
-}
-
-/// How many of `count` entries were written whole.
-#[inline(always)]
-fn whole_entries(count: usize, put: &Result<(), usize>) -> usize
-    ensures { result ≡ whole_entries count put.now }
-{
-    match put {
-        Ok(()) => count,
-        Err(whole) => *whole,
+        match self.write_joined(batch, first, count) {
+            Ok(()) => {
+                self.state.pass_on(batch, first, count);
+                Ok(count)
+            }
+            Err(whole) => {
+                self.state.pass_on(batch, first, whole);
+                Err(whole)
+            }
+        }
     }
 }
 
@@ -315,25 +253,4 @@ fn entry_size(batch: &Batch) -> usize
         Batch::Points { .. } | Batch::Lines { .. } => 8,
         Batch::Text { .. } => 1,
     }
-}
-
-/// The item of a slice at an index.
-#[inline(always)]
-fn item<X: Copy>(items: &[X], index: usize) -> X
-    requires { index < length items.now }
-    ensures { drop index items.now ≡ result ∷ drop (index + 1) items.now }
-{
-    items[index]
-}
-
-/// `count` items of a slice, from this index on.
-#[inline(always)]
-fn part<X>(items: &[X], first: usize, count: usize) -> &[X]
-    requires some { first ≤ length items.now }
-    requires few { count + first ≤ length items.now }
-    ensures { result.now ≡ take count (drop first items.now) }
-{
-    let (_, rest) = items.split_at(first);
-    let (part, _) = rest.split_at(count);
-    part
 }

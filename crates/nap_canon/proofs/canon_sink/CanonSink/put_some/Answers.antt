@@ -1,10 +1,9 @@
-use Rattle.std.proofs.Common.{◌≡◌, ◌<◌, false, drop, refl, sym, subst, arith}
-use Rattle.nap_list.specs.Batches.{EachStands, listed}
+use Rattle.std.proofs.Common.{◌≡◌, false, drop, refl, sym, subst}
+use Rattle.nap_list.specs.Batches.{listed}
 use Rattle.nap_canon.specs.Batches.{PutsSome}
 use Rattle.nap_canon.specs.Sinking.{Canonical, sending}
-use Rattle.nap_canon.proofs.sinks.PutLemmas.{next_put, joined_took, joined_broke}
+use Rattle.nap_canon.proofs.sinks.PutLemmas.{next_put}
 use Rattle.nap_canon.proofs.canon_sink.CanonSink.put_some.Goals as goal
-use Rattle.nap_canon.proofs.canon_sink.CanonSink.put_some.Goals.{in-Ok, in-Err}
 
 pub returns-then-count-eq0 : goal.returns-then-count-eq0
 returns-then-count-eq0 g c =
@@ -25,20 +24,7 @@ returns g c =
     let v = c.put_joined.new.self in
     let s : Canonical _ = record { outlet = w.to.outlet; written = w.to.written; form = w.form; tail = w.room.tail; state = w.state } in
     let t : Canonical _ = record { outlet = v.to.outlet; written = v.to.written; form = v.form; tail = v.room.tail; state = v.state } in
-    let batch = c.args.batch.now in
-    let first = c.args.first in
-    let count = c.joining-count.result in
-    let list = drop first (listed batch) in
+    let list = drop c.args.first (listed c.args.batch.now) in
     let works : o.failed s.outlet ≡ false = subst (λ (s : Canonical _). o.failed s.outlet ≡ false) (sym c.self.view_is) c.requires.works in
-    let stand : EachStands s.state list = subst (λ (s : Canonical _). EachStands s.state list) (sym c.self.view_is) c.requires.stand in
-    let some : 0 < count = omega (arith, c.if-count-eq0.false) in
-    let few = c.joining-count.ensures.few in
-    let joins = c.joining-count.ensures.joins some in
-    let wrote = c.put_joined.ensures in
-    subst (λ (s : Canonical _). PutsSome o list s t c.match-put_joined.result) c.self.view_is
-    (elim c.match-put_joined.branch [
-      | in-Ok b ↦ rw b.result-is (joined_took o (λ to. sending o to.outlet to.written) w.to v.to s t batch first count refl refl works wrote.form some few stand joins c.put_joined.result b.in-Ok.is
-          wrote.sent wrote.tail wrote.state)
-      | in-Err b ↦ rw b.result-is (joined_broke o (λ to. sending o to.outlet to.written) w.to v.to s t batch first count refl refl works wrote.form some few stand joins
-          c.put_joined.result b.in-Err.whole b.in-Err.is wrote.sent wrote.state)
-    ])
+    subst (λ (s : Canonical _). PutsSome o list s t c.put_joined.result) c.self.view_is
+    (next_put o (λ to. sending o to.outlet to.written) w v s t refl refl works list refl refl c.put_joined.result c.put_joined.ensures)

@@ -9,17 +9,11 @@ use Rattle.nap_canon.specs.Text.{run_behind}
 use Rattle.nap_canon.proofs.sinks.FrontLemmas.{behind_some, behind_ends}
 use Rattle.nap_canon.proofs.room.Room.joined.Goals as goal
 
-pub part-requires-in-Lines-clause-some : goal.part-requires-in-Lines-clause-some
-part-requires-in-Lines-clause-some c = omega (arith, c.requires.few, sized_lines _ _ _ _ c.in-Lines.is)
+pub part-requires-in-Lines : goal.part-requires-in-Lines
+part-requires-in-Lines c = omega (arith, c.requires.few, sized_lines _ _ _ _ c.in-Lines.is)
 
-pub part-requires-in-Lines-clause-few : goal.part-requires-in-Lines-clause-few
-part-requires-in-Lines-clause-few c = omega (arith, c.requires.few, sized_lines _ _ _ _ c.in-Lines.is)
-
-pub part-requires-in-Text-clause-some : goal.part-requires-in-Text-clause-some
-part-requires-in-Text-clause-some c = omega (arith, c.requires.few, sized_text _ _ _ _ _ c.in-Text.is)
-
-pub part-requires-in-Text-clause-few : goal.part-requires-in-Text-clause-few
-part-requires-in-Text-clause-few c = omega (arith, c.requires.few, sized_text _ _ _ _ _ c.in-Text.is)
+pub part-requires-in-Text : goal.part-requires-in-Text
+part-requires-in-Text c = omega (arith, c.requires.few, sized_text _ _ _ _ _ c.in-Text.is)
 
 pub returns-in-Lines-clause-bytes : goal.returns-in-Lines-clause-bytes
 returns-in-Lines-clause-bytes c =

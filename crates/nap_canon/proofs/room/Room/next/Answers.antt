@@ -20,7 +20,7 @@ returns-in-Points c e es is =
     let s = c.args.state.now in
     let p = c.item.result in
     lays_one c.args.form s e (stroke c.args.form 0x26 (point_bytes p)) c.args.self.now c.point.new.self
-    (next_point c.args.form s c.args.batch.now c.in-Points.points c.in-Points.drawing c.args.index p _ c.in-Points.is c.item.ensures c.requires.stand e es is) c.point.ensures.lays
+    (next_point c.args.form s c.args.batch.now c.in-Points.points c.in-Points.drawing c.args.index p _ c.in-Points.is c.item.ensures c.requires.stand e es is) c.point.ensures
 
 pub returns-in-Lines : goal.returns-in-Lines
 returns-in-Lines c e es is =
@@ -29,7 +29,7 @@ returns-in-Lines c e es is =
     let start = c.start_at.result in
     lays_one c.args.form s e (line_piece c.args.form s.drawing.pen start p) c.args.self.now c.line.new.self
     (next_line c.args.form s c.args.batch.now c.in-Lines.from start c.in-Lines.points c.in-Lines.drawing c.args.index p _ c.in-Lines.is c.item-in-Lines.ensures c.start_at.ensures c.requires.stand e es is)
-    c.line.ensures.lays
+    c.line.ensures
 
 pub returns-in-Text : goal.returns-in-Text
 returns-in-Text c e es is =
@@ -37,4 +37,4 @@ returns-in-Text c e es is =
     let code = c.item-in-Text.result in
     lays_one c.args.form s e (typed_piece c.in-Text.set code) c.args.self.now c.typed.new.self
     (next_typed c.args.form s c.args.batch.now c.in-Text.set c.in-Text.codes c.in-Text.pen c.in-Text.drawing c.args.index code _ c.in-Text.is c.item-in-Text.ensures c.requires.stand e es is)
-    c.typed.ensures.lays
+    c.typed.ensures

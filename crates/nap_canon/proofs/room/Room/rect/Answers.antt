@@ -6,9 +6,9 @@ use Rattle.nap_canon.specs.Spelling.{Piece, onward_bytes, shape_bytes, stroke, r
 use Rattle.nap_canon.specs.Writing.{LaysPiece}
 use Rattle.nap_canon.proofs.room.Room.rect.Goals as goal
 
-pub returns-clause-lays : goal.returns-clause-lays
+pub returns : goal.returns
 unfolding onward_bytes
-returns-clause-lays c =
+returns c =
     let from = c.args.from in
     let to = c.args.to in
     let step : List ℕ = move_bytes (displacement_to from to) in
@@ -20,4 +20,4 @@ returns-clause-lays c =
     let piece : stroke form c.shape_opcode-code.result bytes ≡ rect_piece form c.args.filled from to =
     ap (λ (byte : ℕ). stroke form byte bytes) c.shape_opcode-code.ensures
     ∙ ap (stroke form (if c.args.filled then 0x33 else 0x32)) corners in
-    subst (λ (p : Piece). LaysPiece p c.args.self.now c.stroke.new.self) piece c.stroke.ensures.lays
+    subst (λ (p : Piece). LaysPiece p c.args.self.now c.stroke.new.self) piece c.stroke.ensures

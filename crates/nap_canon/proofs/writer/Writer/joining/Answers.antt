@@ -1,5 +1,8 @@
-use Rattle.std.proofs.Common.{arith}
+use Rattle.std.proofs.Common.{arith, subst}
+use Rattle.nap_list.specs.declared.batch.Batch.{Batch}
+use Rattle.nap_list.specs.declared.batch.Batch.TheVariants as batches
 use Rattle.nap_list.specs.BatchLaws.{sized_lines, sized_text}
+use Rattle.nap_canon.specs.Batches.{Joins}
 use Rattle.nap_canon.proofs.writer.Writer.joining.Goals as goal
 
 pub start_at-requires : goal.start_at-requires
@@ -16,3 +19,10 @@ returns-else-ne-clause-few g c = omega (arith, c.requires.some, c.joining_points
 
 pub returns-else-ne-2-clause-few : goal.returns-else-ne-2-clause-few
 returns-else-ne-2-clause-few g c = omega (arith, c.joining_codes.ensures.few, sized_text _ _ _ _ _ c.in-Text.is)
+
+pub returns-else-ne-clause-some : goal.returns-else-ne-clause-some
+returns-else-ne-clause-some g c joins =
+    let w = c.args.self.now in
+    let one : Joins w.form w.room.tail w.state (batches.Lines c.in-Lines.from c.in-Lines.points c.in-Lines.drawing) c.args.first 1 =
+    subst (λ (b : Batch). Joins w.form w.room.tail w.state b c.args.first 1) c.in-Lines.is joins in
+    c.joining_points-in-Lines.ensures.some (omega (arith, c.requires.some, sized_lines _ _ _ _ c.in-Lines.is)) one.0.1

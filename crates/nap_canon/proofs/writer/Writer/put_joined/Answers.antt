@@ -1,10 +1,20 @@
 use Rattle.nap_canon.specs.Batches.{opening}
+use Rattle.nap_canon.proofs.sinks.FrontLemmas.{joined_cut, joined_whole}
 use Rattle.nap_canon.proofs.sinks.JoinLemmas.{whole_few}
 use Rattle.nap_canon.proofs.writer.Writer.put_joined.Goals as goal
 
-pub pass_on-requires-clause-few : goal.pass_on-requires-clause-few
-pass_on-requires-clause-few g c =
+pub pass_on-requires-in-Err-clause-few : goal.pass_on-requires-in-Err-clause-few
+pass_on-requires-in-Err-clause-few g c =
     let w = c.args.self.now in
-    let put = c.write_joined-put in
-    rw c.whole_entries.ensures (whole_few g.T.ByteSink.sent w.to put.new.self.to (opening w.room.tail c.args.batch.now c.args.count) c.args.batch.now c.args.first c.args.count put.result
-    c.requires.some c.requires.few put.ensures.sent)
+    whole_few g.T.ByteSink.sent w.to c.write_joined.new.self.to (opening w.room.tail c.args.batch.now c.args.count) c.args.batch.now c.args.first c.args.count c.in-Err.whole
+    c.requires.some c.requires.few c.in-Err.ensures.sent
+
+pub returns-in-Ok : goal.returns-in-Ok
+returns-in-Ok g c =
+    joined_whole g.T.ByteSink.sent c.args.self.now c.write_joined.new.self c.args.batch.now c.args.first c.args.count c.requires.some c.requires.few c.requires.stand c.requires.joins
+    c.in-Ok.ensures c.pass_on.new.self c.pass_on.ensures
+
+pub returns-in-Err : goal.returns-in-Err
+returns-in-Err g c =
+    joined_cut g.T.ByteSink.sent c.args.self.now c.write_joined.new.self c.args.batch.now c.args.first c.args.count c.requires.some c.requires.few c.requires.stand c.requires.joins
+    c.in-Err.whole c.in-Err.ensures c.pass_on-in-Err.new.self c.pass_on-in-Err.ensures

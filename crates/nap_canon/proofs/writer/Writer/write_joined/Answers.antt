@@ -10,17 +10,11 @@ use Rattle.nap_canon.specs.Batches.{Joins, TextJoins}
 use Rattle.nap_canon.specs.Text.{run_behind}
 use Rattle.nap_canon.proofs.writer.Writer.write_joined.Goals as goal
 
-pub part-requires-in-Lines-clause-some : goal.part-requires-in-Lines-clause-some
-part-requires-in-Lines-clause-some g c = omega (arith, c.requires.few, sized_lines _ _ _ _ c.in-Lines.is)
+pub part-requires-in-Lines : goal.part-requires-in-Lines
+part-requires-in-Lines g c = omega (arith, c.requires.few, sized_lines _ _ _ _ c.in-Lines.is)
 
-pub part-requires-in-Lines-clause-few : goal.part-requires-in-Lines-clause-few
-part-requires-in-Lines-clause-few g c = omega (arith, c.requires.few, sized_lines _ _ _ _ c.in-Lines.is)
-
-pub part-requires-in-Text-clause-some : goal.part-requires-in-Text-clause-some
-part-requires-in-Text-clause-some g c = omega (arith, c.requires.few, sized_text _ _ _ _ _ c.in-Text.is)
-
-pub part-requires-in-Text-clause-few : goal.part-requires-in-Text-clause-few
-part-requires-in-Text-clause-few g c = omega (arith, c.requires.few, sized_text _ _ _ _ _ c.in-Text.is)
+pub part-requires-in-Text : goal.part-requires-in-Text
+part-requires-in-Text g c = omega (arith, c.requires.few, sized_text _ _ _ _ _ c.in-Text.is)
 
 pub returns-in-Lines : goal.returns-in-Lines
 returns-in-Lines g c =
