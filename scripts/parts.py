@@ -33,6 +33,7 @@ UNSEEN = re.compile(rf" ; {WITHIN}.*?\}}(?= ; |$)", re.DOTALL)
 OF_TRAIT = re.compile(r"impl\b.*\bfor\b(?P<type>.*)", re.DOTALL)
 CLAUSE = re.compile(r"\b(?:requires|ensures)\b")
 SHOWN = re.compile(r"(?<=\b)pub (?=\S)")
+SHOWN_TYPE = re.compile(r"\bpub(?:\(\w+\))? (?=(?:struct|enum|union|type)\b)")
 NO_NAMES = frozenset({"_", "pub", "abbrev", "unfoldable", "record", "data", "module", "let"})
 
 
@@ -72,17 +73,19 @@ class Part(NamedTuple):
         """What it says to a crate: one above sees no private fields of a struct, since nothing there can name them, and
         no view of a type that has no others.
 
-        Whether a definition is public says nothing.
+        Whether a definition or a type is public says nothing.
         """
         if self.kind == "definition":
             return SHOWN.sub("", self.text, count=1)
         if self.kind == "impl":
             return UNSEEN.sub("", self.text) if crate != self.crate else self.text.replace(WITHIN, "")
-        found = STRUCT.fullmatch(self.text) if self.kind == "type" and crate != self.crate else None
-        if not found:
+        if self.kind != "type":
             return self.text
+        found = STRUCT.fullmatch(self.text) if crate != self.crate else None
+        if not found:
+            return SHOWN_TYPE.sub("", self.text, count=1)
         shown = (field for field in _between_commas(found["fields"]) if not PRIVATE.match(field))
-        return f"{found['head']} {', '.join(shown)} }}"
+        return SHOWN_TYPE.sub("", f"{found['head']} {', '.join(shown)} }}", count=1)
 
 
 class Body(NamedTuple):

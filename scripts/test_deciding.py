@@ -203,6 +203,12 @@ class Sums(unittest.TestCase):
         """It says nothing of what is defined."""
         self.assertFalse(self.changes(QUARTER, DEFINED, "pub half :", "half :"))
 
+    def test_whether_a_type_is_public(self) -> None:
+        """It says nothing of its values, in its crate or above."""
+        self.assertFalse(self.changes(QUARTER, LOWEST, "pub struct Half", "pub(crate) struct Half"))
+        least = "file: src/lib.rt\nold: self.number == LEAST\nnew: true\n"
+        self.assertFalse(self.changes(least, LOWEST, "pub struct Half", "struct Half", "low"))
+
     def test_a_function_of_an_impl_without_clauses(self) -> None:
         """It has those of the trait, and says nothing by itself."""
         parts = {part.owner: part for part in cut_source("high", "src/lib.rt", HIGH).parts if part.names == {"put"}}
