@@ -13,6 +13,7 @@ UNREAD = re.compile(
     r"//[^\n]*|/\*.*?\*/|b?r(?P<hashes>#*)\".*?\"(?P=hashes)|b?\"(?:\\.|[^\"\\])*\"|b?'(?:\\[^']+|[^'\\])'", re.DOTALL
 )
 CLAUSE = re.compile(r"\b(?:requires|ensures|decreases)\b(?:\s+\w+)?\s*\{")
+FUNCTION = re.compile(r"\bfn\s+(?P<name>\w+)")
 ITEM = re.compile(
     r"^[ \t]*(?:pub(?:\([^)]*\))?\s+)?(?:(?P<const>const)\s+\w+\s*:|(?P<owner>struct|enum|trait|impl)\b|(?P<ghost>ghost)\b)"
     r"|\b(?P<function>fn)\s+\w+",
@@ -98,6 +99,22 @@ def clauses_of(text: str) -> List[str]:
         else:
             at = source.end_of_member(item.end())
             found.append(f"{owner} | {source.part(item.start(), at)}")
+
+
+class Function(NamedTuple):
+    """A function's name, and what stands in the braces of each of its clauses."""
+
+    name: str
+    clauses: List[str]
+
+
+def functions_of(text: str) -> Iterator[Function]:
+    """The functions of a source in their order."""
+    source = Source.of(text)
+    for found in FUNCTION.finditer(source.shape):
+        end = source.end_of_head(found.end())
+        heads = CLAUSE.finditer(source.shape, found.end(), end)
+        yield Function(found["name"], [source.part(head.end(), source.closing(head.end() - 1) - 1) for head in heads])
 
 
 def definitions_of(text: str) -> List[str]:

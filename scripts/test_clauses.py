@@ -4,7 +4,7 @@ import unittest
 from pathlib import Path
 from typing import List
 
-from clauses import clauses_of, sum_of
+from clauses import clauses_of, functions_of, sum_of
 from wrong_bodies import (
     LIST,
     PROMISES,
@@ -80,6 +80,13 @@ class Clauses(unittest.TestCase):
         self.assertEqual(
             clauses_of(source),
             ["trait Sink | fn put(&mut self, codes: [u8; 3]) ensures { kept }", "trait Sink | ghost took: { Self }"],
+        )
+
+
+    def test_a_function_has_its_clauses_apart(self) -> None:
+        self.assertEqual(
+            [(function.name, function.clauses) for function in functions_of(SOURCE)],
+            [("of", ["number < 64", "let double = 2 in result.number ≡ number / double"]), ("text", [])],
         )
 
 
