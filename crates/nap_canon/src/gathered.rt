@@ -2,7 +2,7 @@
 ghost use Rattle.std.specs.Prelude.{◌≡◌, ◌≤◌, ◌+◌, ◌*◌, ◌++◌, [], ◌∷◌, length};
 ghost use Rattle.nap_canon.specs.Batches.{points_bytes};
 ghost use Rattle.nap_canon.specs.Spelling.{onward_bytes};
-ghost use Rattle.nap_canon.specs.Gathering.{laid};
+ghost use Rattle.nap_canon.specs.Gathering.{laid, room_limit};
 
 use nap_values::{Point, put_move, put_point};
 use std::marker::Model;
@@ -19,12 +19,13 @@ pub(crate) struct Gathered {
 
 impl Model for Gathered {
     ghost use Rattle.std.specs.Prelude.{ℕ, List, ◌≤◌, take};
+    ghost use Rattle.nap_canon.specs.Gathering.{room_limit};
 
     ghost Value = { List ℕ };
 
     ghost view = { λ g. take g.count g.bytes };
 
-    ghost invariant = { λ g. g.count ≤ 1024 };
+    ghost invariant = { λ g. g.count ≤ room_limit };
 }
 
 impl Gathered {
@@ -65,7 +66,7 @@ impl Gathered {
     /// One byte more.
     #[inline(always)]
     pub(crate) fn push(&mut self, byte: u8)
-        requires space { length self.old + 1 ≤ 1024 }
+        requires space { length self.old + 1 ≤ room_limit }
         ensures bytes { self.new ≡ self.old ++ byte ∷ [] }
         ensures size { length self.new ≡ length self.old + 1 }
     {
@@ -76,7 +77,7 @@ impl Gathered {
     /// More bytes.
     #[inline(always)]
     pub(crate) fn extend(&mut self, bytes: &[u8])
-        requires space { length self.old + length bytes.now ≤ 1024 }
+        requires space { length self.old + length bytes.now ≤ room_limit }
         ensures bytes { self.new ≡ self.old ++ bytes.now }
         ensures size { length self.new ≡ length self.old + length bytes.now }
     {
@@ -87,7 +88,7 @@ impl Gathered {
     /// Codes behind the bytes: many, where `extend` is for few.
     #[inline(always)]
     pub(crate) fn codes(&mut self, codes: &[u8])
-        requires space { length self.old + length codes.now ≤ 1024 }
+        requires space { length self.old + length codes.now ≤ room_limit }
         ensures bytes { self.new ≡ self.old ++ codes.now }
         ensures size { length self.new ≡ length self.old + length codes.now }
     {
@@ -98,7 +99,7 @@ impl Gathered {
     /// The operands of points behind the bytes.
     #[inline(always)]
     pub(crate) fn points(&mut self, points: &[Point])
-        requires space { length self.old + 8 * length points.now ≤ 1024 }
+        requires space { length self.old + 8 * length points.now ≤ room_limit }
         ensures bytes { self.new ≡ self.old ++ points_bytes points.now }
         ensures size { length self.new ≡ length self.old + 8 * length points.now }
     {
@@ -109,7 +110,7 @@ impl Gathered {
     /// The displacements from a point to the others in turn behind the bytes.
     #[inline(always)]
     pub(crate) fn onward(&mut self, first: Point, others: &[Point])
-        requires space { length self.old + 8 * length others.now ≤ 1024 }
+        requires space { length self.old + 8 * length others.now ≤ room_limit }
         ensures bytes { self.new ≡ self.old ++ onward_bytes first others.now }
         ensures size { length self.new ≡ length self.old + 8 * length others.now }
     {
@@ -121,7 +122,7 @@ impl Gathered {
 /// Puts a byte at a place.
 #[inline(always)]
 fn lay_byte(bytes: &mut [u8; ROOM], at: usize, byte: u8)
-    requires within { at + 1 ≤ 1024 }
+    requires within { at + 1 ≤ room_limit }
     ensures { bytes.new ≡ laid bytes.old at (byte ∷ []) }
 {
     bytes[at] = byte;
@@ -130,7 +131,7 @@ fn lay_byte(bytes: &mut [u8; ROOM], at: usize, byte: u8)
 /// Puts codes at a place.
 #[inline(always)]
 fn lay_codes(bytes: &mut [u8; ROOM], at: usize, codes: &[u8])
-    requires within { at + length codes.now ≤ 1024 }
+    requires within { at + length codes.now ≤ room_limit }
     ensures { bytes.new ≡ laid bytes.old at codes.now }
 {
     bytes[at..at + codes.len()].copy_from_slice(codes);
@@ -139,7 +140,7 @@ fn lay_codes(bytes: &mut [u8; ROOM], at: usize, codes: &[u8])
 /// Puts bytes at a place, one by one: where there are eight, LLVM makes one store of that, with no test of an overlap.
 #[inline(always)]
 fn lay_bytes(bytes: &mut [u8; ROOM], at: usize, more: &[u8])
-    requires within { at + length more.now ≤ 1024 }
+    requires within { at + length more.now ≤ room_limit }
     ensures { bytes.new ≡ laid bytes.old at more.now }
 {
     for i in 0..more.len() {
@@ -151,7 +152,7 @@ fn lay_bytes(bytes: &mut [u8; ROOM], at: usize, more: &[u8])
 /// Puts the operands of points at a place.
 #[inline(always)]
 fn lay_points(bytes: &mut [u8; ROOM], at: usize, points: &[Point])
-    requires within { at + 8 * length points.now ≤ 1024 }
+    requires within { at + 8 * length points.now ≤ room_limit }
     ensures { bytes.new ≡ laid bytes.old at (points_bytes points.now) }
 {
     let mut until = at;
@@ -164,7 +165,7 @@ fn lay_points(bytes: &mut [u8; ROOM], at: usize, points: &[Point])
 /// Puts the displacements from a point to the others in turn at a place.
 #[inline(always)]
 fn lay_onward(bytes: &mut [u8; ROOM], at: usize, first: Point, others: &[Point])
-    requires within { at + 8 * length others.now ≤ 1024 }
+    requires within { at + 8 * length others.now ≤ room_limit }
     ensures { bytes.new ≡ laid bytes.old at (onward_bytes first others.now) }
 {
     let mut from = first;

@@ -6,6 +6,7 @@ ghost use Rattle.nap_canon.specs.Batches.{run_opening};
 ghost use Rattle.nap_canon.specs.Spelling.{word_byte, opcode, control, stroke};
 ghost use Rattle.nap_canon.specs.Text.{gl_of, to_opcodes, to_primary, run_behind, header};
 ghost use Rattle.nap_canon.specs.Writing.{LaysPiece};
+ghost use Rattle.nap_canon.specs.Gathering.{room_limit};
 
 use crate::form::Form;
 use crate::gathered::Gathered;
@@ -77,7 +78,7 @@ impl Room {
     /// Lays an opcode, behind SO where G1 isn't in GL.
     #[inline(always)]
     fn opcode(&mut self, code: u8)
-        requires space { length self.old.bytes + 2 ≤ 1024 }
+        requires space { length self.old.bytes + 2 ≤ room_limit }
         ensures bytes { self.new.bytes ≡ self.old.bytes ++ (to_opcodes (gl_of self.old.tail) ++ code ∷ []) }
         ensures most { length self.new.bytes ≤ length self.old.bytes + 2 }
         ensures tail { self.new.tail ≡ self.old.tail }
@@ -91,7 +92,7 @@ impl Room {
     /// Lays an opcode with its operands, of which some lead the others.
     #[inline(always)]
     pub(crate) fn opened(&mut self, code: u8, lead: &[u8], operands: &[u8])
-        requires { length self.old.bytes + (2 + length lead.now + length operands.now) ≤ 1024 }
+        requires { length self.old.bytes + (2 + length lead.now + length operands.now) ≤ room_limit }
         ensures lays { LaysPiece (opcode code (lead.now ++ operands.now)) self.old self.new }
         ensures most { length self.new.bytes ≤ length self.old.bytes + (2 + length lead.now + length operands.now) }
     {
@@ -104,8 +105,8 @@ impl Room {
     /// Lays what stands in front of so many bytes of operands: their opcode, unless they join a run of it.
     #[inline(always)]
     pub(crate) fn opening(&mut self, code: u8, count: usize)
-        requires few { count ≤ 1024 }
-        requires space { length self.old.bytes + 2 ≤ 1024 }
+        requires few { count ≤ room_limit }
+        requires space { length self.old.bytes + 2 ≤ room_limit }
         ensures bytes { self.new.bytes ≡ self.old.bytes ++ run_opening self.old.tail code count }
         ensures most { length self.new.bytes ≤ length self.old.bytes + 2 }
         ensures tail { self.new.tail ≡ InRun (run_behind self.old.tail code count) }
@@ -129,7 +130,7 @@ impl Room {
     /// form they can join a run.
     #[inline(always)]
     fn stroke(&mut self, form: Form, code: u8, lead: &[u8], operands: &[u8])
-        requires { length self.old.bytes + (2 + length lead.now + length operands.now) ≤ 1024 }
+        requires { length self.old.bytes + (2 + length lead.now + length operands.now) ≤ room_limit }
         ensures { LaysPiece (stroke form code (lead.now ++ operands.now)) self.old self.new }
     {
         if form == Form::One {
@@ -143,7 +144,7 @@ impl Room {
     /// Lays SI where G0 isn't in GL. Behind it the primary characters are.
     #[inline(always)]
     pub(crate) fn shift(&mut self)
-        requires space { length self.old.bytes + 1 ≤ 1024 }
+        requires space { length self.old.bytes + 1 ≤ room_limit }
         ensures bytes { self.new.bytes ≡ self.old.bytes ++ to_primary (gl_of self.old.tail) }
         ensures most { length self.new.bytes ≤ length self.old.bytes + 1 }
         ensures tail { self.new.tail ≡ Apart G0 }
@@ -157,7 +158,7 @@ impl Room {
     /// Lays controls with the bytes that belong to them.
     #[inline(always)]
     pub(crate) fn control(&mut self, bytes: &[u8])
-        requires { length self.old.bytes + length bytes.now ≤ 1024 }
+        requires { length self.old.bytes + length bytes.now ≤ room_limit }
         ensures lays { LaysPiece (control bytes.now) self.old self.new }
         ensures most { length self.new.bytes ≤ length self.old.bytes + length bytes.now }
     {
@@ -167,7 +168,7 @@ impl Room {
 
     /// Begins the text: SO brings the opcodes into GL, and DOMAIN makes the operands eight words and four words long.
     pub(crate) fn header(&mut self)
-        requires { length self.old.bytes + 3 ≤ 1024 }
+        requires { length self.old.bytes + 3 ≤ room_limit }
         ensures { LaysPiece (control header) self.old self.new }
     {
         self.control(&[0x0E, opcodes::DOMAIN, LENGTHS]);

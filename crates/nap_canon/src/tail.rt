@@ -1,6 +1,7 @@
 //! How the text so far ends.
 ghost use Rattle.std.specs.Prelude.{ℕ, ◌≡◌, ◌<◌, ◌≤◌, nat_le};
 ghost use Rattle.nap_canon.specs.Text.{gl_of, length_of, is_joined};
+ghost use Rattle.nap_canon.specs.Gathering.{room_limit};
 
 use nap_codes::GSet;
 use nap_reader::RUN_LIMIT;
@@ -36,7 +37,7 @@ impl Tail {
 
     /// Whether this many bytes of operands join the run: it is of the same opcode, and has room for them.
     pub(crate) fn joins(self, opcode: u8, count: usize) -> bool
-        requires few { count ≤ 1024 }
+        requires few { count ≤ room_limit }
         ensures { result ≡ is_joined self opcode count }
     {
         match self {

@@ -8,6 +8,7 @@ ghost use Rattle.nap_list.specs.State.{start, taking, Fits};
 ghost use Rattle.nap_canon.specs.Spelling.{onward_bytes, opcode, shape_bytes, shape, spelled};
 ghost use Rattle.nap_canon.specs.Text.{header, gl_of, begun_tail};
 ghost use Rattle.nap_canon.specs.Writing.{Puts, WritesBytes, WritesLaid, WritesPieces};
+ghost use Rattle.nap_canon.specs.Gathering.{room_limit};
 
 use crate::byte_sink::ByteSink;
 use crate::form::Form;
@@ -97,7 +98,7 @@ impl<T: ByteSink + Drop> Writer<T> {
     #[inline(never)]
     fn long_path(&mut self, code: u8, first: Point, others: &[Point]) -> Result<(), T::Fault>
         requires many { 100 ≤ length others.now }
-        requires space { length self.old.room.bytes + 810 ≤ 1024 }
+        requires space { length self.old.room.bytes + 810 ≤ room_limit }
         ensures { WritesLaid T.sent (opcode code (shape_bytes (first ∷ others.now))) self.old self.new result }
     {
         let (near, far) = others.split_at(NEAR);
@@ -109,7 +110,7 @@ impl<T: ByteSink + Drop> Writer<T> {
     /// Writes what was laid, and a shape by its opcode.
     #[inline(always)]
     fn path(&mut self, code: u8, first: Point, others: &[Point]) -> Result<(), T::Fault>
-        requires { length self.old.room.bytes + 810 ≤ 1024 }
+        requires { length self.old.room.bytes + 810 ≤ room_limit }
         ensures { WritesLaid T.sent (opcode code (shape_bytes (first ∷ others.now))) self.old self.new result }
     {
         if others.len() > NEAR {

@@ -5,6 +5,7 @@ ghost use Rattle.nap_canon.specs.declared.tail.Tail.TheVariants.{InRun};
 ghost use Rattle.nap_canon.specs.Batches.{behind_bytes, behind_tail, points_bytes, run_opening};
 ghost use Rattle.nap_canon.specs.Text.{run_behind};
 ghost use Rattle.nap_canon.specs.Writing.{LaysNext};
+ghost use Rattle.nap_canon.specs.Gathering.{piece_limit, room_limit};
 
 use crate::form::Form;
 use crate::parts::{item, part};
@@ -18,7 +19,7 @@ impl Room {
     pub(crate) fn next(&mut self, form: Form, state: &State, batch: &Batch, index: usize)
         requires some { index < length (listed batch.now) }
         requires stand { EachStands state.now (drop index (listed batch.now)) }
-        requires space { length self.old.bytes + 18 ≤ 1024 }
+        requires space { length self.old.bytes + piece_limit ≤ room_limit }
         ensures { LaysNext form state.now (drop index (listed batch.now)) self.old self.new }
     {
         match batch {
@@ -36,7 +37,7 @@ impl Room {
     /// Lays operands of points that join the run of this opcode, or open one.
     #[inline(always)]
     fn run(&mut self, opcode: u8, points: &[Point])
-        requires space { length self.old.bytes + 2 + 8 * length points.now ≤ 1024 }
+        requires space { length self.old.bytes + 2 + 8 * length points.now ≤ room_limit }
         ensures bytes { self.new.bytes ≡ self.old.bytes ++ (run_opening self.old.tail opcode (8 * length points.now) ++ points_bytes points.now) }
         ensures tail { self.new.tail ≡ InRun (run_behind self.old.tail opcode (8 * length points.now)) }
     {
@@ -48,7 +49,7 @@ impl Room {
     #[inline(always)]
     pub(crate) fn joined(&mut self, batch: &Batch, first: usize, count: usize)
         requires few { count + first ≤ length (listed batch.now) }
-        requires space { 0 < count → length self.old.bytes + 2 + 8 * count ≤ 1024 }
+        requires space { 0 < count → length self.old.bytes + 2 + 8 * count ≤ room_limit }
         ensures bytes { self.new.bytes ≡ self.old.bytes ++ behind_bytes self.old.tail batch.now first count }
         ensures tail { self.new.tail ≡ behind_tail self.old.tail batch.now count }
     {

@@ -5,6 +5,7 @@ ghost use Rattle.nap_values.specs.Spellings.{grb_bytes};
 ghost use Rattle.nap_canon.specs.Bring.{told, bring_colour, bring_text, bring};
 ghost use Rattle.nap_canon.specs.Spelling.{size_byte, flag_byte, opcode, command_piece};
 ghost use Rattle.nap_canon.specs.Writing.{LaysPiece, LaysCommands};
+ghost use Rattle.nap_canon.specs.Gathering.{piece_limit, room_limit};
 
 use crate::command::{
     Command, Flag, bring_colour, bring_flag, bring_given, bring_named, bring_pel, bring_pen,
@@ -48,7 +49,7 @@ impl Room {
     /// Lays SET COLOR.
     #[inline(always)]
     pub(super) fn set_color(&mut self, grb: Grb)
-        requires { length self.old.bytes + 10 ≤ 1024 }
+        requires { length self.old.bytes + 10 ≤ room_limit }
         ensures lays { LaysPiece (opcode 0x3C (grb_bytes grb)) self.old self.new }
         ensures most { length self.new.bytes ≤ length self.old.bytes + 10 }
     {
@@ -58,9 +59,9 @@ impl Room {
     /// Lays a command.
     #[inline(always)]
     fn command(&mut self, command: Command)
-        requires space { length self.old.bytes + 18 ≤ 1024 }
+        requires space { length self.old.bytes + piece_limit ≤ room_limit }
         ensures lays { LaysPiece (command_piece command) self.old self.new }
-        ensures most { length self.new.bytes ≤ length self.old.bytes + 18 }
+        ensures most { length self.new.bytes ≤ length self.old.bytes + piece_limit }
     {
         match command {
             Command::PointSet(point) => {
@@ -96,9 +97,9 @@ impl Room {
     #[tactic(auto, unfolding(crate::specs::Text::written, crate::specs::Text::tail_after))]
     #[inline(always)]
     fn tell(&mut self, command: Option<Command>)
-        requires space { length self.old.bytes + 18 ≤ 1024 }
+        requires space { length self.old.bytes + piece_limit ≤ room_limit }
         ensures lays { LaysCommands (told command) self.old self.new }
-        ensures most { length self.new.bytes ≤ length self.old.bytes + 18 }
+        ensures most { length self.new.bytes ≤ length self.old.bytes + piece_limit }
     {
         if let Some(command) = command {
             self.command(command);
@@ -108,7 +109,7 @@ impl Room {
     /// Lays the bring of a colour.
     #[inline(always)]
     pub(super) fn lead_colour(&mut self, old: &Drawing, colour: Colour)
-        requires space { length self.old.bytes + 36 ≤ 1024 }
+        requires space { length self.old.bytes + 36 ≤ room_limit }
         ensures lays { LaysCommands (bring_colour old.now.base old.now.colour (Some colour)) self.old self.new }
         ensures most { length self.new.bytes ≤ length self.old.bytes + 36 }
     {
@@ -120,7 +121,7 @@ impl Room {
     /// Lays the bring of a look of text.
     #[inline(never)]
     fn lead_look(&mut self, old: &TextLook, look: &TextLook)
-        requires space { length self.old.bytes + 108 ≤ 1024 }
+        requires space { length self.old.bytes + 108 ≤ room_limit }
         ensures lays { LaysCommands (bring_text old.now (Some look.now)) self.old self.new }
         ensures most { length self.new.bytes ≤ length self.old.bytes + 108 }
     {
@@ -135,7 +136,7 @@ impl Room {
     /// Lays the bring of a pel and a colour.
     #[inline(always)]
     fn lead_dot(&mut self, old: &Drawing, pel: Move, colour: Colour)
-        requires { length self.old.bytes + 54 ≤ 1024 }
+        requires { length self.old.bytes + 54 ≤ room_limit }
         ensures lays { LaysCommands (bring old.now (point_values pel colour)) self.old self.new }
         ensures most { length self.new.bytes ≤ length self.old.bytes + 54 }
     {
@@ -146,7 +147,7 @@ impl Room {
     /// Lays the bring of ink.
     #[inline(always)]
     pub(crate) fn lead_ink(&mut self, old: &Drawing, ink: &Ink)
-        requires { length self.old.bytes + 72 ≤ 1024 }
+        requires { length self.old.bytes + 72 ≤ room_limit }
         ensures lays { LaysCommands (bring old.now (ink_values ink.now)) self.old self.new }
         ensures most { length self.new.bytes ≤ length self.old.bytes + 72 }
     {
@@ -157,7 +158,7 @@ impl Room {
     /// Lays the bring of what text is drawn with.
     #[inline(always)]
     fn lead_hand(&mut self, old: &Drawing, hand: &Hand)
-        requires { length self.old.bytes + 162 ≤ 1024 }
+        requires { length self.old.bytes + 162 ≤ room_limit }
         ensures lays { LaysCommands (bring old.now (hand_values hand.now)) self.old self.new }
         ensures most { length self.new.bytes ≤ length self.old.bytes + 162 }
     {
@@ -170,7 +171,7 @@ impl Room {
     #[tactic(auto, unfolding(crate::specs::Text::written, crate::specs::Text::tail_after, crate::specs::Bring::bring, crate::specs::Bring::bring_pen, crate::specs::Bring::bring_pel, crate::specs::Bring::bring_colour, crate::specs::Bring::bring_texture, crate::specs::Bring::bring_text))]
     #[inline(always)]
     pub(crate) fn lead(&mut self, old: &Drawing, entry: &Entry)
-        requires { length self.old.bytes + 162 ≤ 1024 }
+        requires { length self.old.bytes + 162 ≤ room_limit }
         ensures lays { LaysCommands (bring old.now (held entry.now)) self.old self.new }
         ensures most { length self.new.bytes ≤ length self.old.bytes + 162 }
     {

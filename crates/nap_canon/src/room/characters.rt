@@ -2,6 +2,7 @@
 ghost use Rattle.std.specs.Prelude.{◌≤◌, ◌+◌, length};
 ghost use Rattle.nap_canon.specs.Spelling.{step_bytes, primary, char_piece, typed_piece, control};
 ghost use Rattle.nap_canon.specs.Writing.{LaysPiece};
+ghost use Rattle.nap_canon.specs.Gathering.{room_limit};
 
 use crate::room::Room;
 use nap_codes::{CharSet, TextStep, format_effector};
@@ -10,7 +11,7 @@ impl Room {
     /// Lays a code of the primary characters, behind SI where G0 isn't in GL.
     #[inline(always)]
     fn primary(&mut self, code: u8)
-        requires { length self.old.bytes + 2 ≤ 1024 }
+        requires { length self.old.bytes + 2 ≤ room_limit }
         ensures { LaysPiece (primary code) self.old self.new }
     {
         self.shift();
@@ -20,7 +21,7 @@ impl Room {
     /// A character: SS2 brings G2 and SS3 brings G3 for it alone, and a DRCS is G3 for that time.
     #[inline(always)]
     pub(super) fn character(&mut self, set: CharSet, code: u8)
-        requires { length self.old.bytes + 8 ≤ 1024 }
+        requires { length self.old.bytes + 8 ≤ room_limit }
         ensures { LaysPiece (char_piece set code) self.old self.new }
     {
         match set {
@@ -34,7 +35,7 @@ impl Room {
     /// A format effector.
     #[inline(always)]
     pub(crate) fn text_move(&mut self, step: TextStep)
-        requires { length self.old.bytes + 3 ≤ 1024 }
+        requires { length self.old.bytes + 3 ≤ room_limit }
         ensures { LaysPiece (control (step_bytes step)) self.old self.new }
     {
         match step {
@@ -51,7 +52,7 @@ impl Room {
     /// A byte of a text: the move that it is by itself, or else a character of the set.
     #[inline]
     pub(crate) fn typed(&mut self, set: CharSet, code: u8)
-        requires { length self.old.bytes + 8 ≤ 1024 }
+        requires { length self.old.bytes + 8 ≤ room_limit }
         ensures { LaysPiece (typed_piece set code) self.old self.new }
     {
         match format_effector(code) {

@@ -3,6 +3,7 @@ ghost use Rattle.std.specs.Prelude.{◌≡◌, ◌<◌, ◌≤◌, ◌+◌, ◌�
 ghost use Rattle.nap_values.specs.Spellings.{point_bytes};
 ghost use Rattle.nap_canon.specs.Spelling.{shape_bytes, opcode, stroke, line_piece, rect_piece};
 ghost use Rattle.nap_canon.specs.Writing.{LaysPiece, PathOf};
+ghost use Rattle.nap_canon.specs.Gathering.{piece_limit, room_limit};
 
 use crate::form::Form;
 use crate::room::{Room, opcodes};
@@ -45,7 +46,7 @@ impl Room {
     #[inline(always)]
     pub(crate) fn shape(&mut self, code: u8, first: Point, others: &[Point])
         requires few { length others.now ≤ 100 }
-        requires space { length self.old.bytes + 810 ≤ 1024 }
+        requires space { length self.old.bytes + 810 ≤ room_limit }
         ensures { LaysPiece (opcode code (shape_bytes (first ∷ others.now))) self.old self.new }
     {
         self.opened(code, &[], &put_point(first));
@@ -55,7 +56,7 @@ impl Room {
     /// A line, which in the second form goes on from the pen where it starts there.
     #[inline(always)]
     pub(crate) fn line(&mut self, form: Form, pen: Pen, from: Point, to: Point)
-        requires { length self.old.bytes + 18 ≤ 1024 }
+        requires { length self.old.bytes + piece_limit ≤ room_limit }
         ensures { LaysPiece (line_piece form pen from to) self.old self.new }
     {
         if form == Form::Two && pen == Pen::At(from) {
@@ -72,7 +73,7 @@ impl Room {
     /// A point.
     #[inline(always)]
     pub(crate) fn point(&mut self, form: Form, at: Point)
-        requires { length self.old.bytes + 10 ≤ 1024 }
+        requires { length self.old.bytes + 10 ≤ room_limit }
         ensures { LaysPiece (stroke form 0x26 (point_bytes at)) self.old self.new }
     {
         self.stroke(form, opcodes::POINT_ABS, &[], &put_point(at));
@@ -81,7 +82,7 @@ impl Room {
     /// A rectangle by its corners.
     #[inline(always)]
     pub(super) fn rect(&mut self, form: Form, filled: bool, from: Point, to: Point)
-        requires { length self.old.bytes + 18 ≤ 1024 }
+        requires { length self.old.bytes + piece_limit ≤ room_limit }
         ensures { LaysPiece (rect_piece form filled from to) self.old self.new }
     {
         let code = shape_opcode(opcodes::SET_RECT, filled);

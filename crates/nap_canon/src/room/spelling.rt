@@ -4,6 +4,7 @@ ghost use Rattle.nap_list.specs.Entry.{held};
 ghost use Rattle.nap_list.specs.State.{taking};
 ghost use Rattle.nap_canon.specs.Spelling.{word_byte, mask_byte, cursor_byte, area_bytes, domain_again, opcode, map_pieces, spelled};
 ghost use Rattle.nap_canon.specs.Writing.{Lays, LaysPiece, is_short};
+ghost use Rattle.nap_canon.specs.Gathering.{piece_limit, room_limit};
 
 use crate::form::Form;
 use crate::room::{LENGTHS, Room, opcodes, word_byte};
@@ -37,7 +38,7 @@ impl Room {
     /// SET COLOR at an address, which is brought where it isn't the colour.
     #[inline(always)]
     fn map(&mut self, old: &Drawing, addr: Addr, grb: Grb)
-        requires { length self.old.bytes + 46 ≤ 1024 }
+        requires { length self.old.bytes + 46 ≤ room_limit }
         ensures { Lays (map_pieces old.now addr grb) self.old self.new }
     {
         self.lead_colour(old, Colour::Front(addr));
@@ -47,7 +48,7 @@ impl Room {
     /// RESET with its words.
     #[inline(always)]
     fn reset_words(&mut self, first: Word, second: Word)
-        requires { length self.old.bytes + 4 ≤ 1024 }
+        requires { length self.old.bytes + 4 ≤ room_limit }
         ensures lays { LaysPiece (opcode 0x20 (word_byte first ∷ word_byte second ∷ [])) self.old self.new }
         ensures most { length self.new.bytes ≤ length self.old.bytes + 4 }
     {
@@ -58,7 +59,7 @@ impl Room {
     #[tactic(auto, unfolding(crate::specs::Text::written, crate::specs::Text::tail_after))]
     #[inline(always)]
     fn domain_again(&mut self, first: Word)
-        requires { length self.old.bytes + 3 ≤ 1024 }
+        requires { length self.old.bytes + 3 ≤ room_limit }
         ensures { Lays (domain_again first) self.old self.new }
     {
         if first.get() % 2 == 1 {
@@ -69,7 +70,7 @@ impl Room {
     /// RESET, and DOMAIN once more where that puts the lengths of operands back.
     #[inline(always)]
     fn reset(&mut self, first: Word, second: Word)
-        requires { length self.old.bytes + 7 ≤ 1024 }
+        requires { length self.old.bytes + 7 ≤ room_limit }
         ensures { Lays (opcode 0x20 (word_byte first ∷ word_byte second ∷ []) ∷ domain_again first) self.old self.new }
     {
         self.reset_words(first, second);
@@ -79,7 +80,7 @@ impl Room {
     /// FIELD with its area.
     #[inline(always)]
     fn field(&mut self, area: Area)
-        requires { length self.old.bytes + 18 ≤ 1024 }
+        requires { length self.old.bytes + piece_limit ≤ room_limit }
         ensures { LaysPiece (opcode 0x38 (area_bytes area)) self.old self.new }
     {
         match area {
@@ -95,7 +96,7 @@ impl Room {
     #[inline(always)]
     pub(crate) fn spelling(&mut self, form: Form, old: &Drawing, entry: &Entry)
         requires short { is_short entry.now ≡ true }
-        requires space { length self.old.bytes + 46 ≤ 1024 }
+        requires space { length self.old.bytes + 46 ≤ room_limit }
         ensures { Lays (spelled form (taking old.now (held entry.now)) entry.now) self.old self.new }
     {
         match entry {

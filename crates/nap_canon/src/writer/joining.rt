@@ -6,6 +6,7 @@ ghost use Rattle.nap_codes.specs.declared.code_set.GSet.TheVariants.{G0};
 ghost use Rattle.nap_canon.specs.Batches.{Joins, JoinsBehind, PointsJoin, TextJoins, entry_size, joined_bytes, joined_tail, opening, points_bytes, run_opening};
 ghost use Rattle.nap_canon.specs.Text.{gl_of, run_behind, to_primary};
 ghost use Rattle.nap_canon.specs.Writing.{PutsFront, WritesWhole};
+ghost use Rattle.nap_canon.specs.Gathering.{room_limit};
 
 use crate::byte_sink::ByteSink;
 use crate::form::Form;
@@ -103,7 +104,7 @@ impl<T: ByteSink + Drop> Writer<T> {
     fn joining_behind(&self, batch: &Batch, index: usize) -> usize
         requires some { index < length (listed batch.now) }
         ensures few { result + (index + 1) ≤ length (listed batch.now) }
-        ensures space { 0 < result → length self.now.room.bytes + 2 + 8 * result ≤ 1024 }
+        ensures space { 0 < result → length self.now.room.bytes + 2 + 8 * result ≤ room_limit }
         ensures joins { 0 < result → JoinsBehind self.now.form self.now.room.tail batch.now index result }
     {
         let rest = batch.len() - (index + 1);
