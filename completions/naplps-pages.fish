@@ -41,4 +41,4 @@ complete -c naplps-pages -n '__fish_seen_subcommand_from report' -l sketches -x 
 complete -c naplps-pages -n '__fish_seen_subcommand_from report' -l all -d 'A sketch of each page'
 complete -c naplps-pages -n '__fish_seen_subcommand_from serve' -l port -x -d 'The port of 127.0.0.1'
 complete -c naplps-pages -s h -l help -d 'Print help'
-complete -c naplps-pages -n __fish_use_subcommand -l version -d 'Print the version'
+complete -c naplps-pages -n __fish_use_subcommand -s V -l version -d 'Print the version'

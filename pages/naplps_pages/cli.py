@@ -9,12 +9,13 @@ import sys
 from types import FrameType
 from typing import Any, Callable, Dict, List, NoReturn, Optional
 
-from . import VERSION, answering, curing, explaining, showing
+from . import VERSION, answering, curing, explaining, showing, values
 from .ask import Program
 from .child import Limits
 from .collection import commands as collection
 from .collection import words as collection_words
 from .listing import MODEST
+from .names import shown
 from .output import TOOL, NotWritten, tell
 from .program import MOST_BUDGET, USUAL_BUDGET, NoProgram, find
 from .report import commands as reporting
@@ -40,7 +41,17 @@ EPILOG = ("No file is overwritten. Status: 0 all pages are accepted, 1 some are 
 
 
 class Parser(argparse.ArgumentParser):
-    """A parser that raises OSError where its help can't be printed, with each version of Python."""
+    """A parser that raises OSError where its help can't be printed, with each version of Python.
+
+    Words that it doesn't know are told with the usage of their command.
+    """
+
+    def parse_known_args(self, args: Any = None, namespace: Any = None) -> Any:
+        """What the words say; there is none that isn't known."""
+        given, unknown = super().parse_known_args(args, namespace)
+        if unknown:
+            self.error("unrecognized arguments: %s" % " ".join(map(shown, unknown)))
+        return given, unknown
 
     def _print_message(self, message: str, file: Any = None) -> None:
         if file is not None and file is sys.stdout:
@@ -54,12 +65,13 @@ def parser() -> argparse.ArgumentParser:
     """The words that are understood."""
     top = Parser(prog=TOOL, description="Files, pictures and reasons for NAPLPS pages.", allow_abbrev=False,
                  epilog="`%s COMMAND --help` describes one command. %s" % (TOOL, EPILOG))
-    top.add_argument("--version", action="version", version="%s %s" % (TOOL, VERSION))
+    top.add_argument("-V", "--version", action="version", version="%s %s" % (TOOL, VERSION))
     commands = top.add_subparsers(dest="command", metavar="COMMAND", required=True)
     for name, text in HELP.items():
         one = commands.add_parser(name, help=text, description=text[0].upper() + text[1:] + ".", epilog=EPILOG,
                                   allow_abbrev=False)
-        one.add_argument("pages", metavar="PAGE", nargs=1 if name == "explain" else "+",
+        one.set_defaults(parser=one)
+        one.add_argument("pages", metavar="PAGE", nargs=1 if name == "explain" else "+", type=values.name,
                          help="a file, PACK!MEMBER for a member of a pack, or - for standard input")
         _add_options(one, name)
     collection_words.add(commands, _add_budget, _add_seconds)
@@ -72,37 +84,24 @@ def _add_options(one: argparse.ArgumentParser, name: str) -> None:
         one.add_argument("--json", action="store_true", help="print JSON, an object on each line")
     where: Any = one.add_mutually_exclusive_group() if name == "look" else one
     if name in ("canon", "look", "cures"):
-        where.add_argument("--into", metavar="FOLDER", help="make a file for each page in this folder")
+        where.add_argument("--into", metavar="FOLDER", type=values.name,
+                           help="make a file for each page in this folder")
     if name == "look":
-        where.add_argument("--svg", metavar="FILE", help="write the sketch of one page to this file")
+        where.add_argument("--svg", metavar="FILE", type=values.name,
+                           help="write the sketch of one page to this file")
     _add_budget(one)
     _add_seconds(one)
 
 
 def _add_budget(one: argparse.ArgumentParser) -> None:
-    one.add_argument("--budget", metavar="N", type=_budget, default=USUAL_BUDGET,
-                     help="how many bytes of macro bodies a page may be charged; the default is %d" % USUAL_BUDGET)
+    one.add_argument("--budget", metavar="N", type=values.number(0, MOST_BUDGET), default=USUAL_BUDGET,
+                     help="how many bytes of macro bodies a page may be charged, from 0 to %d; the default is %d"
+                     % (MOST_BUDGET, USUAL_BUDGET))
 
 
 def _add_seconds(one: argparse.ArgumentParser) -> None:
-    one.add_argument("--seconds", metavar="N", type=_seconds, default=20.0,
+    one.add_argument("--seconds", metavar="N", type=values.seconds, default=20.0,
                      help="how many seconds the program may take for a page; the default is 20")
-
-
-def _budget(text: str) -> int:
-    if not text.isascii() or not text.isdigit() or int(text) > MOST_BUDGET:
-        raise argparse.ArgumentTypeError("a number from 0 to %d, not %r" % (MOST_BUDGET, text))
-    return int(text)
-
-
-def _seconds(text: str) -> float:
-    try:
-        seconds = float(text)
-    except ValueError:
-        seconds = 0.0
-    if not 0.01 <= seconds <= 1e6:
-        raise argparse.ArgumentTypeError("a number of seconds from 0.01, not %r" % text)
-    return seconds
 
 
 def _wrong(given: argparse.Namespace) -> str:
@@ -117,10 +116,19 @@ def _wrong(given: argparse.Namespace) -> str:
     return ""
 
 
+def _given(words: List[str]) -> argparse.Namespace:
+    """What the words say. Exits where they are wrong, or ask for help."""
+    given = parser().parse_args(words)
+    wrong = _wrong(given) if given.command in COMMANDS else ""
+    if wrong:
+        given.parser.error(wrong)
+    return given
+
+
 def main(words: List[str], command: str) -> int:
     """Runs the words; the status. `command` is the path of the command, beside which naplps may stand."""
     try:
-        given = parser().parse_args(words)
+        given = _given(words)
     except SystemExit as end:
         return WRONG_WORDS if end.code else 0
     except BrokenPipeError:
@@ -132,10 +140,6 @@ def main(words: List[str], command: str) -> int:
         return collection.run(given, command)
     if given.command in reporting.COMMANDS:
         return reporting.run(given, command)
-    wrong = _wrong(given)
-    if wrong:
-        tell(wrong)
-        return WRONG_WORDS
     limits = dataclasses.replace(Limits() if given.command in AT_LENGTH else MODEST, seconds=given.seconds)
     try:
         program = Program(find(command), given.budget, limits)

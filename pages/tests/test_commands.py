@@ -134,10 +134,41 @@ def test_a_sketch_is_put_into_a_file_that_isnt_there(run, tmp_path):
 @pytest.mark.parametrize("words", [
     [], ["nothing"], ["check"], ["check", "--jso", "x"], ["canon", "a", "b"], ["look", "a", "b"], ["explain", "a", "b"],
     ["look", "a", "--svg", "f", "--into", "d"], ["check", "a", "--budget", "67108865"], ["check", "a", "--budget", "x"],
-    ["check", "a", "--seconds", "0"], ["check", "-", "-"], ["look", "a", "b", "--svg", "f"]])
+    ["check", "a", "--seconds", "0"], ["check", "-", "-"], ["look", "a", "b", "--svg", "f"],
+    ["check", "a", "--frob"]])
 def test_wrong_words(run, words):
     said = run(words)
-    assert said.returncode == 2 and said.stdout == b"" and said.stderr
+    front = " ".join(["naplps-pages", *(word for word in words[:1] if word in COMMANDS)])
+    assert said.returncode == 2 and said.stdout == b""
+    assert said.stderr.decode().startswith("usage: %s " % front) and "\n%s: error: " % front in said.stderr.decode()
+
+
+@pytest.mark.parametrize("words", [
+    ["check", ""], ["text", "a", ""], ["canon", "a", "--into", ""], ["look", "a", "--svg", ""],
+    ["scan", "", "--into", "s"], ["scan", "a", "--into", ""], ["scan", "a", "--into", "s", "--on", ""],
+    ["merge", "", "s"], ["merge", "s", ""], ["equal", ""], ["equal", "s", ""], ["status", ""],
+    ["convert", "s", "--into", ""], ["report", "s", "--into", ""], ["serve", ""]])
+def test_an_empty_name_is_refused(run, tmp_path, words):
+    said = run(words, cwd=str(tmp_path))
+    assert said.returncode == 2 and said.stdout == b"" and said.stderr.endswith(b": the name is empty\n")
+    assert os.listdir(str(tmp_path)) == []
+
+
+@pytest.mark.parametrize("text", ["0", "23", "99", "-1", "Outside", "", "9" * 5000])
+def test_a_refusal_that_there_isnt(run, text):
+    said = run(["refused", "s", "--number=" + text])
+    assert said.returncode == 2 and said.stderr.endswith(b" 21 Memory, 22 Sink\n"), said.stderr
+    assert b"not %r: 1 EighthBit, 2 " % text in said.stderr
+
+
+@pytest.mark.parametrize("words, told", [
+    (["--budget", "many"], "a number from 0 to 67108864, not 'many'"),
+    (["--budget", "67108865"], "a number from 0 to 67108864, not '67108865'"),
+    (["--seconds", "1e7"], "a number of seconds from 0.01 to 1000000, not '1e7'"),
+    (["--seconds", "nan"], "a number of seconds from 0.01 to 1000000, not 'nan'")])
+def test_what_a_number_may_be_is_told(run, words, told):
+    said = run(["check", "a", *words])
+    assert said.returncode == 2 and said.stderr.decode().endswith("error: argument %s: %s\n" % (words[0], told))
 
 
 def test_help(run):
@@ -145,7 +176,8 @@ def test_help(run):
         said = run(words)
         assert said.returncode == 0 and said.stdout.startswith(b"usage: naplps-pages") and not said.stderr
     with open(os.path.join(TOP, "VERSION"), "rb") as version:
-        assert run(["--version"]).stdout == b"naplps-pages " + version.read()
+        wanted = b"naplps-pages " + version.read()
+    assert run(["--version"]).stdout == run(["-V"]).stdout == wanted
 
 
 @pytest.mark.parametrize("command", COMMANDS)

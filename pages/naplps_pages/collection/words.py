@@ -3,6 +3,7 @@ import argparse
 import os
 from typing import Any, Callable, Tuple
 
+from .. import values
 from ..source import MOST
 from .part import MOST_PARTS, Part, read_part
 from .printing import FORMS
@@ -34,10 +35,10 @@ def add(commands: "argparse._SubParsersAction[Any]", budget: Callable[[Parser], 
             _add_merge(one)
         else:
             if name == "equal":
-                one.add_argument("stores", metavar="STORE", nargs="+",
+                one.add_argument("stores", metavar="STORE", nargs="+", type=values.name,
                                  help="a file that `scan` made, or several, as those of the parts of a scan")
             else:
-                one.add_argument("store", metavar="STORE", help="a file that `scan` made")
+                one.add_argument("store", metavar="STORE", type=values.name, help="a file that `scan` made")
             _add_own(one, name)
             _add_forms(one, FORMS[1:] if name in ("equal", "refused") else FORMS[1:3])
         if name == "scan":
@@ -47,15 +48,16 @@ def add(commands: "argparse._SubParsersAction[Any]", budget: Callable[[Parser], 
 
 
 def _add_scan(one: Parser) -> None:
-    one.add_argument("folders", metavar="FOLDER", nargs="+",
+    one.add_argument("folders", metavar="FOLDER", nargs="+", type=values.name,
                      help="a folder of pages, or a pack of them: a tar, tar.gz or zip file")
-    one.add_argument("--into", metavar="STORE", required=True, help="the store: a file, which is made if there is none")
+    one.add_argument("--into", metavar="STORE", type=values.name, required=True,
+                     help="the store: a file, which is made if there is none")
     where = one.add_mutually_exclusive_group()
-    where.add_argument("--processes", metavar="N", type=_number(1, MOST_PROCESSES), default=_processors(),
+    where.add_argument("--processes", metavar="N", type=values.number(1, MOST_PROCESSES), default=_processors(),
                        help="how many processes work; by default one for each processor")
-    where.add_argument("--on", metavar="SCHEDULER",
+    where.add_argument("--on", metavar="SCHEDULER", type=values.name,
                        help="let the workers of Dask work; its scheduler, by its address or by its file")
-    one.add_argument("--most", metavar="BYTES", type=_number(0, 1 << 62), default=MOST,
+    one.add_argument("--most", metavar="BYTES", type=values.number(0, 1 << 62), default=MOST,
                      help="how many bytes a page may have; the default is %d" % MOST)
     one.add_argument("--part", metavar="K/N", type=_part,
                      help="take only one of N parts of the files, the first of which is 0/N")
@@ -64,20 +66,23 @@ def _add_scan(one: Parser) -> None:
 
 
 def _add_merge(one: Parser) -> None:
-    one.add_argument("into", metavar="INTO", help="the new store, a file that isn't there yet")
-    one.add_argument("parts", metavar="STORE", nargs="+", help="a file that `scan` made, which stays as it is")
+    one.add_argument("into", metavar="INTO", type=values.name, help="the new store, a file that isn't there yet")
+    one.add_argument("parts", metavar="STORE", nargs="+", type=values.name,
+                     help="a file that `scan` made, which stays as it is")
     one.add_argument("--unfinished", action="store_true",
                      help="join stores that aren't finished too, and parts of which others are missing")
 
 
 def _add_own(one: Parser, name: str) -> None:
     if name == "convert":
-        one.add_argument("--into", metavar="FOLDER", required=True, help="the folder, made if there is none")
+        one.add_argument("--into", metavar="FOLDER", type=values.name, required=True,
+                         help="the folder, made if there is none")
     elif name == "equal":
         one.add_argument("--copies", action="store_true", help="also print groups of files with the same bytes")
         one.add_argument("--verify", action="store_true", help="read all files again, and compare canonical bytes")
     elif name == "refused":
-        one.add_argument("--number", metavar="N", type=_number(1, 99), help="only the refusal with this number")
+        one.add_argument("--number", metavar="N", type=values.refusal,
+                         help="only the refusal with this number, as in `refused 10 Outside`")
 
 
 def _add_forms(one: Parser, forms: Tuple[str, ...]) -> None:
@@ -85,14 +90,6 @@ def _add_forms(one: Parser, forms: Tuple[str, ...]) -> None:
     for form in forms:
         some.add_argument("--" + form, dest="form", action="store_const", const=form, default="text",
                           help=FORM_HELP[form])
-
-
-def _number(least: int, most: int) -> Callable[[str], int]:
-    def number(text: str) -> int:
-        if not text.isascii() or not text.isdigit() or len(text) > 19 or not least <= int(text) <= most:
-            raise argparse.ArgumentTypeError("a number from %d to %d, not %r" % (least, most, text))
-        return int(text)
-    return number
 
 
 def _part(text: str) -> Part:
