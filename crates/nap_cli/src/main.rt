@@ -3,6 +3,7 @@
 
 mod program;
 mod words;
+mod wrong;
 
 use nap_list::{Source, Target};
 pub use program::run;

@@ -5,7 +5,8 @@ ghost use Rattle.nap_command.specs.Devices.{devices};
 ghost use Rattle.nap_cli.specs.Explaining.{Explains, outputs};
 ghost use Rattle.nap_cli.specs.CommandLine.{Answers};
 
-use crate::words::{Job, parse, text_of};
+use crate::words::{Job, parse};
+use crate::wrong::text_of;
 use clap::Error;
 use clap::error::ErrorKind;
 use nap_batch::batch;

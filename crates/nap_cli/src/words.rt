@@ -33,20 +33,19 @@ const VERSION: &str = "0.2.0, canonical form 2";
 
 const USAGE: &str = "naplps COMMAND [OPTIONS] < PAGE";
 
-/// Behind what clap says, where a word may be meant for the file of a page.
-const HINT: &str = "A page is read from standard input: naplps check < FILE\n";
-
 const ABOUT: &str = "Reads NAPLPS pages and rewrites them in one canonical spelling.
 
-A page is read from standard input, as bytes or as hexadecimal text; without '< PAGE' or a pipe the program waits for one
-to be typed. What comes of it goes to standard output, and what goes wrong to standard error; 'check' prints a refusal
-as its answer.";
+A page is read from standard input, as bytes or as hexadecimal text; without '< PAGE' or a pipe
+the program waits for one to be typed. What comes of it goes to standard output, and what goes wrong
+to standard error; 'check' prints a refusal as its answer.";
 
 const STATUSES: &str = "Statuses:
   0  accepted
-  1  refused, as 'refused 10 Outside at 5': the number and the name of the fault, and the place of the byte, from 0.
+  1  refused, as 'refused 10 Outside at 5': the number and the name of the fault,
+     and the place of the byte, from 0.
   2  a wrong command line
-  3  a fault of reading or writing, bad hexadecimal text, or no memory outside the reading of the page
+  3  a fault of reading or writing, bad hexadecimal text,
+     or no memory outside the reading of the page
 
 Example:
   echo '0E 26 52 40 40' | naplps list --hex
@@ -85,9 +84,9 @@ const CANON_HELP: &str =
     "Prints the page's canonical stream: two pages draw the same acts exactly if these are equal";
 
 const CANON_EXAMPLE: &str =
-    "With --hex the canonical stream is printed as lower-case digits. A refused page prints nothing; standard error says why.
-With --stream, which goes without --hex, a refused page prints the canonical text of what comes before the refusal.
-Statuses are those of 'naplps --help'.
+    "With --hex the canonical stream is printed as lower-case digits. A refused page prints nothing;
+standard error says why. With --stream, which goes without --hex, a refused page prints the
+canonical text of what comes before the refusal. Statuses are those of 'naplps --help'.
 
 Example:
   echo '0E 26 52 40 40' | naplps canon --hex
@@ -99,8 +98,10 @@ const BATCH_USAGE: &str = "naplps batch < REQUESTS";
 const BATCH_HELP: &str = "Answers requests, one after another: many pages through one process";
 
 const BATCH_EXAMPLE: &str =
-    "A request is a line 'COMMAND BUDGET LENGTH' and then LENGTH bytes, the page. COMMAND is check, list, canon or places.
-An answer is the line of 'check', a line with a number, and so many bytes. The manual page has all of it.
+    "A request is a line 'COMMAND BUDGET LENGTH' and then LENGTH bytes, the page.
+COMMAND is check, list, canon or places.
+An answer is the line of 'check', a line with a number, and so many bytes.
+The manual page has all of it.
 The status is 0 where the input ends between two requests, else 3.
 
 Example:
@@ -132,7 +133,7 @@ impl BudgetTexts {
         Ok(BudgetTexts {
             usual: Budget::USUAL.to_string(alloc)?,
             help: format!(in alloc;
-                "How many bytes of macro bodies the page may be charged with, from 0 to {}",
+                "How many bytes of macro bodies the page may be charged with,\nfrom 0 to {}",
                 Budget::MOST
             )?,
         })
@@ -177,9 +178,7 @@ fn canon_command<'a>(alloc: Global, texts: &'a BudgetTexts) -> Result<clap::Comm
     let stream = Arg::new(alloc, STREAM)
         .long(STREAM)
         .action(ArgAction::SetTrue)
-        .help(
-            "Prints while it reads, and keeps no entry, so its memory doesn't grow with the page",
-        );
+        .help("Prints while it reads, and keeps no entry, so memory doesn't grow with the page");
     subcommand(alloc, texts, CANON, CANON_USAGE, CANON_HELP, CANON_EXAMPLE)?.arg(stream)
 }
 
@@ -233,29 +232,6 @@ pub fn parse(alloc: Global, words: &[String]) -> Result<Job, Error>
         Some(job) => Ok(job),
         None => Err(no_command(&mut program)),
     }
-}
-
-/// Whether a word may be meant for the file of a page: clap found one too many, and one is neither the first nor an option.
-fn names_file(words: &[String], kind: ErrorKind) -> bool {
-    match kind {
-        ErrorKind::InvalidSubcommand => true,
-        ErrorKind::UnknownArgument => {
-            words
-                .iter()
-                .skip(1)
-                .any(|word| !word.as_str().starts_with('-'))
-        }
-        _ => false,
-    }
-}
-
-/// What clap says of these words, with a hint after it if a word may be meant for a file.
-pub fn text_of(alloc: Global, words: &[String], error: &Error) -> Result<String, AllocError> {
-    let mut text = error.to_string(alloc)?;
-    if names_file(words, error.kind()) {
-        text.push_str(HINT)?;
-    }
-    Ok(text)
 }
 
 /// The job of this name with these options. clap has checked them, so that there is one.
