@@ -22,38 +22,41 @@ mod spelling;
 
 pub(crate) use figures::{Path, path_of, shape_opcode};
 
+/// The bytes of the opcodes that a canonical text has.
 pub(crate) mod opcodes {
-    pub(crate) const RESET: u8 = 0x20;
+    use nap_codes::{FIRST_OPCODE, Opcode};
 
-    pub(crate) const DOMAIN: u8 = 0x21;
+    pub(crate) const RESET: u8 = FIRST_OPCODE + Opcode::Reset as u8;
 
-    pub(crate) const TEXT: u8 = 0x22;
+    pub(crate) const DOMAIN: u8 = FIRST_OPCODE + Opcode::Domain as u8;
 
-    pub(crate) const TEXTURE: u8 = 0x23;
+    pub(crate) const TEXT: u8 = FIRST_OPCODE + Opcode::Text as u8;
 
-    pub(crate) const POINT_SET_ABS: u8 = 0x24;
+    pub(crate) const TEXTURE: u8 = FIRST_OPCODE + Opcode::Texture as u8;
 
-    pub(crate) const POINT_ABS: u8 = 0x26;
+    pub(crate) const POINT_SET_ABS: u8 = FIRST_OPCODE + Opcode::PointSetAbs as u8;
 
-    pub(crate) const LINE_ABS: u8 = 0x28;
+    pub(crate) const POINT_ABS: u8 = FIRST_OPCODE + Opcode::PointAbs as u8;
 
-    pub(crate) const SET_LINE_ABS: u8 = 0x2A;
+    pub(crate) const LINE_ABS: u8 = FIRST_OPCODE + Opcode::LineAbs as u8;
 
-    pub(crate) const SET_ARC: u8 = 0x2E;
+    pub(crate) const SET_LINE_ABS: u8 = FIRST_OPCODE + Opcode::SetLineAbs as u8;
 
-    pub(crate) const SET_RECT: u8 = 0x32;
+    pub(crate) const SET_ARC: u8 = FIRST_OPCODE + Opcode::SetArcOutlined as u8;
 
-    pub(crate) const SET_POLY: u8 = 0x36;
+    pub(crate) const SET_RECT: u8 = FIRST_OPCODE + Opcode::SetRectOutlined as u8;
 
-    pub(crate) const FIELD: u8 = 0x38;
+    pub(crate) const SET_POLY: u8 = FIRST_OPCODE + Opcode::SetPolyOutlined as u8;
 
-    pub(crate) const SET_COLOR: u8 = 0x3C;
+    pub(crate) const FIELD: u8 = FIRST_OPCODE + Opcode::Field as u8;
 
-    pub(crate) const WAIT: u8 = 0x3D;
+    pub(crate) const SET_COLOR: u8 = FIRST_OPCODE + Opcode::SetColor as u8;
 
-    pub(crate) const SELECT_COLOR: u8 = 0x3E;
+    pub(crate) const WAIT: u8 = FIRST_OPCODE + Opcode::Wait as u8;
 
-    pub(crate) const BLINK: u8 = 0x3F;
+    pub(crate) const SELECT_COLOR: u8 = FIRST_OPCODE + Opcode::SelectColor as u8;
+
+    pub(crate) const BLINK: u8 = FIRST_OPCODE + Opcode::Blink as u8;
 }
 
 /// The operand of DOMAIN: eight words and four words.

@@ -12,4 +12,4 @@ pub use code::{Code, CodeFault, Step};
 pub use code_set::{CharSet, CodeSet, CodeSets, GSet, designate};
 pub use control::{CursorKind, Mask, Row, Size, TextStep, control0, control1, format_effector};
 pub use lexer::Lexer;
-pub use opcode::{Left, Opcode, opcode_of};
+pub use opcode::{FIRST_OPCODE, Left, Opcode, opcode_of};

@@ -5,6 +5,9 @@ ghost use Rattle.nap_codes.specs.Tables.{left_out_opcode, opcode_rows, row_of};
 
 use std::fmt;
 
+/// The byte of the first opcode of the PDI set. The others follow in their order, each one byte further.
+pub const FIRST_OPCODE: u8 = 0x20;
+
 /// An opcode of the PDI set, by its name in the standard.
 #[derive(Clone, Copy, PartialEq, Eq, Debug, Drop)]
 pub enum Opcode {

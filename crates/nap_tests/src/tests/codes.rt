@@ -1,7 +1,7 @@
 //! A lexer behind a fault, the texts of faults, and the ends of the tables.
 use nap_codes::{
-    Code, CodeFault, CodeSet, Left, Lexer, Opcode, Row, Step, control0, control1, designate,
-    opcode_of,
+    Code, CodeFault, CodeSet, FIRST_OPCODE, Left, Lexer, Opcode, Row, Step, control0, control1,
+    designate, opcode_of,
 };
 use std::test::Fail;
 
@@ -46,4 +46,15 @@ fn tables_end_where_the_standard_does(rt: HostRuntime) {
         designate(0x2D, 0x41) == None,
     ];
     assert!(rt; answers == [true; 8]);
+}
+
+#[test]
+fn opcodes_follow_in_their_order(rt: HostRuntime) {
+    for byte in 0x20..0x40 {
+        let follows = match opcode_of(byte) {
+            Some(op) => FIRST_OPCODE.wrapping_add(op as u8) == byte,
+            None => false,
+        };
+        assert!(rt; follows, "{byte}");
+    }
 }
