@@ -14,6 +14,7 @@ from naplps_pages.packs.naming import inside
 from packers import pack
 from samples import POINT
 from scans import FAKE, count, is_sound, rows, start, statuses, table, tree, wait_until
+from test_interpreter import hostile_folder
 from test_scan_same import mixed
 
 PYTHON = "/usr/bin/python3"
@@ -30,16 +31,17 @@ class Cluster:
         self.scheduler = self._start("distributed.cli.dask_scheduler", "--port", "0", "--scheduler-file", self.file)
         wait_until(lambda: os.path.exists(self.file) and os.path.getsize(self.file), self.scheduler)
 
-    def worker(self, **more):
+    def worker(self, cwd=None, **more):
         """Starts a worker."""
-        return self._start(*WORKER, "--scheduler-file", self.file, "--local-directory", self.folder, **more)
+        return self._start(*WORKER, "--scheduler-file", self.file, "--local-directory", self.folder, cwd=cwd, **more)
 
-    def _start(self, module, *words, **more):
+    def _start(self, module, *words, cwd=None, **more):
         env = dict(os.environ, DASK_DISTRIBUTED__WORKER__PROFILE__INTERVAL="10s",
                    DASK_DISTRIBUTED__SCHEDULER__ALLOWED_FAILURES="9", **more)
         with open(os.path.join(self.folder, "log"), "ab") as log:
-            process = subprocess.Popen([PYTHON, "-m", module, "--host", "127.0.0.1", "--no-dashboard", *words], env=env,
-                                       stdin=subprocess.DEVNULL, stdout=log, stderr=log, cwd=self.folder)
+            process = subprocess.Popen(
+                [PYTHON, "-I", "-m", module, "--host", "127.0.0.1", "--no-dashboard", *words], env=env,
+                stdin=subprocess.DEVNULL, stdout=log, stderr=log, cwd=cwd or self.folder)
         self.processes.append(process)
         return process
 
@@ -80,6 +82,13 @@ def plain(run, top, store, **more):
     said = run(["scan", top, "--into", store + ".plain", "--cures"], **more)
     assert said.returncode == 0
     return table(store + ".plain")
+
+
+def test_no_code_of_the_current_folder_of_a_worker_runs(run, tmp_path, store, cluster):
+    folder, ran = hostile_folder(tmp_path)
+    cluster.worker(cwd=folder)
+    said = run(["scan", folder, "--into", store, "--on", cluster.file, "--cures"], cwd=folder)
+    assert said.returncode == 0 and not os.path.exists(ran), (said, open(ran).read())
 
 
 def slow(fake, seconds):

@@ -7,7 +7,7 @@ import subprocess
 
 import pytest
 
-from conftest import COMMAND
+from conftest import COMMAND, PAGES
 from naplps_pages.collection import tables
 from naplps_pages.collection.lock import Lock, is_held
 from naplps_pages.collection.pool import NoWorkers, Pool
@@ -89,11 +89,11 @@ def main(descriptor):
 """
 
 
-def test_workers_that_fail(tmp_path, monkeypatch):
+def test_workers_that_fail(tmp_path):
     tree(tmp_path, {"odd_worker.py": WORKER.encode("ascii"), "no_worker.py": b"import nothing_that_there_is"})
-    monkeypatch.setenv("PYTHONPATH", str(tmp_path))
+    os.symlink(os.path.join(PAGES, "naplps_pages"), os.path.join(str(tmp_path), "naplps_pages"))
     names = tuple(sorted([b"%03d" % number for number in range(300)] + [b"150 and more", b"hangs", b"fails", b"dies"]))
-    pool = Pool(2, (), 1.0, "odd_worker")
+    pool = Pool(2, (), 1.0, "odd_worker", str(tmp_path))
     try:
         chunks = [((1, b"/x", names[at:at + 50]),) for at in range(0, len(names), 50)]
         found = [file for piece in pool.run(iter(chunks)) if piece for file in piece[0]]
@@ -104,7 +104,7 @@ def test_workers_that_fail(tmp_path, monkeypatch):
         b"hangs": "the worker that looked at it hung",
         b"fails": "the worker that looked at it failed: MemoryError",
         b"dies": "the worker that looked at it ended with status 7"}
-    pool = Pool(2, (), 600.0, "no_worker")
+    pool = Pool(2, (), 600.0, "no_worker", str(tmp_path))
     with pytest.raises(NoWorkers, match="workers can't be started: .* ended with status 1"):
         list(pool.run(iter([((1, b"/x", (b"a",)),)] * 9)))
     pool.close()

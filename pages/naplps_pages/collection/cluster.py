@@ -12,16 +12,16 @@ from collections import deque
 from queue import Empty, SimpleQueue
 from typing import Any, Deque, Dict, Iterator, List, Optional, Set, cast
 
+from ..interpreter import interpreter
 from ..names import shown
 from ..output import tell
 from .folders import reason
-from .pool import PACKAGE, count, ending, halves, next_of
+from .pool import count, ending, halves, next_of
 from .remote import Alike, Done, Given
 from .tables import UNREADABLE, Chunk, File, Piece
 from .work import How
 
-START = "import sys; sys.path.insert(0, sys.argv[1]); from naplps_pages.collection.remote import main; main()"
-WORDS = [sys.executable, "-c", START, PACKAGE]
+WORDS = interpreter("naplps_pages.collection.remote")
 # So many chunks are out at a time; so many files and bytes of names are one.
 MOST_OUT = 64
 MOST_FILES, MOST_NAMES = 2000, 256 << 10

@@ -1,21 +1,18 @@
 """Workers as processes of this machine. One that ends or hangs is replaced, and costs one file its row at most."""
-import os
 import signal
 import socket
 import subprocess
-import sys
 import time
 from collections import deque
 from multiprocessing.connection import Connection, wait
 from typing import Deque, Iterator, List, Optional, Sequence, Set, Tuple, cast
 
+from .. import interpreter
 from ..packs.naming import pack_of
 from .tables import UNREADABLE, Chunk, File, Piece
 from .work import MOST_AHEAD
 from .worker import ALIVE, DONE, FAILED
 
-PACKAGE = os.path.dirname(os.path.dirname(os.path.dirname(os.path.abspath(__file__))))
-START = "import sys; sys.path.insert(0, sys.argv[1]); from %s import main; main(int(sys.argv[2]))"
 MAIN = "naplps_pages.collection.worker"
 # A worker has so many chunks at a time, so that it needn't wait for the next. They fit into the buffer of its socket,
 # so nobody waits to be read while he waits to be read himself.
@@ -33,15 +30,13 @@ class NoWorkers(Exception):
 class Hand:
     """One worker, and the chunks that it has."""
 
-    def __init__(self, first: Sequence[object], module: str) -> None:
+    def __init__(self, first: Sequence[object], module: str, folder: str) -> None:
         ours, theirs = socket.socketpair()
         for each in (ours, theirs):
             each.setsockopt(socket.SOL_SOCKET, socket.SO_SNDBUF, BUFFER)
             each.setsockopt(socket.SOL_SOCKET, socket.SO_RCVBUF, BUFFER)
         with theirs:
-            self.process = subprocess.Popen(
-                [sys.executable, "-c", START % module, PACKAGE, str(theirs.fileno())], pass_fds=[theirs.fileno()],
-                stdin=subprocess.DEVNULL, stdout=subprocess.DEVNULL, stderr=subprocess.DEVNULL, start_new_session=True)
+            self.process = interpreter.start(module, theirs.fileno(), folder)
         self.connection = Connection(ours.detach())
         self.chunks: Deque[Chunk] = deque()
         self.reported = 0
@@ -104,10 +99,11 @@ class Hand:
 
 
 class Pool:
-    """A number of workers. `first` is what each is told, `patience` how long one may be silent."""
+    """A number of workers. `first` is what each is told, `patience` how long one may be silent, `module` its module."""
 
-    def __init__(self, number: int, first: Sequence[object], patience: float, module: str = MAIN) -> None:
-        self.number, self.first, self.patience, self.module = number, first, patience, module
+    def __init__(self, number: int, first: Sequence[object], patience: float, module: str = MAIN,
+                 folder: str = interpreter.FOLDER) -> None:
+        self.number, self.first, self.patience, self.module, self.folder = number, first, patience, module, folder
         self.hands: List[Hand] = []
         self.again: Deque[Chunk] = deque()
         self.suspects: Set[Chunk] = set()
@@ -145,7 +141,7 @@ class Pool:
         """Gives a chunk to the worker that has the fewest, of those that have room."""
         least = min(filter(Hand.has_room, self.hands), key=lambda hand: len(hand.chunks), default=None)
         if least is None or (least.chunks and len(self.hands) < self.number):
-            least = Hand(self.first, self.module)
+            least = Hand(self.first, self.module, self.folder)
             self.hands.append(least)
         try:
             least.give(chunk)

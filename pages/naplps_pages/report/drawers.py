@@ -1,19 +1,17 @@
 """Draws many pages by several processes."""
 import resource
 import signal
-import subprocess
 import sys
 from dataclasses import replace
 from multiprocessing.connection import Connection, Pipe, wait
 from types import FrameType
 from typing import Iterator, List, NamedTuple, Optional, Sequence, Tuple
 
+from .. import interpreter
 from ..ask import Program
-from ..collection.pool import PACKAGE
 from ..listing import MODEST
 from .drawing import Drawing, Most, Wanted, draw
 
-START = "import sys; sys.path.insert(0, sys.argv[1]); from naplps_pages.report.drawers import work; work(%d)"
 # A process that draws needs less memory than this.
 MOST_MEMORY = 1 << 30
 ENDED = "the process that drew it ended"
@@ -37,9 +35,7 @@ class Drawer:
         self.tasks = list(reversed(tasks))
         self.connection, theirs = Pipe()
         with theirs:
-            self.process = subprocess.Popen(
-                [sys.executable, "-c", START % theirs.fileno(), PACKAGE], pass_fds=[theirs.fileno()],
-                stdin=subprocess.DEVNULL, stdout=subprocess.DEVNULL, stderr=subprocess.DEVNULL, start_new_session=True)
+            self.process = interpreter.start(__name__, theirs.fileno())
         try:
             self.connection.send((how, list(tasks)))
         except OSError:
@@ -91,7 +87,7 @@ def drawn(how: How, tasks: Sequence[Task], processes: int) -> Iterator[Tuple[int
             drawer.close()
 
 
-def work(descriptor: int) -> None:
+def main(descriptor: int) -> None:
     """Draws what the connection asks for, until it is done."""
     signal.signal(signal.SIGTERM, _end)
     resource.setrlimit(resource.RLIMIT_AS, (MOST_MEMORY, resource.getrlimit(resource.RLIMIT_AS)[1]))
