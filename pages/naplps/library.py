@@ -1,5 +1,6 @@
 """Asks the library libnaplps.so.0 by ctypes. A call releases the interpreter's lock, and has a room of its own."""
 import ctypes
+import threading
 import weakref
 from typing import Any, Callable, Optional, Tuple
 
@@ -88,9 +89,9 @@ class Library:
         lent, length = _lent(page)
         return bool(self._is_plain(lent, length))
 
-    def begin(self, budget: int) -> "LibraryPieces":
-        """A page that comes in pieces. Raises NoMemory."""
-        return LibraryPieces(self, budget)
+    def begin(self, budget: int, lock: threading.Lock) -> "LibraryPieces":
+        """A page that comes in pieces, whose methods are called with the lock held. Raises NoMemory."""
+        return LibraryPieces(self, budget, lock)
 
     def _told(self, answer: Answer, entries: int, text: bytes) -> Told:
         if answer.status == ACCEPTED:
@@ -114,12 +115,15 @@ class Library:
 
 
 class LibraryPieces:
-    """A page that comes in pieces, of which the library keeps what it needs. It is given up where nothing names it."""
+    """A page that comes in pieces, of which the library keeps what it needs. It is given up where nothing names it.
 
-    def __init__(self, library: Library, budget: int) -> None:
+    It isn't at the end of the process, when a thread may be in it yet.
+    """
+
+    def __init__(self, library: Library, budget: int, lock: threading.Lock) -> None:
         self._library, self._checking = library, Checking()
         library._told(library._begin(self._checking, budget), 0, b"")
-        weakref.finalize(self, library._drop, self._checking)
+        weakref.finalize(self, _drop, library._drop, self._checking, lock).atexit = False
 
     def feed(self, piece: Data) -> Told:
         """Takes the next piece, and tells whether the page is refused so far. Raises NoMemory."""
@@ -129,3 +133,9 @@ class LibraryPieces:
         """What comes of all pieces. Raises NoMemory."""
         answer: Answer = self._library._finish(self._checking)
         return self._library._told(answer, answer.length, b"")
+
+
+def _drop(drop: Callable[[Checking], None], checking: Checking, lock: threading.Lock) -> None:
+    """Gives a page up. One that another thread was in when this process was forked is no whole one, and stays."""
+    if lock.acquire(blocking=False):
+        drop(checking)

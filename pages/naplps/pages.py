@@ -1,5 +1,6 @@
 """What is asked of a page, and what comes of it."""
 import operator
+import threading
 from typing import NamedTuple, Optional, Protocol, Union
 
 from naplps_pages.program import MOST_BUDGET
@@ -49,8 +50,8 @@ class Teller(Protocol):
         """Whether a page is plain. Raises NeedsLibrary."""
         ...
 
-    def begin(self, budget: int) -> Pieces:
-        """A page that comes in pieces, and is checked. Raises NoMemory."""
+    def begin(self, budget: int, lock: threading.Lock) -> Pieces:
+        """A page that comes in pieces, and is checked. Whoever calls its methods holds the lock. Raises NoMemory."""
         ...
 
 

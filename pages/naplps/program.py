@@ -45,7 +45,7 @@ class Program:
         """Raises NeedsLibrary."""
         raise self._needs_library("is_plain")
 
-    def begin(self, budget: int) -> "ProgramPieces":
+    def begin(self, budget: int, lock: threading.Lock) -> "ProgramPieces":
         """A page that comes in pieces."""
         return ProgramPieces(self, budget)
 
