@@ -137,8 +137,8 @@ def _reasons(page: Page, answer: Refused) -> Iterator[str]:
     known = load()[answer.number]
     yield ""
     tries = "`naplps-pages cures` tries %s." % ", ".join(known.treatments) if known.treatments else ""
-    for about, text in (("What it means", known.means), ("Seen in", known.seen_in), ("What can be done", known.do),
-                        ("Treatments", tries)):
+    for about, text in (("What it means", known.means), ("It may come from", known.causes),
+                        ("What can be done", known.do), ("Treatments", tries)):
         if text:
             yield from wrap("%s: %s" % (about, text), 78, subsequent_indent="    ", break_on_hyphens=False)
 

@@ -13,7 +13,7 @@ class Refusal:
     number: int
     name: str
     means: str
-    seen_in: str
+    causes: str
     do: str
     treatments: Tuple[str, ...]
 
@@ -28,5 +28,5 @@ def _refusal(block: str) -> Refusal:
     first, *rest = block.replace("\n  ", " ").split("\n")
     number, name = first.split(" ")
     fields = dict(line.split(": ", 1) for line in rest)
-    return Refusal(int(number), name, fields["means"], fields["seen in"], fields.get("do", ""),
+    return Refusal(int(number), name, fields["means"], fields["may come from"], fields.get("do", ""),
                    tuple(fields.get("treatments", "").split()))

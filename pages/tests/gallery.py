@@ -1,4 +1,4 @@
-"""The pages of examples/gallery, as an archive would know them. Run by itself it writes them into a folder."""
+"""The pages of examples/gallery, which were made here. Run by itself it writes them into a folder."""
 import math
 import os
 import sys

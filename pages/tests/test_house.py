@@ -124,7 +124,7 @@ def test_the_manual_page_says_of_refusals_what_the_tool_says():
     known = refusals.load()
     assert set(told) == set(known) == set(range(1, 23))
     for number, each in known.items():
-        text = " ".join(part for part in (each.means, "Seen in " + each.seen_in, each.do) if part)
+        text = " ".join(part for part in (each.means, "May come from " + each.causes, each.do) if part)
         if each.treatments:
             text += " naplps-pages cures tries: %s." % ", ".join(each.treatments)
         assert told[number] == (each.name, text)

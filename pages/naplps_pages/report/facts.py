@@ -77,5 +77,5 @@ def _means(known: Dict[int, refusals.Refusal], number: int, left_out: str) -> st
 
 def told_refusals() -> Dict[int, Dict[str, str]]:
     """What is said of refusals, by their numbers."""
-    return {number: {"means": each.means, "seen": each.seen_in, "do": each.do}
+    return {number: {"means": each.means, "causes": each.causes, "do": each.do}
             for number, each in refusals.load().items()}

@@ -96,7 +96,7 @@ class Report {
   reasons(file) {
     const refusal = file.refusal;
     const treatments = file.cure === null ? "" : file.cure ? "readable by " + file.cure : "none makes it readable";
-    return [make("h3", {}, "Why it is refused"), facts([["It means", refusal.means], ["Seen in", refusal.seen],
+    return [make("h3", {}, "Why it is refused"), facts([["It means", refusal.means], ["It may come from", refusal.causes],
       ["What to do", refusal.do], ["Treatments", treatments]])];
   }
 
