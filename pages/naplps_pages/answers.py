@@ -3,8 +3,9 @@ import re
 from dataclasses import dataclass
 from typing import Optional, Union
 
-ACCEPTED = re.compile(rb"accepted (0|[1-9][0-9]{0,18}) entries")
-REFUSED = re.compile(rb"refused ([1-9][0-9]?) ([A-Za-z]+)(?: ([A-Z0-9-]+))? at (0|[1-9][0-9]{0,18})")
+# (Numbers of 18 digits are kept in a store.)
+ACCEPTED = re.compile(rb"accepted (0|[1-9][0-9]{0,17}) entries")
+REFUSED = re.compile(rb"refused ([1-9][0-9]?) ([A-Za-z]+)(?: ([A-Z0-9-]+))? at (0|[1-9][0-9]{0,17})")
 NO_MEMORY = "the program had no memory for it"
 # Refusals that say nothing of the page.
 MEMORY = 21

@@ -21,6 +21,7 @@ from .program import MOST_BUDGET, USUAL_BUDGET, NoProgram, find
 from .report import commands as reporting
 from .report import words as report_words
 from .session import FAILED, WRONG_WORDS, Session
+from .unexpected import told
 
 COMMANDS: Dict[str, Callable[[Session], int]] = {
     "check": answering.check, "list": answering.list_entries, "canon": answering.canon, "explain": explaining.explain,
@@ -136,6 +137,17 @@ def main(words: List[str], command: str) -> int:
     except OSError as error:  # of the help, which it prints
         tell("standard output: %s" % error.strerror)
         return FAILED
+    try:
+        return _done(given, command)
+    except BrokenPipeError:
+        raise
+    except Exception as error:  # pylint: disable=broad-except
+        tell(told(error))
+        return FAILED
+
+
+def _done(given: argparse.Namespace, command: str) -> int:
+    """Does what was asked for; the status."""
     if given.command in collection.COMMANDS:
         return collection.run(given, command)
     if given.command in reporting.COMMANDS:

@@ -10,6 +10,8 @@ from .source import Page
 
 # Above so many entries none is asked.
 MOST_LISTED = 200_000
+# A number has so many digits at most.
+MOST_DIGITS = 18
 # What the program may take for entries that are to be shown.
 MODEST = Limits(memory=256 << 20, answer=64 << 20)
 # The place of the byte with which an entry came, where that is known, and the entry's line.
@@ -60,7 +62,7 @@ def placed(body: bytes) -> List[Tuple[int, str]]:
     rows: List[Tuple[int, str]] = []
     for row in body.decode("ascii").splitlines():
         place, _, line = row.partition(" ")
-        if not place.isdigit():
+        if not place.isdigit() or len(place) > MOST_DIGITS:
             raise NotALine(row[:200])
         rows.append((int(place), line))
     return rows

@@ -10,6 +10,7 @@ from .names import shown
 from .output import NotWritten, Output, OutputLost, tell
 from .schema import Members, answered, dumps, unread
 from .source import Page, Unread, read
+from .unexpected import told
 
 ACCEPTED, REFUSED, WRONG_WORDS, FAILED = range(4)
 
@@ -53,23 +54,30 @@ class Session:
         """Does the work for each page; the status of the whole. `more` names what JSON has beside the answer."""
         for name in self.names:
             try:
-                page = read(name)
-            except Unread as error:
-                self._without(name, unread(name, str(error)), more)
-                continue
-            try:
-                work(page)
-            except OutputLost:
+                self._one(name, work, more)
+            except (OutputLost, BrokenPipeError):
                 raise
             except NotWritten as error:
                 tell(str(error))
                 self.fail(FAILED)
-            except NotALine:
-                self._without(name, answered(name, NoAnswer(NONSENSE)), more)
-            finally:
-                page.close()
+            except Exception as error:  # pylint: disable=broad-except
+                self._without(name, unread(name, told(error)), more)
         self.output.flush()
         return self.status
+
+    def _one(self, name: str, work: Callable[[Page], None], more: Sequence[str]) -> None:
+        """Does the work for one page."""
+        try:
+            page = read(name)
+        except Unread as error:
+            self._without(name, unread(name, str(error)), more)
+            return
+        try:
+            work(page)
+        except NotALine:
+            self._without(name, answered(name, NoAnswer(NONSENSE)), more)
+        finally:
+            page.close()
 
     def _without(self, name: str, members: Members, more: Sequence[str]) -> None:
         """Tells of a page of which there is nothing to say."""

@@ -9,6 +9,7 @@ from ..child import Limits
 from ..names import shown
 from ..output import NotWritten, tell
 from ..program import NoProgram, find
+from ..unexpected import Unexpected, told
 from . import convert, equal, equal_over, refused, status
 from .equal_over import most_budget
 from .merge import merge
@@ -24,14 +25,16 @@ Given = argparse.Namespace
 
 def run(given: Given, command: str) -> int:
     """Runs a command; the status. `command` is the path of the tool, beside which naplps may stand."""
-    store = {"scan": "into", "merge": "into", "equal": "stores"}.get(given.command, "store")
     try:
         return COMMANDS[given.command](given, command)
-    except (NoProgram, NotWritten, StoreFailed) as error:
+    except (NoProgram, NotWritten, StoreFailed, Unexpected) as error:
         tell(str(error))
-    except sqlite3.Error as error:
-        named = getattr(given, store)
-        tell("%s: %s" % (shown(named if isinstance(named, str) else named[0]), error))
+    except BrokenPipeError:
+        raise
+    except Exception as error:  # pylint: disable=broad-except
+        named = getattr(given, {"scan": "into", "merge": "into", "equal": "stores"}.get(given.command, "store"))
+        why = str(error) if isinstance(error, sqlite3.Error) else told(error)
+        tell("%s: %s" % (shown(named if isinstance(named, str) else named[0]), why))
     return FAILED
 
 

@@ -6,12 +6,10 @@ import time
 from typing import Callable, List, NamedTuple, Optional, Tuple
 
 from .folders import is_gone, reason
-from .tables import CHANGED, NOT_A_FILE, READ, TOO_LONG, UNREADABLE, VANISHED, File
+from .tables import CHANGED, MOST_NUMBER, NOT_A_FILE, READ, TOO_LONG, UNREADABLE, VANISHED, File
 
 FLAGS = os.O_RDONLY | os.O_NOFOLLOW | os.O_NONBLOCK | os.O_CLOEXEC | os.O_NOCTTY
 PIECE = 1 << 20
-# Whole numbers of SQLite have 64 bits with the sign. Numbers of files may have one more, and far times too.
-MOST_NUMBER = (1 << 63) - 1
 # The clock of a file system may stand for so long: a change within it can't be seen by its times.
 FRESH = 20_000_000
 KINDS = {stat.S_IFLNK: "a symbolic link", stat.S_IFDIR: "a folder", stat.S_IFIFO: "a fifo", stat.S_IFSOCK: "a socket",
@@ -104,6 +102,7 @@ def marks(status: os.stat_result) -> Marks:
 
 
 def _kept(number: int) -> int:
+    """The number as it is kept: that of a file may have a bit more, and far times too."""
     return number if -MOST_NUMBER <= number <= MOST_NUMBER else number & MOST_NUMBER
 
 

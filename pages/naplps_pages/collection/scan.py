@@ -2,6 +2,7 @@
 import hashlib
 import os
 import re
+import sqlite3
 import sys
 from dataclasses import dataclass
 from typing import Iterator, List, Optional, Tuple
@@ -13,6 +14,7 @@ from ..output import Output, tell
 from ..packs.reading import SEVERAL
 from ..program import version
 from ..source import MOST
+from ..unexpected import Unexpected
 from . import tables
 from .ahead import Ahead
 from .cluster import MOST_FILES, MOST_NAMES, Cluster, ClusterFailed
@@ -25,7 +27,7 @@ from .progress import Counting, Progress
 from .remote import alike
 from .search import Scope, Search, apart
 from .stopping import Stopping
-from .store import fold, keep_log, open_to_write
+from .store import StoreFailed, fold, keep_log, open_to_write
 from .tables import INDICES, Piece
 from .walk import hidden
 from .work import How
@@ -37,6 +39,8 @@ PATIENCE = 60.0
 FORM = re.compile(r"canonical form ([0-9A-Za-z. ]+)")
 KEPT = "what was taken is kept, and the same command goes on"
 STOPPED = "stopped; " + KEPT
+# What may go wrong beside faults of the tool.
+EXPECTED = (OSError, sqlite3.Error, NoWorkers, ClusterFailed, StoreFailed)
 
 
 @dataclass(frozen=True)
@@ -117,7 +121,12 @@ def _scan(options: Options, terms: Terms, stopping: Stopping, roots: List[bytes]
             counting.start()
         writer = Writer(connection, os.fsencode(options.how.program), terms)
         run = Run(options, writer, progress, stopping)
-        run.scan(roots, cluster)
+        try:
+            run.scan(roots, cluster)
+        except EXPECTED:
+            raise
+        except Exception as error:  # pylint: disable=broad-except
+            raise Unexpected(run.at_work, error) from None
         return run
     finally:
         if connection.in_transaction:
@@ -159,6 +168,11 @@ class Run:
             tell(STOPPED)
         else:
             self._finish()
+
+    @property
+    def at_work(self) -> str:
+        """The file that was written or searched last."""
+        return os.fsdecode(self.writer.at_work or self.search.path or os.fsencode(self.options.store))
 
     def _take(self, piece: Optional[Piece]) -> None:
         if piece:

@@ -63,6 +63,7 @@ class Search:
     def __init__(self, writer: Writer, scope: Scope, tell: Callable[[bytes, str], None]) -> None:
         self.writer, self.scope, self.tell = writer, scope, tell
         self.known = 0
+        self.path = b""
         self.whole: List[bytes] = []
 
     def chunks(self, roots: Iterable[bytes]) -> Iterator[Chunk]:
@@ -91,6 +92,7 @@ class Search:
             return
         why: Optional[str] = None
         for listing in walk(root, self.scope.hides):
+            self.path = listing.path
             is_root = listing.path == root
             if is_root:
                 why = listing.why or self._emptied(listing)
@@ -130,6 +132,7 @@ class Search:
 
     def _pack(self, path: bytes, name: bytes, descriptor: Optional[int] = None) -> Found:
         """A pack, which has to be read as a whole, or is known so. What couldn't be read in it is told again then."""
+        self.path = path
         folder, was_known = self.writer.folder(inside(path), READ, None)
         known: Optional[Settled] = None
         if was_known and not self.scope.wanted.again:

@@ -1,7 +1,7 @@
 """Writes a scan into its store, in steps: what a step holds is kept as a whole, or is asked again."""
 import sqlite3
 import time
-from typing import Dict, Iterable, List, NamedTuple, Optional, Set, Tuple
+from typing import Dict, Iterable, Iterator, List, NamedTuple, Optional, Set, Tuple, TypeVar
 
 from .. import VERSION
 from ..output import TOOL
@@ -34,6 +34,9 @@ FOLDER = """INSERT INTO folders(path, state, why, run) VALUES(?, ?, ?, ?)
     ON CONFLICT(path) DO UPDATE SET state = excluded.state, why = excluded.why, run = excluded.run"""
 
 
+Row = TypeVar("Row", File, Answered)
+
+
 class Terms(NamedTuple):
     """On what an answer depends beside the bytes of the page."""
 
@@ -54,6 +57,7 @@ class Writer:
         self.names: Dict[int, str] = {}
         self.packs: Set[int] = set()
         self.unpacked: List[int] = []
+        self.current: Optional[Tuple[object, ...]] = None
         self.began = time.monotonic()
         self._begin()
         self.terms = self._terms(terms)
@@ -123,10 +127,28 @@ class Writer:
         self.files, self.answers, self.gone = [], [], []
         self.began = time.monotonic()
 
+    @property
+    def at_work(self) -> Optional[bytes]:
+        """The path of the file whose row is written."""
+        row = self.current
+        if isinstance(row, Answered):
+            row = next((file for file in self.files if file.own == row[0]), None)
+        if not isinstance(row, File):
+            return None
+        path = self.connection.execute("SELECT path FROM folders WHERE id = ?", (row.folder,)).fetchone()
+        return join(path[0], row.name) if path else None
+
+    def _in_turn(self, rows: Iterable[Row]) -> Iterator[Row]:
+        """These rows, each of which is noted while it is written."""
+        for row in rows:
+            self.current = row
+            yield row
+        self.current = None
+
     def _pages(self) -> None:
         # (by hash, since neighbours in the index are cheaper)
         answers = sorted(self.answers, key=lambda each: each.own)
-        self.connection.executemany(PAGE, ((*each[:9], self.terms, self.run) for each in answers))
+        self.connection.executemany(PAGE, ((*each[:9], self.terms, self.run) for each in self._in_turn(answers)))
         self.connection.executemany(CURE, ((self.terms, *each.cured, each.own) for each in answers if each.cured))
         names = {each.number: each.fault for each in answers if each.number is not None and each.fault is not None}
         if not names.items() <= self.names.items():
@@ -135,10 +157,10 @@ class Writer:
 
     def _files(self) -> None:
         plain = [file for file in self.files if file.folder not in self.packs] if self.packs else self.files
-        self.connection.executemany(FILE, ((*file, self.run) for file in plain))
+        self.connection.executemany(FILE, ((*file, self.run) for file in self._in_turn(plain)))
         if len(plain) < len(self.files):
             some = [file for file in self.files if file.folder in self.packs]
-            self.connection.executemany(MEMBER, ((*file, self.run) for file in some if file.name))
+            self.connection.executemany(MEMBER, ((*file, self.run) for file in self._in_turn(some) if file.name))
             for file in some:
                 if not file.name:
                     self._pack(file)

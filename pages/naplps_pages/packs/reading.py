@@ -47,25 +47,31 @@ class NoMember(Exception):
 
 @dataclass
 class _Held:
-    """A pack that is open, by what its file was known as, and where its members begin, once that was looked for."""
+    """A pack that is open, by what its file was known as, and where its members begin, once that was looked for.
+
+    In place of where a member begins stands why it can't be read, if it has no place of its own.
+    """
 
     marks: Tuple[int, ...]
     file: IO[bytes]
     pack: Pack
-    places: Optional[Dict[bytes, Optional[int]]] = None
+    places: Optional[Dict[bytes, Union[int, str]]] = None
 
     def place(self, name: bytes) -> int:
         """Where the member of this name begins. Raises NoMember."""
         if self.places is None:
             self.places = {}
             for member in self.pack.members(reads=False):
-                self.places[member.name] = None if member.name in self.places else member.at
+                if member.name in self.places:
+                    self.places[member.name] = SEVERAL
+                else:
+                    self.places[member.name] = (member.why or NO_MEMBER) if member.at is None else member.at
         if name not in self.places:
             raise NoMember(self.pack.why or NO_MEMBER)
-        at = self.places[name]
-        if at is None:
-            raise NoMember(SEVERAL)
-        return at
+        place = self.places[name]
+        if isinstance(place, str):
+            raise NoMember(place)
+        return place
 
     def member(self, name: bytes, at: int) -> Optional[Member]:
         """The member of this name that begins at this place."""

@@ -2,7 +2,7 @@
 import io
 import struct
 import tarfile
-from typing import IO, Iterator, Optional, cast
+from typing import IO, Dict, Iterator, Optional, cast
 
 from ..collection.tables import READ
 from .member import Damage, Limits, Member, other, passed_over, taken
@@ -45,6 +45,13 @@ class _Head:
         block = self.stream.read(most)
         self.first = self.first or block
         return block
+
+
+class _Unused(Dict[str, str]):
+    """What a global header says, which isn't used: a member is read by its own headers, and so again from its place."""
+
+    def __setitem__(self, key: str, value: str) -> None:
+        pass
 
 
 class Tar:
@@ -105,7 +112,7 @@ class Tar:
     def _header(self, position: int) -> Optional[tarfile.TarInfo]:
         """The header at this place, if it makes sense."""
         self.head.begin()
-        self.tar.pax_headers = {}
+        self.tar.pax_headers = _Unused()
         try:
             info = tarfile.TarInfo.fromtarfile(self.tar)
         except FAULTS:

@@ -1,5 +1,6 @@
 """Zip files. Their directory is read as a whole, and so can't be of any length."""
 import errno
+import os
 import stat
 import struct
 import zipfile
@@ -7,7 +8,7 @@ import zlib
 from typing import IO, Dict, Iterator, List, Optional, cast
 
 from ..collection.tables import READ, UNREADABLE
-from .member import Limits, Member, other, passed_over, taken
+from .member import OUTSIDE, Limits, Member, other, passed_over, taken
 from .naming import named
 
 # A directory has so many bytes at most: some 400,000 members.
@@ -45,6 +46,7 @@ class Zip:
         self.zip: Optional[zipfile.ZipFile] = None
         self.infos: Optional[Dict[int, zipfile.ZipInfo]] = None
         self.next = 0
+        self.size = os.fstat(file.fileno()).st_size
         try:
             self.zip = zipfile.ZipFile(cast(IO[bytes], _Directory(file, limits)))
         except FAULTS as error:
@@ -56,11 +58,9 @@ class Zip:
 
     def members(self, start: int = 0, reads: bool = True) -> Iterator[Member]:
         """The members from a place on, which is 0 or was `next`, that behind the last; also without their bytes."""
-        for info in self._ordered():
-            if info.header_offset < start:
-                continue
+        for number, info in enumerate(self._ordered()[start:], start + 1):
             self.limits.beat()
-            self.next = info.header_offset + 1
+            self.next = number
             member = self._member(info, reads)
             if member:
                 yield member
@@ -83,6 +83,8 @@ class Zip:
             return None
         name, why = named(raw)
         at, size = info.header_offset, info.file_size
+        if not 0 <= at < self.size:
+            return Member(name, UNREADABLE, why or OUTSIDE, None, None)
         if mode in KINDS and not why:
             return other(name, KINDS[mode], at)
         member = passed_over(name, why or _unreadable(info), size, at, self.limits.most)

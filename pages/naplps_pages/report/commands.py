@@ -12,6 +12,7 @@ from ..listing import MODEST
 from ..names import shown
 from ..output import NotWritten, Output, tell
 from ..program import NoProgram, find
+from ..unexpected import told
 from . import making, server
 
 Given = argparse.Namespace
@@ -23,8 +24,10 @@ def run(given: Given, command: str) -> int:
         return COMMANDS[given.command](given, command)
     except (NoProgram, NotWritten, StoreFailed, making.TooLarge, server.NotServed) as error:
         tell(str(error))
-    except sqlite3.Error as error:
-        tell("%s: %s" % (shown(given.store), error))
+    except BrokenPipeError:
+        raise
+    except Exception as error:  # pylint: disable=broad-except
+        tell("%s: %s" % (shown(given.store), error if isinstance(error, sqlite3.Error) else told(error)))
     return FAILED
 
 
