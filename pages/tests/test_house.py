@@ -82,7 +82,7 @@ def script_without_tools(tmp_path, script):
 
 
 LINE = ("install -y --no-install-recommends gcc libc6-dev binutils python3-pytest python3-hypothesis mypy chromium "
-        "librsvg2-bin sqlite3 parallel python3-distributed")
+        "librsvg2-bin sqlite3 file parallel python3-distributed")
 
 
 @pytest.mark.parametrize("words", [[], ["--install"]])
