@@ -4,6 +4,7 @@ import re
 import shutil
 import subprocess
 import sys
+import tempfile
 from pathlib import Path
 from typing import Dict, NamedTuple
 
@@ -142,16 +143,24 @@ def files_of(program: Path) -> Dict[str, File]:
     return found
 
 
+def make_folder(folder: Path) -> None:
+    """Makes a folder and those above it that aren't there, open to all whatever the mask is."""
+    if not folder.is_dir():
+        make_folder(folder.parent)
+        folder.mkdir(exist_ok=True)
+        folder.chmod(0o755)
+
+
 def write_files(folder: Path, files: Dict[str, File]) -> None:
     """Writes the files below a folder, with their modes whatever the mask is; one that stands there is replaced."""
     for name, file in files.items():
         path = folder / name
-        path.parent.mkdir(parents=True, exist_ok=True)
-        fresh = path.with_name(f"{path.name}.new")
-        fresh.unlink(missing_ok=True)
-        if file.mode == LINK:
-            fresh.symlink_to(file.data.decode())
-        else:
-            fresh.write_bytes(file.data)
-            fresh.chmod(file.mode)
-        fresh.replace(path)
+        make_folder(path.parent)
+        with tempfile.TemporaryDirectory(prefix=".naplps-", dir=path.parent) as beside:
+            fresh = Path(beside, path.name)
+            if file.mode == LINK:
+                fresh.symlink_to(file.data.decode())
+            else:
+                fresh.write_bytes(file.data)
+                fresh.chmod(file.mode)
+            fresh.replace(path)
