@@ -10,7 +10,7 @@ _naplps_pages() {
     done
     case $before in
         # (numbers are for the user to say)
-        --budget | --seconds | --processes | --part | --most | --number | --sketches | --port) return ;;
+        --budget | --seconds | --processes | --part | --most | --number | --reason | --sketches | --port) return ;;
         --into | --svg)
             compopt -o filenames
             mapfile -t COMPREPLY < <(compgen -f -- "$word")
@@ -27,7 +27,7 @@ _naplps_pages() {
         scan) words='--into --processes --on --part --most --again --cures --budget --seconds --help' ;;
         merge) words='--unfinished --help' ;;
         equal) words='--copies --verify --null --json --csv --seconds --help' ;;
-        refused) words='--number --null --json --csv --help' ;;
+        refused) words='--number --reason --null --json --csv --help' ;;
         convert) words='--into --json --csv --seconds --help' ;;
         status) words='--json --csv --help' ;;
         report) words='--into --sketches --all --processes --seconds --help' ;;

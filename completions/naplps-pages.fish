@@ -32,6 +32,7 @@ complete -c naplps-pages -n '__fish_seen_subcommand_from merge' -l unfinished -d
 complete -c naplps-pages -n '__fish_seen_subcommand_from equal' -l copies -d 'Also print groups of files with the same bytes'
 complete -c naplps-pages -n '__fish_seen_subcommand_from equal' -l verify -d 'Read all files again, and compare canonical bytes'
 complete -c naplps-pages -n '__fish_seen_subcommand_from refused' -l number -x -d 'Only this refusal'
+complete -c naplps-pages -n '__fish_seen_subcommand_from refused' -l reason -x -d 'Only this refusal or code'
 complete -c naplps-pages -n '__fish_seen_subcommand_from check list canon explain look text cures scan' -l budget -x \
     -d 'How many bytes of macro bodies a page may be charged'
 complete -c naplps-pages -n '__fish_seen_subcommand_from check list canon explain look text cures scan equal convert report serve' \

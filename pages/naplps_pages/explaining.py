@@ -6,10 +6,11 @@ from textwrap import wrap
 from typing import Iterable, Iterator, List, Optional, Tuple, Union
 
 from .answers import Accepted, NoAnswer, Refused
+from .cases import case_of
 from .codes import Code, cut
 from .listing import MOST_LISTED, Row as Placed, listed
-from .names import shown
-from .refusals import load
+from .names import quoted, shown
+from .refusals import PAGE, text_of
 from .session import Session
 from .source import Page
 
@@ -134,13 +135,16 @@ def _reasons(page: Page, answer: Refused) -> Iterator[str]:
     yield from hexdump(around, first, answer.place)
     if page.data is not None:
         yield "The code there: %s" % name_at(page.data, answer.place)
-    known = load()[answer.number]
+    case = "" if page.data is None else case_of(page.data, answer)
+    known = text_of(answer.number, answer.code or "", case)
     yield ""
     tries = "`naplps-pages cures` tries %s." % ", ".join(known.treatments) if known.treatments else ""
     for about, text in (("What it means", known.means), ("It may come from", known.causes),
                         ("What can be done", known.do), ("Treatments", tries)):
         if text:
             yield from wrap("%s: %s" % (about, text), 78, subsequent_indent="    ", break_on_hyphens=False)
+    if known.command:
+        yield "    " + known.command.replace(PAGE, quoted(page.name))
 
 
 def _around(page: Page, place: int) -> Tuple[bytes, int]:

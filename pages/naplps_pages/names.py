@@ -1,5 +1,6 @@
 """Names of files, as people are shown them and as JSON holds them."""
 import os
+import shlex
 import unicodedata
 from typing import Dict
 
@@ -26,6 +27,11 @@ def _shown(each: str) -> str:
     if code < 0x100:
         return "\\x%02x" % code
     return "\\u%04x" % code if code < 0x10000 else "\\U%08x" % code
+
+
+def quoted(name: str) -> str:
+    """The name as a shell reads it; PAGE where it can't be shown on one line as it is, or is standard input."""
+    return "PAGE" if name == "-" or shown(name) != name else shlex.quote(name)
 
 
 def as_json(name: str) -> Dict[str, object]:

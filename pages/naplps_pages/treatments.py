@@ -104,7 +104,7 @@ def front(it: Treated, place: int) -> Iterator[Treated]:
     at = 0
     names: List[str] = []
     while len(names) < MOST_CODES:
-        found = _leading(data, at)
+        found = leading(data, at)
         if found is None:
             return
         names.append(found[0])
@@ -112,7 +112,7 @@ def front(it: Treated, place: int) -> Iterator[Treated]:
         yield it.without_front("front", at, "%d bytes at the front: %s" % (at, ", ".join(names)))
 
 
-def _leading(data: bytes, at: int) -> Optional[Tuple[str, int]]:
+def leading(data: bytes, at: int) -> Optional[Tuple[str, int]]:
     """The name and length of NSR, CAN or an escape sequence from 1B 20 to 1B 27 that stands there."""
     if data[at:at + 1] == b"\x18":
         return "CAN", 1

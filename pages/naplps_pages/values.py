@@ -43,6 +43,19 @@ def refusal(text: str) -> int:
     """The number of a refusal."""
     known = refusals.load()
     if not _is_number(text) or int(text) not in known:
-        there = ", ".join("%d %s" % (each.number, each.name) for each in known.values())
-        raise argparse.ArgumentTypeError("the number of a refusal, not %r: %s" % (text, there))
+        raise argparse.ArgumentTypeError("the number of a refusal, not %r: %s" % (text, _refusals()))
     return int(text)
+
+
+def reason(text: str) -> refusals.Reason:
+    """A refusal by its number or its name, or a code that is left out, by its name or its bytes."""
+    found = refusals.reason_of(text)
+    if found is None:
+        codes = ", ".join("%s %s" % (code.upper(), name) for code, name in refusals.CODES.items())
+        raise argparse.ArgumentTypeError("a refusal or a code, not %r: %s; the codes of LeftOut are %s" % (
+            text, _refusals(), codes))
+    return found
+
+
+def _refusals() -> str:
+    return ", ".join("%d %s" % (each.number, each.name) for each in refusals.load().values())

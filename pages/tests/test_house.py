@@ -114,17 +114,17 @@ def manual_refusals():
     with open(os.path.join(TOP, "man", "naplps.1"), encoding="utf-8") as source:
         text = source.read()
     section = text[text.index(".Sh REFUSALS"):text.index(".Sh DIAGNOSTICS")]
-    for number, name, body in re.findall(r"\.It (\d+) (\w+)\n(.*?)(?=\n\.It |\n\.El)", section, re.DOTALL):
-        body = re.sub(r"\.Fl Fl ", "--", body).replace(" Li ", " ").replace("\\-", "-")
-        yield int(number), name, re.sub(r" ([.,;])", r"\1", " ".join(body.split()))
+    for title, body in re.findall(r"\.It (\d+ [^\n]+)\n(.*?)(?=\n\.It |\n\.El)", section, re.DOTALL):
+        body = re.sub(r"\.Fl Fl |\.Dl ", lambda mark: "--" if "Fl" in mark[0] else "", body)
+        yield title, re.sub(r" ([.,;])", r"\1", " ".join(body.replace(" Li ", " ").replace("\\-", "-").split()))
 
 
 def test_the_manual_page_says_of_refusals_what_the_tool_says():
-    told = {number: (name, body) for number, name, body in manual_refusals()}
-    known = refusals.load()
-    assert set(told) == set(known) == set(range(1, 23))
-    for number, each in known.items():
-        text = " ".join(part for part in (each.means, "May come from " + each.causes, each.do) if part)
+    told = dict(manual_refusals())
+    assert set(refusals.load()) == set(range(1, 23)) and list(told) == [each.title for each in refusals.every()]
+    for each in refusals.every():
+        causes = "May come from " + each.causes if each.causes else ""
+        text = " ".join(part for part in (each.means, causes, each.do, each.command) if part)
         if each.treatments:
             text += " naplps-pages cures tries: %s." % ", ".join(each.treatments)
-        assert told[number] == (each.name, text)
+        assert told[each.title] == text

@@ -9,6 +9,7 @@ from ..child import Limits
 from ..names import shown
 from ..output import NotWritten, tell
 from ..program import NoProgram, find
+from ..refusals import Reason
 from ..unexpected import Unexpected, told
 from . import convert, equal, equal_over, refused, status
 from .equal_over import most_budget
@@ -91,7 +92,7 @@ def _verified(program: Program, some: Iterator[equal.Group], copies: bool, telli
 def _refused(given: Given, command: str) -> int:
     connection = open_to_read(given.store)
     printer = Printer(given.form, refused.COLUMNS)
-    refused.show(printer, refused.members(connection, given.number))
+    refused.show(printer, refused.members(connection, given.reason or (given.number and Reason(given.number))))
     printer.flush()
     return COMPLETE
 

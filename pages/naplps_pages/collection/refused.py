@@ -5,6 +5,7 @@ from typing import Iterator, NamedTuple, Optional
 
 from ..answers import Refused
 from ..names import shown
+from ..refusals import Reason as Wanted
 from ..schema import Members, answered
 from .places import Place
 from .printing import NAME, Printer, named, numbered
@@ -47,9 +48,12 @@ class Member(NamedTuple):
         return Refused(self.reason.number, self.reason.fault, self.reason.left_out or None, self.at)
 
 
-def members(connection: sqlite3.Connection, number: Optional[int]) -> Iterator[Member]:
-    """The refused files, by the reason, the most frequent first; of one number only where it is given."""
-    connection.execute(REASONS.format("" if number is None else "AND p.number = %d" % number))
+def members(connection: sqlite3.Connection, wanted: Optional[Wanted]) -> Iterator[Member]:
+    """The refused files, by the reason, the most frequent first; those of one reason only where it is given."""
+    only = "" if wanted is None else "AND p.number = %d" % wanted.number
+    if wanted is not None and wanted.code:
+        only += " AND p.left_out = '%s'" % wanted.code
+    connection.execute(REASONS.format(only))
     for row in kept(connection, MEMBERS):
         yield Member(Reason._make(row[:5]), row[5], row[6], bool(row[7]), row[8], Place(row[9], row[10]))
 

@@ -73,7 +73,7 @@ def _add_merge(one: Parser) -> None:
                      help="join stores that aren't finished too, and parts of which others are missing")
 
 
-def _add_own(one: Parser, name: str) -> None:
+def _add_own(one: Any, name: str) -> None:
     if name == "convert":
         one.add_argument("--into", metavar="FOLDER", type=values.name, required=True,
                          help="the folder, made if there is none")
@@ -81,8 +81,12 @@ def _add_own(one: Parser, name: str) -> None:
         one.add_argument("--copies", action="store_true", help="also print groups of files with the same bytes")
         one.add_argument("--verify", action="store_true", help="read all files again, and compare canonical bytes")
     elif name == "refused":
+        one = one.add_mutually_exclusive_group()
         one.add_argument("--number", metavar="N", type=values.refusal,
                          help="only the refusal with this number, as in `refused 10 Outside`")
+        one.add_argument("--reason", metavar="REASON", type=values.reason,
+                         help="only this refusal, by its number or name, or only this code that is left out, by its "
+                         "name or bytes, as SDC or 1A")
 
 
 def _add_forms(one: Parser, forms: Tuple[str, ...]) -> None:

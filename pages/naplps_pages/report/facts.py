@@ -55,7 +55,7 @@ def _reasons(connection: sqlite3.Connection) -> List[Reason]:
     connection.execute(refused.REASONS.format(""))
     known = refusals.load()
     return [Reason(reason(number, fault, left_out), number, pages, files,
-                   _means(known, number, left_out))
+                   refusals.text_of(number, left_out).means if number in known else "")
             for number, fault, left_out, pages, files in connection.execute(REASONS)]
 
 
@@ -69,13 +69,8 @@ def _answers(connection: sqlite3.Connection) -> List[Tuple[str, int]]:
     return sorted(counts.items(), key=lambda each: (-each[1], each[0]))
 
 
-def _means(known: Dict[int, refusals.Refusal], number: int, left_out: str) -> str:
-    if left_out:
-        return "The profile leaves %s out." % left_out
-    return known[number].means if number in known else ""
-
-
-def told_refusals() -> Dict[int, Dict[str, str]]:
-    """What is said of refusals, by their numbers."""
-    return {number: {"means": each.means, "causes": each.causes, "do": each.do}
-            for number, each in refusals.load().items()}
+def told_refusals() -> Dict[str, Dict[str, str]]:
+    """What is said of refusals, by their numbers, and of the codes that are left out, by what is told of them."""
+    return {each.title if each.code else str(each.number): {
+        "means": each.means, "causes": each.causes, "do": each.do, "command": each.command}
+            for each in refusals.every() if not each.case}

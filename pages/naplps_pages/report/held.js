@@ -88,7 +88,8 @@ class Held {
 
   async details(key) {
     const cure = this.columns.cure[key], group = this.columns.group[key];
-    const refusal = this.table.refusals[this.table.numbers[this.columns.answer[key]]];
+    const answer = this.columns.answer[key], texts = this.table.refusals;
+    const refusal = texts[this.table.answers[answer]] || texts[this.table.numbers[answer]];
     return {...this.file(key), refusal: refusal || null, cure: cure < 0 ? null : this.table.cures[cure],
             equal: group < 0 ? null : this.group(group, 12)};
   }

@@ -156,7 +156,7 @@ class Questions:
         told = self._told(file)
         group = told["group"]
         assert isinstance(group, int)
-        return {**told, "refusal": self.refusals.get(file.number or 0),
+        return {**told, "refusal": self.refusals.get(file.told) or self.refusals.get(str(file.number or 0)),
                 "cure": (file.treatments or "") if file.tried else None,
                 "equal": self._group(group, NAMES) if group else None}
 

@@ -97,7 +97,8 @@ class Report {
     const refusal = file.refusal;
     const treatments = file.cure === null ? "" : file.cure ? "readable by " + file.cure : "none makes it readable";
     return [make("h3", {}, "Why it is refused"), facts([["It means", refusal.means], ["It may come from", refusal.causes],
-      ["What to do", refusal.do], ["Treatments", treatments]])];
+      ["What to do", refusal.do],
+      ["Command", refusal.command.replace("PAGE", () => quoted(file.name))], ["Treatments", treatments]])];
   }
 
   equal(group) {
