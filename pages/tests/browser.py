@@ -23,7 +23,7 @@ def _as_3_and_4(*pipes):
 
 
 class Browser:
-    """One browser with one page. It keeps what the page asked for and what it told as an error."""
+    """One browser with one page. It keeps what the page asked for, with which Referer, and what it told as an error."""
 
     def __init__(self, width=1240, height=900):
         self.folder = tempfile.mkdtemp(prefix="naplps-browser-")
@@ -38,7 +38,7 @@ class Browser:
         self.waiting = selectors.DefaultSelector()
         self.waiting.register(self.of, selectors.EVENT_READ)
         self.held, self.last, self.session = b"", 0, None
-        self.requests, self.errors = [], []
+        self.requests, self.referers, self.errors = [], [], []
         target = self.call("Target.createTarget", url="about:blank")["targetId"]
         self.session = self.call("Target.attachToTarget", targetId=target, flatten=True)["sessionId"]
         for name in ("Page", "Runtime", "Network", "Log"):
@@ -75,6 +75,8 @@ class Browser:
         name, words = message.get("method"), message.get("params", {})
         if name == "Network.requestWillBeSent":
             self.requests.append(words["request"]["url"])
+        elif name == "Network.requestWillBeSentExtraInfo":
+            self.referers += [value for key, value in words["headers"].items() if key.lower() == "referer"]
         elif name == "Runtime.exceptionThrown":
             self.errors.append(words["exceptionDetails"].get("exception", {}).get("description") or str(words))
         elif name == "Log.entryAdded" and words["entry"]["level"] == "error":
@@ -91,7 +93,7 @@ class Browser:
 
     def open(self, address, ready="document.body && document.body.dataset.ready"):
         """Opens a page, and waits until it says that it is ready."""
-        self.requests, self.errors = [], []
+        self.requests, self.referers, self.errors = [], [], []
         self.call("Page.navigate", url=address)
         self.until(ready)
 

@@ -65,7 +65,7 @@ def page(browser, address):
     assert browser.run("typeof hacked") == "undefined"
     ways = r"((files|groups|details|drawing)\?[A-Za-z0-9=&%+*._~-]*)?" if address.startswith("http") else ""
     own = re.compile(re.escape(address) + ways + "|blob:.*")
-    assert [each for each in browser.requests if not own.fullmatch(each)] == []
+    assert [each for each in browser.requests if not own.fullmatch(each)] == [] == browser.referers
 
 
 def search(page, text):

@@ -2,18 +2,23 @@
 import http.client
 import json
 import os
+import re
 import signal
 import socket
 import subprocess
+from concurrent.futures import ThreadPoolExecutor
 
 import pytest
 
 from conftest import COMMAND, file
+from naplps_pages.report.drawers import ENDED
 from samples import OUTSIDE, POINT
 from scans import children, rows, start, tree, wait_until
 from shown import SPELLED
+from test_asking import BATCH
 
 HOST = "127.0.0.1"
+FILES = "/files?text=&answer=&from=0&count=100"
 
 
 class Served:
@@ -21,12 +26,16 @@ class Served:
 
     def __init__(self, process):
         self.process = process
-        address = process.stdout.readline().decode()
-        assert address.startswith("http://127.0.0.1:") and address.endswith("/\n")
-        self.port = int(address[len("http://127.0.0.1:"):-2])
+        self.address = process.stdout.readline().decode()[:-1]
+        found = re.fullmatch(r"http://127\.0\.0\.1:([0-9]+)(/[A-Za-z0-9_-]{32})/", self.address)
+        self.port, self.key = int(found[1]), found[2]
 
     def ask(self, path, method="GET", **headers):
-        """The status, the headers and the body of an answer."""
+        """The status, the headers and the body of an answer to what stands behind the key."""
+        return self.ask_bare(self.key + path, method, **headers)
+
+    def ask_bare(self, path, method="GET", **headers):
+        """The same for a whole path."""
         connection = http.client.HTTPConnection(HOST, self.port, timeout=300)
         try:
             connection.putrequest(method, path, skip_host=True, skip_accept_encoding=True)
@@ -44,6 +53,10 @@ class Served:
         status, _, body = self.ask(path)
         assert status == 200, body
         return json.loads(body)
+
+    def drawing(self, name):
+        """The drawing of a file."""
+        return self.json("/drawing?key=" + key(self, name))
 
     def raw(self, data):
         """What comes back for these bytes."""
@@ -80,9 +93,6 @@ def own(run, naplps, tmp_path):
     with start(["serve", archive(run, str(tmp_path))], naplps) as process:
         yield Served(process)
         process.terminate()
-
-
-FILES = "/files?text=&answer=&from=0&count=100"
 
 
 def key(served, name):
@@ -131,10 +141,35 @@ def test_the_head_of_an_answer(served):
 @pytest.mark.parametrize("path", [
     "/etc/passwd", "/../../etc/passwd", "/..%2f..%2fetc/passwd", "//etc/passwd", "/.", "/%00", "/files/",
     "/files/x?a=b", "/report.js", "/report.html", "/pages.db", "/favicon.ico", "/index.html", "/?", "/?a", "/FILES",
-    "http://127.0.0.1/", "http://other.example/", "file:///etc/passwd", "*", "/files#x", "/[", "//[/files"])
+    "/http://127.0.0.1/", "/file:///etc/passwd", "/*", "/files#x", "/[", "//[/files"])
 def test_there_is_nothing_else(served, path):
     status, _, body = served.ask(path)
     assert (status, body) == (404, b"there is nothing of that name") or status == 400
+
+
+@pytest.mark.parametrize("path", [
+    "/", FILES, "/?key=", "http://127.0.0.1/", "http://other.example/", "file:///etc/passwd", "*", "/favicon.ico",
+    "//", "/%s", "/%s/", "/%s" + FILES, "/" + "A" * 32 + "/", "/" + "A" * 70 + FILES, "/\xe9/"])
+def test_nothing_is_told_without_the_key(served, path):
+    if "%s" in path:  # a key that is nearly right
+        path = path.replace("%s", served.key[1:-1] + ("A" if served.key[-1] != "A" else "B"))
+    for method in ("GET", "HEAD"):
+        raw = ("%s %s HTTP/1.1\r\nHost: 127.0.0.1:%d\r\n\r\n" % (method, path, served.port)).encode("latin-1")
+        said = served.raw(raw)
+        assert said.split(b" ")[1] in (b"403", b"400") and b"<html" not in said and b"total" not in said
+        assert served.key[1:].encode() not in said
+
+
+def test_the_key_is_new_each_time_and_nowhere_else(own, served):
+    assert own.key != served.key
+    for path in ("/", FILES, "/drawing?key=" + key(own, "a.nap"), "/nothing"):
+        status, headers, body = own.ask(path)
+        assert headers["Referrer-Policy"] == "no-referrer" and headers["Cache-Control"] == "no-store"
+        assert own.key[1:] not in str(headers) and own.key[1:].encode() not in body
+    with open("/proc/%d/cmdline" % own.process.pid, "rb") as words:
+        assert own.key[1:].encode() not in words.read()
+    own.process.send_signal(signal.SIGTERM)
+    assert own.process.communicate(timeout=300) == (b"", b"")
 
 
 @pytest.mark.parametrize("path", [
@@ -223,12 +258,12 @@ def test_clients_that_say_nothing_hold_up_nobody(served):
 
 @pytest.mark.parametrize("number", [signal.SIGINT, signal.SIGTERM])
 def test_a_signal_ends_it_and_the_program(own, number):
-    own.json("/drawing?key=" + key(own, "a.nap"))
-    pid = own.process.pid
-    (program,) = children(pid)
+    own.drawing("a.nap")
+    (drawer,) = children(own.process.pid)
+    (program,) = children(drawer)
     own.process.send_signal(number)
     assert own.process.wait(300) == -number
-    wait_until(lambda: not os.path.exists("/proc/%d" % program) or children(program) == [] and _is_dead(program))
+    wait_until(lambda: _is_dead(drawer) and _is_dead(program))
     assert own.process.stderr.read() == b""
 
 
@@ -253,3 +288,67 @@ def test_nothing_is_written(own, tmp_path):
         own.ask(path)
     assert sorted(os.listdir(str(tmp_path))) == names
     assert rows(os.path.join(str(tmp_path), "pages.db"), "SELECT count(*) FROM sqlite_master") == before
+
+
+# A program that thinks of some pages for ever.
+SLOW = BATCH + """
+if sys.argv[1:] == ['--version']:
+    print('naplps 9.9, canonical form 2')
+    sys.exit()
+for command, budget, page in requests():
+    if command == 'check' and page[3:] == b'hang': time.sleep(600)
+    bodies = {'places': b'0 BELL\\n' * len(page), 'canon': b'canonical ' + page, 'check': b''}
+    answer(b'accepted %d entries' % len(page), bodies[command])
+"""
+
+
+@pytest.fixture
+def slow(run, naplps, fake, tmp_path):
+    """A server whose program thinks of six of nine pages for ever, once they are to be drawn in three seconds."""
+    top = tree(os.path.join(str(tmp_path), "slow"), {
+        "%d.nap" % at: b"%d.." % at + (b"hang" if at < 6 else b"good") for at in range(9)})
+    store = os.path.join(str(tmp_path), "slow.db")
+    assert run(["scan", top, "--into", store], program=fake(SLOW)).returncode == 0
+    with start(["serve", store, "--seconds", "3"], fake(SLOW)) as process:
+        yield Served(process)
+        process.terminate()
+
+
+def test_a_long_drawing_makes_nobody_wait(slow):
+    with ThreadPoolExecutor(1) as other:
+        long = other.submit(slow.drawing, "0.nap")
+        wait_until(lambda: children(slow.process.pid))
+        assert slow.drawing("7.nap")["entries"] == 7 and not long.done()
+        assert slow.json(FILES)["total"] == 9 and not long.done()
+        assert re.search("(no answer|isn't drawn) in 3 s$", long.result()["why"])
+
+
+def test_many_long_drawings_end(slow):
+    with ThreadPoolExecutor(7) as others:
+        long = [others.submit(slow.drawing, "%d.nap" % at) for at in range(6)]
+        good = others.submit(slow.drawing, "8.nap")
+        assert slow.json(FILES)["total"] == 9 and not any(each.done() for each in long)
+        assert all(re.search("(no answer|isn't drawn) in 3 s$", each.result()["why"]) for each in long)
+        assert good.result()["entries"] == 7
+    assert slow.drawing("6.nap")["entries"] == 7
+
+
+def test_a_drawer_that_is_killed_is_replaced(own):
+    assert own.drawing("a.nap")["sketch"]
+    (drawer,) = children(own.process.pid)
+    os.kill(drawer, signal.SIGKILL)
+    assert own.drawing("a.nap")["why"] == ENDED and own.drawing("a.nap")["sketch"]
+
+
+@pytest.mark.parametrize("number", [signal.SIGTERM, signal.SIGINT])
+def test_it_ends_amid_a_drawing(slow, number):
+    with ThreadPoolExecutor(1) as other:
+        long = other.submit(slow.drawing, "0.nap")
+        wait_until(lambda: [each for drawer in children(slow.process.pid) for each in children(drawer)])
+        (drawer,) = children(slow.process.pid)
+        (program,) = children(drawer)
+        slow.process.send_signal(number)
+        assert slow.process.wait(300) == -number
+        wait_until(lambda: _is_dead(drawer) and _is_dead(program))
+        with pytest.raises((OSError, http.client.HTTPException, AssertionError)):
+            long.result()

@@ -166,13 +166,6 @@ def test_glyphs_are_used_and_never_in_each_other():
     assert "inside a glyph" in elements(svg, "desc")[0].text
 
 
-def test_glyphs_used_again_and_again_have_a_limit():
-    line = "LINE 0,0 8388607,8388607 " + INK
-    svg = sketch.draw(["GLYPH 21", *[line] * 9000, "END", *["CHAR drcs 21 pen=0,0 " + HAND] * 9000]).svg
-    assert len(elements(svg, "use")) == 22
-    assert "beyond 200000 elements isn't drawn" in elements(svg, "desc")[0].text
-
-
 def test_a_glyph_that_is_defined_again_is_another():
     line, drcs = "LINE 0,0 8388607,8388607 " + INK, "CHAR drcs 21 pen=0,0 " + HAND
     svg = sketch.draw(["GLYPH 21", line, "END", drcs, "GLYPH 21", "END", drcs]).svg
@@ -198,7 +191,9 @@ def test_a_mask_that_isnt_defined_is_a_half_tone():
 
 def test_so_many_entries_are_drawn():
     svg = sketch.draw(["BELL"] * (MOST_DRAWN + 5)).svg
-    assert "Sketch of the first 20000 of 20005 entries" in elements(svg, "text")[-1].text
+    told = [each.text for each in elements(svg, "text")]
+    assert told[0] == "Sketch of the first 20000 of 20005 entries" == elements(svg, "title")[0].text
+    assert told[1].startswith("The picture ends before entry 20001")
 
 
 def test_clear_takes_all_away():

@@ -2,18 +2,18 @@
 import argparse
 import sqlite3
 import sys
-from dataclasses import replace
 
-from ..ask import Program
 from ..collection.printing import numbered
 from ..collection.scan import COMPLETE, FAILED, SOME_LACK
 from ..collection.store import StoreFailed, open_to_read
-from ..listing import MODEST
 from ..names import shown
 from ..output import NotWritten, Output, tell
 from ..program import NoProgram, find
 from ..unexpected import told
 from . import making, server
+from .drawers import How
+from .drawing import Most
+from .limits import SERVED_LINES, SERVED_SKETCH, SERVED_TEXT
 
 Given = argparse.Namespace
 
@@ -51,8 +51,8 @@ def _serve(given: Given, command: str) -> int:
     def began(address: str) -> None:
         output.line(address)
         output.flush()
-    program = Program(find(command), limits=replace(MODEST, seconds=given.seconds))
-    server.serve(given.store, program, given.port, began)
+    how = How(find(command), given.seconds, Most(SERVED_SKETCH, SERVED_TEXT, SERVED_LINES))
+    server.serve(given.store, how, given.port, began)
     return COMPLETE
 
 

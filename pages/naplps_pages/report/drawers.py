@@ -1,6 +1,7 @@
 """Draws many pages by several processes."""
 import resource
 import signal
+import subprocess
 import sys
 from dataclasses import replace
 from multiprocessing.connection import Connection, Pipe, wait
@@ -17,6 +18,8 @@ MOST_MEMORY = 1 << 30
 ENDED = "the process that drew it ended"
 # So many processes one behind the other that drew nothing are no fault of the pages.
 MOST_STILLBORN = 10
+# How long is waited for a process that is told to end, in seconds.
+PATIENCE = 2.0
 Task = Tuple[int, Wanted]
 
 
@@ -29,25 +32,72 @@ class How(NamedTuple):
 
 
 class Drawer:
+    """A process that draws the pages that it is given, one after another."""
+
+    def __init__(self, how: How) -> None:
+        self.connection, theirs = Pipe()
+        with theirs:
+            self.process = interpreter.start(__name__, theirs.fileno())
+        self._send(how)
+
+    def _send(self, what: object) -> None:
+        try:
+            self.connection.send(what)
+        except OSError:
+            pass  # it has ended, which is heard as that
+
+    def give(self, it: Wanted) -> None:
+        """Gives it the next page."""
+        self._send(it)
+
+    def has_drawn(self, seconds: float) -> bool:
+        """Whether it draws the page, or ends, within these seconds."""
+        return self.connection.poll(seconds)
+
+    def drawing(self) -> Optional[Drawing]:
+        """The drawing of the page that it was given, when that is made; nothing where the process has ended."""
+        try:
+            made: Drawing = self.connection.recv()
+        except (EOFError, OSError):
+            return None
+        return made
+
+    def end(self) -> None:
+        """Tells the process to end."""
+        self.process.terminate()
+
+    def close(self) -> None:
+        """Ends the process."""
+        self.connection.close()
+        self.end()
+        try:
+            self.process.wait(PATIENCE)
+        except subprocess.TimeoutExpired:
+            self.process.kill()
+            self.process.wait()
+
+
+class Share:
     """A process, and the pages that it has yet to draw."""
 
     def __init__(self, how: How, tasks: Sequence[Task]) -> None:
         self.tasks = list(reversed(tasks))
-        self.connection, theirs = Pipe()
-        with theirs:
-            self.process = interpreter.start(__name__, theirs.fileno())
-        try:
-            self.connection.send((how, list(tasks)))
-        except OSError:
-            pass  # it has ended, which is heard as that
+        self.drawer = Drawer(how)
+        self.connection = self.drawer.connection
+        self._give()
+
+    def _give(self) -> None:
+        if self.tasks:
+            self.drawer.give(self.tasks[-1][1])
 
     def hear(self) -> Optional[Tuple[int, Drawing]]:
-        """The next drawing; nothing where the process has ended."""
-        try:
-            drawing = self.connection.recv()
-        except (EOFError, OSError):
+        """The next drawing; nothing where the process has ended, or has nothing to draw."""
+        made = self.drawer.drawing() if self.tasks else None
+        if made is None:
             return None
-        return self.tasks.pop()[0], drawing
+        number, _ = self.tasks.pop()
+        self._give()
+        return number, made
 
     def left(self) -> List[Task]:
         """What it has yet to draw."""
@@ -55,49 +105,49 @@ class Drawer:
 
     def close(self) -> None:
         """Ends the process."""
-        self.connection.close()
-        self.process.terminate()
-        self.process.wait()
+        self.drawer.close()
 
 
 def drawn(how: How, tasks: Sequence[Task], processes: int) -> Iterator[Tuple[int, Drawing]]:
     """The drawings with the numbers of their tasks, as they come. A page that ends a process has none."""
     number = max(1, min(processes, len(tasks)))
-    drawers = [Drawer(how, tasks[at::number]) for at in range(number) if tasks[at::number]]
+    shares = [Share(how, tasks[at::number]) for at in range(number) if tasks[at::number]]
     stillborn = 0
     try:
-        while drawers:
-            ready = wait([each.connection for each in drawers])
-            for drawer in [each for each in drawers if each.connection in ready]:
-                made = drawer.hear()
+        while shares:
+            ready = wait([each.connection for each in shares])
+            for share in [each for each in shares if each.connection in ready]:
+                made = share.hear()
                 if made is not None:
                     stillborn = 0
                     yield made
-                    continue
-                drawers.remove(drawer)
-                drawer.close()
-                stillborn += 1
-                left = drawer.left()
+                    if share.tasks:
+                        continue
+                shares.remove(share)
+                share.close()
+                left = share.left()
+                if made is None:
+                    stillborn += 1
                 lost = left if stillborn > MOST_STILLBORN else left[:1]
                 yield from ((each, Drawing(why=ENDED)) for each, _ in lost)
                 if len(left) > len(lost):
-                    drawers.append(Drawer(how, left[len(lost):]))
+                    shares.append(Share(how, left[len(lost):]))
     finally:
-        for drawer in drawers:
-            drawer.close()
+        for share in shares:
+            share.close()
 
 
 def main(descriptor: int) -> None:
-    """Draws what the connection asks for, until it is done."""
+    """Draws what the connection asks for, until that ends."""
     signal.signal(signal.SIGTERM, _end)
     resource.setrlimit(resource.RLIMIT_AS, (MOST_MEMORY, resource.getrlimit(resource.RLIMIT_AS)[1]))
     connection = Connection(descriptor)
-    how, tasks = connection.recv()
+    how = connection.recv()
     program = Program(how.program, limits=replace(MODEST, seconds=how.seconds))
     try:
-        for _, wanted in tasks:
-            connection.send(draw(program, wanted, how.most))
-    except OSError:
+        while True:
+            connection.send(draw(program, connection.recv(), how.most))
+    except (EOFError, OSError):
         pass  # nobody waits for it any more
     finally:
         program.close()

@@ -3,16 +3,14 @@ import re
 import sqlite3
 from typing import Dict, List, NamedTuple, Optional, Tuple
 
-from ..ask import Program
 from ..collection.store import open_to_read
 from ..packs.naming import MOST_NAME
 from . import files as of_files
 from . import groups as of_groups
 from .document import Document
-from .drawing import Drawing, Most, draw, wanted
+from .drawing import Wanted, wanted
 from .facts import Facts, load_facts, told_refusals
 from .files import File
-from .limits import SERVED_LINES, SERVED_SKETCH, SERVED_TEXT
 from .roots import joined
 
 Answer = Dict[str, object]
@@ -47,22 +45,20 @@ class Known(NamedTuple):
 class Questions:
     """Answers questions on a store, one after another, all in the thread that made it."""
 
-    def __init__(self, store: str, program: Program) -> None:
+    def __init__(self, store: str) -> None:
         self.store = store
         self.connection = open_to_read(store)
         self.connection.create_function("told", 7, of_files.told)
         self.connection.create_function("has", 2, self._has)
-        self.program = program
         self.known: Optional[Known] = None
         self.folders: Dict[int, str] = {}
         self.part = ""
         self.found: Tuple[object, ...] = ()
         self.refusals = told_refusals()
-        self.ways = {"files": self._files, "groups": self._groups, "details": self._details, "drawing": self._drawing}
+        self.ways = {"files": self._files, "groups": self._groups, "details": self._details}
 
     def close(self) -> None:
-        """Ends the program and the connection."""
-        self.program.close()
+        """Ends the connection."""
         self.connection.close()
 
     def page(self) -> Tuple[str, str]:
@@ -160,11 +156,10 @@ class Questions:
                 "cure": (file.treatments or "") if file.tried else None,
                 "equal": self._group(group, NAMES) if group else None}
 
-    def _drawing(self, words: Words) -> Answer:
-        it = wanted(self._file(words))
-        drawn = draw(self.program, it, Most(SERVED_SKETCH, SERVED_TEXT, SERVED_LINES)) if it else Drawing(
-            why="There is no answer to draw")
-        return drawn._asdict()
+    def wanted(self, words: Words) -> Optional[Wanted]:
+        """The page that is to be drawn; None where it has no answer to draw. Raises Unasked."""
+        self._now()
+        return wanted(self._file(words))
 
     def _file(self, words: Words) -> File:
         found = KEY.fullmatch(words.get("key", ""))

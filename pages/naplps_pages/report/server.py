@@ -1,6 +1,8 @@
 """Serves a report to browsers of this machine, and to nobody else."""
+import hmac
 import json
 import os
+import secrets
 import socketserver
 import sqlite3
 from concurrent.futures import ThreadPoolExecutor
@@ -9,17 +11,24 @@ from http.server import BaseHTTPRequestHandler, ThreadingHTTPServer
 from typing import Callable, Dict, Optional, Tuple
 from urllib.parse import parse_qsl
 
-from ..ask import Program
 from ..packs.naming import MOST_NAME
+from .desk import Desk
+from .drawers import How
+from .drawing import Drawing
 from .questions import Questions, Unasked, Words
 
 HERE = "127.0.0.1"
 MOST_WORDS, MOST_WORD = 8, 2000
 # Of a file the key has its name in hexadecimal.
 MOST_KEY = 20 + 2 * MOST_NAME
-# How long a client may be silent, and how long is waited for the program at the end, in seconds.
+# How long a client may be silent, and how long is waited for the store at the end, in seconds.
 SILENCE, GRACE = 30, 5
-WAYS = ("/files", "/groups", "/details", "/drawing")
+DRAWING = "drawing"
+# Random bytes of the key in the address.
+KEY_BYTES = 24
+NO_KEY = "the address has a key, which was printed when the server began"
+# So many pages are drawn at the same time, at most.
+MOST_DRAWERS = max(2, min(4, os.cpu_count() or 1))
 HEADERS = {
     "X-Content-Type-Options": "nosniff", "X-Frame-Options": "DENY", "Referrer-Policy": "no-referrer",
     "Cross-Origin-Resource-Policy": "same-origin", "Cross-Origin-Opener-Policy": "same-origin",
@@ -40,13 +49,15 @@ class Refused(Exception):
 
 
 class Server(ThreadingHTTPServer):
-    """A server of one report. One thread asks the store and the program; the others wait for their clients."""
+    """A server of one report. One thread asks the store, and processes draw; other threads wait for their clients."""
 
     daemon_threads = True
     block_on_close = False
 
-    def __init__(self, port: int, one: ThreadPoolExecutor, questions: Questions) -> None:
-        self.one, self.questions = one, questions
+    def __init__(self, port: int, one: ThreadPoolExecutor, questions: Questions, desk: Desk) -> None:
+        self.one, self.questions, self.desk = one, questions, desk
+        # (whoever has no key is told nothing, and a browser doesn't send the address on)
+        self.top = "/%s/" % secrets.token_urlsafe(KEY_BYTES)
         super().__init__((HERE, port), Handler)
 
     def server_bind(self) -> None:
@@ -89,18 +100,29 @@ class Handler(BaseHTTPRequestHandler):
         names = self.headers.get_all("Host") or []
         if names not in (["%s:%d" % (each, self.server.server_port)] for each in (HERE, "localhost")):
             raise Refused(403, "this is served as http://%s:%d/ alone" % (HERE, self.server.server_port))
-        if self.path != "/" and self.headers.get("Sec-Fetch-Site", "same-origin") not in ("same-origin", "none"):
+        if not hmac.compare_digest(self.path[:len(self.server.top)].encode("utf-8"), self.server.top.encode("ascii")):
+            raise Refused(403, NO_KEY)
+        if self._name() and self.headers.get("Sec-Fetch-Site", "same-origin") not in ("same-origin", "none"):
             raise Refused(403, "another site asked for it")
+
+    def _name(self) -> str:
+        """What is asked for, behind the key."""
+        return self.path[len(self.server.top):]
 
     def _asked(self) -> Tuple[str, str, bytes]:
         """Kind, policy and body of the answer."""
-        if self.path == "/":
-            page, policy = self.server.one.submit(self.server.questions.page).result()
+        one, questions = self.server.one, self.server.questions
+        if not self._name():
+            page, policy = one.submit(questions.page).result()
             return "text/html", policy + "; frame-ancestors 'none'", page.encode("utf-8")
-        path, _, query = self.path.partition("?")
-        if path not in WAYS:
+        name, _, query = self._name().partition("?")
+        if name == DRAWING:
+            it = one.submit(questions.wanted, words(query)).result()
+            answer = (self.server.desk.drawing(it) if it else Drawing(why="There is no answer to draw"))._asdict()
+        elif name in questions.ways:
+            answer = one.submit(questions.ask, name, words(query)).result()
+        else:
             raise Refused(404, "there is nothing of that name")
-        answer = self.server.one.submit(self.server.questions.ask, path[1:], words(query)).result()
         return "application/json", NOTHING, json.dumps(answer).encode("ascii")
 
     def _send(self, status: int, kind: str, policy: str, body: bytes, whole: bool, allow: str = "") -> None:
@@ -141,21 +163,22 @@ def words(query: str) -> Words:
     return made
 
 
-def serve(store: str, program: Program, port: int, began: Callable[[str], None]) -> None:
+def serve(store: str, how: How, port: int, began: Callable[[str], None]) -> None:
     """Serves until a signal ends it; `began` is told the address. Raises StoreFailed, sqlite3.Error or NotServed."""
     one = ThreadPoolExecutor(max_workers=1)
-    questions = one.submit(Questions, store, program).result()
+    questions, desk = one.submit(Questions, store).result(), Desk(how, MOST_DRAWERS)
     try:
-        server = Server(port, one, questions)
+        server = Server(port, one, questions, desk)
     except OSError as error:
         raise NotServed("%s:%d: %s" % (HERE, port, os.strerror(error.errno or 0))) from None
     try:
-        began("http://%s:%d/" % (HERE, server.server_port))
+        began("http://%s:%d%s" % (HERE, server.server_port, server.top))
         server.serve_forever()
     finally:
         server.server_close()
+        desk.close()
         try:
             one.submit(questions.close).result(GRACE)
         except TookTooLong:
-            pass  # (the program ends by itself, where nobody waits for its answer)
+            pass  # (it only reads)
         one.shutdown(wait=False)

@@ -3,6 +3,8 @@ import math
 from typing import List, Sequence
 
 from .measure import WIDTH, Place, num
+from .weight import Extent
+from .weight import extent as straight_extent
 
 # Beyond this radius an arc is drawn by points on it, since viewers are inexact there.
 MOST_RADIUS = 4.0 * WIDTH
@@ -18,6 +20,33 @@ def path(points: Sequence[Place], filled: bool) -> str:
     return "M%s %s" % (num(points[0][0]), num(points[0][1])) + body + ("Z" if filled else "")
 
 
+def extent(points: Sequence[Place]) -> Extent:
+    """The extent of an arc through these points. An arc outside of the square costs nothing there."""
+    if len(points) > 3:
+        straight = straight_extent(points, True)
+        return Extent(3 * straight.points, 2 * straight.length, 2 * straight.area)
+    long = min(_length(points), 4.0 * WIDTH)
+    return Extent(4 * len(points), 3 * long, min(long * long / math.pi, WIDTH * WIDTH))
+
+
+def _length(points: Sequence[Place]) -> float:
+    """The length of a circle, or of an arc through three points."""
+    a, m, e = points
+    if a == e:
+        return math.pi * math.dist(a, m)
+    cross = _cross(points)
+    if abs(cross) < 1e-9:
+        return math.dist(a, m) + math.dist(m, e)
+    centre, sweep = _centre(points, cross), cross > 0
+    turn = abs(_turn(centre, a, m, sweep)) + abs(_turn(centre, m, e, sweep))
+    return turn * math.dist(a, centre)
+
+
+def _cross(points: Sequence[Place]) -> float:
+    a, m, e = points
+    return (m[0] - a[0]) * (e[1] - a[1]) - (m[1] - a[1]) * (e[0] - a[0])
+
+
 def _circle(points: Sequence[Place]) -> str:
     radius = math.dist(points[0], points[1]) / 2
     return _arc(radius, False, True, points[1]) + _arc(radius, False, True, points[0])
@@ -30,7 +59,7 @@ def _arc(radius: float, large: bool, sweep: bool, to: Place) -> str:
 def _three(points: Sequence[Place]) -> str:
     """From the first to the second and on to the third, each as an arc of the circle through all three."""
     a, m, e = points
-    cross = (m[0] - a[0]) * (e[1] - a[1]) - (m[1] - a[1]) * (e[0] - a[0])
+    cross = _cross(points)
     if abs(cross) < 1e-9:
         return _lines([m, e])
     radius = math.dist(a, m) * math.dist(m, e) * math.dist(a, e) / (2 * abs(cross))

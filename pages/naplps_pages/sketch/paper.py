@@ -4,17 +4,37 @@ from typing import Dict, List, Optional, Set
 
 from .colours import BLACK
 from .measure import HEIGHT, WIDTH
+from .weight import Weight
 
-# Elements that glyphs, masks and repeated characters may bring into the picture.
-MOST_USED = 200_000
+# A sketch has so many bytes at most, of which some are for what stands around the drawing.
+MOST_BYTES = 16 << 20
+AROUND = 4096
+# So many points at most, uses included, are drawn by a browser.
+MOST_WEIGHT = 500_000
+# So many bytes of masks are copied into patterns; beyond that, patterns refer to a mask.
+MOST_COPIED = 1 << 18
+
+
+class Full(Exception):
+    """What comes next is more than a picture may have."""
+
+
+@dataclass
+class Cost:
+    """Bytes, and points that are drawn."""
+
+    size: int = 0
+    weight: float = 0.0
 
 
 @dataclass(frozen=True)
-class Mask:
-    """A texture mask: its number in the order of definitions, and its elements."""
+class Definition:
+    """A glyph or a texture mask: its number and its name, its elements, and what they cost where they are drawn."""
 
     number: int
-    elements: List[str]
+    name: str
+    markup: str
+    weight: Weight
 
 
 class Paper:
@@ -24,14 +44,17 @@ class Paper:
         self.prefix = prefix
         self.page: List[str] = []
         self.open: Optional[List[str]] = None
+        self.open_weight = Weight()
         self.definitions: List[str] = []
         self.defined: Set[str] = set()
-        self.glyphs: Dict[int, str] = {}
-        self.weights: Dict[str, int] = {}
-        self.masks: Dict[str, Mask] = {}
+        self.glyphs: Dict[int, Definition] = {}
+        self.defined_glyphs = 0
+        self.masks: Dict[str, Definition] = {}
         self.defined_masks = 0
+        self.copied = 0
         self.notes: Dict[str, None] = {}
-        self.used = 0
+        self.of_page, self.of_definitions = Cost(), Cost()
+        self.full = False
         self.top = 0.0
 
     @property
@@ -39,8 +62,32 @@ class Paper:
         """Whether the page is drawn, and not a glyph or a mask."""
         return self.open is None
 
-    def put(self, element: str) -> None:
-        """Draws an element over what is there."""
+    def spend(self, size: int, weight: Weight) -> None:
+        """Counts what is about to be drawn. Raises Full where it is too much, once: then the picture ends."""
+        if self.open is None:
+            self._count(self.of_page, size, weight.total())
+        else:
+            # (what it costs to draw it is counted where that is done)
+            self.open_weight = self.open_weight.plus(weight)
+            self._count(self.of_definitions, size, weight.points)
+
+    def _count(self, cost: Cost, size: int, weight: float) -> None:
+        if self.full:
+            return
+        cost.size += size
+        cost.weight += weight
+        if (self.of_page.size + self.of_definitions.size > MOST_BYTES - AROUND
+                or self.of_page.weight + self.of_definitions.weight > MOST_WEIGHT):
+            self.full = True
+            raise Full
+
+    def put(self, element: str, weight: Weight) -> None:
+        """Draws an element over what is there. Raises Full."""
+        self.spend(len(element.encode("utf-8")), weight)
+        self.put_counted(element)
+
+    def put_counted(self, element: str) -> None:
+        """Draws an element that was counted before."""
         (self.page if self.open is None else self.open).append(element)
 
     def note(self, text: str) -> None:
@@ -56,6 +103,7 @@ class Paper:
         """Takes away all that is drawn on the page, and fills it with the colour."""
         if self.open is None:
             self.page = []
+            self.of_page = Cost()
             self.top = 0.0
             if colour != BLACK:
                 self.page.append('<rect y="%d" width="%d" height="%d" fill="%s"/>' % (
@@ -63,43 +111,49 @@ class Paper:
 
     def begin(self) -> None:
         """Opens a glyph or a mask."""
-        self.open = []
+        self.open, self.open_weight = [], Weight()
 
     def end_glyph(self, code: int) -> None:
         """Closes a glyph, which replaces an older one for the characters behind it."""
-        elements, self.open = self.open or [], None
-        name = "%sg%d" % (self.prefix, len(self.weights))
-        self.weights[name] = len(elements) + 1
-        self.glyphs[code] = name
-        self.definitions.append('<g id="%s">%s</g>' % (name, "".join(elements)))
+        glyph = self._ended("g", self.defined_glyphs)
+        self.defined_glyphs += 1
+        self.glyphs[code] = glyph
+        self._define_group(glyph)
 
     def end_mask(self, name: str) -> None:
         """Closes a mask."""
-        elements, self.open = self.open or [], None
         self.defined_masks += 1
-        self.masks[name] = Mask(self.defined_masks, elements)
+        self.masks[name] = self._ended("m", self.defined_masks)
 
-    def may_use(self, weight: int) -> bool:
-        """Whether so many elements may be used again; they are counted then."""
-        if self.used + weight > MOST_USED:
-            self.note("what is used again beyond %d elements isn't drawn" % MOST_USED)
-            return False
-        self.used += weight
-        return True
+    def _ended(self, letter: str, number: int) -> Definition:
+        elements, self.open = self.open or [], None
+        return Definition(number, "%s%s%d" % (self.prefix, letter, number), "".join(elements), self.open_weight)
 
-    def glyph(self, code: int) -> Optional[str]:
-        """The name of a glyph that may be drawn here; none inside a glyph or a mask."""
-        name = self.glyphs.get(code)
-        if name is None:
+    def glyph(self, code: int) -> Optional[Definition]:
+        """The glyph that may be drawn here; none inside a glyph or a mask."""
+        glyph = self.glyphs.get(code)
+        if glyph is None:
             self.note("a DRCS character without a glyph is drawn as a box")
         elif self.open is not None:
             self.note("a DRCS character inside a glyph or a mask is drawn as a box")
-        elif self.may_use(self.weights[name]):
-            return name
+        else:
+            return glyph
         return None
 
-    def define(self, key: str, markup: str) -> None:
-        """Adds a definition once."""
+    def drawing_of(self, mask: Definition) -> str:
+        """The elements of a mask for a pattern: a copy, or a reference to them where there are many copies already."""
+        if self.copied + len(mask.markup) <= MOST_COPIED:
+            self.copied += len(mask.markup)
+            return mask.markup
+        self._define_group(mask)
+        return '<use href="#%s"/>' % mask.name
+
+    def _define_group(self, it: Definition) -> None:
+        self.define(it.name, '<g id="%s">%s</g>' % (it.name, it.markup), counted=len(it.markup.encode("utf-8")))
+
+    def define(self, key: str, markup: str, counted: int = 0) -> None:
+        """Adds a definition once. `counted` is how much of its size was counted before. Raises Full."""
         if key not in self.defined:
+            self._count(self.of_definitions, len(markup.encode("utf-8")) - counted, 0.0)
             self.defined.add(key)
             self.definitions.append(markup)

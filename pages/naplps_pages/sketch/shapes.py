@@ -6,6 +6,7 @@ from . import arcs
 from .measure import Place, in_glyph, length, num, on_page
 from .paper import Paper
 from .textures import Looks
+from .weight import Extent, box, extent
 
 
 class Shapes:
@@ -23,9 +24,6 @@ class Shapes:
             self.paper.reach(point[1] / ONE)
         return [on_page(point) if self.paper.on_page else in_glyph(point) for point in points]
 
-    def _attributes(self, entry: Entry) -> str:
-        return self.looks.fill(entry) if entry.kind.endswith("FILLED") else self.looks.stroke(entry)
-
     def point(self, entry: Entry) -> None:
         """A point: the pel's rectangle, from its corner."""
         (x, y), = self._places(entry.points)
@@ -33,31 +31,37 @@ class Shapes:
         thin = self.looks.thin()
         left = x + min(wide, 0.0) - (thin / 2 if not wide else 0.0)
         top = y - max(high, 0.0) - (thin / 2 if not high else 0.0)
+        wide, high = abs(wide) or thin, abs(high) or thin
         self.paper.put('<rect x="%s" y="%s" width="%s" height="%s" fill="%s"/>' % (
-            num(left), num(top), num(abs(wide) or thin), num(abs(high) or thin), self.looks.ink(entry)))
+            num(left), num(top), num(wide), num(high), self.looks.ink(entry)), box(wide, high))
 
     def line(self, entry: Entry) -> None:
         """A line, with square ends."""
-        (a, b), (c, d) = self._places(entry.points)
+        (a, b), (c, d) = places = self._places(entry.points)
+        style = self.looks.of(entry, extent(places, False))
         self.paper.put('<path d="M%s %sL%s %s" stroke-linecap="square"%s/>' % (
-            num(a), num(b), num(c), num(d), self.looks.stroke(entry)))
+            num(a), num(b), num(c), num(d), style.attributes), style.weight)
 
     def rectangle(self, entry: Entry) -> None:
         """A rectangle; a filled one without width or height has the least thickness."""
         (a, b), (c, d) = self._places(entry.points)
         least = self.looks.thin() if entry.kind == "RECT-FILLED" else 0.01
+        wide, high = max(abs(c - a), least), max(abs(d - b), least)
+        style = self.looks.of(entry, Extent(4, 2 * (wide + high), wide * high))
         self.paper.put('<rect x="%s" y="%s" width="%s" height="%s"%s/>' % (
-            num(min(a, c)), num(min(b, d)), num(max(abs(c - a), least)), num(max(abs(d - b), least)),
-            self._attributes(entry)))
+            num(min(a, c)), num(min(b, d)), num(wide), num(high), style.attributes), style.weight)
 
     def polygon(self, entry: Entry) -> None:
         """A polygon, closed; where its edges cross, what lies inside an even number of them isn't filled."""
-        places = " ".join("%s,%s" % (num(x), num(y)) for x, y in self._places(entry.points))
-        self.paper.put('<polygon points="%s" fill-rule="evenodd"%s/>' % (places, self._attributes(entry)))
+        places = self._places(entry.points)
+        style = self.looks.of(entry, extent(places, True))
+        told = " ".join("%s,%s" % (num(x), num(y)) for x, y in places)
+        self.paper.put('<polygon points="%s" fill-rule="evenodd"%s/>' % (told, style.attributes), style.weight)
 
     def arc(self, entry: Entry) -> None:
         """An arc, or a circle."""
         if len(entry.points) > 3:
             self.paper.note("an arc of more than three points is drawn as a smooth curve through them")
-        filled = entry.kind == "ARC-FILLED"
-        self.paper.put('<path d="%s"%s/>' % (arcs.path(self._places(entry.points), filled), self._attributes(entry)))
+        places, filled = self._places(entry.points), entry.kind == "ARC-FILLED"
+        style = self.looks.of(entry, arcs.extent(places))
+        self.paper.put('<path d="%s"%s/>' % (arcs.path(places, filled), style.attributes), style.weight)

@@ -1,14 +1,22 @@
 """How lines and areas look: thickness, dashes, fills."""
-from typing import Optional
+from typing import NamedTuple, Optional, Tuple
 
 from ..entries import Entry, Texture
 from .colours import Palette
 from .measure import THIN, THIN_IN_GLYPH, WIDTH, fine, length, num
-from .paper import Mask, Paper
+from .paper import Definition, Paper
+from .weight import PATTERNED, TILE, Extent, Weight, filled, outlined
 
 # Dashes by the lowest two bits of the texture word, in thicknesses.
 DASHES = {1: (1, 2), 2: (5, 3), 3: (5, 2, 1, 2)}
 USUAL_MASK = 24.0
+
+
+class Style(NamedTuple):
+    """The attributes of a shape, and what it costs to draw it."""
+
+    attributes: str
+    weight: Weight
 
 
 class Looks:
@@ -25,31 +33,52 @@ class Looks:
         """The least thickness that is drawn."""
         return THIN if self.paper.on_page else THIN_IN_GLYPH
 
-    def stroke(self, entry: Entry) -> str:
-        """The attributes of an outline."""
+    def of(self, entry: Entry, shape: Extent) -> Style:
+        """Those of a shape of this extent. Raises Full."""
+        return self._fill(entry, shape) if entry.kind.endswith("FILLED") else self._stroke(entry, shape)
+
+    def _stroke(self, entry: Entry, shape: Extent) -> Style:
+        """Those of an outline."""
         wide, high = entry.pel or (0, 0)
         thick = max(abs(length(wide)), abs(length(high)), self.thin())
         kind = entry.texture.word & 3 if entry.texture else 0
         dashes = ""
         if kind:
             dashes = ' stroke-dasharray="%s"' % " ".join(num(part * thick) for part in DASHES[kind])
-        return ' fill="none" stroke="%s" stroke-width="%s"%s' % (self.ink(entry), num(thick), dashes)
+        attributes = ' fill="none" stroke="%s" stroke-width="%s"%s' % (self.ink(entry), num(thick), dashes)
+        return Style(attributes, outlined(shape, thick, DASHES[kind] if kind else ()))
 
-    def fill(self, entry: Entry) -> str:
-        """The attributes of a filled area."""
+    def _fill(self, entry: Entry, shape: Extent) -> Style:
+        """Those of a filled area."""
         texture = entry.texture or Texture(0, None)
-        edge = ' stroke="#000000" stroke-width="%s"' % num(self.thin() * 0.75) if texture.word & 4 else ""
+        edge, weight = "", filled(shape)
+        if texture.word & 4:
+            thick = self.thin() * 0.75
+            edge = ' stroke="#000000" stroke-width="%s"' % num(thick)
+            weight = weight.plus(outlined(shape, thick, ()))
         pattern = texture.word >> 3 & 7
         ink = self.ink(entry)
         if not pattern or not self.paper.on_page:
-            return ' fill="%s"%s' % (ink, edge)
-        return ' fill="url(#%s)"%s' % (self._pattern(pattern, texture, ink, self.palette.back(entry.colour)), edge)
+            return Style(' fill="%s"%s' % (ink, edge), weight)
+        wide, high = self._tile(texture)
+        mask = self.paper.masks.get("ABCD"[pattern - 4]) if pattern >= 4 else None
+        if mask is not None:
+            weight = weight.plus(mask.weight.scaled(wide / WIDTH, high / WIDTH))
+        weight = weight.plus(Weight(TILE, 0.0, shape.area * PATTERNED + wide * high))
+        key = self._pattern(pattern, texture, ink, self.palette.back(entry.colour))
+        return Style(' fill="url(#%s)"%s' % (key, edge), weight)
+
+    @staticmethod
+    def _tile(texture: Texture) -> Tuple[float, float]:
+        """The width and height of what a pattern repeats."""
+        if not texture.mask:
+            return USUAL_MASK, USUAL_MASK
+        wide, high = (max(abs(length(side)), THIN) for side in texture.mask)
+        return wide, high
 
     def _pattern(self, pattern: int, texture: Texture, ink: str, back: Optional[str]) -> str:
         """The name of the pattern that fills with this texture, defined once."""
-        wide = high = USUAL_MASK
-        if texture.mask:
-            wide, high = (max(abs(length(side)), THIN) for side in texture.mask)
+        wide, high = self._tile(texture)
         mask = self.paper.masks.get("ABCD"[pattern - 4]) if pattern >= 4 else None
         version = "-%d" % mask.number if mask else ""
         key = "%sp%d-%s-%s-%s-%s%s" % (
@@ -62,13 +91,12 @@ class Looks:
                               % (key, num(wide), num(high), inside))
         return key
 
-    def _masked(self, mask: Optional[Mask], wide: float, high: float, ink: str) -> str:
-        """A mask of the page; a half tone where there is none, or too much is drawn already."""
-        if mask is None:
-            self.paper.note("a texture mask without a definition is drawn as a half tone")
-        elif self.paper.may_use(len(mask.elements) + 1):
+    def _masked(self, mask: Optional[Definition], wide: float, high: float, ink: str) -> str:
+        """A mask of the page; a half tone where there is none."""
+        if mask is not None:
             return '<g color="%s" transform="scale(%s %s)">%s</g>' % (
-                ink, fine(wide / WIDTH), fine(high / WIDTH), "".join(mask.elements))
+                ink, fine(wide / WIDTH), fine(high / WIDTH), self.paper.drawing_of(mask))
+        self.paper.note("a texture mask without a definition is drawn as a half tone")
         return '<rect width="%s" height="%s" fill="%s" fill-opacity="0.5"/>' % (num(wide), num(high), ink)
 
 

@@ -4,10 +4,10 @@ from dataclasses import dataclass
 from typing import List, Optional, Sequence, Tuple
 from xml.sax.saxutils import escape
 
-from ..entries import Entry, read
+from ..entries import Entry, read, read_line
 from .colours import BLACK, OWN, Palette
 from .measure import HEIGHT, WIDTH
-from .paper import Paper
+from .paper import Full, Paper
 from .shapes import Shapes
 from .textures import Looks
 from .writing import Writing
@@ -15,7 +15,11 @@ from .writing import Writing
 # So many entries, and points of them, are drawn.
 MOST_DRAWN = 20_000
 MOST_POINTS = 200_000
+# A line has no more commas than these outside of its points.
+MOST_COMMAS = 16
+# The height of a line below the drawing.
 CAPTION = 28
+ENDS = "The picture ends before entry %d: with what follows it would be more than a picture may be."
 NOTES = {"BLINK": "blinking isn't drawn", "BLINK-START": "blinking isn't drawn", "WAIT": "waits aren't drawn",
          "CURSOR": "cursors aren't drawn"}
 # RESET's codes for the screen: cleared to black, or to the colour in use.
@@ -31,11 +35,11 @@ class Sketch:
 
 
 class Walk:
-    """Draws entries one after another."""
+    """Draws the entries of some lines one after another."""
 
-    def __init__(self, entries: Sequence[Entry], prefix: str) -> None:
-        self.entries = entries
-        self.palette = Palette(entries)
+    def __init__(self, lines: Sequence[str], prefix: str) -> None:
+        self.lines = lines
+        self.palette = Palette(read(line for line in lines if line.startswith("MAP ")))
         self.paper = Paper(prefix)
         self.looks = Looks(self.paper, self.palette)
         self.shapes = Shapes(self.paper, self.looks)
@@ -45,16 +49,22 @@ class Walk:
         self.saved: Tuple[float, float, bool] = (0.0, 0.0, False)
 
     def draw(self) -> int:
-        """Draws what the limits allow; how many entries that were."""
-        points = 0
-        for number, entry in enumerate(self.entries):
-            points += len(entry.points)
-            if number >= MOST_DRAWN or points > MOST_POINTS:
-                self.writing.flush()
-                return number
-            self.entry(entry)
+        """Draws what the limits allow; how many entries that were. Raises NotALine."""
+        drawn = points = 0
+        try:
+            for line in self.lines[:MOST_DRAWN]:
+                if line.count(",") > MOST_POINTS + MOST_COMMAS:
+                    break
+                entry = read_line(line)
+                points += len(entry.points)
+                if points > MOST_POINTS:
+                    break
+                self.entry(entry)
+                drawn += 1
+        except Full:
+            pass
         self.writing.flush()
-        return len(self.entries)
+        return drawn
 
     def entry(self, entry: Entry) -> None:
         """Draws an entry."""
@@ -119,14 +129,15 @@ class Walk:
 def draw(lines: Sequence[str], said: str = "") -> Sketch:
     """The sketch of the page with these lines. `said` is what else it has to say of itself."""
     prefix = "n" + hashlib.sha256("\n".join(lines).encode("ascii")).hexdigest()[:8]
-    walk = Walk(list(read(lines)), prefix)
+    walk = Walk(lines, prefix)
     drawn = walk.draw()
-    return Sketch(_svg(walk.paper, _caption(drawn, len(lines), said)), drawn)
+    end = "" if drawn == len(lines) else ENDS % (drawn + 1)
+    return Sketch(_svg(walk.paper, _caption(drawn, len(lines), said), end), drawn)
 
 
 def empty(said: str) -> Sketch:
     """A sketch without a drawing, which says why."""
-    return Sketch(_svg(Paper("n"), said), 0)
+    return Sketch(_svg(Paper("n"), said, ""), 0)
 
 
 def _caption(drawn: int, total: int, said: str) -> str:
@@ -134,18 +145,25 @@ def _caption(drawn: int, total: int, said: str) -> str:
     return "Sketch of %s" % how_many + ("; " + said if said else "")
 
 
-def _svg(paper: Paper, caption: str) -> str:
+def _svg(paper: Paper, caption: str, end: str) -> str:
     tall = paper.top > HEIGHT / WIDTH + 0.001
     above = WIDTH - HEIGHT if tall else 0
+    foot = CAPTION * 2 if end else CAPTION
     notes: List[str] = list(paper.notes)
     if tall:
         notes.append("the page draws above the part of the square that screens show")
     described = "<desc>%s</desc>" % escape("; ".join(notes)) if notes else ""
     definitions = "<defs>%s</defs>" % "".join(paper.definitions) if paper.definitions else ""
-    foot = ('<rect y="%d" width="%d" height="%d" fill="#333333"/><text x="8" y="%d" font-size="16" '
-            'fill="#cccccc">%s</text>' % (HEIGHT, WIDTH, CAPTION, HEIGHT + 20, escape(caption)))
+    below = '<rect y="%d" width="%d" height="%d" fill="#333333"/>' % (HEIGHT, WIDTH, foot)
+    below += _line(0, "#cccccc", caption) + (_line(1, "#ffcc66", end) if end else "")
     return ('<svg xmlns="http://www.w3.org/2000/svg" viewBox="0 %d %d %d" width="%d" height="%d" '
             'font-family="DejaVu Sans Mono,monospace" role="img">'
             "<title>%s</title>%s%s<rect y=\"%d\" width=\"%d\" height=\"%d\" fill=\"#000000\"/>%s%s</svg>\n") % (
-        -above, WIDTH, HEIGHT + CAPTION + above, WIDTH, HEIGHT + CAPTION + above, escape(caption), described,
-        definitions, -above, WIDTH, HEIGHT + above, "".join(paper.page), foot)
+        -above, WIDTH, HEIGHT + foot + above, WIDTH, HEIGHT + foot + above, escape(caption), described,
+        definitions, -above, WIDTH, HEIGHT + above, "".join(paper.page), below)
+
+
+def _line(number: int, colour: str, text: str) -> str:
+    """A line of text below the drawing."""
+    return '<text x="8" y="%d" font-size="16" fill="%s">%s</text>' % (
+        HEIGHT + number * CAPTION + 20, colour, escape(text))

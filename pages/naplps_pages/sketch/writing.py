@@ -5,6 +5,7 @@ from xml.sax.saxutils import escape
 
 from .. import letters
 from ..entries import Entry
+from . import weight
 from .cells import RIGHT, Cell, Cursor, cell
 from .colours import BLACK, Palette
 from .measure import HEIGHT, WIDTH, fine, num
@@ -19,6 +20,8 @@ BLOCKS = (1, 2, 4, 8, 16, 64)
 Ink = Tuple[str, Optional[str]]
 # So many characters at most are repeated to the end of a line; cells so small that there are more can't be read.
 MOST_IN_LINE = 1000
+# At most so many bytes for a letter of a run, and for what stands around a run.
+A_LETTER, A_RUN = 16, 1024
 
 
 @dataclass
@@ -53,11 +56,13 @@ class Writing:
             self._draw_run(run)
 
     def character(self, entry: Entry) -> None:
-        """A character, and the cursor behind it."""
+        """A character, and the cursor behind it. Raises Full."""
         self.last = entry
         size = self._take(entry)
+        self.paper.spend(A_LETTER, weight.letter(size.wide * WIDTH, size.high * WIDTH))
         if letters.is_accent(entry.word, entry.numbers[0]):
             self._end_accent()
+            self.paper.spend(A_RUN, weight.RUN)  # (it may stand alone)
             self.accent = entry.numbers[0]
             return
         if entry.word in ("primary", "supplementary"):
@@ -84,7 +89,7 @@ class Writing:
         again = Entry("CHAR", (), last.word, last.numbers, colour=entry.colour, pen="after", look=entry.look)
         right = self.cursor.field[2] + 1e-9
         for _ in range(MOST_IN_LINE):
-            if size.wide <= 0 or size.path != RIGHT or self.cursor.x + size.wide > right or not self.paper.may_use(1):
+            if size.wide <= 0 or size.path != RIGHT or self.cursor.x + size.wide > right:
                 break
             self.character(again)
 
@@ -105,7 +110,7 @@ class Writing:
         front, back = self.palette.front(entry.colour), self.palette.back(entry.colour)
         return (back or BLACK, front) if entry.look.reverse else (front, back)
 
-    def _letter(self, entry: Entry, size: Cell, sign: str) -> None:
+    def _letter(self, entry: Entry, size: Cell, sign: str, counted: bool = False) -> None:
         assert entry.look
         x, y = self._corner(size)
         look = (self._ink(entry), size, entry.look.underline)
@@ -113,6 +118,8 @@ class Writing:
             self.run.text.append(sign)
             return
         self.flush()
+        if not counted:
+            self.paper.spend(A_RUN, weight.RUN)
         self.run = Run(look, [sign], x, y)
 
     @staticmethod
@@ -129,7 +136,7 @@ class Writing:
         """An accent with no letter behind it stands alone, where the cursor is."""
         accent, self.accent = self.accent, None
         if accent is not None and self.last is not None and self.last.look is not None:
-            self._letter(self.last, cell(self.last.look), letters.ALONE[accent])
+            self._letter(self.last, cell(self.last.look), letters.ALONE[accent], counted=True)
 
     def _draw_run(self, run: Run) -> None:
         (front, back), size, underline = run.look
@@ -144,7 +151,7 @@ class Writing:
             parts.append('<path d="M%s %sh%s" fill="none" stroke="%s" stroke-width="3"/>' % (
                 num(run.x), num(run.y - 3), num(total), front))
         for part in parts:
-            self.paper.put(part if not turn else '<g transform="%s">%s</g>' % (turn, part))
+            self.paper.put_counted(part if not turn else '<g transform="%s">%s</g>' % (turn, part))
 
     def _sign(self, entry: Entry, size: Cell) -> None:
         x, y = self._corner(size)
@@ -153,7 +160,7 @@ class Writing:
             return
         front, back = self._ink(entry)
         if back:
-            self.paper.put(_cell(x, y, wide, high, back))
+            self.paper.put(_cell(x, y, wide, high, back), weight.box(wide, high))
         if entry.word == "mosaic":
             assert entry.look
             self._mosaic(entry.numbers[0], (x, y, wide, high), front, entry.look.underline)
@@ -172,18 +179,20 @@ class Writing:
                 path += "M%s %sh%sv%sh%sz" % (num(left), num(top), num(across * (1 - gap)), num(down * (1 - gap)),
                                               num(-across * (1 - gap)))
         if path:
-            self.paper.put('<path d="%s" fill="%s" shape-rendering="crispEdges"/>' % (path, front))
+            self.paper.put('<path d="%s" fill="%s" shape-rendering="crispEdges"/>' % (path, front), weight.box(wide, high))
 
     def _glyph(self, code: int, box: Tuple[float, float, float, float], front: str) -> None:
         x, y, wide, high = box
-        name = self.paper.glyph(code)
-        if name is not None:
-            self.paper.put('<use href="#%s" color="%s" transform="translate(%s %s) scale(%s %s)"/>' % (
-                name, front, num(x), num(y - high), fine(wide / WIDTH), fine(high / WIDTH)))
+        glyph = self.paper.glyph(code)
+        if glyph is not None:
+            use = '<use href="#%s" color="%s" transform="translate(%s %s) scale(%s %s)"/>' % (
+                glyph.name, front, num(x), num(y - high), fine(wide / WIDTH), fine(high / WIDTH))
+            self.paper.put(use, weight.USE.plus(glyph.weight.scaled(wide / WIDTH, high / WIDTH)))
             return
         left, top = x + wide * 0.15, y - high * 0.85
-        self.paper.put('<path d="M%s %sh%sv%sh%sz" fill="none" stroke="%s" stroke-width="2"/>' % (
-            num(left), num(top), num(wide * 0.7), num(high * 0.7), num(-wide * 0.7), front))
+        shape = '<path d="M%s %sh%sv%sh%sz" fill="none" stroke="%s" stroke-width="2"/>' % (
+            num(left), num(top), num(wide * 0.7), num(high * 0.7), num(-wide * 0.7), front)
+        self.paper.put(shape, weight.outlined(weight.Extent(4, 2 * abs(wide) + 2 * abs(high), 0.0), 2.0, ()))
 
 
 def _text(text: str, run: Run, wide: float, high: float, front: str) -> str:
