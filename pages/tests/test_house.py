@@ -18,7 +18,8 @@ SOURCES = [*sorted(path for folder in (PACKAGE, MODULE)
                    for path in glob.glob(os.path.join(folder, "**", "*.py"), recursive=True)),
            os.path.join(PAGES, "naplps-pages")]
 SCRIPTS = [os.path.join(TOP, "scripts", name)
-           for name in ("manual-refusals", "speed-module", "speed-pages", "measure-scale", "measuring.py")]
+           for name in ("manual-refusals", "speed-module", "speed-pages", "measure-scale", "measuring.py",
+                        "worst-pictures")]
 ALL = SOURCES + SCRIPTS + sorted(glob.glob(os.path.join(PAGES, "tests", "*.py")))
 
 

@@ -179,7 +179,8 @@ class Writing:
                 path += "M%s %sh%sv%sh%sz" % (num(left), num(top), num(across * (1 - gap)), num(down * (1 - gap)),
                                               num(-across * (1 - gap)))
         if path:
-            self.paper.put('<path d="%s" fill="%s" shape-rendering="crispEdges"/>' % (path, front), weight.box(wide, high))
+            blocks = '<path d="%s" fill="%s" shape-rendering="crispEdges"/>' % (path, front)
+            self.paper.put(blocks, weight.box(wide, high))
 
     def _glyph(self, code: int, box: Tuple[float, float, float, float], front: str) -> None:
         x, y, wide, high = box
