@@ -1,6 +1,7 @@
 """The commands check, list and canon: the program's answers for files."""
 from typing import List, Optional
 
+from . import file_kinds
 from .answers import Accepted, Answer, NoAnswer, Refused
 from .entries import read_line
 from .listing import command_of, rows_of
@@ -12,15 +13,16 @@ from .source import Page
 
 
 def check(session: Session) -> int:
-    """Whether each page is accepted, or why not."""
+    """Whether each page is accepted, or why not; and what the file is."""
     def work(page: Page) -> None:
         answer = session.program.ask("check", page)
         there = session.answered(page, answer)
+        kind, looks = file_kinds.kind_of(page, answer), file_kinds.looks_like_of(page, answer)
         if session.json:
-            session.output.line(dumps(answered(page.name, answer)))
+            session.output.line(dumps({**answered(page.name, answer), "kind": kind, "looks_like": looks}))
         elif there and isinstance(answer, (Accepted, Refused)):
-            session.output.line(session.front(page.name) + answer.line)
-    return session.each(work)
+            session.output.line(session.front(page.name) + answer.line + file_kinds.told(kind, looks))
+    return session.each(work, more=("kind", "looks_like"))
 
 
 def list_entries(session: Session) -> int:

@@ -50,6 +50,13 @@ def test_questions_to_the_store(archive):
         "reasons": "accepted||9\nrefused|Cut|1\nrefused|LeftOut|1\nrefused|Outside|1\n", "missing": ""}
 
 
+def test_the_names_of_the_pages(archive):
+    (words,) = re.findall(r"<!-- kinds: pages -->\n```sh\n(.*?)```", TEXT, re.DOTALL)
+    assert shell(archive, words).splitlines() == [
+        "pages/" + name for name in ("fence by macro.nap", "fence.nap", "glyph.nap", "grandma's house.nap", "hello.nap",
+                                     "old/point.nap", "point again.nap", "point.nap")]
+
+
 def test_the_tables_of_the_store(tmp_path):
     connection = store.open_to_write(str(tmp_path / "pages.db"))
     found = {name: [row[1] for row in connection.execute("PRAGMA table_info(%s)" % name)] for name, in

@@ -41,9 +41,10 @@ def test_check_in_json(run, tmp_path):
     file(tmp_path, "bad", b"\x18")
     said = run(["check", "--json", "good", "bad", "none"], cwd=str(tmp_path))
     rows = [json.loads(line) for line in said.stdout.splitlines()]
-    empty = {"number": None, "fault": None, "code": None, "place": None, "entries": None, "reason": None}
+    empty = {"number": None, "fault": None, "code": None, "place": None, "entries": None, "reason": None,
+             "kind": None, "looks_like": None}
     assert rows == [
-        {**empty, "name": "good", "status": "accepted", "entries": 1},
+        {**empty, "name": "good", "status": "accepted", "entries": 1, "kind": "page"},
         {**empty, "name": "bad", "status": "refused", "number": 6, "fault": "LeftOut", "code": "CAN", "place": 0},
         {**empty, "name": "none", "status": "unread", "reason": "No such file or directory"}]
     assert said.returncode == 3
@@ -344,7 +345,7 @@ def test_a_hostile_page_that_is_refused(run, tmp_path):
     assert said.returncode == 1 and b"No sketch: too much comes first, then " + line in said.stdout
     said = run(["explain", path, *PATIENT])
     assert said.returncode == 1 and said.stderr == b"" and line in said.stdout
-    assert b"The entries aren't shown" in said.stdout and b"What it means: A code that the profile" in said.stdout
+    assert b"The entries aren't shown" in said.stdout and b"What it means: The byte 18, cancel." in said.stdout
     said = run(["text", path, *PATIENT])
     assert said.returncode == 3 and said.stderr.endswith(b"bomb: too much for its text to be asked\n")
 
@@ -368,7 +369,8 @@ def test_a_long_page_has_the_answers_of_the_plain_commands(naplps, run, tmp_path
             with open(path, "rb") as page:
                 plain = subprocess.run([naplps, command], stdin=page, capture_output=True)
             said = run([command, path, *PATIENT])
-            assert (said.stdout, said.returncode) == (plain.stdout, plain.returncode)
+            out = plain.stdout.replace(b" entries\n", b" entries (text)\n") if command == "check" else plain.stdout
+            assert (said.stdout, said.returncode) == (out, plain.returncode)
 
 
 def test_an_installed_copy(naplps, tmp_path):
@@ -433,7 +435,7 @@ sys.stdout.write({'check': 'accepted 1 entries\\n', 'list': 'BELL\\n', 'canon': 
 
 
 @pytest.mark.parametrize("words, out", [
-    (["check"], b"accepted 1 entries\n"), (["list"], b"BELL\n"), (["canon"], b"\x0e!_\x07"), (["text"], b""),
+    (["check"], b"accepted 1 entries (text)\n"), (["list"], b"BELL\n"), (["canon"], b"\x0e!_\x07"), (["text"], b""),
     (["list", "--json"], b'"list": [{"kind": "BELL", "place": null}]}\n'), (["look"], b"</svg>\n"),
     (["explain"], b"The page is longer than 16 MiB: its entries aren't shown.\n"),
     (["cures"], b"accepted 1 entries\n")])
