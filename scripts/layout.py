@@ -12,6 +12,8 @@ TOP = Path(__file__).resolve().parent.parent
 DOCUMENTS = "share/doc/naplps"
 LIBRARY = TOP / "library"
 SONAME = "libnaplps.so.0"
+# The status of a script that can't do its work here, since a tool isn't there.
+UNTRIED = 77
 
 
 class Rule(NamedTuple):
@@ -102,11 +104,20 @@ def version_of(program: Path) -> str:
     return version
 
 
+class Untried(Exception):
+    """What is asked for can't be made here, and why."""
+
+
 def find_library() -> Path:
-    """The folder of the library that NAPLPS_LIBRARY names, or the one that scripts/library makes."""
+    """The folder of the library that NAPLPS_LIBRARY names, or the one that scripts/library makes; raises Untried."""
     named = os.environ.get("NAPLPS_LIBRARY")
     if named is None:
-        if subprocess.run([TOP / "scripts" / "library"], stdout=subprocess.DEVNULL).returncode:
+        words = [TOP / "scripts" / "library"]
+        said = subprocess.run(words, stdout=subprocess.DEVNULL, stderr=subprocess.PIPE, encoding="utf-8")
+        if said.returncode == UNTRIED:
+            raise Untried(said.stderr.strip().partition("library: ")[2])
+        print(said.stderr, end="", file=sys.stderr)
+        if said.returncode:
             raise stop("scripts/library made no library")
         return TOP / "out"
     if not (Path(named) / SONAME).is_file():

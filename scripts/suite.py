@@ -1,0 +1,137 @@
+"""Runs test scripts, beside one another where that is wanted, and adds up what they count.
+
+The last line of a test script is 'N passed, M failed'. One that ends otherwise has failed, but with the status 77 it
+could not be tried here, and has said why.
+"""
+import os
+import re
+import subprocess
+import tempfile
+import threading
+import time
+from concurrent.futures import ThreadPoolExecutor
+from contextlib import contextmanager
+from typing import IO, Dict, Iterable, Iterator, List, Optional, Sequence, Set
+
+from layout import TOP, UNTRIED
+
+# How many run beside one another.
+AT_ONCE = 3
+COUNT = re.compile(r"(\d+) passed, (\d+) failed")
+
+
+class Suite:
+    """What passed and failed so far, and what could not be tried."""
+
+    def __init__(self) -> None:
+        self.passed = 0
+        self.failed = 0
+        self.untried: List[str] = []
+        self._print = threading.Lock()
+        self._running: Set["subprocess.Popen[str]"] = set()
+
+    def say(self, text: str) -> None:
+        """Prints lines, none of them in between those of another script."""
+        with self._print:
+            print(text.rstrip("\n"), flush=True)
+
+    def fail(self, why: str) -> None:
+        """Counts a failure of its own."""
+        self.say(f"FAILED: {why}")
+        self.failed += 1
+
+    def one(self, words: Sequence[str], more: Optional[Dict[str, str]] = None, log: Optional[IO[str]] = None) -> bool:
+        """Runs a script at the top, shows its lines as they come, and answers whether all went well. They go into a log
+        too, if there is one. `more` is what its environment has beside this one's."""
+        self.say(f"== {' '.join(words)}")
+        began, last = time.monotonic(), ""
+        with self._started(words, more, subprocess.PIPE) as process:
+            assert process.stdout is not None
+            for line in process.stdout:
+                self.say(line)
+                last = line.strip()
+                if log is not None:
+                    log.write(line)
+        with self._print:
+            return self._count(words, process.returncode, last, time.monotonic() - began)
+
+    def several(self, parts: Iterable[Sequence[str]], at_once: int, more: Optional[Dict[str, str]] = None) -> None:
+        """Runs scripts at the top, so many at once; the lines of each are shown when it ends."""
+        pool = ThreadPoolExecutor(at_once)
+        try:
+            for done in [pool.submit(self._quietly, words, more) for words in parts]:
+                done.result()
+        except BaseException:
+            pool.shutdown(wait=False, cancel_futures=True)
+            self.stop()
+            raise
+        pool.shutdown()
+
+    def stop(self) -> None:
+        """Ends the scripts that still run."""
+        for process in list(self._running):
+            process.terminate()
+
+    def end(self) -> int:
+        """Prints what was not tried, and how many passed and failed; answers the exit status."""
+        for line in self.untried:
+            print(f"not tried: {line}")
+        print(f"{self.passed} passed, {self.failed} failed")
+        return 1 if self.failed else 0
+
+    @contextmanager
+    def _started(self, words: Sequence[str], more: Optional[Dict[str, str]],
+                 out: int) -> "Iterator[subprocess.Popen[str]]":
+        env = {**os.environ, **(more or {})}
+        with subprocess.Popen(words, cwd=TOP, env=env, stdin=subprocess.DEVNULL, stdout=out, stderr=subprocess.STDOUT,
+                              encoding="utf-8", errors="replace") as process:
+            self._running.add(process)
+            try:
+                yield process
+            finally:
+                self._running.discard(process)
+
+    def _quietly(self, words: Sequence[str], more: Optional[Dict[str, str]]) -> None:
+        began = time.monotonic()
+        with tempfile.TemporaryFile("w+", encoding="utf-8", errors="replace") as said:
+            with self._started(words, more, said.fileno()) as process:
+                status = process.wait()
+            said.seek(0)
+            text = said.read()
+        with self._print:
+            print(f"== {' '.join(words)}\n{text}", end="" if text.endswith("\n") else "\n")
+            self._count(words, status, (text.splitlines() or [""])[-1], time.monotonic() - began)
+
+    def _count(self, words: Sequence[str], status: int, last: str, seconds: float) -> bool:
+        name, count = " ".join(words), COUNT.fullmatch(last)
+        passed, failed = (int(count[1]), int(count[2])) if count else (0, 0)
+        if status == UNTRIED:
+            self.untried.append(f"{name}: {last.partition('not tried: ')[2] or last}")
+            passed, failed, told = 0, 0, "not tried"
+        else:
+            failed += failed == 0 and (status != 0 or count is None)
+            told = f"{passed} passed, {failed} failed"
+        self.passed += passed
+        self.failed += failed
+        print(f"== {name}: {told}, after {seconds:.0f} s", flush=True)
+        return failed == 0 and status == 0
+
+
+# Those that look at the sources alone; and those that are no parts, or parts of others.
+OF_SOURCES = ("wrong-bodies", "citations", "repeated-clauses", "headline", "examples", "launcher", "trying")
+NO_PARTS = ("all", "program", "kept", "rows", "tools")
+# Those that take longest, longest first.
+LONG = (
+    "faults", "pages-packs", "pages-commands", "hostile", "pages-scans", "pages-collections", "batch", "pages-parts",
+)
+
+
+def parts_of_sources() -> List[List[str]]:
+    """The test scripts that need no program."""
+    return [[f"scripts/test-{name}"] for name in OF_SOURCES]
+
+
+def parts_of_program() -> List[List[str]]:
+    """The test scripts that need the program alone, and no toolchain; those that take longest come first."""
+    names = {path.name[len("test-"):] for path in (TOP / "scripts").glob("test-*")} - {*OF_SOURCES, *NO_PARTS}
+    return [[f"scripts/test-{name}"] for name in [*LONG, *sorted(names.difference(LONG))]]

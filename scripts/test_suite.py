@@ -1,0 +1,82 @@
+"""Tests of the suite: what it counts, and which scripts are its parts."""
+import contextlib
+import io
+import tempfile
+import unittest
+from pathlib import Path
+from typing import List
+
+from layout import TOP
+from suite import NO_PARTS, Suite, parts_of_program, parts_of_sources
+
+
+def script(lines: str) -> List[str]:
+    """The words that run lines of a shell."""
+    return ["sh", "-c", lines]
+
+
+class Counts(unittest.TestCase):
+    """What a suite counts of scripts."""
+
+    def counted(self, *parts: List[str]) -> "tuple[int, int, List[str]]":
+        """What passed, failed and wasn't tried, by one after another, and the same by all at once."""
+        found = []
+        for at_once in (0, 1, 3):
+            suite = Suite()
+            with contextlib.redirect_stdout(io.StringIO()):
+                if at_once:
+                    suite.several(parts, at_once)
+                else:
+                    for words in parts:
+                        suite.one(words)
+            found.append((suite.passed, suite.failed, sorted(suite.untried)))
+        self.assertEqual(found[0], found[1])
+        self.assertEqual(found[0], found[2])
+        return found[0]
+
+    def test_counts_are_added(self) -> None:
+        """The last lines count."""
+        parts = script("echo 3 passed, 0 failed"), script("echo x; echo 4 passed, 2 failed; exit 1")
+        self.assertEqual(self.counted(*parts), (7, 2, []))
+
+    def test_other_ends_are_failures(self) -> None:
+        """Without that last line, or with a status that it doesn't tell, a script has failed."""
+        parts = script("echo 3 passed, 0 failed; echo x"), script(""), script("echo 5 passed, 0 failed; exit 2")
+        self.assertEqual(self.counted(*parts), (5, 3, []))
+        self.assertEqual(self.counted(script("kill -9 $$")), (0, 1, []))
+
+    def test_not_tried(self) -> None:
+        """The status 77 says that nothing was tried, whatever stands in the last line."""
+        parts = script("echo not tried: no cc; exit 77"), script("echo 1 passed, 0 failed; exit 77")
+        self.assertEqual(self.counted(*parts)[:2], (0, 0))
+        self.assertIn("sh -c echo not tried: no cc; exit 77: no cc", self.counted(parts[0])[2])
+
+    def test_log(self) -> None:
+        """The log of a script has its lines."""
+        with tempfile.TemporaryFile("w+") as log, contextlib.redirect_stdout(io.StringIO()):
+            self.assertTrue(Suite().one(script("echo a; echo 1 passed, 0 failed"), log=log))
+            log.seek(0)
+            self.assertEqual(log.read(), "a\n1 passed, 0 failed\n")
+
+    def test_lines_stay_together(self) -> None:
+        """Lines of scripts that run at once aren't mixed."""
+        text = io.StringIO()
+        with contextlib.redirect_stdout(text):
+            Suite().several([script(f"for i in 1 2 3; do echo {name}; sleep 0.05; done") for name in "abc"], 3)
+        for name in "abc":
+            self.assertIn(f"{name}\n{name}\n{name}\n", text.getvalue())
+
+
+class Parts(unittest.TestCase):
+    """Which scripts are parts."""
+
+    def test_every_script_is_a_part(self) -> None:
+        """Each scripts/test-* is a part of one list, or is named as none."""
+        parts = [words[0] for words in [*parts_of_sources(), *parts_of_program()]]
+        others = [f"scripts/test-{name}" for name in NO_PARTS]
+        there = [str(path.relative_to(TOP)) for path in Path(TOP, "scripts").glob("test-*")]
+        self.assertEqual(sorted([*parts, *others]), sorted(there))
+
+
+if __name__ == "__main__":
+    unittest.main()
