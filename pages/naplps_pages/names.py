@@ -16,6 +16,11 @@ def shown(name: str) -> str:
     return "".join(_shown(each) for each in name)
 
 
+def printable(text: str) -> str:
+    """The text on one line, with such an escape too, but a backslash as it is."""
+    return text if text.isprintable() else "".join(each if each == "\\" else _shown(each) for each in text)
+
+
 def _shown(each: str) -> str:
     if each in SHORT:
         return SHORT[each]

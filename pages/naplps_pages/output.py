@@ -5,7 +5,7 @@ import sys
 import tempfile
 from typing import IO
 
-from .names import leaf, shown
+from .names import leaf, printable, shown
 
 TOOL = "naplps-pages"
 
@@ -25,9 +25,9 @@ class OutputLost(NotWritten):
 
 
 def tell(text: str) -> None:
-    """A line on standard error."""
+    """A line on standard error. Whatever a terminal wouldn't show as itself has an escape."""
     try:
-        sys.stderr.write("%s: %s\n" % (TOOL, text))
+        sys.stderr.write("%s: %s\n" % (TOOL, printable(text)))
         sys.stderr.flush()
     except (OSError, AttributeError):
         pass  # there is nobody left to tell

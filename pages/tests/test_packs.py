@@ -327,12 +327,26 @@ def test_a_pack_that_is_not_as_it_was(run, at, store, ending):
     assert "%s!a: No such file or directory\n" % path in said.stderr.decode() and said.returncode == 1
 
 
+# The view of a store that was made before packs were known.
+EARLIER = """\
+CREATE VIEW listing AS SELECT CAST(d.path || CASE WHEN substr(d.path, -1) = x'2F' THEN x'' ELSE x'2F' END || f.name
+        AS TEXT) AS name,
+    CASE f.state WHEN 0 THEN CASE p.state WHEN 0 THEN 'accepted' WHEN 1 THEN 'refused' ELSE 'no answer' END
+        WHEN 1 THEN 'unreadable' WHEN 2 THEN 'vanished' WHEN 3 THEN 'too long' WHEN 4 THEN 'not a file'
+        WHEN 5 THEN 'changed' ELSE 'gone' END AS status,
+    p.number, (SELECT t.name FROM faults t WHERE t.number = p.number) AS fault, p.left_out AS code, p.place, p.entries,
+    coalesce(f.why, p.why) AS reason, f.size, nullif(lower(hex(p.own)), '') AS hash,
+    nullif(lower(hex(p.canon)), '') AS canonical,
+    p.canon_size AS canonical_size
+    FROM files f JOIN folders d ON d.id = f.folder LEFT JOIN pages p ON p.id = f.page AND f.state = 0;
+"""
+
+
 def test_a_store_of_an_earlier_version(run, at, store):
     tree(at, {"page": POINT})
     scan(run, at, "--into", store)
     connection = sqlite3.connect(store)
-    connection.executescript("DROP VIEW listing; CREATE VIEW listing AS SELECT d.path || '/' || f.name AS name "
-                             "FROM files f JOIN folders d ON d.id = f.folder;")
+    connection.executescript("DROP VIEW listing; " + EARLIER)
     connection.close()
     assert run(["equal", store]).returncode == 0
     pack(os.path.join(at, "pack.tar"), FILES)

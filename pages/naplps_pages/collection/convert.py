@@ -19,6 +19,7 @@ WRITTEN, THERE, CHANGED, NOT_MADE = "written", "there", "changed", "not made"
 PAGES = """SELECT p.canon, p.canon_size, p.own, d.path, f.name, f.at FROM pages p
     JOIN present f ON f.page = p.id JOIN folders d ON d.id = f.folder
     WHERE p.canon IS NOT NULL ORDER BY p.canon, d.path, f.name"""
+PAGE = "canon canon_size own path name inode?"
 
 
 class Row(NamedTuple):
@@ -42,7 +43,7 @@ class Conversion:
         """Puts the canonical page of each group in place, and tells what came of it. Raises NotWritten."""
         make_folder(self.into)
         done: Optional[bytes] = None
-        for canon, length, own, *place in kept(connection, PAGES):
+        for canon, length, own, *place in kept(connection, PAGES, PAGE):
             if canon != done:
                 row = self._convert(canon, length, own, Place(*place))
                 self.counts[row.status] = self.counts.get(row.status, 0) + 1

@@ -15,6 +15,7 @@ from .sources import Row, Source
 OWN = "SELECT own, ?, id FROM pages ORDER BY own"
 ANSWER = """SELECT t.version, t.budget, p.state, p.number, p.left_out, p.place, p.entries, p.canon, p.canon_size
     FROM pages p JOIN terms t ON t.id = p.terms WHERE p.id = ? AND p.state <> %d""" % tables.NO_ANSWER
+ANSWERED = "version budget state:page_state number? left_out? place? entries? canon? canon_size?"
 # The first file that has a page, and the name of a refusal.
 NAME = """SELECT d.path, f.name FROM files f JOIN folders d ON d.id = f.folder WHERE f.page = ? AND f.state = %d
     LIMIT 1""" % tables.READ
@@ -37,16 +38,16 @@ class Answer(NamedTuple):
         if state == tables.ACCEPTED:
             said = "%s, canonical %s" % (Accepted(entries).line, canon.hex())
         else:
-            fault = next(self.source.rows(FAULT, (number,)), ("",))[0]
+            fault = next(self.source.rows(FAULT, "fault", (number,)), ("",))[0]
             said = Refused(number, fault, left_out, place).line
-        names = [shown(os.fsdecode(join(*row))) for row in self.source.rows(NAME, (self.page,))]
+        names = [shown(os.fsdecode(join(*row))) for row in self.source.rows(NAME, "path name", (self.page,))]
         return ": ".join([shown(self.source.path), *names, said])
 
 
 def differing(sources: Sequence[Source], progress: Progress,
               stops: Callable[[], bool]) -> Iterator[Tuple[Answer, Answer]]:
     """Two answers to the same bytes that aren't the same. The hashes of all stores are merged as they are read."""
-    runs = (source.rows(OWN, (at,)) for at, source in enumerate(sources))
+    runs = (source.rows(OWN, "own at:count id", (at,)) for at, source in enumerate(sources))
     for number, (_, group) in enumerate(groupby(progress.through(heapq.merge(*runs)), itemgetter(0))):
         some = list(group)
         if len(some) > 1:
@@ -58,7 +59,7 @@ def differing(sources: Sequence[Source], progress: Progress,
 def _compared(sources: Sequence[Source], some: List[Row]) -> Iterator[Tuple[Answer, Answer]]:
     first: Dict[Row, Answer] = {}
     for _, at, page in some:
-        for version, budget, *said in sources[at].rows(ANSWER, (page,)):
+        for version, budget, *said in sources[at].rows(ANSWER, ANSWERED, (page,)):
             answer = Answer(sources[at], page, tuple(said))
             other = first.setdefault((version, budget), answer)
             if other.said != answer.said:

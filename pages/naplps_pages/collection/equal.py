@@ -22,6 +22,7 @@ MEMBERS = """SELECT g.canon, g.form, p.entries, p.canon_size, p.own, d.path, f.n
     CROSS JOIN pages p ON p.canon = g.canon CROSS JOIN terms t ON t.id = p.terms AND t.form = g.form
     CROSS JOIN present f ON f.page = p.id CROSS JOIN folders d ON d.id = f.folder
     ORDER BY g.spellings DESC, g.files DESC, g.canon, g.form, p.own, d.path, f.name"""
+MEMBER = "canon form entries canon_size own path name inode?"
 
 
 class Spelling(NamedTuple):
@@ -50,7 +51,7 @@ def groups(connection: sqlite3.Connection, copies: bool) -> Iterator[Group]:
     """The groups, those of most spellings first; those of one spelling, which are copies, only where that is said."""
     connection.execute(GROUPS.format(SEVERAL + COPIES, "count(*) > 1") if copies else
                        GROUPS.format(SEVERAL, "count(DISTINCT p.id) > 1"))
-    return grouped(kept(connection, MEMBERS))
+    return grouped(kept(connection, MEMBERS, MEMBER))
 
 
 def grouped(members: Iterable[Tuple[Any, ...]]) -> Iterator[Group]:

@@ -45,6 +45,10 @@ FILES = """SELECT w.number, coalesce(w.form, t.form), p.own, d.path, f.name, f.a
     coalesce(w.entries, p.entries), coalesce(w.length, p.canon_size) FROM temp.wanted w
     CROSS JOIN pages p ON p.id = w.page CROSS JOIN terms t ON t.id = p.terms CROSS JOIN present f ON f.page = p.id
     CROSS JOIN folders d ON d.id = f.folder"""
+# What the rows of these have.
+ANSWER = "own at:count page state:page_state canon? form entries? canon_size?"
+CANON = "canon at:count id form? entries? canon_size?"
+FILE = "id form own path name inode? entries canon_size"
 # (a script ends the transaction that it finds, and each row would be one)
 SORTED = """
     CREATE TABLE canons(number INTEGER PRIMARY KEY, canon BLOB);
@@ -108,7 +112,7 @@ class _Over:
             _copy(self.work.execute("SELECT page, number, form, entries, length FROM wanted WHERE store = ? "
                                     "ORDER BY page", (at,)), source,
                   "wanted(page INTEGER PRIMARY KEY, number INTEGER, form TEXT, entries INTEGER, length INTEGER)")
-            self.work.executemany("INSERT INTO found VALUES(?, ?, ?, ?, ?, ?, ?, ?)", source.rows(FILES))
+            self.work.executemany("INSERT INTO found VALUES(?, ?, ?, ?, ?, ?, ?, ?)", source.rows(FILES, FILE))
         self.work.executescript(GROUPS.format("count(*)" if self.copies else "count(DISTINCT own)"))
         return self.work.execute(MEMBERS)
 
@@ -118,20 +122,22 @@ class _Over:
         usual = [terms for some in all_terms for _, terms in some][-1:]
         for source, some in zip(self.sources, all_terms):
             numbers = [str(number) for number, terms in some if [terms] == usual]
-            self.work.executemany("INSERT OR IGNORE INTO odd VALUES(?)", source.rows(ODD.format(", ".join(numbers))))
+            self.work.executemany("INSERT OR IGNORE INTO odd VALUES(?)", source.rows(
+                ODD.format(", ".join(numbers)), "own"))
         self.has_odd = self.work.execute("SELECT 1 FROM odd LIMIT 1").fetchone() is not None
         for at, source in enumerate(self.sources if self.has_odd else ()):
             _copy(self.work.execute("SELECT own FROM odd ORDER BY own"), source, "odd(own BLOB PRIMARY KEY)")
-            self.work.executemany("INSERT INTO answers VALUES(?, ?, ?, ?, ?, ?, ?, ?)", source.rows(ANSWERS, (at,)))
+            self.work.executemany("INSERT INTO answers VALUES(?, ?, ?, ?, ?, ?, ?, ?)", source.rows(
+                ANSWERS, ANSWER, (at,)))
             _copy(self.work.execute("SELECT page FROM answers WHERE store = ? ORDER BY page", (at,)), source,
                   "apart(page INTEGER PRIMARY KEY)")
 
     def _runs(self) -> Iterator[Iterator[Row]]:
         """The runs, each sorted."""
         for at, source in enumerate(self.sources):
-            yield source.rows(RUN.format(NOT_ODD.format("id") if self.has_odd else ""), (at,))
+            yield source.rows(RUN.format(NOT_ODD.format("id") if self.has_odd else ""), CANON, (at,))
             if self.copies:
-                yield source.rows(COPIES.format(NOT_ODD.format("p.id") if self.has_odd else ""), (at,))
+                yield source.rows(COPIES.format(NOT_ODD.format("p.id") if self.has_odd else ""), CANON, (at,))
         if self.has_odd:
             for _ in range(2 if self.copies else 1):  # (each may be that of several files)
                 yield self.work.execute(ANSWERED)
@@ -167,7 +173,8 @@ def _several(rows: Iterable[Row]) -> Iterator[Row]:
 def _terms(source: Source) -> Iterator[Tuple[int, Row]]:
     """The terms of a source by their numbers, those of the last run behind."""
     for number, *terms in source.rows("SELECT t.id, t.program_hash, t.form, t.budget FROM terms t LEFT JOIN runs r "
-                                      "ON r.terms = t.id GROUP BY t.id ORDER BY max(r.id)"):
+                                      "ON r.terms = t.id GROUP BY t.id ORDER BY max(r.id)",
+                                      "terms program_hash form budget"):
         yield number, tuple(terms)
 
 

@@ -2,7 +2,7 @@
 import sqlite3
 from typing import Dict, Iterable, List, NamedTuple, Optional, Sequence
 
-from . import tables
+from . import kinds, tables
 from .counts import Counts, counted
 from .sources import Source
 from .store import StoreFailed, attach
@@ -73,7 +73,8 @@ class Joining:
     def _terms(self, source: Source) -> Dict[int, int]:
         """The terms of a source; their numbers here."""
         numbers: Dict[int, int] = {}
-        for number, *some in source.rows("SELECT id, version, program_hash, form, budget FROM terms ORDER BY id"):
+        for number, *some in source.rows(
+                "SELECT id, version, program_hash, form, budget FROM terms ORDER BY id", kinds.TABLES["terms"]):
             self.connection.execute("INSERT INTO terms(version, program_hash, form, budget) VALUES(?, ?, ?, ?) "
                                     "ON CONFLICT DO NOTHING", some)
             numbers[number], = self.connection.execute(
@@ -85,7 +86,8 @@ class Joining:
         found: Dict[int, List[Run]] = {}
         for source, terms in zip(self.sources, self.terms):
             last = {terms[row[0]]: Run(*row[1:]) for row in source.rows(
-                "SELECT terms, began, ended, tool, program FROM runs ORDER BY id")}
+                "SELECT terms, began, ended, tool, program FROM runs ORDER BY id",
+                "terms began ended? tool program")}
             for each, run in last.items():
                 found.setdefault(each, []).append(run)
         numbers: Dict[int, int] = {}
@@ -98,13 +100,13 @@ class Joining:
                  latest.program, each))
         ended = _all_ended(source.ended for source in self.sources) if finished else None
         self.connection.execute("UPDATE runs SET ended = ? WHERE id = ?", (ended, len(numbers)))
-        self.runs = [{run: numbers[terms[each]] for run, each in source.rows("SELECT id, terms FROM runs")}
+        self.runs = [{run: numbers[terms[each]] for run, each in source.rows("SELECT id, terms FROM runs", "run terms")}
                      for source, terms in zip(self.sources, self.terms)]
 
     def _roots(self) -> None:
         for source, runs in zip(self.sources, self.runs):
             why = {(runs[run], path): why for run, path, why in source.rows(
-                "SELECT run, path, why FROM roots ORDER BY run")}
+                "SELECT run, path, why FROM roots ORDER BY run", kinds.TABLES["roots"])}
             self.connection.executemany(ROOT, ((*key, each) for key, each in why.items()))
 
     def _rows(self, source: Source, terms: Dict[int, int], runs: Dict[int, int]) -> None:

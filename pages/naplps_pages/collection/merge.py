@@ -50,6 +50,8 @@ def _looked(into: str, sources: List[Source], unfinished: bool) -> int:
     """Looks whether the stores can be joined; how many faults were told, with which that is possible."""
     if os.path.lexists(into):
         raise NotWritten(into, "is there already, and isn't written over")
+    for source in sources:
+        source.require_right()
     require_apart(sources)
     faults = list(lacking(sources))
     for path, why in faults:

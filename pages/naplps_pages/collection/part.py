@@ -7,7 +7,9 @@ from dataclasses import dataclass
 from typing import Iterable, Optional, Tuple
 
 from ..names import shown
+from ..output import TOOL
 from .folders import is_within, join
+from .kinds import NotAStore, checked
 from .store import StoreFailed
 
 MOST_PARTS = 1_000_000
@@ -52,9 +54,12 @@ def read_part(text: str) -> Part:
 
 
 def kept_part(connection: sqlite3.Connection) -> Optional[Part]:
-    """The part that a store holds; None where it holds all files."""
+    """The part that a store holds; None where it holds all files. Raises NotAStore."""
     row = connection.execute("SELECT value FROM meta WHERE key = 'part'").fetchone()
-    return read_part(str(row[0])) if row else None
+    try:
+        return read_part(str(row[0])) if row else None
+    except ValueError:
+        raise NotAStore("isn't a store of %s: it holds no part that there is" % TOOL) from None
 
 
 def keep_part(connection: sqlite3.Connection, path: str, asked: Optional[Part], roots: Iterable[bytes]) -> None:
@@ -69,7 +74,8 @@ def keep_part(connection: sqlite3.Connection, path: str, asked: Optional[Part], 
     kept = kept_part(connection)
     if kept != asked:
         raise StoreFailed(path, "holds %s, not %s: each has a store of its own" % (_named(kept), _named(asked)))
-    for before, in connection.execute("SELECT DISTINCT path FROM roots").fetchall() if kept else ():
+    some = list(checked(connection.execute("SELECT DISTINCT path FROM roots"), "path")) if kept else []
+    for before, in some:
         for root in roots:
             if root != before and (is_within(root, before) or is_within(before, root)):
                 raise StoreFailed(path, "holds part %s of %s, which isn't that of %s" % (

@@ -5,7 +5,7 @@ import os
 import sys
 from typing import List, Sequence
 
-from ..names import as_json
+from ..names import as_json, printable
 from ..output import Output
 from ..schema import Members, dumps
 from .places import Place
@@ -25,7 +25,7 @@ class Printer:
 
     def line(self, text: str) -> None:
         """A line of text."""
-        self.output.line(text)
+        self.output.line(printable(text))
 
     def object(self, members: Members) -> None:
         """An object of JSON, on a line."""

@@ -15,11 +15,15 @@ COLUMNS = ["number", "fault", "code", "place", "hash", "tried", "treatments", *N
 REASONS = """CREATE TEMP TABLE reasons AS SELECT p.number AS number, coalesce(p.left_out, '') AS left_out,
     count(DISTINCT p.id) AS pages, count(*) AS files FROM pages p JOIN present f ON f.page = p.id
     WHERE p.number IS NOT NULL {} GROUP BY 1, 2"""
+# (There may be as many reasons as pages, since anybody may have made a store.)
+BY_REASON = "CREATE INDEX temp.reasons_by_number ON reasons(number, left_out)"
 MEMBERS = """SELECT r.number, n.name, r.left_out, r.pages, r.files, p.place, p.own, c.page IS NOT NULL, c.treatments,
-    d.path, f.name FROM reasons r JOIN pages p ON p.number = r.number AND coalesce(p.left_out, '') = r.left_out
-    JOIN present f ON f.page = p.id JOIN folders d ON d.id = f.folder
+    d.path, f.name FROM pages p CROSS JOIN reasons r ON r.number = p.number AND r.left_out = coalesce(p.left_out, '')
+    CROSS JOIN present f ON f.page = p.id CROSS JOIN folders d ON d.id = f.folder
     LEFT JOIN faults n ON n.number = r.number LEFT JOIN cures c ON c.page = p.id AND c.terms = p.terms
+    WHERE p.number IS NOT NULL
     ORDER BY r.files DESC, r.number, r.left_out, d.path, f.name"""
+MEMBER = "number fault left_out pages:count files place own tried:flag treatments? path name"
 
 
 class Reason(NamedTuple):
@@ -54,7 +58,8 @@ def members(connection: sqlite3.Connection, wanted: Optional[Wanted]) -> Iterato
     if wanted is not None and wanted.code:
         only += " AND p.left_out = '%s'" % wanted.code
     connection.execute(REASONS.format(only))
-    for row in kept(connection, MEMBERS):
+    connection.execute(BY_REASON)
+    for row in kept(connection, MEMBERS, MEMBER):
         yield Member(Reason._make(row[:5]), row[5], row[6], bool(row[7]), row[8], Place(row[9], row[10]))
 
 

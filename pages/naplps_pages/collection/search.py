@@ -7,6 +7,7 @@ from typing import Callable, Iterable, Iterator, List, NamedTuple, Optional, Tup
 from ..packs.naming import inside, is_pack, pack_of
 from ..packs.reading import NO_FILE
 from .folders import is_within, join, reason
+from .kinds import checked
 from .looking import Marks, marks
 from .part import Part, below
 from .settled import Settled, settled
@@ -26,6 +27,8 @@ KNOWN = """SELECT f.name, f.state, f.size, f.mtime_ns, f.ctime_ns, f.inode,
         OR EXISTS(SELECT 1 FROM cures c WHERE c.page = p.id AND c.terms = p.terms))
     FROM files f LEFT JOIN pages p ON p.id = f.page WHERE f.folder = ? AND f.name > ? ORDER BY f.name LIMIT ?"""
 
+FILE = "name state:file_state size? mtime_ns? ctime_ns? inode? settled:flag?"
+
 
 class Row(NamedTuple):
     """A file as the store knows it, and whether there is nothing left to ask about it."""
@@ -36,7 +39,7 @@ class Row(NamedTuple):
     mtime_ns: Optional[int]
     ctime_ns: Optional[int]
     inode: Optional[int]
-    settled: bool
+    settled: Optional[int]
 
 
 # Files of one folder that may have to be looked at, by its number and its path; now and then no name is ready yet.
@@ -194,7 +197,7 @@ def _rows(connection: sqlite3.Connection, folder: int, terms: int, cures: bool) 
     """What the store knows of a folder's files, in the order of their names."""
     last = b""
     while True:
-        some = connection.execute(KNOWN, (READ, terms, cures, folder, last, ROWS)).fetchall()
+        some = list(checked(connection.execute(KNOWN, (READ, terms, cures, folder, last, ROWS)), FILE))
         for row in some:
             yield Row._make(row)
         if len(some) < ROWS:

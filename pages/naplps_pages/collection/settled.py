@@ -2,6 +2,7 @@
 import sqlite3
 from typing import List, NamedTuple, Optional, Tuple
 
+from .kinds import checked, one
 from .looking import Marks
 from .tables import GONE, READ, TOO_LONG, UNREADABLE
 
@@ -14,6 +15,8 @@ MEMBERS = """SELECT count(*), total(NOT CASE f.state WHEN {} THEN coalesce(p.ter
     ELSE 1 END), total(f.state = {}) FROM files f LEFT JOIN pages p ON p.id = f.page
     WHERE f.folder = ? AND f.name <> x'' AND f.state <> {}""".format(READ, TOO_LONG, UNREADABLE, GONE)
 UNREAD = "SELECT name, coalesce(why, '') FROM files WHERE folder = ? AND name <> x'' AND state = %d" % UNREADABLE
+
+OWN = "size? mtime_ns? ctime_ns? inode? state:file_state why"
 
 
 class Settled(NamedTuple):
@@ -30,11 +33,11 @@ def settled(connection: sqlite3.Connection, folder: int, marks: Optional[Marks],
     Its answers have to be on the terms that are asked for, with treatments if these are, and of all members that have
     no more than so many bytes.
     """
-    row = connection.execute(PACK, (folder,)).fetchone()
+    row = one(connection.execute(PACK, (folder,)).fetchone(), OWN)
     if row is None or marks is None or row[:4] != marks:
         return None
     members, unsettled, unread = connection.execute(MEMBERS, (*asked, folder)).fetchone()
     if unsettled:
         return None
-    some: List[Tuple[bytes, str]] = connection.execute(UNREAD, (folder,)).fetchall() if unread else []
+    some = [(name, why) for name, why in checked(connection.execute(UNREAD, (folder,)), "name why")] if unread else []
     return Settled(members, some + ([(b"", row[5])] if row[4] == UNREADABLE else []))

@@ -6,6 +6,7 @@ from dataclasses import dataclass, field
 from typing import Any, Dict, Iterator, List, Optional, Sequence, Tuple
 
 from ..names import shown
+from .kinds import checked, require_right
 from .lock import is_held
 from .part import Part, kept_part
 from .store import StoreFailed, open_unchanged
@@ -33,17 +34,24 @@ class Source:
     began: str = ""
     ended: Optional[str] = None
 
-    def rows(self, words: str, values: Sequence[object] = ()) -> Iterator[Row]:
-        """The rows of a query. Raises StoreFailed."""
+    def rows(self, words: str, told: str, values: Sequence[object] = ()) -> Iterator[Row]:
+        """The rows of a query, checked as `told` says. Raises StoreFailed."""
         try:
-            for row in self.connection.execute(words, values):
+            for row in checked(self.connection.execute(words, values), told):
                 yield row
+        except sqlite3.Error as error:
+            raise StoreFailed(self.path, str(error)) from None
+
+    def require_right(self) -> None:
+        """Looks at each value. Raises StoreFailed."""
+        try:
+            require_right(self.connection)
         except sqlite3.Error as error:
             raise StoreFailed(self.path, str(error)) from None
 
     def number(self, words: str) -> int:
         """The number that a query has. Raises StoreFailed."""
-        return int(next(self.rows(words))[0])
+        return int(next(self.rows(words, "count"))[0])
 
 
 class Sources:
@@ -87,9 +95,9 @@ def _opened(path: str, cache: int) -> Source:
         source.connection.execute("PRAGMA cache_size = %d" % -cache)
         source.connection.execute("BEGIN")  # (so it stays as it is now, though a scan may be at work)
         source.part = kept_part(source.connection)
-        source.roots = [each for each, in source.rows("SELECT DISTINCT path FROM roots ORDER BY path")]
-        for run, source.began, source.ended in source.rows(LAST):
-            source.unread = [(each, why) for each, why in source.rows(UNREAD, (run,))]
+        source.roots = [each for each, in source.rows("SELECT DISTINCT path FROM roots ORDER BY path", "path")]
+        for run, source.began, source.ended in source.rows(LAST, "run began ended?"):
+            source.unread = [(each, why) for each, why in source.rows(UNREAD, "path why", (run,))]
         return source
     except sqlite3.Error as error:
         if source:

@@ -6,6 +6,7 @@ from typing import Dict, List, NamedTuple, Optional, Tuple
 from ..names import as_json, shown
 from ..schema import Members
 from . import tables
+from .kinds import checked, one
 from .lock import is_held
 from .part import Part, kept_part
 from .printing import Printer
@@ -19,6 +20,8 @@ FILES = """SELECT f.state, p.state, coalesce(f.why, p.why), f.state = 0 AND p.te
     LEFT JOIN pages p ON p.id = f.page AND f.state = 0 WHERE %s GROUP BY 1, 2, 3, 4""" % tables.IS_FILE
 PAGES = """SELECT (SELECT count(DISTINCT page) FROM present), (SELECT count(DISTINCT canon) FROM pages p
     WHERE canon IS NOT NULL AND EXISTS(SELECT 1 FROM present f WHERE f.page = p.id))"""
+LAST = "id began ended? tool program terms version hex form budget"
+COUNTED = "state:file_state of_page:page_state? why? is_old:flag? count"
 # Reasons that are all alike but for a number.
 NUMBERED = (tables.TOO_LONG,)
 LEFT = (tables.UNREADABLE, tables.VANISHED, tables.CHANGED)
@@ -56,12 +59,13 @@ class Status(NamedTuple):
 
 def status(connection: sqlite3.Connection, path: str) -> Status:
     """What the store holds."""
-    row = connection.execute(RUN).fetchone()
+    row = one(connection.execute(RUN).fetchone(), LAST)
     run = Run._make(row) if row else None
     counts: Dict[str, int] = {}
     reasons: Dict[Tuple[str, str], int] = {}
     left: Dict[str, int] = {}
-    for state, of_page, why, is_old, number in connection.execute(FILES, (run.terms if run else 0,)):
+    for state, of_page, why, is_old, number in checked(
+            connection.execute(FILES, (run.terms if run else 0,)), COUNTED):
         name = tables.FILE_STATES[state] if of_page is None else tables.PAGE_STATES[of_page]
         counts[name] = counts.get(name, 0) + number
         if why is not None:
@@ -74,7 +78,7 @@ def status(connection: sqlite3.Connection, path: str) -> Status:
     shut, = connection.execute("SELECT count(*) FROM folders WHERE state = ?", (tables.UNREADABLE,)).fetchone()
     if shut:
         left["unreadable folders"] = shut
-    roots = [(each, why) for each, _, why in connection.execute(ROOTS)]
+    roots = [(each, why) for each, _, why in checked(connection.execute(ROOTS), "path run why?")]
     pages, canonical = connection.execute(PAGES).fetchone()
     return Status(path, is_held(path), run, roots, counts, reasons, left, pages, canonical,
                   kept_part(connection))

@@ -27,6 +27,8 @@ def open_file(path: bytes) -> IO[bytes]:
     folder, name = os.path.split(path)
     at = opened(folder, follow=True)
     try:
+        if not stat.S_ISREG(os.stat(name, dir_fd=at).st_mode):
+            raise OSError(NO_FILE)  # (to open a device might do something)
         descriptor = os.open(name, FLAGS, dir_fd=at)
     finally:
         os.close(at)

@@ -4,6 +4,7 @@ from typing import Dict, List, NamedTuple, Optional, Tuple
 
 from .. import refusals
 from ..collection import refused, tables
+from ..collection.kinds import checked
 from ..collection.status import Run, status
 from . import groups as of_groups
 from .files import FROM, THERE, reason, told
@@ -12,6 +13,8 @@ from .roots import Roots, load
 
 REASONS = "SELECT r.number, coalesce(n.name, ''), r.left_out, r.pages, r.files FROM reasons r LEFT JOIN faults n " \
     "ON n.number = r.number ORDER BY r.files DESC, r.number, r.left_out"
+
+REASON = "state:file_state why? answer:page_state? number? fault? left_out? why? count"
 
 
 class Reason(NamedTuple):
@@ -56,14 +59,15 @@ def _reasons(connection: sqlite3.Connection) -> List[Reason]:
     known = refusals.load()
     return [Reason(reason(number, fault, left_out), number, pages, files,
                    refusals.text_of(number, left_out).means if number in known else "")
-            for number, fault, left_out, pages, files in connection.execute(REASONS)]
+            for number, fault, left_out, pages, files in checked(
+                connection.execute(REASONS), "number fault left_out count files")]
 
 
 def _answers(connection: sqlite3.Connection) -> List[Tuple[str, int]]:
     """What there is to say of files, and of how many."""
     counts: Dict[str, int] = {}
-    for *reasons, number in connection.execute(
-            "SELECT %s, count(*) %s WHERE %s GROUP BY 1, 2, 3, 4, 5, 6, 7" % (OF_FILES, FROM, THERE)):
+    for *reasons, number in checked(connection.execute(
+            "SELECT %s, count(*) %s WHERE %s GROUP BY 1, 2, 3, 4, 5, 6, 7" % (OF_FILES, FROM, THERE)), REASON):
         name = told(*reasons)
         counts[name] = counts.get(name, 0) + number
     return sorted(counts.items(), key=lambda each: (-each[1], each[0]))

@@ -3,12 +3,15 @@ from typing import Any, NamedTuple, Optional, Tuple
 
 from ..answers import Accepted, Answer, NoAnswer, Refused
 from ..collection import tables
+from ..collection.kinds import one
 from ..collection.places import Place
 
 # A file, its page, and on which terms that was asked about. (Files that are gone aren't shown.)
 COLUMNS = """d.id, d.path, f.name, f.state, f.why, f.size, p.id, p.own, p.state, p.number, n.name, p.left_out, p.place,
     p.entries, p.canon, p.canon_size, p.why, t.form, t.budget, c.page IS NOT NULL, c.treatments,
     f.inode"""
+COLUMN = "folder path name state:file_state why? size? page? own? answer:page_state? number? fault? left_out? " \
+    "place? entries? canon? canon_size? why? form? budget? tried:flag treatments? inode?"
 JOINS = """JOIN folders d ON d.id = f.folder LEFT JOIN pages p ON p.id = f.page AND f.state = 0
     LEFT JOIN terms t ON t.id = p.terms LEFT JOIN faults n ON n.number = p.number
     LEFT JOIN cures c ON c.page = p.id AND c.terms = p.terms"""
@@ -77,7 +80,8 @@ class File(NamedTuple):
 
 
 def read(row: Tuple[Any, ...]) -> File:
-    """The file of a row of COLUMNS."""
+    """The file of a row of COLUMNS. Raises NotAStore."""
+    row = one(row, COLUMN) or row
     return File._make(row[:19] + (bool(row[19]), *row[20:]))
 
 

@@ -3,6 +3,7 @@ import sqlite3
 from typing import List, NamedTuple, Tuple
 
 from ..collection import equal
+from ..collection.kinds import checked
 
 # (`found` is a table that equal.GROUPS makes.)
 ORDERED = """SELECT g.canon, g.form, g.spellings, g.files, max(p.entries), max(p.canon_size) FROM found g
@@ -30,7 +31,8 @@ def load(connection: sqlite3.Connection) -> List[Group]:
     """The groups, those of most spellings first: plain copies, which have one spelling, stand at the end."""
     connection.execute("DROP TABLE IF EXISTS temp.found")
     connection.execute(equal.GROUPS.format(equal.SEVERAL + equal.COPIES, "count(*) > 1"))
-    return [Group._make(row) for row in connection.execute(ORDERED)]
+    return [Group._make(row) for row in checked(
+        connection.execute(ORDERED), "canon form count files entries canon_size")]
 
 
 def of_spellings(groups: List[Group]) -> int:

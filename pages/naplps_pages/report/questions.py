@@ -3,6 +3,7 @@ import re
 import sqlite3
 from typing import Dict, List, NamedTuple, Optional, Tuple
 
+from ..collection.kinds import checked
 from ..collection.store import open_to_read
 from ..packs.naming import MOST_NAME
 from . import files as of_files
@@ -79,8 +80,8 @@ class Questions:
             facts = load_facts(self.connection, self.store, some)
             numbers = {group.key: number for number, group in enumerate(some, 1)}
             self.known = Known(version, facts, some, numbers, Document(facts, some, "asked.js"))
-            self.folders = {number: facts.roots.relative(path) for number, path in self.connection.execute(
-                "SELECT id, path FROM folders")}
+            self.folders = {number: facts.roots.relative(path) for number, path in checked(self.connection.execute(
+                "SELECT id, path FROM folders"), "id path")}
         return self.known
 
     def _has(self, folder: int, name: bytes) -> bool:

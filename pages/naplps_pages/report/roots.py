@@ -4,6 +4,7 @@ import sqlite3
 from typing import Dict, List, Tuple
 
 from ..collection.folders import is_within
+from ..collection.kinds import checked
 from ..names import shown
 from ..packs.naming import MARK, inside
 
@@ -45,7 +46,7 @@ def _different(names: List[str]) -> List[str]:
 
 def load(connection: sqlite3.Connection) -> Roots:
     """The roots of all scans into the store."""
-    return Roots([path for path, in connection.execute(ROOTS)])
+    return Roots([path for path, in checked(connection.execute(ROOTS), "path")])
 
 
 def joined(folder: str, name: bytes) -> str:

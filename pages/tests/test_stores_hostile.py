@@ -1,0 +1,277 @@
+"""Stores that others made: what isn't a scan's is refused by name, nothing else is touched, and no text acts."""
+import json
+import os
+import sqlite3
+import struct
+
+import pytest
+
+from forked import forked, require_told
+from naplps_pages.collection import kinds, refused, tables
+from naplps_pages.collection.store import StoreFailed, open_to_read, open_to_write, open_unchanged
+from scans import rows, written
+from stores import COMMANDS, archive, clean, copied, words_of
+
+
+@pytest.fixture(scope="module")
+def made(tmp_path_factory, naplps):
+    """A folder with pages, and a store of these and another; and what runs the commands."""
+    folder = str(tmp_path_factory.mktemp("stores"))
+    pages = archive(folder)
+    for store in ("good.db", "other.db"):
+        assert forked(["scan", pages, "--into", store, "--cures"], folder, naplps).status == 0
+    connection = sqlite3.connect(os.path.join(folder, "other.db"))
+    connection.execute("UPDATE roots SET path = x'2F6F74686572'")
+    connection.execute("UPDATE folders SET path = CAST(replace(CAST(path AS TEXT), ?, '/other') AS BLOB)", (pages,))
+    connection.commit()
+    connection.close()
+    return Made(folder, pages, naplps)
+
+
+class Made:
+    """A folder with stores, in which commands are run."""
+
+    def __init__(self, folder, pages, naplps):
+        self.folder, self.pages, self.naplps = folder, pages, naplps
+        self.good = os.path.join(folder, "good.db")
+        self.bad = os.path.join(folder, "bad.db")
+
+    def change(self, words):
+        """Makes the bad store: the good one, changed."""
+        return copied(self.good, self.bad, words)
+
+    def run(self, command):
+        """What a command says of the bad store."""
+        clean(self.folder)
+        said = forked(words_of(command, "bad.db", "other.db", self.pages), self.folder, self.naplps)
+        require_told(said, command)
+        return said
+
+
+def test_each_command_takes_the_good_one(made):
+    for command in COMMANDS:
+        made.change("")
+        assert made.run(command).status in (0, 1), command
+
+
+FOREIGN = "naplps-pages: bad.db: isn't a store of naplps-pages: it has a %s of something else: %s\n"
+VIEWS = {
+    "view pages_of": "CREATE VIEW pages_of AS SELECT * FROM pages",
+    "view files": "ALTER TABLE files RENAME TO f; CREATE VIEW files AS SELECT * FROM f",
+    "view pages": "PRAGMA legacy_alter_table = ON; DROP VIEW listing; ALTER TABLE pages RENAME TO p; CREATE VIEW pages "
+                  "AS WITH RECURSIVE c(x) AS (SELECT 1 UNION ALL SELECT x + 1 FROM c) SELECT x AS id, x'00' AS own, "
+                  "0 AS state, NULL AS number, NULL AS left_out, NULL AS place, 1 AS entries, x'00' AS canon, "
+                  "1 AS canon_size, NULL AS why, 1 AS terms, 1 AS run FROM c",
+    "trigger t": "CREATE TRIGGER t AFTER INSERT ON runs BEGIN DELETE FROM files; END",
+    "trigger \\x1b[31m": "CREATE TRIGGER \"\x1b[31m\" BEFORE INSERT ON runs BEGIN SELECT RAISE(ABORT, '\x1b[31m'); END",
+}
+
+
+@pytest.mark.parametrize("what", VIEWS)
+def test_foreign_views_and_triggers_are_refused(made, what):
+    for command in COMMANDS:
+        made.change(VIEWS[what])
+        said = made.run(command)
+        assert said.status == 3 and said.out in (b"", b"what,value\n")
+        assert said.err.startswith(b"naplps-pages: bad.db: isn't a store of naplps-pages: its ") if what in (
+            "view files", "view pages") else said.err.decode() == FOREIGN % tuple(what.split(" "))
+
+
+OTHERWISE = {
+    "view listing": "DROP VIEW listing; CREATE VIEW listing AS SELECT 1 AS name",
+    "table runs": "ALTER TABLE runs ADD COLUMN more TEXT",
+    "index files_by_page": "DROP INDEX files_by_page; CREATE INDEX files_by_page ON files(size)",
+    "table terms": "DROP TABLE terms; CREATE TABLE terms(id INTEGER PRIMARY KEY, version TEXT, program_hash BLOB, "
+                   "form TEXT, budget INTEGER)",
+    "table faults": "DROP TABLE faults; CREATE TABLE faults(number INTEGER PRIMARY KEY, name TEXT NOT NULL DEFAULT "
+                    "(abs(1)))",
+}
+
+
+@pytest.mark.parametrize("what", OTHERWISE)
+def test_what_is_the_tools_own_is_compared_word_for_word(made, what):
+    for command in COMMANDS:
+        made.change(OTHERWISE[what])
+        said = made.run(command)
+        assert said.status == 3 and said.out in (b"", b"what,value\n")
+        assert said.err.decode() == (
+            "naplps-pages: bad.db: isn't a store of naplps-pages: its %s isn't that of a store\n" % what)
+
+
+@pytest.mark.parametrize("table", ["files", "cures", "roots"])
+def test_a_table_that_is_not_there(made, table):
+    made.change("DROP TABLE " + table)
+    said = made.run(["status"])
+    assert said.status == 3 and said.err.decode() == (
+        "naplps-pages: bad.db: isn't a store of naplps-pages: it has no table %s\n" % table)
+
+
+def test_foreign_tables_and_indices_are_left_alone(made):
+    words = ("CREATE TABLE notes(text TEXT); INSERT INTO notes VALUES('mine'); CREATE INDEX by_size ON files(size);"
+             "CREATE INDEX notes_by_text ON notes(text); ANALYZE")
+    for command in COMMANDS:
+        made.change(words)
+        assert made.run(command).status in (0, 1), command
+        assert rows(made.bad, "SELECT text FROM notes") == [("mine",)]
+        assert len(rows(made.bad, "SELECT 1 FROM sqlite_master WHERE name IN ('by_size', 'notes_by_text')")) == 2
+
+
+def test_functions_of_a_schema_are_not_trusted(made):
+    for opened in (open_to_read, open_unchanged, open_to_write):
+        made.change("")
+        connection = opened(made.bad)
+        assert connection.execute("PRAGMA trusted_schema").fetchone() == (0,)
+        connection.close()
+
+
+# Values that no scan writes, and a command that meets them.
+WRONG = [
+    ("UPDATE pages SET canon = 'text' WHERE canon IS NOT NULL", ["equal"], "a text in place of a hash"),
+    ("UPDATE pages SET canon = x'00' WHERE canon IS NOT NULL", ["equal"], "1 bytes in place of a hash"),
+    ("UPDATE pages SET canon = 5 WHERE canon IS NOT NULL", ["equal", "OTHER"], "the number 5 in place of a hash"),
+    ("UPDATE pages SET own = 'x' || id", ["convert", "--into", "canonical"], "a text in place of a hash"),
+    ("UPDATE files SET name = CAST(name AS TEXT)", ["equal"], "a text in place of a name"),
+    ("UPDATE files SET name = CAST(name || x'00' AS BLOB)", ["equal", "--verify"], "bytes in place of a name"),
+    ("UPDATE folders SET path = CAST(path AS TEXT)", ["refused"], "a text in place of a path"),
+    ("UPDATE folders SET path = CAST('..' || path AS BLOB)", ["convert", "--into", "canonical"], "in place of a path"),
+    ("UPDATE files SET state = 99", ["status"], "the number 99 in place of the state of a file"),
+    ("UPDATE files SET state = -7", ["status"], "the number -7 in place of the state of a file"),
+    ("UPDATE files SET state = 'x'", ["status"], "a text in place of the state of a file"),
+    ("UPDATE pages SET state = 77", ["status"], "the number 77 in place of the state of a page"),
+    ("UPDATE pages SET number = 'x' WHERE number IS NOT NULL", ["refused"], "text in place of the number of a refusal"),
+    ("UPDATE pages SET number = 9223372036854775807 WHERE number IS NOT NULL", ["refused"], "of a refusal"),
+    ("UPDATE pages SET entries = NULL", ["equal"], "nothing in place of a number from 0"),
+    ("UPDATE pages SET entries = 'lots'", ["equal"], "a text in place of a number from 0"),
+    ("UPDATE pages SET entries = -1", ["equal", "OTHER"], "the number -1 in place of a number from 0"),
+    ("UPDATE pages SET entries = 1.5", ["equal"], "the number 1.5 in place of a number from 0"),
+    ("UPDATE pages SET place = NULL", ["refused"], "nothing in place of a number from 0"),
+    ("UPDATE files SET state = 1, why = zeroblob(10)", ["status"], "10 bytes in place of a text"),
+    ("UPDATE terms SET budget = 'x'", ["status"], "a text in place of a number from 0"),
+    ("UPDATE terms SET budget = -1", ["convert", "--into", "canonical"], "the number -1 in place of a number from 0"),
+    ("UPDATE runs SET program = 'x'", ["status"], "a text in place of a name"),
+    ("UPDATE roots SET path = 'x'", ["status"], "a text in place of a path"),
+    ("UPDATE roots SET path = 'x'", ["equal", "OTHER"], "a text in place of a path"),
+    ("UPDATE faults SET name = x'00'", ["refused"], "1 bytes in place of a text"),
+    ("INSERT INTO meta VALUES('part', '9/3')", ["status"], "it holds no part that there is"),
+    ("INSERT INTO meta VALUES('part', x'00')", ["equal", "OTHER"], "it holds no part that there is"),
+    ("UPDATE files SET size = 'x', inode = 'y'", ["scan"], "a text in place of a number from 0"),
+    ("UPDATE files SET inode = 'y'", ["report", "--into", "report.html"], "a text in place of a number from 0"),
+    ("UPDATE pages SET own = 'x' || id", ["merge"], "a row of its table pages isn't one of a scan"),
+    ("UPDATE runs SET terms = 77", ["merge"], "a row of its table runs isn't one of a scan"),
+    ("UPDATE roots SET run = 77", ["merge"], "a row of its table roots isn't one of a scan"),
+    ("UPDATE pages SET entries = NULL", ["merge", "OTHER"], "a row of its table pages isn't one of a scan"),
+    ("UPDATE files SET size = -5", ["merge"], "a row of its table files isn't one of a scan"),
+]
+
+
+@pytest.mark.parametrize("words, command, why", WRONG)
+def test_a_value_that_is_not_one_of_a_scan(made, words, command, why):
+    made.change(words)
+    said = made.run(command)
+    assert said.status == 3
+    assert said.err.startswith(b"naplps-pages: bad.db: isn't a store of naplps-pages: "), said
+    assert said.err.decode().endswith(why + "\n")
+    assert not os.path.lexists(os.path.join(made.folder, "merged.db"))
+
+
+ODD = "\x1b[31m\x07\n\r\x9b\u202e\u2028<b>\\"
+SHOWN = "\\x1b[31m\\x07\\n\\r\\x9b\\u202e\\u2028<b>\\"
+TEXTS = [
+    "UPDATE pages SET left_out = :odd WHERE number IS NOT NULL", "UPDATE faults SET name = :odd",
+    "UPDATE pages SET state = 2, why = :odd, number = NULL, canon = NULL", "UPDATE files SET state = 1, why = :odd",
+    "UPDATE terms SET version = :odd, form = :odd", "UPDATE runs SET began = :odd, ended = :odd, tool = :odd",
+    "UPDATE cures SET treatments = :odd", "UPDATE roots SET why = :odd",
+    "UPDATE meta SET value = :odd WHERE key = 'schema'", "INSERT INTO meta VALUES('part', :odd)"]
+
+
+@pytest.mark.parametrize("words", TEXTS)
+def test_texts_are_shown_as_names_are(made, words):
+    seen = []
+    for command in COMMANDS:
+        made.change("")
+        connection = sqlite3.connect(made.bad, isolation_level=None)
+        connection.execute(words, {"odd": ODD})
+        connection.close()
+        said = made.run(command)  # (which looks for what a terminal would act on)
+        for text in (said.out.decode(), said.err.decode()):
+            assert not set("\x9b\u202e\u2028") & set(text)
+            seen.append(SHOWN in text or json.dumps(SHOWN)[1:-1] in text)
+    assert any(seen) or "part" in words
+
+
+def journal(folder, victim):
+    """A store with the journal of a write that ended amid, which names a victim as a further journal."""
+    store, path = os.path.join(folder, "whole.db"), os.path.join(folder, "left.db")
+    open_to_write(store).close()
+    connection = sqlite3.connect(store, isolation_level=None)
+    connection.executescript("PRAGMA journal_mode = DELETE; PRAGMA cache_size = 5; BEGIN")
+    connection.executemany("INSERT INTO faults VALUES(?, ?)", ((number, "x" * 100) for number in range(2000)))
+    for ending in ("", "-journal"):
+        with open(store + ending, "rb") as one, open(path + ending, "wb") as other:
+            other.write(one.read())
+    connection.close()
+    name = os.fsencode(victim)
+    with open(path + "-journal", "ab") as file:
+        file.write(struct.pack(">L", (1 << 30) // 4096 + 1) + name + struct.pack(">LL", len(name), sum(name)) +
+                   bytes.fromhex("D9D505F920A163D7"))
+    return path
+
+
+def test_no_journal_beside_a_store_deletes_another_file(tmp_path, naplps):
+    """SQLite deletes the file that such a journal names, as it opens the database."""
+    victim = os.path.join(str(tmp_path), "victim")
+    with open(victim, "w", encoding="ascii") as file:
+        file.write("precious")
+    path = journal(str(tmp_path), victim)
+    for opened in (open_to_read, open_unchanged, open_to_write):
+        with pytest.raises(StoreFailed, match="its journal, -journal, isn't that of a store: it names another file"):
+            opened(path)
+    for command in (["status"], ["equal"], ["merge"], ["scan"]):
+        said = forked(words_of(command, "left.db", "", str(tmp_path)), str(tmp_path), naplps)
+        assert said.status == 3 and said.err.endswith(b": it names another file\n")
+    with open(victim, encoding="ascii") as file:
+        assert file.read() == "precious"
+    # (without that name it is what a killed scan leaves, which is taken back)
+    os.truncate(path + "-journal", os.path.getsize(path + "-journal") - 20 - len(victim))
+    open_to_read(path).close()
+    assert rows(path, "SELECT count(*) FROM faults") == [(0,)] and not os.path.exists(path + "-journal")
+
+
+@pytest.mark.parametrize("ending", ["-journal", "-wal", "-shm"])
+def test_what_stands_beside_a_store_has_to_be_its_own(tmp_path, ending):
+    store = os.path.join(str(tmp_path), "pages.db")
+    written(store, b"/x", [])
+    victim = os.path.join(str(tmp_path), "victim")
+    for make in (os.symlink, os.link, lambda _, path: os.mkfifo(path), lambda _, path: os.mkdir(path)):
+        with open(victim, "wb") as file:
+            file.write(b"precious" * 1000)
+        make(victim, store + ending)
+        for opened in (open_to_read, open_unchanged, open_to_write):
+            with pytest.raises(StoreFailed, match="what stands beside it, as %s, is no file of its own" % ending):
+                opened(store)
+        (os.rmdir if os.path.isdir(store + ending) else os.unlink)(store + ending)
+        with open(victim, "rb") as file:
+            assert file.read() == b"precious" * 1000
+        os.unlink(victim)
+
+
+def test_as_many_reasons_as_pages_take_no_longer_than_one(tmp_path):
+    """A join of all reasons with all pages would take minutes."""
+    store = os.path.join(str(tmp_path), "pages.db")
+    written(store, b"/x", [(b"%d" % at, tables.Answered(
+        tables.hashed(b"%d" % at), tables.REFUSED, number=10, left_out="X%d" % at, place=1, fault="Outside"))
+        for at in range(30_000)])
+    connection = open_to_read(store)
+    assert sum(1 for _ in refused.members(connection, None)) == 30_000
+    plan = connection.execute("EXPLAIN QUERY PLAN " + refused.MEMBERS).fetchall()
+    assert not [row for row in plan if row[3].startswith("SCAN")]
+
+
+def test_every_column_has_a_kind():
+    connection = sqlite3.connect(":memory:")
+    connection.executescript(tables.TABLES)
+    for table, told in kinds.TABLES.items():
+        some = [(row[1], bool(row[3] or row[5])) for row in connection.execute("PRAGMA table_info(%s)" % table)]
+        assert [(each.name, not each.may_lack) for each in kinds.columns(told)] == some
+    assert set(kinds.TABLES) | {"meta"} == {name for name, in connection.execute("SELECT name FROM sqlite_master "
+                                                                                 "WHERE type = 'table'")}

@@ -1,0 +1,119 @@
+"""Stores changed by chance, and each command that takes a store: none fails but as the manual page says.
+
+It takes seconds. FUZZ_SECONDS=600 lets it run for so long, and FUZZ_COUNTS names a file for how often what came of it.
+"""
+import collections
+import os
+import shutil
+import sqlite3
+
+import pytest
+
+from forked import counted, forked, require_told, rounds
+from naplps_pages.collection import kinds
+from stores import COMMANDS, archive, clean, copied, words_of
+
+ROUNDS = 40
+PATHS = ("/", "/dev/zero!/", "/proc/self/mem", "../../x", "/etc/passwd!/", "a/b")
+OBJECTS = ("CREATE VIEW v AS SELECT 1", "CREATE TRIGGER t AFTER DELETE ON pages BEGIN SELECT 1; END",
+           "CREATE TABLE more(x)", "CREATE INDEX more_by ON files(state)", "DROP TABLE cures", "DROP VIEW listing",
+           "DROP INDEX files_by_page", "DELETE FROM meta", "PRAGMA user_version = 7", "PRAGMA application_id = 7",
+           "ALTER TABLE runs ADD COLUMN x", "CREATE UNIQUE INDEX u ON files(state)", "VACUUM",
+           "PRAGMA journal_mode = WAL", "PRAGMA auto_vacuum = 1", "CREATE VIRTUAL TABLE w USING fts5(x)", "REINDEX")
+
+
+@pytest.fixture(scope="module")
+def folder(tmp_path_factory, naplps):
+    """A folder with pages and two stores of them, of which one tells of another place."""
+    at = str(tmp_path_factory.mktemp("stores"))
+    pages = archive(at)
+    for store in ("good.db", "other.db"):
+        assert forked(["scan", pages, "--into", store, "--cures"], at, naplps).status == 0
+    copied(os.path.join(at, "other.db"), os.path.join(at, "more.db"),
+           "UPDATE roots SET path = x'2F6F74686572'; UPDATE folders SET path = CAST('/other/' || id AS BLOB)")
+    return at
+
+
+def value(chance):
+    """A value of SQL."""
+    return chance.choice((
+        lambda: "NULL", lambda: str(chance.choice((0, 1, -1, 2, 7, 99, 1 << 31, (1 << 63) - 1, -(1 << 63)))),
+        lambda: str(chance.uniform(-1e300, 1e300)), lambda: "''", lambda: "'%s'" % ("x" * chance.choice((1, 70_000))),
+        lambda: "char(27) || '[31m' || char(10, 7, 155, 8238)", lambda: "x'%s'" % chance.randbytes(
+            chance.choice((0, 1, 31, 32, 33, 500))).hex(), lambda: "CAST(x'FF1B5B' AS TEXT)",
+        lambda: "CAST('%s' AS BLOB)" % chance.choice(PATHS),
+        lambda: "zeroblob(100000)", lambda: "'accepted'"))()
+
+
+def changed(chance, connection):
+    """One change of a database by SQL."""
+    kind = chance.random()
+    if kind < 0.75:
+        table = chance.choice(sorted(kinds.TABLES))
+        column = chance.choice(kinds.columns(kinds.TABLES[table])).name
+        where = chance.choice(("", " WHERE abs(random()) % 3 = 0", " WHERE rowid = 1" if table != "roots" else ""))
+        connection.execute("UPDATE OR IGNORE %s SET %s = %s%s" % (table, column, value(chance), where))
+    elif kind < 0.8:
+        connection.execute("DELETE FROM %s" % chance.choice(sorted(kinds.TABLES)))
+    elif kind < 0.85:
+        connection.execute("INSERT OR REPLACE INTO meta VALUES(%s, %s)" % (
+            chance.choice(("'part'", "'schema'", "'hash'", "'tool'")),
+            chance.choice(("'1/2'", "'0/2'", "1", value(chance)))))
+    elif kind < 0.92:
+        connection.execute(chance.choice(OBJECTS))
+    else:
+        connection.execute("PRAGMA writable_schema = ON")
+        connection.execute("UPDATE sqlite_master SET %s WHERE abs(random()) %% 4 = 0" % chance.choice((
+            "sql = replace(sql, 'NOT NULL', '')", "sql = replace(sql, 'INTEGER', 'BLOB')", "rootpage = rootpage + 1",
+            "name = name || 'x'", "type = 'view'", "sql = NULL", "rootpage = 2", "tbl_name = 'pages'")))
+        connection.execute("PRAGMA writable_schema = OFF")
+
+
+def damaged(chance, path):
+    """The bytes of a file changed, or cut, or more; and now and then something beside it."""
+    with open(path, "r+b") as file:
+        size = os.path.getsize(path)
+        for _ in range(chance.choice((0, 0, 0, 1, 3, 30))):
+            file.seek(chance.randrange(size))
+            file.write(chance.randbytes(chance.choice((1, 1, 2, 4, 100))))
+        if chance.random() < 0.05:
+            file.truncate(chance.randrange(size))
+    if chance.random() < 0.1:
+        with open(path + chance.choice(("-wal", "-journal", "-shm")), "wb") as file:
+            file.write(chance.choice((b"", chance.randbytes(5000), bytes.fromhex("D9D505F920A163D7") * 100)))
+
+
+def make(chance, good, path):
+    """A store changed by chance."""
+    copied(good, path)
+    connection = sqlite3.connect(path, isolation_level=None)
+    for _ in range(chance.choice((0, 1, 1, 2, 5))):
+        try:
+            changed(chance, connection)
+        except sqlite3.Error:
+            pass  # SQLite itself doesn't take it
+    connection.close()
+    if chance.random() < 0.3:
+        damaged(chance, path)
+
+
+def test_random_stores(folder, naplps):
+    counts = collections.Counter()
+    bad, pages = os.path.join(folder, "bad.db"), os.path.join(folder, "pages")
+    for seed, chance in rounds(ROUNDS):
+        make(chance, os.path.join(folder, "good.db"), bad)
+        beside = [each for each in ("-wal", "-journal", "-shm") if os.path.exists(bad + each)]
+        for each in ("", *beside):
+            shutil.copy(bad + each, os.path.join(folder, "kept.db" + each))
+        for command in chance.sample(COMMANDS, 5):
+            for each in ("-wal", "-journal", "-shm"):
+                if os.path.lexists(bad + each):
+                    os.unlink(bad + each)
+            for each in ("", *beside):
+                shutil.copy(os.path.join(folder, "kept.db" + each), bad + each)
+            clean(folder)
+            said = forked(words_of(command, "bad.db", "more.db", pages), folder, naplps)
+            require_told(said, command, seed)
+            counts[command[0], said.status] += 1
+    counted(counts, "random stores")
+    assert sum(counts.values()) >= 5 * ROUNDS and len({status for _, status in counts}) > 1
