@@ -1,7 +1,8 @@
 """Where the program naplps is, and which version."""
 import os
 import shutil
-from typing import List, Optional
+import subprocess
+from typing import List, Optional, Tuple
 
 from .child import Child, Failure, Limits
 
@@ -14,7 +15,7 @@ class NoProgram(Exception):
 
 
 def find(command: str) -> str:
-    """The path of naplps for the command that stands at this path: NAPLPS, beside it, the sources, then PATH."""
+    """The path of naplps for the command that stands at this path: NAPLPS, beside it, the sources', then PATH."""
     named = os.environ.get("NAPLPS")
     if named:
         path = shutil.which(named)
@@ -23,17 +24,28 @@ def find(command: str) -> str:
         return os.path.abspath(path)
     here = os.path.dirname(command)
     top = os.path.dirname(here)
-    for path in (os.path.join(here, "naplps"), os.path.join(top, "out", "naplps")):
-        if _runs(path):
+    beside = os.path.join(here, "naplps")
+    if _runs(beside):
+        return beside
+    launcher, why = os.path.join(top, "naplps"), ""
+    if _runs(launcher) and os.path.isdir(os.path.join(top, "crates")):
+        path, why = _ask_launcher(launcher)
+        if path:
             return path
     found = shutil.which("naplps")
     if found is not None:
         return os.path.abspath(found)
-    launcher = os.path.join(top, "naplps")
-    if _runs(launcher) and os.path.isdir(os.path.join(top, "crates")):
-        raise NoProgram("the program isn't built yet: `%s --help` proves and builds it, which may take half an hour or "
-                        "more" % launcher)
-    raise NoProgram("there is no program naplps: put it beside this command or on PATH, or name it in NAPLPS")
+    raise NoProgram(why or "there is no program naplps: put it beside this command or on PATH, or name it in NAPLPS")
+
+
+def _ask_launcher(launcher: str) -> Tuple[str, str]:
+    """The path of the program of the sources that stand there, or nothing and why there is none. Nothing is built."""
+    said = subprocess.run([launcher], env=dict(os.environ, NAPLPS_WHERE="1"), stdin=subprocess.DEVNULL,
+                          stdout=subprocess.PIPE, stderr=subprocess.PIPE)
+    if said.returncode == 0:
+        return os.fsdecode(said.stdout)[:-1], ""
+    lines = [line.partition(b": ")[2].decode("utf-8", "replace") for line in said.stderr.splitlines()]
+    return "", "; ".join(lines)
 
 
 def _runs(path: str) -> bool:
