@@ -140,7 +140,7 @@ def test_clear_begins_anew():
     assert sketch.draw(some * 20).drawn < 20 * 200
 
 
-MASK = ["MASK A", *["POLY-FILLED%s %s" % (" 4000000,4000000 4000100,4000200" * 900, INK)] * 3, "END"]
+MASK = ["MASK A", *["POLY-FILLED%s %s" % (" 4000000,4000000 4000100,4000200" * 900, INK)] * 12, "END"]
 
 
 def patterned(number):
@@ -155,11 +155,11 @@ def test_a_mask_is_copied_where_that_is_little_and_else_referred_to():
     found = elements(svg, "pattern")
     uses = elements(svg, "use")
     assert len(found) == 8 and 0 < len(uses) < 8 and len({each.attrib["href"] for each in uses}) == 1
-    copies = len(re.findall("<polygon", svg)) // 3
-    assert copies == 8 - len(uses) + 1 and (copies - 1) * len(MASK[1]) > paper.MOST_COPIED // 4
-    assert len(svg) < 2 * paper.MOST_COPIED + 1.3 * len("".join(MASK))
+    copies = len(re.findall("<polygon", svg)) // 12
+    assert copies == 8 - len(uses) + 1 and (copies - 1) * 12 * 2 * 900 * 12 > paper.MOST_COPIED // 2
+    assert len(svg) < paper.MOST_COPIED + len("".join(MASK)) + 10_000
     few = sketch.draw(MASK + patterned(2)).svg
-    assert elements(few, "use") == [] and len(re.findall("<polygon", few)) == 6
+    assert elements(few, "use") == [] and len(re.findall("<polygon", few)) == 24
 
 
 def test_a_bounded_picture_of_a_refused_page_says_both(run, tmp_path):

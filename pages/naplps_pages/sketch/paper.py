@@ -12,7 +12,7 @@ AROUND = 4096
 # So many points at most, uses included, are drawn by a browser.
 MOST_WEIGHT = 500_000
 # So many bytes of masks are copied into patterns; beyond that, patterns refer to a mask.
-MOST_COPIED = 1 << 18
+MOST_COPIED = 1 << 20
 
 
 class Full(Exception):
