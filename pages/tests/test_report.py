@@ -7,13 +7,19 @@ import re
 import pytest
 
 from conftest import file
+from naplps_pages.report import making
 from naplps_pages.report.choice import choose
 from naplps_pages.report.drawers import ENDED
+from naplps_pages.report.drawing import Drawing
 from naplps_pages.report.packing import shortened
 from naplps_pages.report.roots import Roots
+from pagewriter import Page
 from samples import OUTSIDE, POINT
 from scans import FAKE, tree
 from shown import SPELLED, collection, held, words
+
+
+WIDE = Page(1).domain().code(0x37, b"R" + b"Oy" * 1000).made()
 
 
 @pytest.fixture
@@ -31,6 +37,20 @@ def test_what_is_told(made):
     html, said = made({"a.nap": POINT, "b.nap": SPELLED, "c.nap": OUTSIDE})
     assert (said.stdout.decode(), said.stderr, said.returncode) == (
         "%s: 3 files, 1 group of equal pages, 2 of 2 sketches, %d bytes\n" % (html, os.path.getsize(html)), b"", 0)
+
+
+def test_a_long_line_is_held_in_part(made):
+    html, _ = made({"a.nap": WIDE})
+    (line,) = held(html)[1][0]["lines"]
+    assert line.startswith("POLY-FILLED ") and line.endswith(" ..") and 1900 < len(line) < 2010
+
+
+def test_all_drawings_together_have_a_limit(monkeypatch):
+    monkeypatch.setattr(making, "MOST_HELD", 110)
+    drawings = [(at, Drawing("s" * 10, "t" * 5, ["l" * 5, "m" * 5])) for at in range(5)] + [(5, Drawing("s" * 5))]
+    kept = list(making._held(iter(drawings)))
+    assert kept == [*drawings[:4], (4, Drawing(why=making.IS_FULL)), drawings[5]]
+    assert sum(each.characters() for _, each in kept) <= 110
 
 
 def test_names_are_relative_to_the_roots_and_the_rest_of_the_machine_is_not_told(made, tmp_path):

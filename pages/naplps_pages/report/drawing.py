@@ -10,6 +10,7 @@ from ..listing import Listed, listed
 from ..showing import picture
 from ..text import lines_of
 from .files import File
+from .limits import A_LINE
 
 OTHER_ANSWER = "the program answers otherwise than in the scan"
 
@@ -32,7 +33,10 @@ class Most(NamedTuple):
 
 
 class Drawing(NamedTuple):
-    """The sketch of a page, its text, and some of the lines of its list: which is the first, and how many there are."""
+    """The sketch of a page, its text, and some of the lines of its list: which is the first, and how many there are.
+
+    A line that is long ends with two dots.
+    """
 
     sketch: str = ""
     text: str = ""
@@ -40,6 +44,10 @@ class Drawing(NamedTuple):
     first: int = 0
     entries: int = 0
     why: str = ""
+
+    def characters(self) -> int:
+        """How many characters it has."""
+        return len(self.sketch) + len(self.text) + sum(map(len, self.lines))
 
 
 def draw(program: Program, it: Wanted, most: Most) -> Drawing:
@@ -71,10 +79,15 @@ def _drawn(told: Listed, it: Wanted, most: Most) -> Drawing:
     text = "\n".join(lines_of(read_lines(lines)))[:most.text]
     # What comes last before a refusal tells of it, and what comes first of the other pages.
     first = max(0, len(lines) - most.lines) if isinstance(answer, Refused) else 0
-    some = lines[first:first + most.lines]
+    some = [_cut(line) for line in lines[first:first + most.lines]]
     if len(svg) > most.sketch:
         return Drawing("", text, some, first, len(lines), "its sketch is too large to be held here")
     return Drawing(svg, text, some, first, len(lines))
+
+
+def _cut(line: str) -> str:
+    """A line as it is shown: of a long one what comes first."""
+    return line if len(line) <= A_LINE else line[:A_LINE].rsplit(" ", 1)[0] + " .."
 
 
 def wanted(file: File) -> Optional[Wanted]:

@@ -1,7 +1,7 @@
 """Makes a report: one HTML file."""
 import os
 import sqlite3
-from typing import List, NamedTuple, Tuple
+from typing import Iterable, Iterator, List, NamedTuple, Tuple
 
 from ..collection import tables
 from ..output import NotWritten, put
@@ -10,12 +10,13 @@ from .document import Document, data_of
 from .drawers import How, Task, drawn
 from .drawing import Drawing, Most, wanted
 from .facts import load_facts, told_refusals
-from .limits import A_BLOCK, HELD_LINES, HELD_SKETCH, HELD_TEXT, MOST_FILES, MOST_SKETCHES
+from .limits import A_BLOCK, HELD_LINES, HELD_SKETCH, HELD_TEXT, MOST_FILES, MOST_HELD, MOST_SKETCHES
 from .packing import alike, block, packed
 from .table import Table
 
 
 Numbered = Tuple[int, Drawing]
+IS_FULL = "the report has no room for more; `naplps-pages serve` shows it"
 
 
 class Options(NamedTuple):
@@ -85,9 +86,19 @@ def _drawings(table: Table, numbers: List[int], options: Options) -> Tuple[List[
         if it:
             tasks.append((number, it))
     how = How(options.program, options.seconds, Most(HELD_SKETCH, HELD_TEXT, HELD_LINES))
-    made = list(drawn(how, tasks, options.processes))
+    made = list(_held(drawn(how, tasks, options.processes)))
     missed = [(table.files[number].place.path, each.why) for number, each in sorted(made) if each.why]
     return sorted(made, key=lambda each: (alike(each[1]), each[0])), missed
+
+
+def _held(drawings: Iterable[Numbered]) -> Iterator[Numbered]:
+    """The drawings, of which those that are too much for one report say so in place of what they show."""
+    characters = 0
+    for number, drawing in drawings:
+        if characters + drawing.characters() > MOST_HELD:
+            drawing = Drawing(why=IS_FULL)
+        characters += drawing.characters()
+        yield number, drawing
 
 
 def _data(table: Table, drawings: List[Numbered]) -> str:
