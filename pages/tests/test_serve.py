@@ -125,7 +125,7 @@ def test_files_groups_and_details(served):
     assert (group["files"], group["spellings"]) == (3, 2)
     assert sorted(len(each["files"]) for each in group["members"]) == [1, 2]
     told = served.json("/details?key=" + key(served, "d.nap"))
-    assert told["refusal"]["means"].startswith("A point of the opcode") and told["equal"] is None
+    assert told["refusal"]["means"].startswith("A point of the picture code") and told["equal"] is None
     assert served.json("/details?key=" + key(served, "a.nap"))["equal"]["files"] == 3
     drawing = served.json("/drawing?key=" + key(served, "a.nap"))
     assert drawing["sketch"].startswith("<svg")
