@@ -106,11 +106,13 @@ def _claim(path: str, data: bytes) -> None:
 
 
 def _part(path: str, data: bytes) -> str:
-    """A new file with these bytes, in the folder of the path."""
+    """A new file with these bytes, which are on the disk, in the folder of the path."""
     number, part = tempfile.mkstemp(prefix=".naplps-", dir=os.path.dirname(path) or ".")
     try:
         with open(number, "wb") as file:
             file.write(data)
+            file.flush()
+            os.fsync(number)  # (so that a power cut leaves no name of a file without its bytes)
         os.chmod(part, 0o666 & ~_mask())
     except BaseException:
         os.unlink(part)

@@ -68,7 +68,7 @@ class Session:
     def _one(self, name: str, work: Callable[[Page], None], more: Sequence[str]) -> None:
         """Does the work for one page."""
         try:
-            page = read(name)
+            page = read(name, self.program.limits.seconds)
         except Unread as error:
             self._without(name, unread(name, str(error)), more)
             return

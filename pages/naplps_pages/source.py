@@ -1,17 +1,22 @@
 """One page: a file, or standard input."""
 import errno
 import os
+import stat
 import sys
 import tempfile
 from dataclasses import dataclass
-from typing import IO, List, Optional
+from typing import IO, List, Optional, cast
 
 from .packs.naming import BETWEEN, is_pack
 from .packs.reading import NoMember, Packs
+from .pipe import Pipe
 
 # A longer page is no request of `naplps batch`, and isn't held.
 MOST = 16 << 20
 PIECE = 1 << 20
+# So much of a pipe is put into a temporary file: what the program takes at most.
+MOST_SPOOLED = 1 << 32
+DEVICES = {stat.S_IFCHR: "it is a device", stat.S_IFBLK: "it is a device", stat.S_IFSOCK: "it is a socket"}
 # The packs of which members are read.
 PACKS = Packs(MOST)
 
@@ -34,14 +39,22 @@ class Unread(Exception):
     """The page can't be read, with the system's reason."""
 
 
-def read(name: str) -> Page:
-    """Reads the page of this name, '-' for standard input, 'PACK!MEMBER' for a member of a pack. Raises Unread."""
+def read(name: str, seconds: float) -> Page:
+    """Reads the page of this name, '-' for standard input, 'PACK!MEMBER' for a member of a pack. Raises Unread.
+
+    A pipe that has a name is waited for so many seconds. Others are waited for as other filters do.
+    """
     try:
         if name == "-":
             if sys.stdin is None:
                 raise OSError(errno.EBADF, os.strerror(errno.EBADF))
             return _gathered(name, sys.stdin.buffer)
-        # A pipe is waited for, as other filters do.
+        kind = stat.S_IFMT(os.stat(name).st_mode)
+        if kind in DEVICES:
+            raise Unread(DEVICES[kind])  # (to open it might do something, and some have no end)
+        if kind == stat.S_IFIFO and not _is_unnamed(name):
+            with Pipe(name, seconds) as pipe:
+                return _gathered(name, cast(IO[bytes], pipe))
         with open(name, "rb", buffering=0) as file:
             return _gathered(name, file)
     except OSError as error:
@@ -51,6 +64,16 @@ def read(name: str) -> Page:
         raise Unread(error.strerror or str(error)) from None
     except ValueError as error:  # a name with NUL
         raise Unread(str(error)) from None
+
+
+def _is_unnamed(name: str) -> bool:
+    """Whether the name, as /dev/fd/63, is that of a pipe which was handed to this process."""
+    ours = os.pipe()
+    try:
+        return os.stat(name).st_dev == os.fstat(ours[0]).st_dev
+    finally:
+        for each in ours:
+            os.close(each)
 
 
 def _member(name: str) -> Optional[Page]:
@@ -86,8 +109,11 @@ def _kept(first: bytes, file: IO[bytes]) -> IO[bytes]:
         copy.seek(-len(first), os.SEEK_CUR)
         return copy
     spool = tempfile.TemporaryFile()
-    spool.write(first)
+    length = spool.write(first)
     for piece in iter(lambda: file.read(PIECE), b""):
-        spool.write(piece)
+        length += spool.write(piece)
+        if length > MOST_SPOOLED:
+            spool.close()
+            raise Unread("it is a pipe of more than %d bytes" % MOST_SPOOLED)
     spool.seek(0)
     return spool

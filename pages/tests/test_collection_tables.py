@@ -4,6 +4,7 @@ import hashlib
 import io
 import json
 import os
+import shutil
 import sqlite3
 import subprocess
 
@@ -16,6 +17,8 @@ from naplps_pages.collection import verify
 from naplps_pages.collection.equal import Group, Spelling
 from naplps_pages.collection.places import Place
 from naplps_pages.collection.progress import Counting, Progress, duration
+from naplps_pages.names import shown
+from naplps_pages.output import put
 from samples import OUTSIDE, POINT, SPELLED, with_parity
 from scans import FAKE, rows, tree
 
@@ -72,7 +75,7 @@ def test_equal_for_programs(run, store, pages):
     table = list(csv.DictReader(io.StringIO(run(["equal", store, "--csv"]).stdout.decode())))
     columns = ("canonical", "spellings", "files", "entries", "spelling", "hash", "name", "name_hex")
     assert [tuple(row[column] for column in columns) for row in table] == [
-        (CANON_HASH, "2", "3", "1", str(number), own, name, "")
+        (CANON_HASH, "2", "3", "1", str(number), own, name.replace("\n", "\\n"), name.encode().hex() * ("\n" in name))
         for number, own in enumerate(sorted(files), 1) for name in files[own]]
 
 
@@ -109,6 +112,26 @@ def test_refused(run, store, pages):
     assert [(row[:4], row[5:]) for row in table[1:]] == [
         (["19", "Cut", "", "1"], ["no", "", pages + "/cut", ""]),
         (["19", "Cut", "", "2"], ["no", "", pages + "/cut too", ""])]
+
+
+NAMES = (b"a\nb", b"\x1b]0;x\x07", b"\xff", "\u202e.nap".encode(), b"a\\b", b"plain", b"=1+1", b'"quoted", twice',
+         b"\r\x9b")
+
+
+def test_names_in_csv_are_shown(run, tmp_path):
+    pages = tree(os.path.join(str(tmp_path), "pages"), {
+        **{name: POINT for name in NAMES}, **{b"x" + name: OUTSIDE for name in NAMES}})
+    store, into = os.path.join(str(tmp_path), "pages.db"), os.path.join(str(tmp_path), "to")
+    assert run(["scan", pages, "--into", store]).returncode == 0
+    for words in (["equal", store, "--copies"], ["refused", store], ["convert", store, "--into", into]):
+        said = run([*words, "--csv"])
+        assert said.returncode == 0 and said.stdout.decode().replace("\n", "").isprintable()
+        found = list(csv.DictReader(io.StringIO(said.stdout.decode())))
+        assert found
+        for row in found:
+            raw = bytes.fromhex(row["name_hex"]) if row["name_hex"] else row["name"].encode()
+            assert os.path.basename(raw).lstrip(b"x") in [name.lstrip(b"x") for name in NAMES]
+            assert row["name"] == shown(os.fsdecode(raw)) and bool(row["name_hex"]) == (row["name"] != os.fsdecode(raw))
 
 
 def test_names_go_to_xargs(naplps, store, pages):
@@ -216,6 +239,43 @@ def test_convert_writes_nothing_over(run, store, tmp_path):
         "not made", path, reason)
     with open(path, "rb") as file:
         assert file.read() == b"mine"
+
+
+def test_convert_takes_nothing_for_a_page_but_its_bytes(run, store, tmp_path):
+    into = os.path.join(str(tmp_path), "canonical")
+    path = os.path.join(into, CANON_HASH[:2], CANON_HASH + ".nap")
+    os.makedirs(os.path.dirname(path))
+    right = os.path.join(str(tree(tmp_path, {"right": CANON, "zeros": bytes(len(CANON))})), "right")
+    reasons = {"other": "is there already with other bytes, and isn't written over",
+               "kind": "is there already, but is no file",
+               "no": "is there already, but can't be read: No such file or directory"}
+    for make, why in ((lambda: shutil.copy(right[:-5] + "zeros", path), reasons["other"]),
+                      (lambda: os.symlink("x" * len(CANON), path), reasons["no"]),
+                      (lambda: os.mkfifo(path), reasons["kind"]), (lambda: os.mkdir(path), reasons["kind"]),
+                      (lambda: os.symlink("/dev/zero", path), reasons["kind"])):
+        make()
+        said = run(["convert", store, "--into", into])
+        assert said.returncode == 1 and said.stderr.decode() == "naplps-pages: %s: %s\n" % (path, why)
+        assert said.stdout.decode().endswith(", 1 not made\n")
+        (os.rmdir if os.path.isdir(path) else os.unlink)(path)
+    os.symlink(right, path)
+    assert lines(run(["convert", store, "--into", into])) == ["0 written, 2 there"]
+
+
+def test_new_files_are_on_the_disk_before_they_have_their_names(tmp_path, monkeypatch):
+    told = []
+
+    def noted(name):
+        real = getattr(os, name)
+
+        def does(first, *rest, **more):
+            told.append((name, os.fstat(first).st_size if name == "fsync" else os.path.basename(rest[0])))
+            return real(first, *rest, **more)
+        monkeypatch.setattr(os, name, does)
+    noted("fsync")
+    noted("link")
+    put(os.path.join(str(tmp_path), "page.nap"), b"1234567")
+    assert told == [("fsync", 7), ("link", "page.nap")]
 
 
 def test_convert_and_a_program_that_answers_otherwise(run, fake, store, tmp_path):

@@ -5,6 +5,7 @@ import os
 import resource
 import shutil
 import signal
+import socket
 import subprocess
 import sys
 import time
@@ -264,6 +265,43 @@ def test_a_fifo_is_read_as_other_filters_do(naplps, run, tmp_path, command):
         writer.write(POINT)
     wanted = run([command, "-"], POINT).stdout
     assert said.communicate(timeout=900)[0].replace(path.encode(), b"-") == wanted and said.returncode == 0
+
+
+@pytest.mark.parametrize("how", ["nobody writes", "nobody ends", "slowly", "for ever"])
+def test_a_fifo_is_waited_for_no_longer_than_it_may_take(naplps, tmp_path, how):
+    path = os.path.join(str(tmp_path), "fifo")
+    os.mkfifo(path)
+    writes = {"nobody writes": "sleep 600", "nobody ends": 'exec 3> "$0"; sleep 600',
+              "slowly": 'exec 3> "$0"; while :; do echo x >&3; sleep 0.05; done',
+              "for ever": 'cat /dev/zero > "$0"'}[how]
+    writer = subprocess.Popen(["sh", "-c", writes, path], start_new_session=True, stderr=subprocess.DEVNULL)
+    try:
+        said = subprocess.run([COMMAND, "check", "--seconds", "1", path, path], capture_output=True, timeout=600,
+                              env=dict(os.environ, NAPLPS=naplps))
+    finally:
+        os.killpg(writer.pid, signal.SIGKILL)
+        writer.wait()
+    assert (said.returncode, said.stdout) == (3, b"")
+    line = "naplps-pages: %s: it is a pipe that didn't end in 1 s\n" % path
+    assert said.stderr.decode() == line * 2
+
+
+def test_a_pipe_of_the_shell_is_waited_for(naplps):
+    lines = '"$0" check --seconds 0.5 <(sleep 2; printf "\\016\\046\\122\\100\\100") <(printf "") /dev/stdin'
+    said = subprocess.run(["bash", "-c", lines, COMMAND], capture_output=True, input=POINT,
+                          env=dict(os.environ, NAPLPS=naplps))
+    answers = [line.split(b": ")[1].split(b" (")[0] for line in said.stdout.splitlines()]
+    assert answers == [b"accepted 1 entries", b"accepted 0 entries", b"accepted 1 entries"] and said.returncode == 0
+
+
+@pytest.mark.parametrize("command", COMMANDS)
+@pytest.mark.parametrize("name, why", [("/dev/zero", "it is a device"), ("socket", "it is a socket")])
+def test_devices_are_refused_by_name(run, tmp_path, command, name, why):
+    with socket.socket(socket.AF_UNIX) as it:
+        it.bind(os.path.join(str(tmp_path), "socket"))
+        said = run([command, name], cwd=str(tmp_path))
+    assert (said.returncode, said.stdout) == (3, b"")
+    assert said.stderr.decode() == "naplps-pages: %s: %s\n" % (name, why)
 
 
 @pytest.mark.parametrize("command", COMMANDS)

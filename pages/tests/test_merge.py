@@ -151,6 +151,7 @@ def test_unfinished_parts(run, fake, here, monkeypatch):
 def test_a_folder_that_was_not_there(run, fake, here):
     tree("pages", {"%d" % number: b"%d" % number for number in range(10)})
     scan(run, fake(FAKE), "pages", "0.db", "--part", "0/2")
+    scan(run, fake(FAKE), "pages", "1.db", "--part", "1/2")
     os.rename("pages", "away")
     assert run(["scan", "pages", "--into", "1.db", "--part", "1/2"], program=fake(FAKE)).returncode == 1
     lack = "1.db: isn't finished: its scan couldn't read %s/pages: No such file or directory" % here

@@ -116,6 +116,57 @@ def test_a_disk_that_isnt_mounted(run, pages, store, how):
     assert reason in run(["status", store]).stdout.decode()
 
 
+@pytest.mark.parametrize("names", [["typo"], ["typo", "no/where"], ["loose"], ["fifo"], ["/dev/null"]])
+def test_names_that_are_not_there_leave_nothing(run, tmp_path, names):
+    os.symlink("nowhere", os.path.join(str(tmp_path), "loose"))
+    os.mkfifo(os.path.join(str(tmp_path), "fifo"))
+    said = run(["scan", *names, "--into", "pages.db"], cwd=str(tmp_path))
+    assert (said.returncode, said.stdout) == (1, b"") and sorted(os.listdir(str(tmp_path))) == ["fifo", "loose"]
+    why = "it is no regular file" if names[0] in ("fifo", "/dev/null") else "No such file or directory"
+    assert said.stderr.decode().splitlines() == [
+        "naplps-pages: %s: %s" % (os.path.join(str(tmp_path), name), why) for name in names]
+
+
+def test_one_of_several_names_is_not_there(run, pages, store):
+    said = run(["scan", pages, pages + ".typo", "--into", store])
+    assert said.returncode == 1 and said.stdout.startswith(b"6 files: ")
+    assert said.stderr.decode() == "naplps-pages: %s.typo: No such file or directory\n" % pages
+
+
+def test_a_file_by_itself(run, pages, store):
+    """Nothing is said of what stands beside it, be it known or not."""
+    name = os.path.join(pages, "one.nap")
+    tree(pages, {"one.nap": POINT})
+    for _ in range(2):
+        said = run(["scan", "one.nap", "--into", store], cwd=pages)
+        assert (said.returncode, said.stderr) == (0, b"")
+        assert said.stdout.startswith(b"1 file: 1 accepted, 0 refused; 0 known, ")
+        assert statuses(store) == {"one.nap": ("accepted", None)}
+        assert rows(store, "SELECT DISTINCT path FROM roots") == [(os.fsencode(name),)]
+    assert run(["scan", pages, "--into", store]).stdout.startswith(b"7 files: 5 accepted, 2 refused; 1 known, ")
+    before = table(store)
+    tree(pages, {"one.nap": OUTSIDE})
+    for each in ("sub", "a"):
+        if os.path.isfile(os.path.join(pages, each)):
+            os.unlink(os.path.join(pages, each))
+    os.symlink(name, store + ".link")
+    for word in (name, store + ".link"):
+        said = run(["scan", word, "--into", store])
+        assert said.stdout.startswith(b"1 file: 0 accepted, 1 refused; 0 known, ")
+        assert [row for row in table(store) if not row[1] == b"one.nap"] == [
+            row for row in before if not row[1] == b"one.nap"]
+    os.unlink(name)
+    os.mkfifo(name)
+    said = run(["scan", name, "--into", store])
+    assert said.returncode == 1 and statuses(store)["one.nap"] == ("refused", None)
+    assert run(["scan", store, "--into", store]).stdout.startswith(b"0 files: ")
+    os.unlink(name)
+    tree(pages, {"one.nap": POINT, "a": POINT})
+    assert run(["scan", name, "--into", store]).returncode == 0
+    for words in (["status", store], ["equal", store], ["report", store, "--into", store + ".html"]):
+        assert run(words).returncode == 0
+
+
 def test_the_store_may_stand_among_the_pages(run, pages):
     store = os.path.join(pages, "pages.db")
     for known in (0, 6):

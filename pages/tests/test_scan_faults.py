@@ -8,6 +8,7 @@ import subprocess
 import pytest
 
 from conftest import COMMAND, PAGES
+from naplps_pages import interpreter
 from naplps_pages.collection import tables
 from naplps_pages.collection.lock import Lock, is_held
 from naplps_pages.collection.pool import NoWorkers, Pool
@@ -108,6 +109,41 @@ def test_workers_that_fail(tmp_path):
     with pytest.raises(NoWorkers, match="workers can't be started: .* ended with status 1"):
         list(pool.run(iter([((1, b"/x", (b"a",)),)] * 9)))
     pool.close()
+
+
+def test_a_worker_that_is_killed_in_its_first_moment_is_replaced(tmp_path, monkeypatch):
+    killed = []
+    start_worker = interpreter.start
+
+    def start_and_kill(*words, **more):
+        process = start_worker(*words, **more)
+        if len(killed) < 2:
+            killed.append(process.pid)
+            process.kill()
+            process.wait()
+        return process
+    monkeypatch.setattr(interpreter, "start", start_and_kill)
+    tree(tmp_path, {"odd_worker.py": WORKER.encode("ascii")})
+    os.symlink(os.path.join(PAGES, "naplps_pages"), os.path.join(str(tmp_path), "naplps_pages"))
+    pool = Pool(1, ("much" * 100_000,), 600.0, "odd_worker", str(tmp_path))
+    try:
+        chunks = [((1, b"/x", (b"%d" % number,)),) for number in range(9)]
+        found = [file.name for piece in pool.run(iter(chunks)) if piece for file in piece[0]]
+    finally:
+        pool.close()
+    assert len(killed) == 2 and sorted(found) == [b"%d" % number for number in range(9)]
+
+
+def test_a_lock_that_can_not_be_written_leaves_no_file(tmp_path, monkeypatch):
+    store = os.path.join(str(tmp_path), "pages.db")
+
+    def full(*_):
+        raise OSError(28, "No space left on device")
+    monkeypatch.setattr(os, "write", full)
+    with pytest.raises(OSError, match="No space left"):
+        with Lock(store):
+            pass
+    assert os.listdir(str(tmp_path)) == [] and not is_held(store)
 
 
 @pytest.mark.skipif(os.geteuid() != 0, reason="only root can be another user")

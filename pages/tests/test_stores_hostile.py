@@ -199,6 +199,22 @@ def test_texts_are_shown_as_names_are(made, words):
     assert any(seen) or "part" in words
 
 
+def test_a_schema_whose_words_are_no_text(made):
+    made.change("PRAGMA writable_schema = ON; UPDATE sqlite_master SET name = CAST(x'96FF' AS TEXT), sql = "
+                "CAST('CREATE TABLE ' || x'96FF' || '(' AS TEXT) WHERE name = 'cures'")
+    for command in COMMANDS:
+        said = made.run(command)
+        assert said.status == 3 and said.err.startswith(b"naplps-pages: bad.db: ")
+
+
+def test_another_hash(made):
+    for value, told in (("'md5'", "md5"), ("x'00'", "b'\\x00'"), ("char(27)", "\\x1b")):
+        made.change("UPDATE meta SET value = %s WHERE key = 'hash'" % value)
+        for command in COMMANDS:
+            line = "naplps-pages: bad.db: is a store of hashes by %s, and this tool knows sha256\n" % told
+            assert made.run(command) == (3, b"", line.encode())
+
+
 def journal(folder, victim):
     """A store with the journal of a write that ended amid, which names a victim as a further journal."""
     store, path = os.path.join(folder, "whole.db"), os.path.join(folder, "left.db")

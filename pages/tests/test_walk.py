@@ -11,10 +11,10 @@ DEEP = 40
 NAME = b"d" * 250
 
 
-def dig(top):
+def dig(top, depth=DEEP):
     """A folder whose path is longer than the system takes, with a page in it; its path."""
     path, at = os.fsencode(top), os.open(top, os.O_RDONLY)
-    for _ in range(DEEP):
+    for _ in range(depth):
         os.mkdir(NAME, dir_fd=at)
         below = os.open(NAME, os.O_RDONLY, dir_fd=at)
         os.close(at)
@@ -41,6 +41,24 @@ def fill_in(path):
         os.rmdir(name, dir_fd=at)
         os.close(at)
         path = above
+
+
+def test_a_folder_that_is_too_deep_is_a_row(run, tmp_path, monkeypatch):
+    """Each row has its whole path, so a store would grow with the square of the depth."""
+    top, store = tree(os.path.join(str(tmp_path), "top"), {"page": POINT}), os.path.join(str(tmp_path), "pages.db")
+    path = dig(top, 300)
+    try:
+        said = run(["scan", top, "--into", store])
+        longest = max((each for each, in rows(store, "SELECT path FROM folders WHERE state = 0")), key=len)
+        assert walk.MOST_PATH - 251 < len(longest) <= walk.MOST_PATH == 65536
+        assert said.stdout == b"1 file: 1 accepted, 0 refused; 0 known, 1 page asked about; 1 folder unreadable\n"
+        assert said.stderr.decode() == "naplps-pages: %s: its path is longer than 65536 bytes\n" % os.fsdecode(
+            longest + b"/" + NAME) and said.returncode == 1
+        assert rows(store, "SELECT path, why FROM folders WHERE state = 1") == [
+            (longest + b"/" + NAME, "its path is longer than 65536 bytes")]
+        assert os.path.getsize(store) < 20 << 20
+    finally:
+        fill_in(path)
 
 
 def test_a_path_that_is_too_long_for_the_system(run, tmp_path):

@@ -1,6 +1,8 @@
 """The command convert: canonical pages into a folder, named by their hashes."""
+import hashlib
 import os
 import sqlite3
+import stat
 from typing import Dict, Iterator, NamedTuple, Optional
 
 from ..answers import Accepted, Answer, NoAnswer
@@ -8,13 +10,15 @@ from ..ask import Program
 from ..names import shown
 from ..output import make_folder, put
 from ..schema import Members
+from .folders import reason
 from .places import Otherwise, Place, read
-from .printing import NAME, Printer, named
+from .printing import NAME, Printer, named, shown_as
 from .store import kept
 from .tables import hashed
 from .verify import OTHER_HASH
 
 COLUMNS = ["canonical", "status", "path", "reason", *NAME]
+PIECE = 1 << 20
 WRITTEN, THERE, CHANGED, NOT_MADE = "written", "there", "changed", "not made"
 PAGES = """SELECT p.canon, p.canon_size, p.own, d.path, f.name, f.at FROM pages p
     JOIN present f ON f.page = p.id JOIN folders d ON d.id = f.folder
@@ -52,11 +56,9 @@ class Conversion:
 
     def _convert(self, canon: bytes, length: int, own: bytes, place: Place) -> Row:
         path = self.path(canon)
-        there = _size(path)
-        if there is not None:
-            if there == length:
-                return Row(canon, THERE, path, place)
-            return Row(canon, NOT_MADE, path, place, "is there already with other bytes, and isn't written over")
+        if os.path.lexists(path):
+            why = _otherwise(path, canon, length)
+            return Row(canon, NOT_MADE if why else THERE, path, place, why)
         try:
             page = read(place, own)
         except Otherwise as otherwise:
@@ -95,15 +97,29 @@ class Conversion:
 def show(printer: Printer, row: Row) -> None:
     """Prints a row, in the forms that have rows."""
     members: Members = {"canonical": row.canon.hex(), "status": row.status, "path": shown(row.path),
-                        "reason": row.reason, **named(row.place)}
+                        "reason": row.reason}
     if printer.form == "json":
-        printer.object(members)
+        printer.object({**members, **named(row.place)})
     elif printer.form == "csv":
-        printer.row(members)
+        printer.row({**members, **shown_as(row.place)})
 
 
-def _size(path: str) -> Optional[int]:
+def _otherwise(path: str, canon: bytes, length: int) -> Optional[str]:
+    """What is wrong with what is there in place of a canonical page; None where it has its bytes."""
     try:
-        return os.lstat(path).st_size
-    except OSError:
-        return None
+        status = os.stat(path)
+        if not stat.S_ISREG(status.st_mode):
+            return "is there already, but is no file"
+        if status.st_size == length and _hash_of(path) == canon:
+            return None
+    except OSError as error:
+        return "is there already, but can't be read: %s" % reason(error)
+    return "is there already with other bytes, and isn't written over"
+
+
+def _hash_of(path: str) -> bytes:
+    made = hashlib.sha256()
+    with open(os.open(path, os.O_RDONLY | os.O_NONBLOCK | os.O_CLOEXEC), "rb", buffering=0) as file:
+        for piece in iter(lambda: file.read(PIECE), b""):
+            made.update(piece)
+    return made.digest()

@@ -5,13 +5,14 @@ from typing import Dict, NamedTuple, Tuple
 from . import tables
 from .printing import numbered
 
-# Files in folders that the run read, and those that it missed, by their states.
+# Files in folders that the run read, those that it missed, and those that were named by themselves, by their states.
 FILES = """SELECT f.state, count(*) FROM files f JOIN folders d ON d.id = f.folder
-    WHERE ((d.run = ? AND d.state = 0 AND f.state <> ?) OR (f.run = ? AND f.state = ?)) AND %s GROUP BY 1""" % (
-    tables.IS_FILE)
+    WHERE ((d.run = ?1 AND d.state = 0 AND f.state <> ?2) OR (f.run = ?1 AND (f.state = ?2 OR d.run <> ?1)))
+    AND %s GROUP BY 1""" % tables.IS_FILE
 # Of those that it read the files whose pages aren't accepted, which are fewer.
 OTHERS = """SELECT p.state, count(*) FROM pages p CROSS JOIN files f ON f.page = p.id AND f.state = 0
-    CROSS JOIN folders d ON d.id = f.folder WHERE p.state <> ? AND d.run = ? AND d.state = 0 GROUP BY 1"""
+    CROSS JOIN folders d ON d.id = f.folder
+    WHERE p.state <> ?1 AND (d.run = ?2 AND d.state = 0 OR f.run = ?2 AND d.run <> ?2) GROUP BY 1"""
 PACKS = """SELECT count(*) FROM folders d JOIN files f ON f.folder = d.id AND f.name = x''
     WHERE d.run = ? AND f.state <> %d""" % tables.GONE
 FOLDERS = "SELECT count(*) FROM folders WHERE run = ? AND state = ?"
@@ -65,7 +66,7 @@ def _sum(one: Dict[int, int], other: Dict[int, int]) -> Dict[int, int]:
 
 def counted(connection: sqlite3.Connection, run: int) -> Counts:
     """What the run with this number came to."""
-    files: Dict[int, int] = dict(connection.execute(FILES, (run, tables.GONE, run, tables.GONE)))
+    files: Dict[int, int] = dict(connection.execute(FILES, (run, tables.GONE)))
     pages: Dict[int, int] = dict(connection.execute(OTHERS, (tables.ACCEPTED, run)))
     pages[tables.ACCEPTED] = files.get(tables.READ, 0) - sum(pages.values())
     return Counts(files, pages, _one(connection, FOLDERS, (run, tables.UNREADABLE)),

@@ -6,7 +6,7 @@ from typing import Any, Iterable, Iterator, List, NamedTuple, Optional, Tuple
 from ..names import shown
 from ..schema import Members
 from .places import Place
-from .printing import NAME, Printer, named, numbered
+from .printing import NAME, Printer, named, numbered, shown_as
 from .store import kept
 
 COLUMNS = ["canonical", "spellings", "files", "entries", "spelling", "hash", *NAME]
@@ -81,7 +81,7 @@ def show(printer: Printer, group: Group) -> None:
             printer.line("  %d: %s" % (number, shown(place.path)))
         elif printer.form == "csv":
             printer.row({"canonical": group.canon.hex(), "spellings": len(group.spellings), "files": group.files,
-                         "entries": group.entries, "spelling": number, "hash": own.hex(), **named(place)})
+                         "entries": group.entries, "spelling": number, "hash": own.hex(), **shown_as(place)})
         else:
             printer.name(place)
     if printer.form == "null":

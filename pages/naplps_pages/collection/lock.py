@@ -38,8 +38,12 @@ class Lock:
             finally:
                 if self.descriptor is None:
                     os.close(descriptor)
-        os.truncate(self.descriptor, 0)
-        os.write(self.descriptor, b"%d\n" % os.getpid())
+        try:
+            os.truncate(self.descriptor, 0)
+            os.write(self.descriptor, b"%d\n" % os.getpid())
+        except OSError:  # as where the disk is full
+            self._let_go()
+            raise
         return self
 
     def _is_there(self, descriptor: int) -> bool:
@@ -50,6 +54,9 @@ class Lock:
 
     def __exit__(self, kind: Optional[Type[BaseException]], error: Optional[BaseException],
                  trace: Optional[TracebackType]) -> None:
+        self._let_go()
+
+    def _let_go(self) -> None:
         if self.descriptor is not None:
             try:
                 os.unlink(self.path)

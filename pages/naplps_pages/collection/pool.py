@@ -43,7 +43,10 @@ class Hand:
         self.heard = time.monotonic()
         self.spoke = False
         self.reason = ""
-        self.connection.send(tuple(first))
+        try:
+            self.connection.send(tuple(first))
+        except OSError:
+            pass  # it has ended, which is heard as that
 
     def give(self, chunk: Chunk) -> None:
         """Gives it a chunk."""

@@ -5,7 +5,7 @@ import os
 import sys
 from typing import List, Sequence
 
-from ..names import as_json, printable
+from ..names import as_json, printable, shown
 from ..output import Output
 from ..schema import Members, dumps
 from .places import Place
@@ -54,12 +54,18 @@ class Printer:
 
 
 def _field(value: object) -> str:
-    return "" if value is None else str(value)
+    return "" if value is None else printable(str(value))
 
 
 def named(place: Place) -> Members:
-    """The members that name a file."""
+    """The members that name a file in JSON, where nothing is raw."""
     return as_json(place.path)
+
+
+def shown_as(place: Place) -> Members:
+    """The columns that name a file in CSV: its name as it is shown, and its bytes where these are others."""
+    name = shown(place.path)
+    return {"name": name, "name_hex": None if name == place.path else os.fsencode(place.path).hex()}
 
 
 def numbered(number: int, one: str, more: str = "") -> str:

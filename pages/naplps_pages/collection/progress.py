@@ -36,6 +36,8 @@ def _count(root: bytes, part: Optional[Part]) -> Optional[int]:
     files = 0
     if is_pack(root) and not os.path.isdir(root):
         return None
+    if os.path.isfile(root):
+        return 1
     stack = [root]
     while stack:
         try:

@@ -8,7 +8,7 @@ from ..names import shown
 from ..refusals import Reason as Wanted
 from ..schema import Members, answered
 from .places import Place
-from .printing import NAME, Printer, named, numbered
+from .printing import NAME, Printer, numbered, shown_as
 from .store import kept
 
 COLUMNS = ["number", "fault", "code", "place", "hash", "tried", "treatments", *NAME]
@@ -83,7 +83,7 @@ def _show(printer: Printer, member: Member) -> None:
         reason = member.reason
         printer.row({"number": reason.number, "fault": reason.fault, "code": reason.left_out, "place": member.at,
                      "hash": member.own.hex(), "tried": "yes" if member.tried else "no",
-                     "treatments": member.treatments, **named(member.place)})
+                     "treatments": member.treatments, **shown_as(member.place)})
     else:
         printer.name(member.place)
 

@@ -3,6 +3,7 @@ import hashlib
 import os
 import re
 import sqlite3
+import stat
 import sys
 from dataclasses import dataclass
 from typing import Iterator, List, Optional, Tuple
@@ -11,7 +12,7 @@ from ..answers import NoAnswer
 from ..child import Limits
 from ..names import shown
 from ..output import Output, tell
-from ..packs.reading import SEVERAL
+from ..packs.reading import NO_FILE, SEVERAL
 from ..program import version
 from ..source import MOST
 from ..unexpected import Unexpected
@@ -19,7 +20,7 @@ from . import tables
 from .ahead import Ahead
 from .cluster import MOST_FILES, MOST_NAMES, Cluster, ClusterFailed
 from .counts import counted
-from .folders import absolute, join, reason
+from .folders import absolute, is_gone, join, reason
 from .lock import Busy, Lock
 from .part import Part, keep_part
 from .pool import NoWorkers, Pool
@@ -84,6 +85,11 @@ def scan(options: Options) -> int:
     cluster: Optional[Cluster] = None
     try:
         roots = apart(map(absolute, options.folders))
+        missing = [(root, why) for root, why in zip(roots, map(_not_there, roots)) if why]
+        if len(missing) == len(roots) and not os.path.lexists(options.store):
+            for root, why in missing:
+                tell("%s: %s" % (shown(os.fsdecode(root)), why))
+            return SOME_LACK  # (a store of nothing is of no use)
         if options.on is not None:
             cluster = Cluster(options.on, options.how, alike(terms.program_hash, roots))
         with Stopping() as stopping, Lock(options.store):
@@ -106,6 +112,15 @@ def scan(options: Options) -> int:
     output.line(run.line)
     output.flush()
     return run.status
+
+
+def _not_there(root: bytes) -> Optional[str]:
+    """Why there is neither a folder nor a file of this name; None where there is, or nobody can know."""
+    try:
+        mode = os.stat(root).st_mode
+    except OSError as error:
+        return reason(error) if is_gone(error) else None
+    return None if stat.S_ISDIR(mode) or stat.S_ISREG(mode) else NO_FILE
 
 
 def _scan(options: Options, terms: Terms, stopping: Stopping, roots: List[bytes], cluster: Optional[Cluster]) -> "Run":

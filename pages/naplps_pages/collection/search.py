@@ -93,6 +93,9 @@ class Search:
         if is_pack(root) and not os.path.isdir(root):
             yield from self._named_pack(root)
             return
+        if os.path.isfile(root) and not self.writer.has_below(root):
+            yield from self._named_file(root)
+            return
         why: Optional[str] = None
         for listing in walk(root, self.scope.hides):
             self.path = listing.path
@@ -125,6 +128,15 @@ class Search:
             self.tell(root, why)
         elif self.scope.part is None or self.scope.part.takes(b""):
             yield self._pack(root, root)
+
+    def _named_file(self, root: bytes) -> Iterator[Found]:
+        """A file that was named, by itself: nothing is said of what stands beside it. It may be a link."""
+        self.path = root
+        self.writer.root(root)
+        self.writer.is_no_folder(root)
+        folder, name = os.path.split(os.path.realpath(root))
+        if (self.scope.part is None or self.scope.part.takes(b"")) and not self.scope.hides.has(folder, name):
+            yield self.writer.folder_of(folder), folder, iter((name,))
 
     def _packs(self, root: bytes, listing: Listing) -> Iterator[Found]:
         """The packs in a folder."""

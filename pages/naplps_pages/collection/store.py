@@ -147,6 +147,9 @@ def _checked(path: str, mode: str) -> sqlite3.Connection:
         _check(path, connection)
         _check_schema(path, connection)
         return connection
+    except UnicodeDecodeError:  # (SQLite says what is wrong with a schema in the schema's own words)
+        connection.close()
+        raise StoreFailed(path, LACKS % (TOOL, "that can be read")) from None
     except BaseException:
         connection.close()
         raise
@@ -193,6 +196,10 @@ def _check(path: str, connection: sqlite3.Connection) -> None:
     if schema is None or str(schema[0]) != str(tables.SCHEMA):
         raise StoreFailed(path, "is a store of schema %s, and this tool knows schema %d" % (
             schema[0] if schema else "unknown", tables.SCHEMA))
+    made = connection.execute("SELECT value FROM meta WHERE key = 'hash'").fetchone()
+    if made != (tables.HASH,):
+        raise StoreFailed(path, "is a store of hashes by %s, and this tool knows %s" % (
+            made[0] if made else "nothing", tables.HASH))
 
 
 def kept(connection: sqlite3.Connection, words: str, told: str) -> Iterator[Tuple[Any, ...]]:

@@ -6,6 +6,9 @@ from ..packs.naming import is_pack
 from .folders import is_gone, join, opened, reason
 from .tables import READ, UNREADABLE, VANISHED
 
+# Each row of a folder has its whole path, so a deep one would cost the square of its depth.
+MOST_PATH = 64 << 10
+TOO_LONG = "its path is longer than %d bytes" % MOST_PATH
 # A folder by its device and its number.
 Identity = Tuple[int, int]
 
@@ -27,6 +30,13 @@ class Hidden(NamedTuple):
 
     folder: Optional[Identity]
     names: FrozenSet[bytes]
+
+    def has(self, folder: bytes, name: bytes) -> bool:
+        """Whether it is one of them that has this name in a folder."""
+        try:
+            return name in self.names and _identity(os.stat(folder)) == self.folder
+        except OSError:
+            return False
 
 
 class _Above(NamedTuple):
@@ -68,7 +78,11 @@ def walk(root: bytes, hides: Hidden) -> Iterator[Listing]:
                 continue
             names, packs, below = _listed(descriptor, hides if here.identity == hides.folder else None)
             yield Listing(path, READ, None, tuple(names), bool(below), descriptor, tuple(packs))
-            stack += [(join(path, name), here) for name in reversed(below)]
+            for each in reversed([join(path, name) for name in below]):
+                if len(each) <= MOST_PATH:
+                    stack.append((each, here))
+                else:
+                    yield Listing(each, UNREADABLE, TOO_LONG)
         except OSError as error:
             yield _unread(path, error, above is None)
         finally:

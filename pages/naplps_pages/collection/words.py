@@ -49,7 +49,7 @@ def add(commands: "argparse._SubParsersAction[Any]", budget: Callable[[Parser], 
 
 def _add_scan(one: Parser) -> None:
     one.add_argument("folders", metavar="FOLDER", nargs="+", type=values.name,
-                     help="a folder of pages, or a pack of them: a tar, tar.gz or zip file")
+                     help="a folder of pages, a pack of them, which is a tar, tar.gz or zip file, or a page")
     one.add_argument("--into", metavar="STORE", type=values.name, required=True,
                      help="the store: a file, which is made if there is none")
     where = one.add_mutually_exclusive_group()

@@ -96,6 +96,21 @@ class Writer:
             self.packs.add(number)
         return int(number), found is not None
 
+    def is_no_folder(self, path: bytes) -> None:
+        """Notes that what has this path is no folder, whatever it was before."""
+        self._begin()
+        self.connection.execute("UPDATE folders SET state = ?, why = NULL WHERE path = ?", (GONE, path))
+
+    def folder_of(self, path: bytes) -> int:
+        """The number of a folder in which a file was named. That this run met the folder isn't noted."""
+        self._begin()
+        found = self.connection.execute("SELECT id FROM folders WHERE path = ?", (path,)).fetchone()
+        if found is None:
+            return self.folder(path, READ, None)[0]
+        self.connection.execute("UPDATE folders SET state = ?, why = NULL WHERE id = ? AND state <> ?",
+                                (READ, found[0], READ))
+        return int(found[0])
+
     def take(self, piece: Piece) -> None:
         """Takes what a worker found."""
         files, answers = piece

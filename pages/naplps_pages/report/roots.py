@@ -8,7 +8,9 @@ from ..collection.kinds import checked
 from ..names import shown
 from ..packs.naming import MARK, inside
 
-ROOTS = "SELECT DISTINCT path FROM roots ORDER BY path"
+# (a file that was named by itself stands in a folder, and is none)
+ROOTS = """SELECT path, max(why IS NOT NULL OR EXISTS(SELECT 1 FROM folders d WHERE d.path IN
+    (r.path, CAST(r.path || x'212F' AS BLOB)))) FROM roots r GROUP BY path ORDER BY path"""
 
 
 class Roots:
@@ -46,7 +48,8 @@ def _different(names: List[str]) -> List[str]:
 
 def load(connection: sqlite3.Connection) -> Roots:
     """The roots of all scans into the store."""
-    return Roots([path for path, in checked(connection.execute(ROOTS), "path")])
+    return Roots(list(dict.fromkeys(path if is_folder else os.path.dirname(path) for path, is_folder in checked(
+        connection.execute(ROOTS), "path is_folder:flag"))))
 
 
 def joined(folder: str, name: bytes) -> str:
