@@ -5,7 +5,7 @@ constant, a signature, a type or a definition could decide what the prover says 
 """
 import os
 from pathlib import Path
-from typing import Dict, FrozenSet, Iterator, List, NamedTuple, Optional, Tuple
+from typing import Dict, FrozenSet, Iterable, Iterator, List, NamedTuple, Optional, Tuple
 
 from deciding import Changed, Deciding
 from findings import Function
@@ -74,21 +74,22 @@ def wrong_body(deciding: Deciding, crate: str, edit: Path) -> Optional[WrongBody
     return WrongBody(edit.stem, functions, tuple(_patches(deciding.root / "crates" / crate, text)))
 
 
-def plan(deciding: Deciding, crate: str, edits: List[Path]) -> Plan:
-    """The checks that edits of a crate need: each is put into the first check that it fits."""
-    planned = Plan([], [])
+def batches_of(edits: Iterable[WrongBody]) -> List[List[WrongBody]]:
+    """The checks that some edits need: each is put into the first that it fits."""
+    batches: List[List[WrongBody]] = []
     for edit in edits:
-        wrong = wrong_body(deciding, crate, edit)
-        if wrong is None:
-            planned.alone.append(edit.stem)
-            continue
-        fitting = (batch for batch in planned.together if wrong.fits(batch))
-        batch = next(fitting, None)
+        batch = next((batch for batch in batches if edit.fits(batch)), None)
         if batch is None:
-            planned.together.append([wrong])
+            batches.append([edit])
         else:
-            batch.append(wrong)
-    return planned
+            batch.append(edit)
+    return batches
+
+
+def plan(deciding: Deciding, crate: str, edits: List[Path]) -> Plan:
+    """The checks that edits of a crate need."""
+    found = {edit.stem: wrong_body(deciding, crate, edit) for edit in edits}
+    return Plan(batches_of(filter(None, found.values())), [name for name, wrong in found.items() if wrong is None])
 
 
 def texts_of(crate: Path, batch: List[WrongBody]) -> Dict[str, str]:

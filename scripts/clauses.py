@@ -15,7 +15,8 @@ UNREAD = re.compile(
 CLAUSE = re.compile(r"\b(?:requires|ensures|decreases)\b(?:\s+\w+)?\s*\{")
 FUNCTION = re.compile(r"\bfn\s+(?P<name>\w+)")
 ITEM = re.compile(
-    r"^[ \t]*(?:pub(?:\([^)]*\))?\s+)?(?:(?P<const>const)\s+\w+\s*:|(?P<owner>struct|enum|trait|impl)\b|(?P<ghost>ghost)\b)"
+    r"^[ \t]*(?:pub(?:\([^)]*\))?\s+)?"
+    r"(?:(?P<const>const)\s+\w+\s*:|(?P<owner>struct|enum|trait|impl)\b|(?P<ghost>ghost)\b)"
     r"|\b(?P<function>fn)\s+\w+",
     re.MULTILINE,
 )
@@ -78,7 +79,7 @@ class Source(NamedTuple):
 
 
 def clauses_of(text: str) -> List[str]:
-    """The clauses of a source: each ghost item and constant, and each signature with clauses, behind its owner's name."""
+    """The clauses of a source: ghost items, constants, and signatures with clauses, each behind its owner's name."""
     source = Source.of(text)
     found: List[str] = []
     owner, owned, at = "", 0, 0

@@ -9,7 +9,7 @@ import threading
 import time
 from concurrent.futures import ThreadPoolExecutor
 
-from judging import Answer, Judge, fault, run
+from judging import PATIENCE, Answer, Judge, fault, limit_processor, run
 
 HEADER = bytes.fromhex("0e215f")
 COMMANDS = [["list"], ["check"], ["canon"], ["canon", "--stream"]]
@@ -240,8 +240,9 @@ def run_long(words, name, header, piece, limit=None):
         os.close(beginning)
         gauge = Gauge(process.pid)
         gauge.start()
+        limit_processor(process.pid, 120)
         try:
-            process.wait(120)
+            process.wait(PATIENCE)
         except subprocess.TimeoutExpired:
             process.kill()
             process.wait()

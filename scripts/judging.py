@@ -1,9 +1,16 @@
 """What the scripts that run the program under faults share: they start it, and compare its status and both outputs."""
+import contextlib
+import resource
+import signal
 import subprocess
 import sys
 from typing import Any, Optional, Sequence, Union
 
-LIMIT = 20
+# How many seconds of a processor a command may take, so that a busy machine fails none; and how many by the clock, for
+# one that waits for what never comes.
+LIMIT = 60
+PATIENCE = 3600
+LATE = "none in time"
 
 
 class Answer:
@@ -33,18 +40,26 @@ def fault(line: bytes, out: bytes = b"") -> Answer:
     return Answer(3, out, line + b"\n")
 
 
+def limit_processor(number: int, seconds: int = LIMIT) -> None:
+    """Has a process ended, and each that it starts from now on, once it has taken so many seconds of a processor."""
+    with contextlib.suppress(ProcessLookupError):
+        resource.prlimit(number, resource.RLIMIT_CPU, (seconds, seconds + 1))
+
+
 def run(words: Sequence[Union[str, bytes]], text: Optional[bytes] = None, **options: Any) -> Answer:
     """Runs a command, on a text where there is one; a command that takes too long has no status."""
     options.setdefault("stdout", subprocess.PIPE)
     options.setdefault("stderr", subprocess.PIPE)
     with subprocess.Popen(words, **options) as process:
+        limit_processor(process.pid)
         try:
-            out, err = process.communicate(text, timeout=LIMIT)
+            out, err = process.communicate(text, timeout=PATIENCE)
         except subprocess.TimeoutExpired:
             process.kill()
             out, err = process.communicate()
-            return Answer("none in time", out or b"", err or b"")
-        return Answer(process.returncode, out or b"", err or b"")
+            return Answer(LATE, out or b"", err or b"")
+        status = process.returncode
+        return Answer(LATE if status == -signal.SIGXCPU else status, out or b"", err or b"")
 
 
 class Judge:

@@ -179,10 +179,10 @@ class Sums(unittest.TestCase):
         """It counts in its own crate; above that, nothing can name it."""
         least = "file: src/lib.rt\nold: self.number == LEAST\nnew: true\n"
         self.assertFalse(self.changes(QUARTER, LOWEST, "    number: u32,\n    ghost", "    number: u16,\n    ghost"))
-        self.assertTrue(self.changes(least, LOWEST, "    number: u32,\n    ghost", "    number: u16,\n    ghost", "low"))
+        self.assertTrue(self.changes(least, LOWEST, " number: u32,\n    ghost", " number: u16,\n    ghost", "low"))
 
     def test_the_view_of_private_fields(self) -> None:
-        """It counts in its own crate; above that, a value is all that clauses see. What the value is counts there too."""
+        """It counts in its own crate; above that clauses see a value alone, and what the value is counts there too."""
         least = "file: src/lib.rt\nold: self.number == LEAST\nnew: true\n"
         path = self.root / "crates" / LOWEST
         held = LOW.replace("    ghost small: { is_small number } by { small },\n", "")

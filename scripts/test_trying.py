@@ -86,16 +86,17 @@ class Together(unittest.TestCase):
 
 
 class Played(Room):
-    """A room whose prover refuses the functions one and two, and edits by themselves but for three."""
+    """A room whose prover refuses what it is told to, check by check, and edits by themselves but for three."""
 
-    def __init__(self) -> None:
-        """Nothing was tried by itself yet."""
+    def __init__(self, *checks: Set[str]) -> None:
+        """Takes the functions that each check refuses; in the first, three waits for one of them."""
         self.path = Path("/nowhere")
+        self.checks = list(checks)
         self.alone: List[str] = []
 
     def check_with(self, name: str, texts: Dict[str, str]) -> str:
         """What a check says."""
-        return said({"one", "two"}, frozenset({"three"}))
+        return said(self.checks.pop(0), frozenset({"three"}))
 
     def must_fail(self, name: str, edits: List[str]) -> Dict[str, str]:
         """What each says by itself."""
@@ -104,19 +105,40 @@ class Played(Room):
 
 
 class Trials(unittest.TestCase):
-    """What is tried again by itself."""
+    """What is tried again, with others or by itself."""
+
+    def tried(self, room: Played, alone: List[str]) -> List[Dict[str, str]]:
+        """The verdicts of a run over four edits that may stand together and some that may not, check by check."""
+        planned = Plan([[wrong("one"), wrong("two"), wrong("three"), wrong("four")]], alone)
+        with contextlib.redirect_stdout(io.StringIO()) as told:
+            found = list(trials(room, "low", planned))
+        self.told = told.getvalue()
+        self.assertEqual(room.checks, [])
+        return found
 
     def test_what_is_not_refused_is_tried_by_itself(self) -> None:
         """And so is what may stand beside no other; the verdicts come check by check."""
-        room = Played()
-        planned = Plan([[wrong("one"), wrong("two"), wrong("three"), wrong("four")]], ["constant"])
-        with contextlib.redirect_stdout(io.StringIO()) as told:
-            found = list(trials(room, "low", planned))
-        self.assertEqual(room.alone, ["constant", "three", "four"])
-        self.assertEqual(found[0], {"one": REFUSED, "two": REFUSED})
-        self.assertEqual(found[1], {"constant": REFUSED, "three": ACCEPTED, "four": REFUSED})
-        self.assertIn("low: 4 in one check: 2 refused", told.getvalue())
-        self.assertIn("low: 3 by themselves: 2 refused", told.getvalue())
+        room = Played({"one", "two"}, {"four"})
+        found = self.tried(room, ["constant"])
+        self.assertEqual(room.alone, ["three", "constant"])
+        self.assertEqual(found, [
+            {"one": REFUSED, "two": REFUSED}, {"four": REFUSED}, {"three": ACCEPTED, "constant": REFUSED},
+        ])
+        self.assertIn("low: 4 in one check: 2 refused", self.told)
+        self.assertIn("low: 2 are tried by themselves: three, constant", self.told)
+        self.assertIn("low: 1 of these are refused", self.told)
+
+    def test_a_check_that_refuses_none_is_the_last(self) -> None:
+        """Another would say the same."""
+        room = Played({"one"}, set())
+        self.assertEqual([sorted(each) for each in self.tried(room, [])], [["one"], [], ["four", "three", "two"]])
+        self.assertEqual(room.alone, ["two", "three", "four"])
+
+    def test_nothing_is_left(self) -> None:
+        """Then none is tried by itself."""
+        room = Played({"one", "two", "three", "four"})
+        self.assertEqual(len(self.tried(room, [])), 1)
+        self.assertEqual(room.alone, [])
 
     def test_what_must_fail_says(self) -> None:
         """Only a refusal by the contract counts as one."""

@@ -1,7 +1,7 @@
 """Tries wrong bodies in a copy of the repository: many in one check of their crate, or each by itself.
 
 In one check an edit counts as refused only where a function that it changes has an open goal of its own. The others are
-tried again by `rt must-fail`, each by itself, and so are those that no other edit may stand beside.
+tried again by `rt must-fail`, each by itself, and so are those that may stand beside no other.
 """
 import os
 import re
@@ -12,7 +12,7 @@ import sys
 from pathlib import Path
 from typing import Callable, Dict, Iterator, List, Optional, Set
 
-from batching import Plan, WrongBody, texts_of
+from batching import Plan, WrongBody, batches_of, texts_of
 from findings import findings, named_by_prover
 from wrong_bodies import REFUSED
 
@@ -124,24 +124,40 @@ def refused_together(crate: str, batch: List[WrongBody], check: Callable[[List[W
     return refused_together(crate, batch[:half], check) | refused_together(crate, batch[half:], check)
 
 
-def trials(room: Room, name: str, planned: Plan) -> Iterator[Dict[str, str]]:
-    """What the prover says of wrong bodies of a crate, check by check; the crate has to be proved in the room."""
-    alone = list(planned.alone)
+def together(room: Room, name: str, batches: List[List[WrongBody]]) -> Iterator[Set[str]]:
+    """The edits of a crate that are refused in checks with others, check by check.
+
+    Those that aren't are tried in one check once more, where fewer functions wait for others, as long as that refuses
+    some.
+    """
 
     def check(batch: List[WrongBody]) -> str:
         return room.check_with(name, texts_of(room.crate(name), batch))
 
-    for batch in planned.together:
-        start = processor_seconds()
-        refused = refused_together(name, batch, check)
-        alone.extend(wrong.name for wrong in batch if wrong.name not in refused)
-        took = processor_seconds() - start
-        print(f"{name}: {len(batch)} in one check: {len(refused)} refused, {took:.0f} s of a processor", flush=True)
+    while batches:
+        left: List[WrongBody] = []
+        for batch in batches:
+            start = processor_seconds()
+            refused = refused_together(name, batch, check)
+            left.extend(wrong for wrong in batch if wrong.name not in refused)
+            took = processor_seconds() - start
+            print(f"{name}: {len(batch)} in one check: {len(refused)} refused, {took:.0f} s of a processor", flush=True)
+            yield refused
+        is_worth_it = 1 < len(left) < sum(map(len, batches))
+        batches = batches_of(left) if is_worth_it else []
+
+
+def trials(room: Room, name: str, planned: Plan) -> Iterator[Dict[str, str]]:
+    """What the prover says of wrong bodies of a crate, check by check; the crate has to be proved in the room."""
+    left = [*(wrong.name for batch in planned.together for wrong in batch), *planned.alone]
+    for refused in together(room, name, planned.together):
+        left = [each for each in left if each not in refused]
         yield {each: REFUSED for each in refused}
-    if alone:
+    if left:
+        print(f"{name}: {len(left)} are tried by themselves: {', '.join(left)}", flush=True)
         start = processor_seconds()
-        said = room.must_fail(name, alone)
+        said = room.must_fail(name, left)
         took = processor_seconds() - start
         refused = {each for each, answer in said.items() if answer == REFUSED}
-        print(f"{name}: {len(alone)} by themselves: {len(refused)} refused, {took:.0f} s of a processor", flush=True)
+        print(f"{name}: {len(refused)} of these are refused, {took:.0f} s of a processor", flush=True)
         yield said

@@ -102,7 +102,7 @@ def changes_of(edit: str) -> Iterator[Change]:
 
 
 def why_it_does_not_fit(edit: Path, crate: Path) -> Optional[str]:
-    """Why an edit can't be applied to its crate, or None: each `old:` text stands once in its file, one after another."""
+    """Why an edit can't be applied to its crate, or None: each `old:` text in its turn stands once in its file."""
     texts: Dict[str, str] = {}
     for path, old, new in changes_of(edit.read_text("utf-8")):
         if not (crate / path).is_file():
@@ -124,7 +124,7 @@ def faults_of_edits(crate: Path) -> Iterator[Optional[str]]:
 
 
 def faults_of_verdicts(root: Path, name: str) -> Iterator[Optional[str]]:
-    """For a crate's sum and for each of its wrong bodies that are tried apart, what is wrong with what is kept, or None."""
+    """For a crate's sum and each of its wrong bodies that are tried apart, what is wrong with what is kept, or None."""
     crate = root / "crates" / name
     edits = {edit.stem: sum_of_edit(edit) for edit in edits_in(crate / "wrong-bodies")}
     kept = read_verdicts(crate)
@@ -171,8 +171,8 @@ def faults_of_list(root: Path) -> Iterator[Optional[str]]:
 def faults_of_promises(root: Path) -> Iterator[Optional[str]]:
     """For each edit that the list of wrong bodies names, what is wrong with how the promises name it, or None.
 
-    They name it once, in backquotes, behind the word for its place; an edit whose name another crate has too, behind its
-    crate's name. A name that no edit has is a fault as well.
+    They name it once, in backquotes, behind the word for its place; an edit whose name another crate has too, behind
+    its crate's name. A name that no edit has is a fault as well.
     """
     text = (root / PROMISES).read_text("utf-8")
     told = {name: found["place"] for found in TOLD.finditer(text) for name in found["names"].strip("`").split("`, `")}

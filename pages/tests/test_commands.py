@@ -440,12 +440,12 @@ def test_the_command_without_its_package(tmp_path):
     assert said.stderr.startswith(b"naplps-pages: its package isn't there: ") and said.stderr.count(b"\n") == 1
 
 
-def started(fake, tmp_path, **more):
-    """The command, which waits for a program that hangs, and the number of that program."""
+def started(fake, tmp_path, seconds, **more):
+    """The command, which waits so long for a program that hangs, and the number of that program."""
     note = os.path.join(str(tmp_path), "pid")
-    path = fake("open(%r, 'w').write(str(os.getpid()))\ntime.sleep(60)" % note)
-    said = subprocess.Popen([COMMAND, "check", file(tmp_path, "page", POINT), "--seconds", "3"], stderr=subprocess.PIPE,
-                            env=dict(os.environ, NAPLPS=path), **more)
+    path = fake("open(%r, 'w').write(str(os.getpid()))\ntime.sleep(6000)" % note)
+    words = [COMMAND, "check", file(tmp_path, "page", POINT), "--seconds", str(seconds)]
+    said = subprocess.Popen(words, stderr=subprocess.PIPE, env=dict(os.environ, NAPLPS=path), **more)
     while not (os.path.exists(note) and os.path.getsize(note)):
         time.sleep(0.05)
     with open(note, encoding="ascii") as made:
@@ -454,16 +454,16 @@ def started(fake, tmp_path, **more):
 
 @pytest.mark.parametrize("number", [signal.SIGINT, signal.SIGTERM, signal.SIGHUP])
 def test_a_signal_ends_the_program_too(fake, tmp_path, number):
-    said, pid = started(fake, tmp_path, preexec_fn=lambda: signal.signal(number, signal.SIG_DFL))
+    said, pid = started(fake, tmp_path, 600, preexec_fn=lambda: signal.signal(number, signal.SIG_DFL))
     said.send_signal(number)
     assert said.communicate(timeout=900)[1] == b"" and said.returncode == -number
     assert not os.path.exists("/proc/" + pid)
 
 
 def test_a_signal_that_is_ignored_stays_so(fake, tmp_path):
-    said, _ = started(fake, tmp_path, preexec_fn=lambda: signal.signal(signal.SIGHUP, signal.SIG_IGN))
+    said, _ = started(fake, tmp_path, 10, preexec_fn=lambda: signal.signal(signal.SIGHUP, signal.SIG_IGN))
     said.send_signal(signal.SIGHUP)
-    assert said.communicate(timeout=900)[1].endswith(b"page: no answer in 3 s\n") and said.returncode == 3
+    assert said.communicate(timeout=900)[1].endswith(b"page: no answer in 10 s\n") and said.returncode == 3
 
 
 PLAIN = """

@@ -29,20 +29,21 @@ def many(tmp_path, more=()):
     return tree(os.path.join(str(tmp_path), "pages"), {**MANY, **dict(more)})
 
 
-@pytest.mark.parametrize("page, reason", [
-    (b"hang", "no answer in 1 s"), (b"die", "the program ended with status 7"),
-    (b"half", "the program ended with status 0"), (b"nonsense", "the program answered something that is no answer"),
-    (b"eat", "the program ended with status 1: Traceback (most recent call last):")])
-def test_a_page_on_which_the_program_fails(run, fake, tmp_path, store, page, reason):
+@pytest.mark.parametrize("page, reason, seconds", [
+    (b"hang", "no answer in 5 s", "5"), (b"die", "the program ended with status 7", "600"),
+    (b"half", "the program ended with status 0", "600"),
+    (b"nonsense", "the program answered something that is no answer", "600"),
+    (b"eat", "the program ended with status 1: Traceback (most recent call last):", "600")])
+def test_a_page_on_which_the_program_fails(run, fake, tmp_path, store, page, reason, seconds):
     pages = many(tmp_path, {"01/150 fails": page, "02/copy": page}.items())
-    said = run(["scan", pages, "--into", store, "--seconds", "1", "--processes", "1"], program=fake(FAKE))
+    said = run(["scan", pages, "--into", store, "--seconds", seconds, "--processes", "1"], program=fake(FAKE))
     assert said.stdout == b"402 files: 400 accepted, 0 refused, 2 without an answer; 0 known, 401 pages asked about\n"
     assert said.stderr.decode() == "naplps-pages: %s/01/150 fails: %s\n" % (pages, reason)
     assert said.returncode == 1
     found = statuses(store)
     assert found["150 fails"] == found["copy"] == ("no answer", reason)
     # (it is asked again by the next scan, and it alone)
-    said = run(["scan", pages, "--into", store, "--seconds", "1"], program=fake(FAKE))
+    said = run(["scan", pages, "--into", store, "--seconds", seconds], program=fake(FAKE))
     assert b"; 400 known, 1 page asked about" in said.stdout
 
 
@@ -56,12 +57,12 @@ def test_a_page_that_ends_its_worker(run, fake, tmp_path, store):
     assert reason in run(["status", store]).stdout.decode()
 
 
-@pytest.mark.parametrize("lines, reason", [
-    ("time.sleep(600)", "no answer in 1 s"), ("sys.exit(9)", "the program ended with status 9"),
-    ("print('what?\\n\\n'); time.sleep(600)", "the program answered something that is no answer")])
-def test_a_program_that_never_answers_writes_nothing(run, fake, tmp_path, store, lines, reason):
+@pytest.mark.parametrize("lines, reason, seconds", [
+    ("time.sleep(6000)", "no answer in 1 s", "1"), ("sys.exit(9)", "the program ended with status 9", "600"),
+    ("print('what?\\n\\n'); time.sleep(6000)", "the program answered something that is no answer", "600")])
+def test_a_program_that_never_answers_writes_nothing(run, fake, tmp_path, store, lines, reason, seconds):
     path = fake("sys.stdout.reconfigure(line_buffering=True)\n" + lines)
-    said = run(["scan", many(tmp_path), "--into", store, "--seconds", "1"], program=path)
+    said = run(["scan", many(tmp_path), "--into", store, "--seconds", seconds], program=path)
     assert (said.stdout, said.returncode) == (b"", 3) and not os.path.exists(store)
     assert said.stderr.decode() == "naplps-pages: %s: %s\n" % (path, reason)
 
@@ -94,7 +95,7 @@ def test_workers_that_fail(tmp_path):
     tree(tmp_path, {"odd_worker.py": WORKER.encode("ascii"), "no_worker.py": b"import nothing_that_there_is"})
     os.symlink(os.path.join(PAGES, "naplps_pages"), os.path.join(str(tmp_path), "naplps_pages"))
     names = tuple(sorted([b"%03d" % number for number in range(300)] + [b"150 and more", b"hangs", b"fails", b"dies"]))
-    pool = Pool(2, (), 1.0, "odd_worker", str(tmp_path))
+    pool = Pool(2, (), 5.0, "odd_worker", str(tmp_path))
     try:
         chunks = [((1, b"/x", names[at:at + 50]),) for at in range(0, len(names), 50)]
         found = [file for piece in pool.run(iter(chunks)) if piece for file in piece[0]]

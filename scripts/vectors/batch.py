@@ -3,7 +3,9 @@ import subprocess
 import threading
 from typing import IO, Iterable, Iterator, List, NamedTuple, Sequence, Tuple
 
-SECONDS = 1200  # a program that takes longer is stopped
+from judging import PATIENCE, limit_processor
+
+SECONDS = 1200  # a program that takes more of a processor is stopped
 
 Request = Tuple[str, int, bytes]
 
@@ -22,7 +24,8 @@ def answers(words: Sequence[str], groups: Iterable[List[Request]]) -> Iterator[L
     """
     with subprocess.Popen(words, stdin=subprocess.PIPE, stdout=subprocess.PIPE) as process:
         assert process.stdin is not None and process.stdout is not None
-        watch = threading.Timer(SECONDS, process.kill)
+        limit_processor(process.pid, SECONDS)
+        watch = threading.Timer(PATIENCE, process.kill)
         watch.start()
         try:
             for group in groups:
