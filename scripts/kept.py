@@ -100,10 +100,12 @@ def archive() -> Path:
 def kept_library() -> Optional[Tuple[Path, Path]]:
     """The kept archive and that for the heap, where they were made from the sources that stand here."""
     made, files = read_made(), (KEPT / ARCHIVE, KEPT / HEAP)
-    if os.environ.get("NAPLPS_REBUILD") == "1" or made.get("library-sources") != sources_sum("nap_c"):
+    if os.environ.get("NAPLPS_REBUILD") == "1" or not all(path.is_file() for path in files):
         return None
-    if not all(path.is_file() and file_sum(path) == made.get(path.name) for path in files):
-        print(f"{Path(sys.argv[0]).name}: {KEPT} has other bytes than its MADE says, so the library is proved and built",
+    if made.get("library-sources") != sources_sum("nap_c"):
+        return None
+    if not all(file_sum(path) == made.get(path.name) for path in files):
+        print(f"{Path(sys.argv[0]).name}: {KEPT} has other bytes than its MADE says: the library is proved and built",
               file=sys.stderr)
         return None
     return files

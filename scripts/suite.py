@@ -17,6 +17,7 @@ from layout import TOP, UNTRIED
 
 # How many run beside one another.
 AT_ONCE = 3
+UNTRIED_PART = "not tried: "
 COUNT = re.compile(r"(\d+) passed, (\d+) failed")
 
 
@@ -44,16 +45,16 @@ class Suite:
         """Runs a script at the top, shows its lines as they come, and answers whether all went well. They go into a log
         too, if there is one. `more` is what its environment has beside this one's."""
         self.say(f"== {' '.join(words)}")
-        began, last = time.monotonic(), ""
+        began, lines = time.monotonic(), []
         with self._started(words, more, subprocess.PIPE) as process:
             assert process.stdout is not None
             for line in process.stdout:
                 self.say(line)
-                last = line.strip()
+                lines.append(line.strip())
                 if log is not None:
                     log.write(line)
         with self._print:
-            return self._count(words, process.returncode, last, time.monotonic() - began)
+            return self._count(words, process.returncode, lines, time.monotonic() - began)
 
     def several(self, parts: Iterable[Sequence[str]], at_once: int, more: Optional[Dict[str, str]] = None) -> None:
         """Runs scripts at the top, so many at once; the lines of each are shown when it ends."""
@@ -100,13 +101,15 @@ class Suite:
             text = said.read()
         with self._print:
             print(f"== {' '.join(words)}\n{text}", end="" if text.endswith("\n") else "\n")
-            self._count(words, status, (text.splitlines() or [""])[-1], time.monotonic() - began)
+            self._count(words, status, text.splitlines(), time.monotonic() - began)
 
-    def _count(self, words: Sequence[str], status: int, last: str, seconds: float) -> bool:
+    def _count(self, words: Sequence[str], status: int, lines: Sequence[str], seconds: float) -> bool:
+        *above, last = lines or [""]
         name, count = " ".join(words), COUNT.fullmatch(last)
+        self.untried += [f"{name}: {line[len(UNTRIED_PART):]}" for line in above if line.startswith(UNTRIED_PART)]
         passed, failed = (int(count[1]), int(count[2])) if count else (0, 0)
         if status == UNTRIED:
-            self.untried.append(f"{name}: {last.partition('not tried: ')[2] or last}")
+            self.untried.append(f"{name}: {last.partition(UNTRIED_PART)[2] or last}")
             passed, failed, told = 0, 0, "not tried"
         else:
             failed += failed == 0 and (status != 0 or count is None)

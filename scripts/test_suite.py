@@ -50,6 +50,8 @@ class Counts(unittest.TestCase):
         parts = script("echo not tried: no cc; exit 77"), script("echo 1 passed, 0 failed; exit 77")
         self.assertEqual(self.counted(*parts)[:2], (0, 0))
         self.assertIn("sh -c echo not tried: no cc; exit 77: no cc", self.counted(parts[0])[2])
+        passed, failed, untried = self.counted(script("echo not tried: this; echo 2 passed, 0 failed"))
+        self.assertEqual((passed, failed, [line.rpartition(": ")[2] for line in untried]), (2, 0, ["this"]))
 
     def test_log(self) -> None:
         """The log of a script has its lines."""
