@@ -17,6 +17,8 @@ PIECE = 1 << 20
 # So much of a pipe is put into a temporary file: what the program takes at most.
 MOST_SPOOLED = 1 << 32
 DEVICES = {stat.S_IFCHR: "it is a device", stat.S_IFBLK: "it is a device", stat.S_IFSOCK: "it is a socket"}
+# (a name in a pack may be longer than one of a file)
+NO_SUCH_FILE = (errno.ENOENT, errno.ENOTDIR, errno.ENAMETOOLONG)
 # The packs of which members are read.
 PACKS = Packs(MOST)
 
@@ -58,7 +60,7 @@ def read(name: str, seconds: float) -> Page:
         with open(name, "rb", buffering=0) as file:
             return _gathered(name, file)
     except OSError as error:
-        member = _member(name) if error.errno in (errno.ENOENT, errno.ENOTDIR) else None
+        member = _member(name) if error.errno in NO_SUCH_FILE else None
         if member:
             return member
         raise Unread(error.strerror or str(error)) from None

@@ -19,10 +19,23 @@ HANGS = "hangs"
 
 def forked(words, folder, program, seconds=120):
     """What the command with these words says in a folder, and its status; a negative one is a signal's."""
-    out, err = os.path.join(folder, "out"), os.path.join(folder, "err")
+    return ended(begun(words, folder, program), folder, seconds)
+
+
+def begun(words, folder, program):
+    """The process of a command with these words, which says something in a folder."""
+    for name in ("out", "err"):
+        if os.path.exists(os.path.join(folder, name)):
+            os.unlink(os.path.join(folder, name))
     child = os.fork()
     if not child:
-        _be(words, folder, program, out, err)
+        _be(words, folder, program, os.path.join(folder, "out"), os.path.join(folder, "err"))
+    return child
+
+
+def ended(child, folder, seconds=120):
+    """What the process said, once it has ended."""
+    out, err = os.path.join(folder, "out"), os.path.join(folder, "err")
     end = time.monotonic() + seconds
     while True:
         pid, status = os.waitpid(child, os.WNOHANG)

@@ -327,6 +327,17 @@ def test_a_pack_that_is_not_as_it_was(run, at, store, ending):
     assert "%s!a: No such file or directory\n" % path in said.stderr.decode() and said.returncode == 1
 
 
+@pytest.mark.parametrize("length", [255, 256, 300, 4096])
+def test_names_that_are_longer_than_those_of_files(run, at, store, length):
+    path, name = os.path.join(at, "long.tar"), "n" * length
+    pack(path, {name: POINT, "d/" + "e" * (length - 2): POINT})
+    assert scan(run, at, "--into", store).returncode == 0
+    for each in (name, "d/" + "e" * (length - 2)):
+        said = run(["check", "%s!%s" % (path, each)])
+        assert (said.returncode, said.stderr) == (0, b"") and said.stdout.startswith(b"accepted 1 entries")
+    assert run(["equal", store, "--copies", "--verify"]).returncode == 0
+
+
 # The view of a store that was made before packs were known.
 EARLIER = """\
 CREATE VIEW listing AS SELECT CAST(d.path || CASE WHEN substr(d.path, -1) = x'2F' THEN x'' ELSE x'2F' END || f.name

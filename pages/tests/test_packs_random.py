@@ -99,7 +99,8 @@ def a_pack(chance):
 
 
 FOUND = """SELECT substr(d.path, 1, length(d.path) - 2), f.name, f.state, p.state FROM files f
-    JOIN folders d ON d.id = f.folder LEFT JOIN pages p ON p.id = f.page WHERE substr(d.path, -2) = x'212F' ORDER BY 1, 2"""
+    JOIN folders d ON d.id = f.folder LEFT JOIN pages p ON p.id = f.page
+    WHERE substr(d.path, -2) = x'212F' ORDER BY 1, 2"""
 
 
 def test_random_packs(tmp_path, naplps):

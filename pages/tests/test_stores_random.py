@@ -3,13 +3,18 @@
 It takes seconds. FUZZ_SECONDS=600 lets it run for so long, and FUZZ_COUNTS names a file for how often what came of it.
 """
 import collections
+import json
 import os
 import shutil
+import signal
 import sqlite3
+import time
+import urllib.error
+import urllib.request
 
 import pytest
 
-from forked import counted, forked, require_told, rounds
+from forked import begun, counted, ended, forked, require_told, rounds
 from naplps_pages.collection import kinds
 from stores import COMMANDS, archive, clean, copied, words_of
 
@@ -97,6 +102,55 @@ def make(chance, good, path):
         damaged(chance, path)
 
 
+ASKED = ("", "groups?copies=1&from=0&count=50&names=8", "files?text=&answer=&from=0&count=100",
+         "files?text=a&answer=&from=0&count=100", "files?text=&answer=accepted&from=0&count=100")
+
+
+def address(folder, child):
+    """Where a served report stands; nothing where the process has ended."""
+    for _ in range(60_000):
+        if os.path.exists(os.path.join(folder, "out")):
+            with open(os.path.join(folder, "out"), encoding="ascii") as file:
+                line = file.readline()
+            if line.endswith("\n"):
+                return line.strip()
+        if os.waitid(os.P_PID, child, os.WEXITED | os.WNOHANG | os.WNOWAIT):
+            return None
+        time.sleep(0.002)
+    raise AssertionError("it neither serves nor ends")
+
+
+def asked(at):
+    """The status of an answer, and its body."""
+    try:
+        with urllib.request.urlopen(at, timeout=120) as answer:
+            return answer.status, answer.read()
+    except urllib.error.HTTPError as error:
+        return error.code, error.read()
+
+
+def served(folder, naplps, seed, counts):
+    """Serves the bad store, and asks for all that there is: each question is answered."""
+    child = begun(["serve", "bad.db", "--port", "0"], folder, naplps)
+    at = address(folder, child)
+    for what in ASKED if at else ():
+        status, body = asked(at + what)
+        assert status in (200, 404, 500) and b"Traceback" not in body, (seed, what, status, body)
+        counts["serve answers", status] += 1
+        for file in json.loads(body)["files"][:3] if what.startswith("files") and status == 200 else ():
+            for name in ("details", "drawing"):
+                status, body = asked("%s%s?key=%s" % (at, name, file["key"]))
+                assert status in (200, 404, 500) and b"Traceback" not in body, (seed, name, file, status, body)
+                counts["serve answers", status] += 1
+    if at:
+        os.kill(child, signal.SIGTERM)
+    said = ended(child, folder)
+    assert said.status == (-signal.SIGTERM if at else 3), (seed, said)
+    if not at:
+        require_told(said, "serve", seed)
+    counts["serve", said.status] += 1
+
+
 def test_random_stores(folder, naplps):
     counts = collections.Counter()
     bad, pages = os.path.join(folder, "bad.db"), os.path.join(folder, "pages")
@@ -105,13 +159,16 @@ def test_random_stores(folder, naplps):
         beside = [each for each in ("-wal", "-journal", "-shm") if os.path.exists(bad + each)]
         for each in ("", *beside):
             shutil.copy(bad + each, os.path.join(folder, "kept.db" + each))
-        for command in chance.sample(COMMANDS, 5):
+        for command in chance.sample((*COMMANDS, None), 5):
             for each in ("-wal", "-journal", "-shm"):
                 if os.path.lexists(bad + each):
                     os.unlink(bad + each)
             for each in ("", *beside):
                 shutil.copy(os.path.join(folder, "kept.db" + each), bad + each)
             clean(folder)
+            if command is None:
+                served(folder, naplps, seed, counts)
+                continue
             said = forked(words_of(command, "bad.db", "more.db", pages), folder, naplps)
             require_told(said, command, seed)
             counts[command[0], said.status] += 1

@@ -7,12 +7,12 @@ from .printing import numbered
 
 # Files in folders that the run read, those that it missed, and those that were named by themselves, by their states.
 FILES = """SELECT f.state, count(*) FROM files f JOIN folders d ON d.id = f.folder
-    WHERE ((d.run = ?1 AND d.state = 0 AND f.state <> ?2) OR (f.run = ?1 AND (f.state = ?2 OR d.run <> ?1)))
+    WHERE ((d.run = :run AND d.state = 0 AND f.state <> :gone) OR (f.run = :run AND (f.state = :gone OR d.run <> :run)))
     AND %s GROUP BY 1""" % tables.IS_FILE
 # Of those that it read the files whose pages aren't accepted, which are fewer.
 OTHERS = """SELECT p.state, count(*) FROM pages p CROSS JOIN files f ON f.page = p.id AND f.state = 0
     CROSS JOIN folders d ON d.id = f.folder
-    WHERE p.state <> ?1 AND (d.run = ?2 AND d.state = 0 OR f.run = ?2 AND d.run <> ?2) GROUP BY 1"""
+    WHERE p.state <> :accepted AND (d.run = :run AND d.state = 0 OR f.run = :run AND d.run <> :run) GROUP BY 1"""
 PACKS = """SELECT count(*) FROM folders d JOIN files f ON f.folder = d.id AND f.name = x''
     WHERE d.run = ? AND f.state <> %d""" % tables.GONE
 FOLDERS = "SELECT count(*) FROM folders WHERE run = ? AND state = ?"
@@ -66,8 +66,8 @@ def _sum(one: Dict[int, int], other: Dict[int, int]) -> Dict[int, int]:
 
 def counted(connection: sqlite3.Connection, run: int) -> Counts:
     """What the run with this number came to."""
-    files: Dict[int, int] = dict(connection.execute(FILES, (run, tables.GONE)))
-    pages: Dict[int, int] = dict(connection.execute(OTHERS, (tables.ACCEPTED, run)))
+    files: Dict[int, int] = dict(connection.execute(FILES, {"run": run, "gone": tables.GONE}))
+    pages: Dict[int, int] = dict(connection.execute(OTHERS, {"run": run, "accepted": tables.ACCEPTED}))
     pages[tables.ACCEPTED] = files.get(tables.READ, 0) - sum(pages.values())
     return Counts(files, pages, _one(connection, FOLDERS, (run, tables.UNREADABLE)),
                   _one(connection, "SELECT count(*) FROM pages WHERE run = ?", (run,)), _one(connection, PACKS, (run,)))
