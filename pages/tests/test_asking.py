@@ -151,7 +151,7 @@ def test_a_page_of_16_mib_is_a_request_and_a_longer_one_is_not(fake, tmp_path):
                         "    for each in requests(): answer(b'accepted %d entries' % len(each[2]))\n"
                         "else:\n    print('accepted', len(sys.stdin.buffer.read()), 'entries')")
     for length in (MOST, MOST + 1):
-        page = read(file(tmp_path, "long", bytes(length)))
+        page = read(file(tmp_path, "long", bytes(length)), 60)
         program = Program(path)
         assert program.ask("check", page) == Accepted(length)
         assert program.batch.started == (1 if length == MOST else 0)
