@@ -8,6 +8,8 @@ import time
 from dataclasses import dataclass
 from typing import IO, Callable, List, Optional, Sequence, Union
 
+from .ending import ENDING
+
 PIECE = 1 << 16
 MOST_COMPLAINT = 2048
 
@@ -33,9 +35,10 @@ class Child:
         self.complaint = b""
         self.end_of_time = 0.0
         try:
-            self.process = subprocess.Popen(
-                command, stdin=source, stdout=subprocess.PIPE, stderr=subprocess.PIPE, bufsize=0,
-                start_new_session=True)
+            with ENDING.starting(self):
+                self.process = subprocess.Popen(
+                    command, stdin=source, stdout=subprocess.PIPE, stderr=subprocess.PIPE, bufsize=0,
+                    start_new_session=True)
         except OSError as error:
             raise Failure("the program can't be started: %s: %s" % (command[0], error.strerror)) from None
         self._limit()
@@ -133,6 +136,7 @@ class Child:
         except (ProcessLookupError, PermissionError):
             pass
         self.process.wait()
+        ENDING.ended(self)
         for pipe in self._pipes():
             pipe.close()
 

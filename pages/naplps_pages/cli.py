@@ -6,14 +6,14 @@ import errno
 import os
 import signal
 import sys
-from types import FrameType
-from typing import Any, Callable, Dict, List, NoReturn, Optional
+from typing import Any, Callable, Dict, List, NoReturn
 
 from . import VERSION, answering, curing, explaining, showing, values
 from .ask import Program
 from .child import Limits
 from .collection import commands as collection
 from .collection import words as collection_words
+from .ending import ENDING, Stopped
 from .listing import MODEST
 from .names import shown
 from .output import TOOL, NotWritten, tell
@@ -169,28 +169,19 @@ def _done(given: argparse.Namespace, command: str) -> int:
         program.close()
 
 
-class Stopped(BaseException):
-    """A signal asks the tool to end."""
-
-
 def run(command: str) -> NoReturn:
     """The command as a process: ended by a closed pipe or a signal as other filters are, and the program with it."""
     if sys.stdout is None:
         tell("standard output: %s" % os.strerror(errno.EBADF))
         sys.exit(FAILED)
-    for number in (signal.SIGINT, signal.SIGTERM, signal.SIGHUP):
-        if signal.getsignal(number) is not signal.SIG_IGN:
-            signal.signal(number, _stop)
+    ENDING.watch()
     try:
         _end(main(sys.argv[1:], command))
     except BrokenPipeError:
         _end_by(signal.SIGPIPE)
     except Stopped as stopped:
+        ENDING.end_all()
         _end_by(stopped.args[0])
-
-
-def _stop(number: int, _: Optional[FrameType]) -> None:
-    raise Stopped(number)
 
 
 def _end(status: int) -> NoReturn:

@@ -460,6 +460,31 @@ def test_a_signal_ends_the_program_too(fake, tmp_path, number):
     assert not os.path.exists("/proc/" + pid)
 
 
+INTERRUPTED = """
+import os, signal, subprocess, sys, time
+sys.path.insert(0, sys.argv.pop(1))
+note = sys.argv.pop(1)
+from naplps_pages import cli
+class Interrupted(subprocess.Popen):
+    def __init__(self, *words, **more):
+        super().__init__(*words, **more)
+        while not (os.path.exists(note) and os.path.getsize(note)): time.sleep(0.05)
+        os.kill(os.getpid(), signal.SIGTERM)
+subprocess.Popen = Interrupted
+cli.run("naplps-pages")
+"""
+
+
+def test_a_signal_while_the_program_starts_ends_it_too(fake, tmp_path):
+    note = os.path.join(str(tmp_path), "pid")
+    path = fake("open(%r, 'w').write(str(os.getpid()))\ntime.sleep(6000)" % note)
+    words = [sys.executable, "-c", INTERRUPTED, PAGES, note, "check", file(tmp_path, "page", POINT), "--seconds", "600"]
+    said = subprocess.run(words, stderr=subprocess.PIPE, env=dict(os.environ, NAPLPS=path), timeout=900)
+    assert (said.returncode, said.stderr) == (-signal.SIGTERM, b"")
+    with open(note, encoding="ascii") as made:
+        assert not os.path.exists("/proc/" + made.read())
+
+
 def test_a_signal_that_is_ignored_stays_so(fake, tmp_path):
     said, _ = started(fake, tmp_path, 10, preexec_fn=lambda: signal.signal(signal.SIGHUP, signal.SIG_IGN))
     said.send_signal(signal.SIGHUP)
