@@ -77,13 +77,15 @@ def stop(why: str) -> "SystemExit":
 
 
 def find_program() -> Path:
-    """The program that NAPLPS names, or the one that the launcher builds where it has to."""
+    """The program that NAPLPS names, or the one that the launcher runs, which it builds where it has to."""
     named = os.environ.get("NAPLPS")
     if named is None:
         launcher = TOP / "naplps"
         if subprocess.run([launcher, "--version"], stdout=subprocess.DEVNULL).returncode:
-            raise stop(f"{launcher} built no program")
-        return TOP / "out" / "naplps"
+            raise stop(f"{launcher} has no program")
+        told = {**os.environ, "NAPLPS_WHERE": "1"}
+        said = subprocess.run([launcher], env=told, stdout=subprocess.PIPE, check=True, encoding="utf-8")
+        return Path(said.stdout.rstrip("\n"))
     path = shutil.which(named)
     if path is None or not Path(path).read_bytes().startswith(b"\x7fELF"):
         raise stop(f"NAPLPS names no program file: {named}")
