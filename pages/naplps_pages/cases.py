@@ -1,15 +1,14 @@
 """Which common case a refusal is, by the bytes of the page: the cases of refusals.txt."""
 from .answers import Refused
-from .treatments import EIGHTH, MOST_FRONT, ODD, leading
-
-# So many bytes may stand behind the mark of the end of a file: with it, the records of CP/M fill a block.
-MOST_BEHIND_END = 1023
+from .changes import EIGHTH, ODD
+from .treatments import MOST_BEHIND_END, MOST_FRONT, leading
 
 
 def case_of(data: bytes, answer: Refused) -> str:
     """The name of the case, or nothing."""
     if answer.fault == "EighthBit":
-        return "parity" if has_parity(data) else ""
+        bits = data.translate(EIGHTH).count(1)
+        return "mark" if bits == len(data) else "parity" if has_parity(data) else ""
     if answer.code == "SDC" and len(data) - answer.place <= MOST_BEHIND_END + 1:
         return "at the end"
     if answer.fault == "BadEscape" or answer.code in ("CAN", "NSR"):

@@ -2,68 +2,22 @@
 import datetime
 import hashlib
 import json
-from dataclasses import dataclass
-from typing import Callable, List, Optional, Set, Tuple
+from typing import Dict, List, Optional
 
 from . import VERSION
 from .answers import Accepted, Answer, NoAnswer, Refused
-from .listing import placed
+from .changes import AROUND, WITHIN, Change
+from .cure_search import Cure, Search
 from .names import as_json, shown
 from .output import TOOL, into, make_folder, put, require_free
 from .program import version
 from .schema import Members, answered, dumps
 from .session import Session
 from .source import Page
-from .treatments import TREATMENTS, Change, Treated, treated, untreated
 
-MOST_ASKED = 100
-# Kinds of entries that bytes before a page may be read as.
-OF_TEXT = ("CHAR", "MOVE", "TO-EOL", "BELL")
 WARNING = ("The copy is another page. That it is equal to the original, or draws what was meant there, isn't claimed; "
            "keep the original.")
-
-
-@dataclass(frozen=True)
-class Cure:
-    """Treated bytes that are accepted."""
-
-    treated: Treated
-    entries: int
-
-
-def find(ask: Callable[[str, bytes], Answer], source: bytes, place: int) -> Optional[Cure]:
-    """The least change by one treatment, or else by two, with which bytes that are refused at a place are accepted."""
-    names = tuple(name for name in TREATMENTS if name != "header" or _is_no_picture(ask, source))
-    start = untreated(source)
-    tried = {start.key}
-    cure, refused = _first(ask, treated(start, place, names), tried)
-    if cure:
-        return cure
-    pairs = [each for once, at in refused for each in treated(once, at, names)]
-    return _first(ask, sorted(pairs, key=lambda each: each.cost), tried)[0]
-
-
-def _is_no_picture(ask: Callable[[str, bytes], Answer], source: bytes) -> bool:
-    """Whether nothing but text comes before the refusal, so that the bytes there may be a header."""
-    before = ask("places", source)
-    return isinstance(before, Refused) and all(
-        line.split(" ", 1)[0] in OF_TEXT for _, line in placed(before.body))
-
-
-def _first(ask: Callable[[str, bytes], Answer], some: List[Treated],
-           tried: Set[Tuple[int, int, bool]]) -> Tuple[Optional[Cure], List[Tuple[Treated, int]]]:
-    """The first that is accepted; else those that are refused, with the places of their refusals."""
-    refused: List[Tuple[Treated, int]] = []
-    for each in some:
-        if each.key in tried or each.begin == each.end or len(tried) > MOST_ASKED:
-            continue
-        tried.add(each.key)
-        answer = ask("check", each.data)
-        if isinstance(answer, Accepted):
-            return Cure(each, answer.entries), refused
-        if isinstance(answer, Refused):
-            refused.append((each, answer.place))
-    return None, refused
+GUESS = "The copy is a guess: codes of the page were taken or rewritten whose whole effect isn't certain. "
 
 
 def cures(session: Session) -> int:
@@ -77,45 +31,60 @@ def cures(session: Session) -> int:
             answer = NoAnswer("the page is longer than 16 MiB: no treatment is tried")
         if not session.answered(page, answer) and not session.json:
             return
-        cure = None
+        cure, search = None, Search(session.program.ask_bytes)
         if isinstance(answer, Refused) and page.data is not None:
-            cure = find(session.program.ask_bytes, page.data, answer.place)
-        _report(session, page, answer, cure)
+            cure = search.find(page.data, answer.place)
+        _report(session, page, answer, cure, search.unsure)
         if cure and isinstance(answer, Refused) and session.into is not None:
             _write(session, session.into, page, answer, cure)
-    return session.each(work, more=("cure",))
+    return session.each(work, more=("cure", "unsure"))
 
 
-def _report(session: Session, page: Page, answer: Answer, cure: Optional[Cure]) -> None:
+def _report(session: Session, page: Page, answer: Answer, cure: Optional[Cure], unsure: Dict[str, str]) -> None:
     if session.json:
-        session.output.line(dumps({**answered(page.name, answer), "cure": _members(page, cure) if cure else None}))
+        reasons = None if cure or not isinstance(answer, Refused) else [
+            {"treatment": name, "reason": why} for name, why in unsure.items()]
+        session.output.line(dumps({
+            **answered(page.name, answer), "cure": _members(page, cure) if cure else None, "unsure": reasons}))
         return
     lines = [answer.line] if isinstance(answer, (Accepted, Refused)) else []
     if isinstance(answer, Refused):
-        lines += _told(page, cure) if cure else ["no treatment makes it readable"]
+        lines += _told(page, cure) if cure else ["no treatment makes it readable", *(
+            "%s: not tried, since it isn't sure: %s" % each for each in unsure.items())]
     for line in lines:
         session.output.line(session.front(page.name) + line)
 
 
 def _told(page: Page, cure: Cure) -> List[str]:
     assert page.data is not None
-    lines = ["%s: taken away: %s" % (each.treatment, each.what) for each in cure.treated.changes]
+    lines = ["%s, %s: %s: %s" % (each.treatment, each.grade, "rewritten" if each.added else "taken away", each.what)
+             for each in cure.treated.changes]
     lines.append("then: accepted %d entries" % cure.entries)
     for when, data in (("before", page.data), ("after", cure.treated.data)):
         lines.append("%s: %d bytes, sha256 %s" % (when, len(data), hashlib.sha256(data).hexdigest()))
-    return lines + [WARNING]
+    return lines + [warning(cure)]
 
 
 def _members(page: Page, cure: Cure) -> Members:
     source = page.data or b""
-    return {"treatments": [_change(each, source) for each in cure.treated.changes], "entries": cure.entries,
+    return {"treatments": [told_change(*step) for step in cure.treated.steps()],
+            "grade": WITHIN if cure.treated.is_guess else AROUND, "entries": cure.entries,
             "source": _bytes(source), "copy": _bytes(cure.treated.data)}
 
 
-def _change(change: Change, source: bytes) -> Members:
-    """A change; `bytes` are those of the source that were taken away."""
-    return {"treatment": change.treatment, "what": change.what, "offset": change.offset, "length": change.length,
-            "bytes": source[change.offset:change.offset + change.length].hex(), "bits": change.bits}
+def told_change(change: Change, data: bytes) -> Members:
+    """A change of these bytes; `bytes` are those that were taken away, and `edits` tell each place."""
+    taken = change.taken(data)
+    return {"treatment": change.treatment, "grade": change.grade, "what": change.what,
+            "offset": change.edits[0].offset if change.edits else 0, "length": change.length,
+            "bytes": b"".join(taken).hex(), "bits": change.bits, "parity": change.parity or None,
+            "edits": [{"offset": edit.offset, "taken": each.hex(), "put": edit.put.hex()}
+                      for edit, each in zip(change.edits, taken)], "record": change.record or None}
+
+
+def warning(cure: Cure) -> str:
+    """What a copy claims, and what it doesn't."""
+    return GUESS + WARNING if cure.treated.is_guess else WARNING
 
 
 def _bytes(data: bytes) -> Members:
@@ -143,7 +112,7 @@ def _provenance(session: Session, page: Page, answer: Refused, cure: Cure) -> Me
     members["program"] = version(session.program.path, session.program.limits)
     members["tool"] = "%s %s" % (TOOL, VERSION)
     members["budget"] = session.program.budget
-    members["note"] = WARNING
+    members["note"] = warning(cure)
     members["time"] = datetime.datetime.now(datetime.timezone.utc).strftime("%Y-%m-%dT%H:%M:%SZ")
     return members
 

@@ -1,6 +1,9 @@
-"""Named treatments of bytes that aren't read as a page: each takes something away, and tells what."""
-from dataclasses import dataclass, replace
-from typing import Callable, Dict, Iterator, List, Optional, Tuple
+"""Named treatments of bytes that aren't read as a page: each takes away or rewrites something, and tells what."""
+import re
+from typing import Callable, Dict, Iterator, List, NamedTuple, Optional, Tuple
+
+from . import eight_bit, sauce
+from .changes import AROUND, EIGHTH, ODD, PLAIN, WITHIN, Change, Edit, NotSure, Treated
 
 # How many bytes behind a refusal may belong to a header, and how many starts of a page are tried among them.
 MOST_HEADER = 4096
@@ -8,108 +11,88 @@ MOST_STARTS = 8
 # How many codes at the front are cut, and among how many bytes.
 MOST_CODES = 16
 MOST_FRONT = 1024
-PLAIN = bytes(byte & 0x7F for byte in range(256))
-# For each byte whether it has the eighth bit, and whether it has an odd number of bits.
-EIGHTH = bytes(byte >> 7 for byte in range(256))
-ODD = bytes(bin(byte).count("1") % 2 for byte in range(256))
+# So many bytes may stand behind the mark of the end of a file: the rest of a record of CP/M or MS-DOS.
+MOST_BEHIND_END = 1023
+# A page with more codes that a treatment would take isn't treated by it.
+MOST_EDITS = 4096
+# Nor is a longer one treated by those that take codes out of its midst.
+MOST_WITHIN = 1 << 20
+# A macro's body, which is no code; and behind it the codes that are taken out of the midst of a page.
+BODY = rb"(?P<body>\x1b[\x40\x41][^\x1b]+(?:\x1b(?![\x40-\x45])[^\x1b]*)*)"
+IN_THE_MIDDLE: Dict[str, "re.Pattern[bytes]"] = {name: re.compile(BODY + b"|" + code, re.DOTALL) for name, code in (
+    ("can", rb"\x18"), ("nsr", rb"\x1f(?:[\x40-\x7f]{2})?"), ("end", rb"\x1a"),
+    ("designations", rb"\x1b(?:[\x20-\x27][\x20-\x2f]*[\x30-\x7e]|"
+                     rb"[\x28-\x2f]\x20?(?![\x42\x57\x7a-\x7d])[\x30-\x7e])"))}
+# Behind such a code text begins at a place of the page's own: CS, APS or APH.
+PLACED = (b"\x0c", b"\x1c", b"\x1e")
 
 
-@dataclass(frozen=True)
-class Change:
-    """What a treatment takes away: bytes at an offset of the source, or the eighth bit of all bytes behind it."""
-
-    treatment: str
-    offset: int
-    length: int
-    what: str
-    bits: int = 0
-
-    @property
-    def cost(self) -> Tuple[int, int]:
-        """How much it changes: bytes taken away, then bits."""
-        return self.length, self.bits
-
-
-@dataclass(frozen=True)
-class Treated:
-    """A stretch of the source, perhaps without eighth bits, and what was taken away. It holds no bytes of its own."""
-
-    source: bytes
-    begin: int
-    end: int
-    plain: bool = False
-    changes: Tuple[Change, ...] = ()
-
-    @property
-    def data(self) -> bytes:
-        """The bytes behind the treatments."""
-        some = self.source[self.begin:self.end]
-        return some.translate(PLAIN) if self.plain else some
-
-    @property
-    def key(self) -> Tuple[int, int, bool]:
-        """What the bytes depend on, for one source."""
-        return self.begin, self.end, self.plain
-
-    @property
-    def cost(self) -> Tuple[int, int, int]:
-        """How much was changed in all: treatments, bytes taken away, bits."""
-        return len(self.changes), sum(each.length for each in self.changes), sum(each.bits for each in self.changes)
-
-    def without_front(self, name: str, length: int, what: str) -> "Treated":
-        """The bytes without so many at the front."""
-        change = Change(name, self.begin, length, what)
-        return replace(self, begin=self.begin + length, changes=self.changes + (change,))
-
-    def without_tail(self, name: str, length: int, what: str) -> "Treated":
-        """The bytes without so many at the end."""
-        left = self.end - length
-        return replace(self, end=left, changes=self.changes + (Change(name, left, length, what),))
-
-    def without_bits(self, name: str, bits: int, what: str) -> "Treated":
-        """The bytes without the eighth bit, which so many have."""
-        return replace(self, plain=True, changes=self.changes + (Change(name, self.begin, 0, what, bits),))
-
-
-def untreated(source: bytes) -> Treated:
-    """The source as it is."""
-    return Treated(source, 0, len(source))
-
-
-def parity(it: Treated, place: int) -> Iterator[Treated]:
+def parity(data: bytes, place: int) -> Iterator[Change]:
     """Takes the eighth bit off, where all bytes have one parity and some have that bit."""
-    data = it.data
     bits = data.translate(EIGHTH).count(1)
     odd = data.translate(ODD).count(1)
     if bits and odd in (0, len(data)):
-        what = "%s parity bits, set in %d of %d bytes" % ("odd" if odd else "even", bits, len(data))
-        yield it.without_bits("parity", bits, what)
+        name = "odd" if odd else "even"
+        what = "%s parity bits, set in %d of %d bytes" % (name, bits, len(data))
+        yield Change("parity", AROUND, what, bits=bits, parity=name)
 
 
-def tail(it: Treated, place: int) -> Iterator[Treated]:
-    """Cuts a run of 1A, of 00 or of line ends off the end."""
-    data = it.data
+def mark(data: bytes, place: int) -> Iterator[Change]:
+    """Takes the eighth bit off, where every byte has it.
+
+    Bytes that may as well be picture codes of the eight-bit form aren't treated: those that without these bits have no
+    code that leads on from text, and whose first character would be an opcode.
+    """
+    if not data or data.translate(EIGHTH).count(1) != len(data):
+        return
+    plain = data.translate(PLAIN)
+    first = next((byte for byte in plain if byte >= 0x20), 0x40)
+    if first >= 0x40 or any(code in plain for code in (b"\x0e", b"\x19", b"\x1b", b"\x1d")):
+        yield Change("mark", AROUND, "the eighth bit of all %d bytes" % len(data), bits=len(data), parity="mark")
+
+
+def tail(data: bytes, place: int) -> Iterator[Change]:
+    """Cuts a run of 1A, of 00 or of line ends off the end; or all from the mark of the end of a file on."""
     for run, name in ((b"\x1a", "1A"), (b"\x00", "00"), (b"\r\n", "line ends")):
         length = len(data) - len(data.rstrip(run))
         if length:
-            yield it.without_tail("tail", length, "%d bytes at the end: %s" % (length, name))
+            yield _cut("tail", len(data) - length, length, "%d bytes at the end: %s" % (length, name))
+    begin = _end_mark(data)
+    if begin is not None and data[begin:].strip(b"\x1a"):
+        length = len(data) - begin
+        yield _cut("tail", begin, length, "%d bytes at the end: 1A, which ends a file, and what is behind it" % length)
 
 
-def front(it: Treated, place: int) -> Iterator[Treated]:
-    """Cuts NSR, CAN and announcers off the front: the first of them, then the first two, and so on.
+def _end_mark(data: bytes) -> Optional[int]:
+    """Where the first 1A stands behind which at most so many bytes are left, if it is in no macro's body."""
+    least = len(data) - MOST_BEHIND_END - 1
+    if data.find(b"\x1a", max(0, least)) < 0:
+        return None
+    return next((found.start() for found in IN_THE_MIDDLE["end"].finditer(data)
+                 if found["body"] is None and found.start() >= least), None)
 
-    NSR has a place behind it, two bytes from 40 to 7F as APS has, where such bytes stand there.
+
+def _cut(name: str, offset: int, length: int, what: str, grade: str = AROUND) -> Change:
+    return Change(name, grade, what, (Edit(offset, length),))
+
+
+def front(data: bytes, place: int) -> Iterator[Change]:
+    """Cuts NSR, CAN and announcers off the front.
+
+    NSR has a place behind it, two bytes from 40 to 7F as APS has, where such bytes stand there. It is cut only where
+    the page says itself where its text begins.
     """
-    data = it.data[:MOST_FRONT]
     at = 0
     names: List[str] = []
+    some = data[:MOST_FRONT]
     while len(names) < MOST_CODES:
-        found = leading(data, at)
+        found = leading(some, at)
         if found is None:
-            return
+            break
         names.append(found[0])
         at += found[1]
-        yield it.without_front("front", at, "%d bytes at the front: %s" % (at, ", ".join(names)))
+    if names and not ("NSR with its place" in names and not some.startswith(PLACED, at)):
+        yield _cut("front", 0, at, "%d bytes at the front: %s" % (at, ", ".join(names)))
 
 
 def leading(data: bytes, at: int) -> Optional[Tuple[str, int]]:
@@ -130,13 +113,12 @@ def leading(data: bytes, at: int) -> Optional[Tuple[str, int]]:
     return data[at:end + 1].hex(" ").upper(), end + 1 - at
 
 
-def header(it: Treated, place: int) -> Iterator[Treated]:
+def header(data: bytes, place: int) -> Iterator[Change]:
     """Cuts off what stands before the first code of a page, behind the place: CS, or SO with an opcode."""
     found = 0
-    data = it.data[:place + 2 + MOST_HEADER]
     for at in range(place + 1, min(len(data), place + 1 + MOST_HEADER)):
         if _begins(data, at):
-            yield it.without_front("header", at, "%d bytes before the first code" % at)
+            yield _cut("header", 0, at, "%d bytes before the first code" % at)
             found += 1
             if found == MOST_STARTS:
                 return
@@ -146,10 +128,96 @@ def _begins(data: bytes, at: int) -> bool:
     return data[at] == 0x0C or (data[at] == 0x0E and 0x20 <= (data[at + 1:at + 2] or b"\0")[0] < 0x40)
 
 
-TREATMENTS: Dict[str, Callable[[Treated, int], Iterator[Treated]]] = {
-    "parity": parity, "tail": tail, "front": front, "header": header}
+def record(data: bytes, place: int) -> Iterator[Change]:
+    """Cuts a SAUCE record off the end, with its comments and the 1A before it, and tells what it says."""
+    found = sauce.find(data)
+    if found:
+        said = ", ".join("%s %r" % each for each in found.fields.items())
+        yield Change("sauce", AROUND, "%d bytes at the end: SAUCE%s" % (found.length, said and ", " + said),
+                     (Edit(len(data) - found.length, found.length),), record=found.fields)
 
 
-def treated(it: Treated, place: int, names: Tuple[str, ...] = tuple(TREATMENTS)) -> List[Treated]:
-    """What the treatments make of bytes that are refused at this place, least change first."""
-    return sorted((each for name in names for each in TREATMENTS[name](it, place)), key=lambda each: each.cost)
+def can(data: bytes, place: int) -> Iterator[Change]:
+    """Takes each CAN out of the page."""
+    yield from _without("can", data, "CAN")
+
+
+def nsr(data: bytes, place: int) -> Iterator[Change]:
+    """Takes each NSR out of the page, with its place where it has one."""
+    yield from _without("nsr", data, "NSR")
+
+
+def designations(data: bytes, place: int) -> Iterator[Change]:
+    """Takes announcers, and designations of sets that aren't known here, out of the page."""
+    yield from _without("designations", data, "announcers and designations")
+
+
+def _without(name: str, data: bytes, what: str) -> Iterator[Change]:
+    """Takes codes out of the page, but not out of the bodies of its macros."""
+    if len(data) > MOST_WITHIN:
+        raise NotSure("the page is longer than %d bytes" % MOST_WITHIN)
+    edits: List[Edit] = []
+    for found in IN_THE_MIDDLE[name].finditer(data):
+        if found["body"] is None:
+            if len(edits) == MOST_EDITS:
+                raise NotSure("there are more than %d codes to be taken out" % MOST_EDITS)
+            edits.append(Edit(found.start(), found.end() - found.start()))
+    if edits:
+        length = sum(edit.length for edit in edits)
+        yield Change(name, WITHIN, "%d bytes of the page: %s" % (length, what), tuple(edits))
+
+
+def seven_bit(data: bytes, place: int) -> Iterator[Change]:
+    """Writes a page of the eight-bit form in the seven-bit one."""
+    if data.translate(EIGHTH).count(1):
+        edits = eight_bit.edits(data)
+        what = "the eight-bit form in seven bits: %d bytes taken, %d put" % (
+            sum(each.length for each in edits), sum(len(each.put) for each in edits))
+        yield Change("eight-bit", WITHIN, what, tuple(edits))
+
+
+class Treatment(NamedTuple):
+    """A treatment: its grade, and what it makes of bytes that are refused at a place."""
+
+    grade: str
+    changes: Callable[[bytes, int], Iterator[Change]]
+
+
+TREATMENTS: Dict[str, Treatment] = {
+    "parity": Treatment(AROUND, parity), "mark": Treatment(AROUND, mark), "sauce": Treatment(AROUND, record),
+    "tail": Treatment(AROUND, tail), "front": Treatment(AROUND, front), "header": Treatment(AROUND, header),
+    "can": Treatment(WITHIN, can), "nsr": Treatment(WITHIN, nsr), "designations": Treatment(WITHIN, designations),
+    "eight-bit": Treatment(WITHIN, seven_bit)}
+
+
+def untreated(source: bytes) -> Treated:
+    """The source as it is."""
+    return Treated(source)
+
+
+def treated(it: Treated, place: int, names: Tuple[str, ...] = tuple(TREATMENTS),
+            unsure: Optional[Dict[str, str]] = None) -> List[Treated]:
+    """What the treatments make of bytes that are refused at this place, least change first.
+
+    Why a treatment isn't sure is put into `unsure`.
+    """
+    data = it.data
+    made: List[Treated] = []
+    for name in names:
+        try:
+            made += [it.also(change) for change in TREATMENTS[name].changes(data, place)]
+        except NotSure as error:
+            if unsure is not None:
+                unsure.setdefault(name, str(error))
+    return sorted(made, key=lambda each: each.cost)
+
+
+def grade_of(names: str) -> str:
+    """The grade of treatments that are joined by +."""
+    known = [TREATMENTS[name].grade for name in names.split("+") if name in TREATMENTS]
+    return WITHIN if WITHIN in known else AROUND
+
+
+def graded(names: str) -> str:
+    """Treatments that are joined by +, for people, with their grade."""
+    return "%s (%s)" % (names, "within, a guess" if grade_of(names) == WITHIN else AROUND)

@@ -103,15 +103,16 @@ def test_refused(run, store, pages):
     raw = run(["refused", store, "--null", "--number", "10"]).stdout
     assert raw == os.fsencode(pages) + b"/out\0" + os.fsencode(pages) + b"/\xff out\0"
     out = {"status": "refused", "number": 10, "fault": "Outside", "code": None, "place": 3, "entries": None,
-           "reason": None, "hash": hashlib.sha256(OUTSIDE).hexdigest(), "tried": False, "treatments": None}
+           "reason": None, "hash": hashlib.sha256(OUTSIDE).hexdigest(), "tried": False, "treatments": None,
+           "grade": None}
     assert [json.loads(line) for line in lines(run(["refused", store, "--json"]))[:2]] == [
         {"name": pages + "/out", **out},
         {"name": pages + "/\\xff out", "name_hex": os.fsencode(pages + "/").hex() + b"\xff out".hex(), **out}]
     table = list(csv.reader(io.StringIO(run(["refused", store, "--csv", "--number", "19"]).stdout.decode())))
-    assert table[0] == ["number", "fault", "code", "place", "hash", "tried", "treatments", "name", "name_hex"]
+    assert table[0] == ["number", "fault", "code", "place", "hash", "tried", "treatments", "grade", "name", "name_hex"]
     assert [(row[:4], row[5:]) for row in table[1:]] == [
-        (["19", "Cut", "", "1"], ["no", "", pages + "/cut", ""]),
-        (["19", "Cut", "", "2"], ["no", "", pages + "/cut too", ""])]
+        (["19", "Cut", "", "1"], ["no", "", "", pages + "/cut", ""]),
+        (["19", "Cut", "", "2"], ["no", "", "", pages + "/cut too", ""])]
 
 
 NAMES = (b"a\nb", b"\x1b]0;x\x07", b"\xff", "\u202e.nap".encode(), b"a\\b", b"plain", b"=1+1", b'"quoted", twice',
@@ -146,7 +147,7 @@ def test_treatments_are_told(run, tmp_path):
     store = os.path.join(str(tmp_path), "pages.db")
     run(["scan", pages, "--into", store, "--cures"])
     assert lines(run(["refused", store])) == [
-        "1 EighthBit: 1 page, 1 file", "  %s/parity at 0: readable by parity" % pages,
+        "1 EighthBit: 1 page, 1 file", "  %s/parity at 0: readable by parity (around)" % pages,
         "10 Outside: 1 page, 1 file", "  %s/none at 3: no treatment makes it readable" % pages]
 
 

@@ -39,7 +39,8 @@ def test_the_text_of_a_code_is_that_of_the_answer(run, tmp_path, name):
 
 CASES = (
     (with_parity(logo()), 1, None, "parity"), (with_parity(logo(), odd=True), 1, None, "parity"),
-    (POINT + b"\xff", 1, None, ""), (b"\x1b\x22\x46" + POINT, 2, None, "at the front"),
+    (POINT + b"\xff", 1, None, ""),
+    (with_parity(POINT), 1, None, "mark"), (b"\x1b\x22\x46" + POINT, 2, None, "at the front"),
     (b"\x1f\x45\x52\x18\x1b\x22\x46" + POINT, 6, "NSR", "at the front"), (POINT + b"\x1b\x22\x46", 2, None, ""),
     (b"\x18" + POINT, 6, "CAN", "at the front"), (POINT + b"\x18", 6, "CAN", ""), (POINT + b"\x1f", 6, "NSR", ""),
     (POINT + b"\x1a", 6, "SDC", "at the end"), (POINT + b"\x1a" + b"\xe5" * 1023, 6, "SDC", "at the end"),

@@ -237,7 +237,8 @@ def test_treatments(run, tmp_path, store):
     assert {os.path.basename(each["name"]): (each["tried"], each["treatments"]) for each in told} == {
         "parity": (True, ["parity"]), "tail": (True, ["tail"]), "none": (True, None)}
     text = run(["refused", store]).stdout.decode()
-    assert "/parity at 0: readable by parity\n" in text and "/none at 3: no treatment makes it readable\n" in text
+    assert "/parity at 0: readable by parity (around)\n" in text
+    assert "/none at 3: no treatment makes it readable\n" in text
     copy = hashlib.sha256(POINT).digest()
     assert rows(store, "SELECT entries FROM cures WHERE copy = ?", copy) == [(1,)]
 

@@ -7,11 +7,12 @@ from ..answers import Refused
 from ..names import shown
 from ..refusals import Reason as Wanted
 from ..schema import Members, answered
+from ..treatments import grade_of, graded
 from .places import Place
 from .printing import NAME, Printer, numbered, shown_as
 from .store import kept
 
-COLUMNS = ["number", "fault", "code", "place", "hash", "tried", "treatments", *NAME]
+COLUMNS = ["number", "fault", "code", "place", "hash", "tried", "treatments", "grade", *NAME]
 REASONS = """CREATE TEMP TABLE reasons AS SELECT p.number AS number, coalesce(p.left_out, '') AS left_out,
     count(DISTINCT p.id) AS pages, count(*) AS files FROM pages p JOIN present f ON f.page = p.id
     WHERE p.number IS NOT NULL {} GROUP BY 1, 2"""
@@ -83,17 +84,21 @@ def _show(printer: Printer, member: Member) -> None:
         reason = member.reason
         printer.row({"number": reason.number, "fault": reason.fault, "code": reason.left_out, "place": member.at,
                      "hash": member.own.hex(), "tried": "yes" if member.tried else "no",
-                     "treatments": member.treatments, **shown_as(member.place)})
+                     "treatments": member.treatments, "grade": _grade(member), **shown_as(member.place)})
     else:
         printer.name(member.place)
 
 
 def _cure(member: Member) -> str:
     if member.treatments:
-        return ": readable by %s" % member.treatments
+        return ": readable by %s" % graded(member.treatments)
     return ": no treatment makes it readable" if member.tried else ""
 
 
 def _object(member: Member) -> Members:
     return {**answered(member.place.path, member.refused), "hash": member.own.hex(), "tried": member.tried,
-            "treatments": member.treatments.split("+") if member.treatments else None}
+            "treatments": member.treatments.split("+") if member.treatments else None, "grade": _grade(member)}
+
+
+def _grade(member: Member) -> Optional[str]:
+    return grade_of(member.treatments) if member.treatments else None

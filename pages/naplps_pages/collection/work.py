@@ -7,7 +7,7 @@ from typing import Callable, Dict, Iterable, Iterator, List, NamedTuple, Optiona
 from ..answers import Accepted, Answer, NoAnswer, Refused
 from ..ask import Program
 from ..child import Limits as ChildLimits
-from ..curing import find
+from ..cure_search import find
 from ..listing import MODEST
 from ..packs.member import Limits
 from ..packs.naming import pack_of

@@ -6,6 +6,7 @@ from typing import Dict, List, NamedTuple, Optional, Tuple
 from ..collection.kinds import checked
 from ..collection.store import open_to_read
 from ..packs.naming import MOST_NAME
+from ..treatments import graded
 from . import files as of_files
 from . import groups as of_groups
 from .document import Document
@@ -154,7 +155,7 @@ class Questions:
         group = told["group"]
         assert isinstance(group, int)
         return {**told, "refusal": self.refusals.get(file.told) or self.refusals.get(str(file.number or 0)),
-                "cure": (file.treatments or "") if file.tried else None,
+                "cure": (graded(file.treatments) if file.treatments else "") if file.tried else None,
                 "equal": self._group(group, NAMES) if group else None}
 
     def wanted(self, words: Words) -> Optional[Wanted]:

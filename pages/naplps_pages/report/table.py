@@ -4,6 +4,7 @@ import sqlite3
 from typing import Dict, List, Optional, Set, Tuple
 
 from ..names import shown
+from ..treatments import graded
 from . import files as of_files
 from .files import File
 from .groups import Group
@@ -49,7 +50,7 @@ class Table:
     def _add(self, file: File, folder: str, group: int, spelling: int) -> None:
         cure = NONE
         if file.tried:
-            cure = self.cures.of(file.treatments or "")
+            cure = self.cures.of(graded(file.treatments) if file.treatments else "")
         values = (self.folders.of(folder, file.folder), shown(os.fsdecode(file.name)), file.size,
                   self.answers.of(file.told, file.number), file.at if file.entries is None else file.entries, group,
                   spelling, cure, NONE)
