@@ -17,7 +17,7 @@ STATUSES = (0, 1, 3)
 HANGS = "hangs"
 
 
-def forked(words, folder, program, seconds=120):
+def forked(words, folder, program, seconds=900):
     """What the command with these words says in a folder, and its status; a negative one is a signal's."""
     return ended(begun(words, folder, program), folder, seconds)
 
@@ -33,7 +33,7 @@ def begun(words, folder, program):
     return child
 
 
-def ended(child, folder, seconds=120):
+def ended(child, folder, seconds=900):
     """What the process said, once it has ended."""
     out, err = os.path.join(folder, "out"), os.path.join(folder, "err")
     end = time.monotonic() + seconds

@@ -16,6 +16,8 @@ from packers import entry, header, written, zip_of
 from samples import MACRO, OUTSIDE, POINT, SPELLED
 from scans import rows
 
+# (a busy machine may take long, and no test asserts a time)
+PATIENT = ["--seconds", "600"]
 ROUNDS, PACKS, MEMBERS = 6, 24, 6
 PAGES = (POINT, SPELLED, OUTSIDE, MACRO, b"", b"hello", b"\x1b", b"\x0e" * 700)
 NAMES = ("a.nap", "b/c.nap", "./d", "e//f", "../up", "/top", "x" * 300, "y" * 5000, "in.zip", "\u202e.nap", "g\udcff",
@@ -123,7 +125,7 @@ def test_random_packs(tmp_path, naplps):
         found = rows(store, FOUND)
         assert sum(1 for _, name, _, _ in found if not name) == PACKS, seed
         read_again(chance, folder, naplps, seed, found, counts)
-        said = forked(["equal", "pages.db", "--copies", "--verify"], folder, naplps)
+        said = forked(["equal", "pages.db", "--copies", "--verify", *PATIENT], folder, naplps)
         require_told(said, "equal", seed)
         assert said.status == 0, (seed, said)
         counts["equal", said.status] += 1
@@ -132,7 +134,7 @@ def test_random_packs(tmp_path, naplps):
 
 def scanned(folder, naplps, seed, counts):
     """What a scan says."""
-    said = forked(["scan", "packs", "--into", "pages.db", "--processes", "1"], folder, naplps)
+    said = forked(["scan", "packs", "--into", "pages.db", "--processes", "1", *PATIENT], folder, naplps)
     require_told(said, "scan", seed)
     assert said.status in (0, 1) and said.out.startswith(b""), (seed, said)
     counts["scan", said.status] += 1
@@ -143,7 +145,7 @@ def read_again(chance, folder, naplps, seed, found, counts):
     """Asks about members by their names: the answer is that of the scan."""
     for path, name, state, answer in chance.sample(found, min(MEMBERS, len(found))):
         word = os.fsdecode(path + b"!" + name)
-        said = forked(["check", word], folder, naplps)
+        said = forked(["check", word, *PATIENT], folder, naplps)
         require_told(said, word, seed)
         assert said.status == (answer if state == 0 and name else 3), (seed, word, said)
         counts["check", said.status] += 1
