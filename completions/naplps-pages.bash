@@ -1,7 +1,7 @@
 # Completion of naplps-pages for bash.
 _naplps_pages() {
     local word=${COMP_WORDS[COMP_CWORD]} before=${COMP_WORDS[COMP_CWORD - 1]} command='' words index
-    local commands='check list canon explain look text cures scan merge equal refused convert status report serve'
+    local commands='check list canon explain look text cures split census scan merge equal refused convert status report serve'
     for ((index = 1; index < COMP_CWORD; index++)); do
         if [[ " $commands " = *" ${COMP_WORDS[index]} "* ]]; then
             command=${COMP_WORDS[index]}
@@ -19,11 +19,11 @@ _naplps_pages() {
     esac
     case $command in
         '') words="$commands --help --version" ;;
-        check | list) words='--json --budget --seconds --help' ;;
+        check | list | census) words='--json --budget --seconds --help' ;;
         canon) words='--into --budget --seconds --help' ;;
         explain | text) words='--budget --seconds --help' ;;
         look) words='--svg --into --budget --seconds --help' ;;
-        cures) words='--json --into --budget --seconds --help' ;;
+        cures | split) words='--json --into --budget --seconds --help' ;;
         scan) words='--into --processes --on --part --most --again --cures --budget --seconds --help' ;;
         merge) words='--unfinished --help' ;;
         equal) words='--copies --verify --null --json --csv --seconds --help' ;;

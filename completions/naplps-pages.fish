@@ -7,6 +7,8 @@ complete -c naplps-pages -n __fish_use_subcommand -a explain -d 'Show each entry
 complete -c naplps-pages -n __fish_use_subcommand -a look -d 'Make a sketch of a page as SVG'
 complete -c naplps-pages -n __fish_use_subcommand -a text -d 'Print the text of pages'
 complete -c naplps-pages -n __fish_use_subcommand -a cures -d 'Try treatments that make a refused page readable'
+complete -c naplps-pages -n __fish_use_subcommand -a split -d 'Cut a capture into its pages, each a file'
+complete -c naplps-pages -n __fish_use_subcommand -a census -d 'Count the codes that stop pages'
 complete -c naplps-pages -n __fish_use_subcommand -a scan -d 'Ask about all pages in folders, and keep the answers'
 complete -c naplps-pages -n __fish_use_subcommand -a merge -d 'Join stores, as those of the parts of a scan'
 complete -c naplps-pages -n __fish_use_subcommand -a equal -d 'Print groups of pages that draw the same'
@@ -15,11 +17,11 @@ complete -c naplps-pages -n __fish_use_subcommand -a convert -d 'Write the canon
 complete -c naplps-pages -n __fish_use_subcommand -a status -d 'Say what was scanned when, and what is left to do'
 complete -c naplps-pages -n __fish_use_subcommand -a report -d 'Make one HTML file that shows what a scan found'
 complete -c naplps-pages -n __fish_use_subcommand -a serve -d 'Show it to browsers of this machine'
-complete -c naplps-pages -n '__fish_seen_subcommand_from check list cures equal refused convert status' -l json \
+complete -c naplps-pages -n '__fish_seen_subcommand_from check list cures split census equal refused convert status' -l json \
     -d 'Print JSON, an object on each line'
 complete -c naplps-pages -n '__fish_seen_subcommand_from equal refused convert status' -l csv -d 'Print the table as CSV'
 complete -c naplps-pages -n '__fish_seen_subcommand_from equal refused' -l null -d 'Print only names, each ended by NUL'
-complete -c naplps-pages -n '__fish_seen_subcommand_from canon look cures scan convert report' -l into -r \
+complete -c naplps-pages -n '__fish_seen_subcommand_from canon look cures split scan convert report' -l into -r \
     -d 'The folder or file to write into, or the store of a scan'
 complete -c naplps-pages -n '__fish_seen_subcommand_from look' -l svg -r -d 'Write the sketch to this file'
 complete -c naplps-pages -n '__fish_seen_subcommand_from scan report' -l processes -x -d 'How many processes work'
@@ -33,9 +35,9 @@ complete -c naplps-pages -n '__fish_seen_subcommand_from equal' -l copies -d 'Al
 complete -c naplps-pages -n '__fish_seen_subcommand_from equal' -l verify -d 'Read all files again, and compare canonical bytes'
 complete -c naplps-pages -n '__fish_seen_subcommand_from refused' -l number -x -d 'Only this refusal'
 complete -c naplps-pages -n '__fish_seen_subcommand_from refused' -l reason -x -d 'Only this refusal or code'
-complete -c naplps-pages -n '__fish_seen_subcommand_from check list canon explain look text cures scan' -l budget -x \
+complete -c naplps-pages -n '__fish_seen_subcommand_from check list canon explain look text cures split census scan' -l budget -x \
     -d 'How many bytes of macro bodies a page may be charged'
-complete -c naplps-pages -n '__fish_seen_subcommand_from check list canon explain look text cures scan equal convert report serve' \
+complete -c naplps-pages -n '__fish_seen_subcommand_from check list canon explain look text cures split census scan equal convert report serve' \
     -l seconds -x \
     -d 'How many seconds the program may take for a page'
 complete -c naplps-pages -n '__fish_seen_subcommand_from report' -l sketches -x -d 'How many pages have a sketch'

@@ -8,7 +8,8 @@ import signal
 import sys
 from typing import Any, Callable, Dict, List, NoReturn
 
-from . import VERSION, answering, curing, explaining, showing, values
+from . import VERSION, answering, curing, explaining, showing, splitting, values
+from . import census as counting
 from .ask import Program
 from .child import Limits
 from .collection import commands as collection
@@ -25,7 +26,8 @@ from .unexpected import told
 
 COMMANDS: Dict[str, Callable[[Session], int]] = {
     "check": answering.check, "list": answering.list_entries, "canon": answering.canon, "explain": explaining.explain,
-    "look": showing.look, "text": showing.text, "cures": curing.cures}
+    "look": showing.look, "text": showing.text, "cures": curing.cures, "split": splitting.split,
+    "census": counting.census}
 HELP = {
     "check": "say whether pages are accepted, or why not",
     "list": "print a line for each entry of the pages",
@@ -33,7 +35,9 @@ HELP = {
     "explain": "show each entry next to the bytes that it comes from, or why the page is refused",
     "look": "make a sketch of a page as SVG: print it, or write it to a file or a folder",
     "text": "print the text of pages",
-    "cures": "try treatments that make a refused page readable"}
+    "cures": "try treatments that make a refused page readable",
+    "split": "cut a capture into its pages, each a file in a folder",
+    "census": "count the codes that stop pages"}
 # The commands whose answers may be as long as they are.
 AT_LENGTH = ("list", "canon")
 EPILOG = ("No file is overwritten. Status: 0 all pages are accepted, 1 some are refused, 2 the command line is wrong, "
@@ -81,11 +85,11 @@ def parser() -> argparse.ArgumentParser:
 
 
 def _add_options(one: argparse.ArgumentParser, name: str) -> None:
-    if name in ("check", "list", "cures"):
+    if name in ("check", "list", "cures", "split", "census"):
         one.add_argument("--json", action="store_true", help="print JSON, an object on each line")
     where: Any = one.add_mutually_exclusive_group() if name == "look" else one
-    if name in ("canon", "look", "cures"):
-        where.add_argument("--into", metavar="FOLDER", type=values.name,
+    if name in ("canon", "look", "cures", "split"):
+        where.add_argument("--into", metavar="FOLDER", type=values.name, required=name == "split",
                            help="make a file for each page in this folder")
     if name == "look":
         where.add_argument("--svg", metavar="FILE", type=values.name,

@@ -47,7 +47,8 @@ class Ended(Exception):
 class Cutter:
     """Takes codes off the front of a page, and off the macros that it calls."""
 
-    def __init__(self, page: bytes) -> None:
+    def __init__(self, page: bytes, most_steps: int = MOST_STEPS) -> None:
+        self.most_steps = most_steps
         self.length = len(page)
         # (bytes, how many are taken, the offset that they have, or None for the page itself)
         self.frames: List[Tuple[bytes, int, Optional[int]]] = [(page, 0, None)]
@@ -79,7 +80,7 @@ class Cutter:
 
     def codes(self) -> Iterator[Code]:
         """The codes, up to the end, or to as many steps as are gone."""
-        while self.steps < MOST_STEPS:
+        while self.steps < self.most_steps:
             front = self.peek()
             if front is None:
                 return

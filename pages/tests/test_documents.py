@@ -39,7 +39,8 @@ def folder(tmp_path, naplps):
     os.makedirs(os.path.join(made, "pages"))
     for to, name in ((os.path.join(TOP, "examples"), "examples"), (COMMAND, "pages/naplps-pages"), (naplps, "naplps")):
         os.symlink(to, os.path.join(made, name))
-    for name, data in (("page.nap", with_parity(logo())), ("other.nap", POINT), ("pages/page.nap", POINT)):
+    for name, data in (("page.nap", with_parity(logo())), ("other.nap", POINT), ("pages/page.nap", POINT),
+                       ("capture.nap", POINT + b"\x1f" + POINT)):
         file(made, name, data)
     for name in ("old.tar", "more.zip"):
         pack(os.path.join(made, name), {"disk 3/logo.nap": logo()})

@@ -1,0 +1,108 @@
+"""Captures, cut into their pages."""
+import hashlib
+import json
+import os
+import re
+from random import Random
+
+import pytest
+from hypothesis import given
+from hypothesis import strategies as st
+
+from conftest import file
+from naplps_pages.splitting import pieces
+from pictures import picture
+from samples import POINT, POINT_AND_BELL
+
+CLEAR = b"\x0c" + POINT
+FRONTS = {"NSR": b"\x1f", "NSR and place": b"\x1f\x41\x42", "CAN, NSR": b"\x18\x1f", "1B 22": b"\x1b\x22\x46",
+          "1B 25": b"\x1b\x25\x41", "CAN, 1B 22, 1B 25": b"\x18\x1b\x22\x46\x1b\x25\x41",
+          "NSR, 1B 22": b"\x1f\x1b\x22\x46"}
+
+
+@pytest.mark.parametrize("name", FRONTS)
+def test_a_capture_is_cut_where_its_pages_begin(run, tmp_path, name):
+    chance, front = Random(5), FRONTS[name]
+    some = [front + b"\x0c" + picture(chance, number).lstrip(b"\x0c") for number in range(20)]
+    path, to = file(tmp_path, "capture.nap", b"".join(some)), os.path.join(str(tmp_path), "to")
+    for _ in range(2):                                          # (what is there with the same bytes stays)
+        said = run(["split", path, "--into", to])
+        assert (said.stderr, said.returncode) == (b"", 0)
+    made = ["capture-%03d.nap" % number for number in range(1, 21)]
+    assert sorted(os.listdir(to)) == sorted(made + [each + ".json" for each in made])
+    offset = 0
+    for number, (each, data) in enumerate(zip(made, some), 1):
+        with open(os.path.join(to, each), "rb") as page:
+            assert page.read() == data
+        with open(os.path.join(to, each + ".json"), encoding="ascii") as note:
+            row = json.load(note)
+        whole = b"".join(some)
+        assert row["source_name"] == path and row["source"] == {
+            "bytes": len(whole), "sha256": hashlib.sha256(whole).hexdigest()}
+        assert (row["page"], row["pages"], row["offset"]) == (number, 20, offset)
+        assert row["copy"] == {"bytes": len(data), "sha256": hashlib.sha256(data).hexdigest()}
+        assert set(row) >= {"program", "tool", "cut_at"}
+        offset += len(data)
+    lines = said.stdout.decode().splitlines()
+    assert lines[-1] == "20 pages: 0 accepted, 20 refused" and len(lines) == 21
+    treated = os.path.join(str(tmp_path), "treated")
+    assert run(["cures", *(os.path.join(to, each) for each in made), "--into", treated]).returncode == 1
+    assert run(["check", *(os.path.join(treated, each) for each in made)]).returncode == 0
+
+
+def test_what_is_told(run, tmp_path):
+    file(tmp_path, "tape", CLEAR + b"\x1f\x41\x42" + CLEAR + b"\x1b\x22\x46" + CLEAR)
+    said = run(["split", "tape", "--into", "to"], cwd=str(tmp_path))
+    assert said.stdout.decode().splitlines() == [
+        "to/tape-001.nap: 6 bytes at 0, cut at the beginning: accepted 2 entries",
+        "to/tape-002.nap: 9 bytes at 6, cut at NSR: refused 6 LeftOut NSR at 0",
+        "to/tape-003.nap: 9 bytes at 15, cut at 1B 22: refused 2 BadEscape at 1", "3 pages: 1 accepted, 2 refused"]
+    said = run(["split", "tape", "--into", "to", "--json"], cwd=str(tmp_path))
+    rows = [json.loads(line) for line in said.stdout.splitlines()]
+    assert [(row["name"], row["status"], row["offset"], row["bytes"], row["cut_at"]) for row in rows] == [
+        ("to/tape-001.nap", "accepted", 0, 6, "the beginning"), ("to/tape-002.nap", "refused", 6, 9, "NSR"),
+        ("to/tape-003.nap", "refused", 15, 9, "1B 22")]
+
+
+@pytest.mark.parametrize("data", [
+    CLEAR + CLEAR, CLEAR + b"\x18" + CLEAR, b"\x1f" + CLEAR, CLEAR + b"\x1b\x22\x46A", CLEAR + b"\x1b\x20\x43" + CLEAR,
+    b"", CLEAR + b"\x1b\x40A\x1f\x1b\x45" + CLEAR, b"\x18\x1b\x22\x46" + CLEAR])
+def test_nothing_else_is_a_place_to_cut(run, tmp_path, data):
+    assert len(pieces(data)) < 2
+    said = run(["split", file(tmp_path, "page", data), "--into", os.path.join(str(tmp_path), "to")])
+    assert said.stdout == b"no page is cut: there is neither NSR nor 1B 22 or 1B 25 before a page\n"
+    assert said.returncode == 1 and os.listdir(os.path.join(str(tmp_path), "to")) == []
+
+
+def test_nothing_is_written_over_and_nothing_too_long_is_read(run, tmp_path):
+    to = os.path.join(str(tmp_path), "to")
+    os.mkdir(to)
+    file(to, "tape-002.nap", b"mine")
+    said = run(["split", file(tmp_path, "tape", CLEAR + b"\x1f" + CLEAR), "--into", to])
+    assert said.returncode == 3 and said.stderr.endswith(b"is there already with other bytes, and isn't written over\n")
+    with open(os.path.join(to, "tape-002.nap"), "rb") as there:
+        assert there.read() == b"mine"
+    said = run(["split", file(tmp_path, "long", b"\x1f" * ((16 << 20) + 1)), "--into", to])
+    assert said.returncode == 3 and said.stderr.endswith(b"long: the capture is longer than 16 MiB\n")
+    assert run(["split", "tape"]).returncode == 2
+
+
+def test_a_capture_of_too_many_pages(run, tmp_path):
+    path = file(tmp_path, "many", b"\x1fA\n" * 100_001)
+    said = run(["split", path, "--into", os.path.join(str(tmp_path), "to")])
+    assert said.returncode == 3 and said.stderr.endswith(
+        b"many: it would be cut into 100001 pages, and 100000 are the most\n")
+
+
+SOME = st.one_of(st.sampled_from([*FRONTS.values(), b"\x1b\x40A", b"\x1b\x45", b"\x0c", b"\x0e\x26", POINT,
+                                  POINT_AND_BELL]), st.binary(max_size=4))
+
+
+@given(st.lists(SOME, max_size=20).map(b"".join))
+def test_pieces_have_all_bytes_and_begin_with_codes_before_a_page(data):
+    some = pieces(data)
+    assert b"".join(data[each.offset:each.offset + each.length] for each in some) == data
+    for each in some[1:]:
+        assert re.match(rb"\x18|\x1f|\x1b[\x20-\x27]", data[each.offset:])
+    outside = re.sub(rb"(?s)\x1b[\x40\x41][^\x1b].*?(?=\x1b[\x40-\x45]|$)", b"", data)
+    assert len(some) <= 1 + outside.count(b"\x1f") + outside.count(b"\x1b\x22") + outside.count(b"\x1b\x25")
