@@ -11,7 +11,7 @@ _naplps_pages() {
     case $before in
         # (numbers are for the user to say)
         --budget | --seconds | --processes | --part | --most | --number | --reason | --sketches | --port) return ;;
-        --into | --svg)
+        --into | --svg | --after)
             compopt -o filenames
             mapfile -t COMPREPLY < <(compgen -f -- "$word")
             return
@@ -19,10 +19,11 @@ _naplps_pages() {
     esac
     case $command in
         '') words="$commands --help --version" ;;
-        check | list | census) words='--json --budget --seconds --help' ;;
-        canon) words='--into --budget --seconds --help' ;;
-        explain | text) words='--budget --seconds --help' ;;
-        look) words='--svg --into --budget --seconds --help' ;;
+        check | list) words='--json --after --budget --seconds --help' ;;
+        census) words='--json --budget --seconds --help' ;;
+        canon) words='--into --after --budget --seconds --help' ;;
+        explain | text) words='--after --budget --seconds --help' ;;
+        look) words='--svg --into --after --budget --seconds --help' ;;
         cures | split) words='--json --into --budget --seconds --help' ;;
         scan) words='--into --processes --on --part --most --again --cures --budget --seconds --help' ;;
         merge) words='--unfinished --help' ;;

@@ -23,6 +23,8 @@ complete -c naplps-pages -n '__fish_seen_subcommand_from equal refused convert s
 complete -c naplps-pages -n '__fish_seen_subcommand_from equal refused' -l null -d 'Print only names, each ended by NUL'
 complete -c naplps-pages -n '__fish_seen_subcommand_from canon look cures split scan convert report' -l into -r \
     -d 'The folder or file to write into, or the store of a scan'
+complete -c naplps-pages -n '__fish_seen_subcommand_from check list explain look text' -l after -r \
+    -d 'A page that comes before'
 complete -c naplps-pages -n '__fish_seen_subcommand_from look' -l svg -r -d 'Write the sketch to this file'
 complete -c naplps-pages -n '__fish_seen_subcommand_from scan report' -l processes -x -d 'How many processes work'
 complete -c naplps-pages -n '__fish_seen_subcommand_from scan' -l on -r -d 'Work on Dask: the address or file of its scheduler'

@@ -15,7 +15,8 @@ from .source import Page
 def check(session: Session) -> int:
     """Whether each page is accepted, or why not; and what the file is."""
     def work(page: Page) -> None:
-        answer = session.program.ask("check", page)
+        after = bool(session.earlier.names)
+        answer = session.heard(page).last.answer if after else session.program.ask("check", page)
         there = session.answered(page, answer)
         kind, looks = file_kinds.kind_of(page, answer), file_kinds.looks_like_of(page, answer)
         if session.json:
@@ -32,6 +33,9 @@ def list_entries(session: Session) -> int:
 
 
 def _list_lines(session: Session, page: Page) -> None:
+    if session.earlier.names:
+        _list_after(session, page)
+        return
     answer = _limited(session.program.ask("list", page))
     if not session.answered(page, answer):
         return
@@ -45,12 +49,29 @@ def _list_lines(session: Session, page: Page) -> None:
             session.output.bytes(answer.body)
 
 
+def _list_after(session: Session, page: Page) -> None:
+    """The lines of a page after others."""
+    told = session.heard(page).last
+    if not session.answered(page, told.answer):
+        return
+    if isinstance(told.answer, Refused):
+        _tell_refusal(session, page, told.answer)
+    else:
+        front = session.front(page.name)
+        session.output.text("".join(front + line + "\n" for line in told.lines or []))
+
+
 def _list_json(session: Session, page: Page) -> None:
-    answer = _limited(session.program.ask(command_of(page), page))
+    if session.earlier.names:
+        told = session.heard(page).last
+        answer, entries = told.answer, told.rows or []
+    else:
+        answer = _limited(session.program.ask(command_of(page), page))
+        entries = rows_of(page, answer.body) if isinstance(answer, Accepted) else []
     session.answered(page, answer)
     rows: Optional[List[Members]] = None
     if isinstance(answer, Accepted):
-        rows = [entry(read_line(line), place) for place, line in rows_of(page, answer.body)]
+        rows = [entry(read_line(line), place) for place, line in entries]
     session.output.line(dumps({**answered(page.name, answer), "list": rows}))
 
 

@@ -14,6 +14,7 @@ from .ask import Program
 from .child import Limits
 from .collection import commands as collection
 from .collection import words as collection_words
+from .earlier import read_earlier
 from .ending import ENDING, Stopped
 from .listing import MODEST
 from .names import shown
@@ -22,6 +23,7 @@ from .program import MOST_BUDGET, USUAL_BUDGET, NoProgram, find
 from .report import commands as reporting
 from .report import words as report_words
 from .session import FAILED, WRONG_WORDS, Session
+from .source import Unread
 from .unexpected import told
 
 COMMANDS: Dict[str, Callable[[Session], int]] = {
@@ -38,6 +40,10 @@ HELP = {
     "cures": "try treatments that make a refused page readable",
     "split": "cut a capture into its pages, each a file in a folder",
     "census": "count the codes that stop pages"}
+# The commands on a page after others; canon says why it can't be one of them.
+AFTER = ("check", "list", "canon", "explain", "look", "text")
+NO_CANON = ("not for canon: a canonical stream begins where nothing stands, so a page after others has none; `cat` "
+            "joins pages to one that has")
 # The commands whose answers may be as long as they are.
 AT_LENGTH = ("list", "canon")
 EPILOG = ("No file is overwritten. Status: 0 all pages are accepted, 1 some are refused, 2 the command line is wrong, "
@@ -94,6 +100,10 @@ def _add_options(one: argparse.ArgumentParser, name: str) -> None:
     if name == "look":
         where.add_argument("--svg", metavar="FILE", type=values.name,
                            help="write the sketch of one page to this file")
+    if name in AFTER:
+        one.add_argument("--after", metavar="PAGE", type=values.name, action="append", default=[],
+                         help=NO_CANON if name == "canon" else "a page that comes before, whose macros, colours and "
+                         "sets stand; several in their order, each with --after")
     _add_budget(one)
     _add_seconds(one)
 
@@ -116,7 +126,9 @@ def _wrong(given: argparse.Namespace) -> str:
             return "several pages need --into FOLDER in place of --svg"
         if given.command in ("canon", "look"):
             return "several pages need --into FOLDER"
-    if given.pages.count("-") > 1:
+    if given.command == "canon" and given.after:
+        return "--after is " + NO_CANON
+    if (given.pages + getattr(given, "after", [])).count("-") > 1:
         return "- stands for standard input, and can be named once"
     return ""
 
@@ -162,11 +174,11 @@ def _done(given: argparse.Namespace, command: str) -> int:
     except NoProgram as error:
         tell(str(error))
         return FAILED
-    session = Session(program, given.pages, getattr(given, "json", False), getattr(given, "into", None),
-                      getattr(given, "svg", None))
     try:
+        session = Session(program, given.pages, getattr(given, "json", False), getattr(given, "into", None),
+                          getattr(given, "svg", None), read_earlier(getattr(given, "after", []), given.seconds))
         return COMMANDS[given.command](session)
-    except NotWritten as error:
+    except (NotWritten, Unread) as error:
         tell(str(error))
         return FAILED
     finally:

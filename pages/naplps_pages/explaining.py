@@ -1,6 +1,6 @@
 """The command explain: entries beside the bytes that brought them, and the reason of a refusal."""
 import bisect
-from dataclasses import dataclass, field
+from dataclasses import dataclass, field, replace
 from itertools import groupby
 from textwrap import wrap
 from typing import Iterable, Iterator, List, Optional, Tuple, Union
@@ -8,7 +8,8 @@ from typing import Iterable, Iterator, List, Optional, Tuple, Union
 from .answers import Accepted, NoAnswer, Refused
 from .cases import case_of
 from .codes import Code, cut
-from .listing import MOST_LISTED, Row as Placed, listed
+from .listing import MOST_LISTED
+from .listing import Row as Placed
 from .names import quoted, shown
 from .refusals import PAGE, text_of
 from .session import Session
@@ -40,21 +41,25 @@ class Row:
 def explain(session: Session) -> int:
     """Explains a page."""
     def work(page: Page) -> None:
-        told = listed(session.program, page)
+        told, every = session.heard(page)
         answer = told.answer
         if not session.answered(page, answer) or isinstance(answer, NoAnswer):
             return
         session.output.line("%s: %s" % (shown(page.name), answer.line))
-        for line in _before(page, answer, told.rows):
+        for line in _before(page, answer, every.rows, session.earlier.data):
             session.output.line(line)
         if isinstance(answer, Refused):
-            for line in _reasons(page, answer):
+            for line in _reasons(page, answer, session.earlier.data):
                 session.output.line(line)
     return session.each(work)
 
 
-def _before(page: Page, answer: Union[Accepted, Refused], entries: Optional[List[Placed]]) -> Iterator[str]:
-    """The rows of an accepted page, or of a refused one up to the refusal; or why they aren't shown."""
+def _before(page: Page, answer: Union[Accepted, Refused], entries: Optional[List[Placed]],
+            earlier: bytes) -> Iterator[str]:
+    """The rows of an accepted page, or of a refused one up to the refusal; or why they aren't shown.
+
+    The entries are those of the earlier pages too.
+    """
     if page.data is None:
         yield "The page is longer than 16 MiB: its entries aren't shown."
         return
@@ -62,7 +67,8 @@ def _before(page: Page, answer: Union[Accepted, Refused], entries: Optional[List
         yield "The entries aren't shown: there are more than %d, or their lines are too long." % MOST_LISTED
         return
     place = answer.place if isinstance(answer, Refused) else None
-    rows = assigned(page.data, entries, place)
+    rows = assigned(earlier + page.data, entries, None if place is None else len(earlier) + place)
+    rows = behind(rows, len(earlier)) if earlier else rows
     if place is not None:
         yield ""
         yield "What came before:" if rows else "Nothing came before."
@@ -90,6 +96,12 @@ def assigned(data: bytes, entries: List[Placed], stop: Optional[int]) -> List[Ro
             row.lines.append(line)
     # (the code that is refused stays where a macro that it calls drew something)
     return [row for row in rows if stop is None or row.end <= stop or row.lines] + behind
+
+
+def behind(rows: Iterable[Row], start: int) -> List[Row]:
+    """The rows of the bytes from the start on, with their offsets behind it."""
+    return [replace(row, start=max(0, row.start - start), end=row.end - start, acts=row.acts - start)
+            for row in rows if row.end > start or row.start >= start]
 
 
 def _joined(rows: Iterable[Row]) -> Iterator[Row]:
@@ -128,13 +140,13 @@ def printed(row: Row, data: bytes) -> Iterator[str]:
         yield line.rstrip(" ")
 
 
-def _reasons(page: Page, answer: Refused) -> Iterator[str]:
+def _reasons(page: Page, answer: Refused, earlier: bytes) -> Iterator[str]:
     yield ""
     around, first = _around(page, answer.place)
     yield "The bytes around %d:" % answer.place
     yield from hexdump(around, first, answer.place)
     if page.data is not None:
-        yield "The code there: %s" % name_at(page.data, answer.place)
+        yield "The code there: %s" % name_at(earlier + page.data, len(earlier) + answer.place)
     case = "" if page.data is None else case_of(page.data, answer)
     known = text_of(answer.number, answer.code or "", case)
     yield ""

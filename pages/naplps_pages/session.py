@@ -5,6 +5,7 @@ from typing import Callable, List, Optional, Sequence
 
 from .answers import Answer, NoAnswer, Refused
 from .ask import NONSENSE, Program
+from .earlier import Earlier, Heard, heard
 from .entries import NotALine
 from .names import shown
 from .output import NotWritten, Output, OutputLost, tell
@@ -24,6 +25,7 @@ class Session:
     json: bool = False
     into: Optional[str] = None
     svg: Optional[str] = None
+    earlier: Earlier = field(default_factory=Earlier)
     output: Output = field(default_factory=lambda: Output(sys.stdout.buffer))
     status: int = ACCEPTED
 
@@ -49,6 +51,10 @@ class Session:
         if isinstance(answer, Refused):
             self.fail(REFUSED)
         return True
+
+    def heard(self, page: Page) -> Heard:
+        """The answer to a page with its entries, after the earlier pages if there are any."""
+        return heard(self.program, self.earlier, page)
 
     def each(self, work: Callable[[Page], None], more: Sequence[str] = ()) -> int:
         """Does the work for each page; the status of the whole. `more` names what JSON has beside the answer."""

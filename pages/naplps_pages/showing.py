@@ -2,7 +2,7 @@
 from . import sketch
 from .answers import Accepted, Refused
 from .entries import read
-from .listing import MOST_LISTED, Listed, listed
+from .listing import MOST_LISTED, Listed
 from .names import shown
 from .output import into, make_folder, put, tell
 from .session import Session
@@ -28,11 +28,11 @@ def look(session: Session) -> int:
         make_folder(session.into)
 
     def work(page: Page) -> None:
-        told = listed(session.program, page)
+        told, every = session.heard(page)
         answer = told.answer
         if not session.answered(page, answer):
             return
-        drawn = picture(told).svg.encode("utf-8")
+        drawn = picture(Listed(answer, every.rows)).svg.encode("utf-8")
         if isinstance(answer, Refused):
             session.output.flush()
             before = "; the sketch shows what comes before" if told.lines is not None else ""
@@ -49,7 +49,7 @@ def look(session: Session) -> int:
 def text(session: Session) -> int:
     """The text of each page."""
     def work(page: Page) -> None:
-        told = listed(session.program, page)
+        told = session.heard(page).last
         answer, lines = told.answer, told.lines
         if not session.answered(page, answer):
             return

@@ -71,8 +71,9 @@ def test_long_and_hostile_pages_are_read_in_part(run, tmp_path):
     assert said.endswith(b"\n1 of the refused pages were read on in part alone.\n")
 
 
-SOME = st.lists(st.one_of(st.sampled_from([POINT, b"\x18", b"\x1a", b"\x1b\x5f", b"\x1b\x22\x46", b"\x0e\x3a\x52", b"\xff",
-                                           b"\x1b\x28\x41", b"\x0e\x3c", b"\x1f\x41\x42", OUTSIDE, b"\x1b\x40A",
+SOME = st.lists(st.one_of(st.sampled_from([POINT, b"\x18", b"\x1a", b"\x1b\x5f", b"\x1b\x22\x46", b"\x0e\x3a\x52",
+                                           b"\xff", b"\x1b\x28\x41", b"\x0e\x3c", b"\x1f\x41\x42", OUTSIDE,
+                                           b"\x1b\x40A",
                                            b"\x1b\x45", b"\x1b\x2b\x7a\x1d\x41", b"A\x1b\x46\x42"]),
                           st.binary(max_size=3)), max_size=12).map(b"".join)
 

@@ -40,6 +40,7 @@ def folder(tmp_path, naplps):
     for to, name in ((os.path.join(TOP, "examples"), "examples"), (COMMAND, "pages/naplps-pages"), (naplps, "naplps")):
         os.symlink(to, os.path.join(made, name))
     for name, data in (("page.nap", with_parity(logo())), ("other.nap", POINT), ("pages/page.nap", POINT),
+                       ("first.nap", POINT),
                        ("capture.nap", POINT + b"\x1f" + POINT)):
         file(made, name, data)
     for name in ("old.tar", "more.zip"):
