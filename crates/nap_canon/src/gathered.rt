@@ -4,6 +4,7 @@ ghost use Rattle.nap_canon.specs.Batches.{points_bytes};
 ghost use Rattle.nap_canon.specs.Spelling.{onward_bytes};
 ghost use Rattle.nap_canon.specs.Gathering.{laid, room_limit};
 
+use arrayvec::ArrayVec;
 use nap_values::{Point, put_move, put_point};
 use std::marker::Model;
 
@@ -157,7 +158,8 @@ fn lay_points(bytes: &mut [u8; ROOM], at: usize, points: &[Point])
 {
     let mut until = at;
     for point in points {
-        lay_bytes(bytes, until, &put_point(*point));
+        let operand: ArrayVec<u8, 8> = put_point(*point);
+        lay_bytes(bytes, until, &operand);
         until += 8;
     }
 }
@@ -171,7 +173,8 @@ fn lay_onward(bytes: &mut [u8; ROOM], at: usize, first: Point, others: &[Point])
     let mut from = first;
     for i in 0..others.len() {
         let to = others[i];
-        lay_bytes(bytes, at + 8 * i, &put_move(from.to(to)));
+        let operand: ArrayVec<u8, 8> = put_move(from.to(to));
+        lay_bytes(bytes, at + 8 * i, &operand);
         from = to;
     }
 }

@@ -17,7 +17,7 @@ lay_bytes-requires c = record {
     arith,
     c.loop-i-test.true,
     c.requires.within,
-    ap length (c.deref.ensures.0 ∙ c.put_move.ensures) ∙ move_size c.to.result,
+    ap length (c.deref.ensures.0 ∙ c.put_move-operand.ensures) ∙ move_size c.to.result,
   );
 }
 
@@ -31,7 +31,7 @@ loop-i-preserved c =
     let to = c.index-others-i.result in
     let (done, bytes, size, all) = c.loop-i.invariant in
     let step : List ℕ = move_bytes (displacement_to from to) in
-    let spelled : c.deref.result.now ≡ step = c.deref.ensures.0 ∙ c.put_move.ensures ∙ ap move_bytes c.to.ensures in
+    let spelled : c.deref.result.now ≡ step = c.deref.ensures.0 ∙ c.put_move-operand.ensures ∙ ap move_bytes c.to.ensures in
     let long : length step ≡ 8 = move_size (displacement_to from to) in (
       done ++ step,
       c.lay_bytes.ensures

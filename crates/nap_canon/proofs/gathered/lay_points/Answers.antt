@@ -17,7 +17,7 @@ lay_bytes-requires c = record {
     c.loop-point.invariant.until,
     c.loop-point-test.true,
     c.requires.within,
-    ap length (c.deref.ensures.0 ∙ c.put_point.ensures.bytes) ∙ point_size c.point-item.result,
+    ap length (c.deref.ensures.0 ∙ c.put_point-operand.ensures.bytes) ∙ point_size c.point-item.result,
   );
 }
 
@@ -36,7 +36,7 @@ loop-point-preserved c =
     record {
       bytes =
           c.lay_bytes.ensures
-          ∙ ap (λ (bs : List ℕ). laid c.loop-point.bytes at bs) (c.deref.ensures.0 ∙ c.put_point.ensures.bytes)
+          ∙ ap (λ (bs : List ℕ). laid c.loop-point.bytes at bs) (c.deref.ensures.0 ∙ c.put_point-operand.ensures.bytes)
           ∙ ap (λ (bs : List ℕ). laid bs at (point_bytes p)) inv.bytes
           ∙ laid_behind room now (point_bytes p) c.args.at at (omega (arith, inv.size, inv.until)) (omega (arith, inv.until, c.loop-point-test.true, c.requires.within))
           ∙ ap (laid room c.args.at) (sym more);
