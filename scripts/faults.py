@@ -534,6 +534,25 @@ def test_batch_writes():
     judge.close(f"writes: batch: each write fails in turn: {runs['faulty'] - before} faults")
 
 
+FAULT_LINES = {"read": b"read fault\n", "write": rb"write fault after (0|[1-9][0-9]*) bytes\n"}
+
+
+def test_lines():
+    """A read or a write that fails is told as that, whatever growth is refused, and all behind it."""
+    told = 0
+    for words, page in [*((words, POINT) for words in COMMANDS), (["batch"], REQUESTS)]:
+        for kind, line in FAULT_LINES.items():
+            number, letters = 0, "m"
+            while "m" in letters:
+                number += 1
+                got, letters = run_faulty(page, words, memory=number, **{kind: 1})
+                if kind[0] in letters:
+                    told += 1
+                    is_told = got.status == 3 and re.fullmatch(line, got.err) is not None
+                    judge.take(is_told, f"lines: {' '.join(words)}, first {kind}, growth {number}: {got}, faults {letters}")
+    judge.close(f"lines: a read or a write fails beside growths that are refused: {told} faults")
+
+
 def test_batch_short():
     for most in (1, 2, 3, 1000):
         got, _ = run_faulty(REQUESTS, ["batch"], read_most=most, write_most=most)
@@ -567,6 +586,7 @@ def main():
         test_batch_memory,
         test_batch_reads,
         test_batch_writes,
+        test_lines,
         test_batch_short,
         test_batch_many_reads,
     ):

@@ -85,8 +85,11 @@ module _ {S : Type 0} (g : Ghosts S) (x : Entry) (s : Counting S) (t : S) (f : S
 module _ {S : Type 0} (g : Ghosts S) (h : Ghosts (Counting S)) (took_is : (s t : Counting S) (d : List Entry) → h.took s d t → Took g s d t)
     (wants_is : (s : Counting S) (d : List Entry) → h.wants s d → g.wants s.sink d) (failed_is : (t : Counting S) → h.failed t ≡ true → g.failed t.sink ≡ true) where
   known : (n : ℕ) (before after : Option ℕ) → before ≡ Some 0 → GrowsBy n before after → IsCount after n
-  known n before None none h = tt
-  known n before (Some k) none (m, is, sum) = let zero : m ≡ 0 = cc (is, none) in omega (arith, sum, zero)
+  known n before after none h = count n after (subst (λ (b : Option ℕ). GrowsBy n b after) none h)
+    where
+      count : (n : ℕ) (after : Option ℕ) → GrowsBy n (Some 0) after → IsCount after n
+      count n None past = past
+      count n (Some k) sum = sum
 
   pub counted_all : (s : Counting S) (first : S) → s ≡ made first (Some 0) → (budget : ℕ) (p : List ℕ) (t : Counting S) (last : S) (n : Option ℕ) → last ≡ t.sink → n ≡ t.count →
       Collects h s budget p (Ok t) → CountsAll g first budget p (Ok (last, n))

@@ -39,12 +39,12 @@ module _ {I O : Type 0} (i : inlet.Ghosts I) (o : outlet.Ghosts O) (written : �
     flushed = flushed;
     once = once;
   }
-  answered read works x is parts (Err (ended.Write n)) (part, sent, front, count, failed) = record {
+  answered read works x is parts (Err (ended.Write n)) (part, sent, front, count, failed, flushes) = record {
     bytes = bytes;
     part = part;
     read = read;
     sent = sent;
-    stops = (x, new, is, parts, front, count, failed, works);
+    stops = (x, new, is, parts, front, count, failed, works, flushes);
     flushed = λ _ good. cc;
     none_more = λ good. cc;
   }

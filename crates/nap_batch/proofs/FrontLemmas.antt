@@ -6,7 +6,7 @@ use Rattle.nap_batch.specs.declared.request.Question.{Question}
 use Rattle.nap_batch.specs.declared.request.Question.TheVariants as question
 use Rattle.nap_batch.specs.declared.request.RequestLine.{RequestLine}
 use Rattle.nap_batch.specs.Laws.{BegunRequestsAreNone, RequestsAreCutOneWay}
-use Rattle.nap_batch.specs.Requests.{Cuts, IsBegun, IsLine, IsMore, IsOpen, IsRequest, IsShort, IsWhole, NeverStarts, StartsNone, line_for, name_of}
+use Rattle.nap_batch.specs.Requests.{Cuts, IsBegun, IsLine, IsMore, IsRequest, IsShort, IsWhole, NeverStarts, StartsNone, line_for, name_of}
 use Rattle.nap_batch.proofs.RequestLemmas.{apart, cut_once, digits_above, first_cut, name_above, no_cut, parts_of, second_cut}
 
 -- The end of a line stands in no line.
@@ -127,7 +127,7 @@ module _ (bytes : List ℕ) (h : RequestLine) (n : ℕ) (whole : IsWhole bytes h
   whole_request = record { line = whole.line; says = with_page whole.line h page_of whole.says size_is; bytes_are = asked_is }
 
 -- bytes that can't be cut at the end of a line have none, and no request
-pub uncut_open : (held : List ℕ) → ((front back : List ℕ) → Cuts 10 held front back → ⊥) → IsOpen held
+pub uncut_open : (held : List ℕ) → ((front back : List ℕ) → Cuts 10 held front back → ⊥) → All (λ b. b ≢ 10) held
 uncut_open [] none = All-nil (λ b. b ≢ 10)
 uncut_open (x ∷ xs) none =
     let P : ℕ → Type 0 = λ b. b ≢ 10 in
@@ -137,7 +137,7 @@ uncut_open (x ∷ xs) none =
 
 pub begun_requests_are_none : BegunRequestsAreNone
 begun_requests_are_none bytes (inl endless) asked behind c budget page is same =
-    no_cut 10 bytes is.line (page ++ behind) endless (line_cut asked behind c budget page is bytes same)
+    no_cut 10 bytes is.line (page ++ behind) endless.none (line_cut asked behind c budget page is bytes same)
 begun_requests_are_none bytes (inr short) asked behind c budget page is same = short_front bytes short.0 short.1 asked behind c budget page is same
 
 -- and where they are more than a line has, none will stand there

@@ -1,12 +1,13 @@
-use Rattle.std.proofs.Common.{ℕ, zero, suc, ◌+◌, ◌-◌, ◌^◌, ◌≡◌, ◌≢◌, true, false, List, [], ◌∷◌, ◌++◌, length, min, refl, ap, sym, subst, ◌∙◌, inr, append-nil, append_assoc, length-append, arith}
+use Rattle.std.proofs.Common.{ℕ, Bool, zero, suc, ◌+◌, ◌-◌, ◌^◌, ◌≡◌, ◌≢◌, true, false, List, [], ◌∷◌, ◌++◌, length, min, refl, ap, sym, subst, ◌∙◌, inr, append-nil, append_assoc, length-append, arith}
 use Rattle.std.specs.Prelude.{All, flat_map}
 use Rattle.std.specs.Io.KnownBytes.{Appends, Consumes}
 use Rattle.std.proofs.KnownBytes.{Appends-nil, Appends-trans, Consumes-nil, Consumes-trans}
 use Rattle.std.proofs.lemmas.List.Elements.{All-nil}
+use Rattle.nap_list.specs.Flushing.{flushed}
 use Rattle.nap_batch.specs.declared.service.Ended.{Ended}
 use Rattle.nap_batch.specs.declared.service.Ended.TheVariants as ended
 use Rattle.nap_batch.specs.Limits.{requests_limit}
-use Rattle.nap_batch.specs.Sessions.{Answers, Exchange, FlushedTimes, IsExchange, Pipes, Session, Stops, flushed_once}
+use Rattle.nap_batch.specs.Sessions.{Answers, Exchange, FlushedTimes, IsExchange, Pipes, Session, Stops, StopsIn, flushed_once, flushes_of}
 use Rattle.nap_batch.proofs.SessionLemmas.{answered_more, count_more, each_more, ends_behind, read_on}
 
 -- flushes are counted on
@@ -22,6 +23,21 @@ once_more b m a (suc n) h is =
 
 times_of : (xs : List Exchange) (n b m a : ℕ) → length xs ≡ n → a ≡ m → FlushedTimes n b m → FlushedTimes (length xs) b a
 times_of xs n b m a size same h = subst (λ (k : ℕ). FlushedTimes k b a) (sym size) (subst (FlushedTimes n b) (sym same) h)
+
+-- those of a row that ends at a failed write or flush
+amid : (w : Bool) (xs : List Exchange) (k n b m a : ℕ) → length xs ≡ n → FlushedTimes n b m → a ≡ flushed w m → FlushedTimes (flushes_of (ended.Write k) w (length xs)) b a
+amid true xs k n b m a size h is = times_of xs n b m a size is h
+amid false xs k n b m a size h is = subst (λ (i : ℕ). FlushedTimes (i + 1) b a) (sym size) (once_more b m a n h is)
+
+-- those of a row that ends so
+at_end : (end : Ended) (xs : List Exchange) (n b written : ℕ) (rest part : List ℕ) (mid after : Pipes) → length xs ≡ n → FlushedTimes n b mid.flushes → mid.output_failed ≡ false →
+    StopsIn written rest part mid after end → (after.output_failed ≡ false → after.flushes ≡ mid.flushes) → FlushedTimes (flushes_of end after.write_failed (length xs)) b after.flushes
+at_end (ended.Write k) xs n b written rest part mid after size h works (x, behind, is, parts, front, number, failed, input, flushes) none =
+    amid after.write_failed xs k n b mid.flushes after.flushes size h (flushes works)
+at_end ended.Done xs n b written rest part mid after size h works stops none = times_of xs n b mid.flushes after.flushes size (none (stops.2 ∙ works)) h
+at_end ended.Request xs n b written rest part mid after size h works stops none = times_of xs n b mid.flushes after.flushes size (none (stops.2 ∙ works)) h
+at_end ended.Read xs n b written rest part mid after size h works stops none = times_of xs n b mid.flushes after.flushes size (none (stops.2 ∙ works)) h
+at_end ended.Memory xs n b written rest part mid after size h works stops none = times_of xs n b mid.flushes after.flushes size (none (stops.2 ∙ works)) h
 
 -- So many requests were answered, and these bytes are held behind them.
 pub record Going (before now : Pipes) (held : List ℕ) (written n : ℕ) : Type 0 where
@@ -83,7 +99,7 @@ ends before mid after held written n end h k =
       sent = Appends-trans before.taken mid.taken after.taken out k.part h.sent k.sent;
       ends = ends_behind before mid after h.xs (held ++ k.bytes) k.part written end h.input_works h.output_works h.count k.stops;
       flushed = λ some works. k.flushed (h.flushed some) works;
-      each_flushed = λ began works. times_of h.xs n before.flushes mid.flushes after.flushes h.requests (k.none_more works) (h.each_flushed began);
+      each_flushed = λ began. at_end end h.xs n before.flushes written (held ++ k.bytes) k.part mid after h.requests (h.each_flushed began) (h.output_works ∙ began) k.stops k.none_more;
     }
 
 -- there were as many as there may be
@@ -97,7 +113,7 @@ ends_full before now held written n full h = record {
   sent = subst (Appends before.taken now.taken) (sym (append-nil (flat_map (λ (y : Exchange). y.answered) h.xs))) h.sent;
   ends = (refl, inr (h.requests ∙ full, h.input_works), h.output_works);
   flushed = λ some works. h.flushed some;
-  each_flushed = λ began works. times_of h.xs n before.flushes now.flushes now.flushes h.requests refl (h.each_flushed began);
+  each_flushed = λ began. times_of h.xs n before.flushes now.flushes now.flushes h.requests refl (h.each_flushed began);
 }
 
 -- there was no memory to begin with
@@ -109,7 +125,7 @@ ends_unbegun p = record {
   part = [];
   read = Consumes-nil p.left;
   sent = Appends-nil p.taken;
-  ends = (refl, (All-nil (λ b. b ≢ 10), refl), refl);
+  ends = (refl, (record { none = All-nil (λ b. b ≢ 10); few = omega arith }, refl), refl);
   flushed = λ some works. absurd (some refl);
-  each_flushed = λ _ _. no_times p.flushes;
+  each_flushed = λ _. no_times p.flushes;
 }

@@ -56,7 +56,7 @@ count_more out more w n was is =
 pub ends_behind : (before mid after : Pipes) (xs : List Exchange) (rest part : List ℕ) (written : ℕ) (end : Ended) → mid.input_failed ≡ before.input_failed →
     mid.output_failed ≡ before.output_failed → written ≡ min (length (flat_map (λ x. x.answered) xs)) (2 ^ 64 - 1) → StopsIn written rest part mid after end →
     EndsBy before after xs rest part end
-ends_behind before mid after xs rest part written (ended.Write n) input output count (x, behind, is, parts, front, number, failed, works) =
+ends_behind before mid after xs rest part written (ended.Write n) input output count (x, behind, is, parts, front, number, failed, works, flushes) =
     (x, behind, is, parts, front, count_more (flat_map (λ x. x.answered) xs) part written n count number, failed, works ∙ input)
 ends_behind before mid after xs rest part written ended.Request input output count (none, stops, works) =
     (none, inl (stops_alike (reading_of mid after) (reading_of before after) rest ended.Request refl refl (sym input) stops), works ∙ output)

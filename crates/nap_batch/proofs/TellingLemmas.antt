@@ -15,44 +15,27 @@ use Rattle.nap_batch.specs.Sessions.{Tells, ended_text}
 
 -- A failure stands for an end: its line is told, with the status 3.
 pub record StandsFor (end : Ended) (f : Failure) : Type 0 where
-  pub apart : (end ≢ ended.Done) × (end ≢ ended.Request)
   pub text : told_text (Err f) ≡ ended_text end
   pub status : exit_status (Err f) ≡ 3
 
 pub read_stands : StandsFor ended.Read failure.Read
-read_stands = record { apart = (λ h. cc, λ h. cc); text = refl; status = refl }
+read_stands = record { text = refl; status = refl }
 
 pub write_stands : (n : ℕ) → StandsFor (ended.Write n) (failure.Write n)
-write_stands n = record { apart = (λ h. cc, λ h. cc); text = refl; status = refl }
+write_stands n = record { text = refl; status = refl }
 
 pub memory_stands : StandsFor ended.Memory failure.Memory
-memory_stands = record { apart = (λ h. cc, λ h. cc); text = refl; status = refl }
+memory_stands = record { text = refl; status = refl }
 
 -- what was told of the failure was told of the end
 pub tells_of : (e : List ℕ) (failed : Bool) (end : Ended) (f : Failure) (status : ℕ) → StandsFor end f → commands.Tells e failed (Err f) status → Tells e failed end × (status ≡ 3)
-tells_of e failed end f status h k =
-    elim k.told_as [
-      | inl same ↦
-          let text : told_text k.said ≡ ended_text end = ap told_text same ∙ h.text in (
-            record {
-              said = end;
-              told_as = inl refl;
-              front = subst (λ (xs : List ℕ). take (length e) xs ≡ e) text k.front;
-              all = λ works. k.all works ∙ text;
-            },
-            k.status_is ∙ (ap exit_status same ∙ h.status),
-          )
-      | inr wanting ↦
-          let text : told_text k.said ≡ ended_text ended.Memory = ap told_text wanting.1 in (
-            record {
-              said = ended.Memory;
-              told_as = inr (h.apart.0, h.apart.1, refl);
-              front = subst (λ (xs : List ℕ). take (length e) xs ≡ e) text k.front;
-              all = λ works. k.all works ∙ text;
-            },
-            k.status_is ∙ ap exit_status wanting.1,
-          )
-    ]
+tells_of e failed end f status h k = (
+  record {
+    front = subst (λ (xs : List ℕ). take (length e) xs ≡ e) h.text k.front;
+    all = λ works. k.all works ∙ h.text;
+  },
+  k.status_is ∙ h.status,
+)
 
 -- What standard error took of a line that was written.
 
@@ -67,10 +50,10 @@ failed_is_false was now h k = cc (or-true was)
 pub tells_line : (old new : Option (List ℕ)) (r : Result (Unit {0}) Failure) (was now : Bool) (end : Ended) → Takes old new (ended_text end) r → now ≡ (was || is_err r) →
     (e : List ℕ) × Appends old new e × Tells e now end
 tells_line old new (Ok done) was now end h flag =
-    (ended_text end, h, record { said = end; told_as = inl refl; front = take_all (length (ended_text end)) (ended_text end) (omega arith); all = λ _. refl })
+    (ended_text end, h, record { front = take_all (length (ended_text end)) (ended_text end) (omega arith); all = λ _. refl })
 tells_line old new (Err (failure.Write n)) was now end h flag = (
   take n (ended_text end),
   h.1,
-  record { said = end; told_as = inl refl; front = front_of_front n (ended_text end) h.0; all = λ works. absurd (failed_is_false was now flag works) },
+  record { front = front_of_front n (ended_text end) h.0; all = λ works. absurd (failed_is_false was now flag works) },
 )
 tells_line old new (Err _) was now end h flag = absurd h

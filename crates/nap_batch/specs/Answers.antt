@@ -131,9 +131,9 @@ question_of action.Canon = question.Canon
 
 -- A page is read into a sink that counts.
 
--- a number of entries is so many, if it is known
+-- a number of entries is so many, if 64 bits can hold it
 abbrev pub IsCount : Option ℕ → ℕ → Type 0
-IsCount None n = Unit {0}
+IsCount None n = 2 ^ 64 ≤ n
 IsCount (Some k) n = k ≡ n
 
 -- a sink that was s has all entries of the page, and how many they are; or that is refused

@@ -1,4 +1,4 @@
-use Rattle.std.specs.Prelude.{ℕ, ◌≡◌, ◌+◌, List, [], ◌++◌, Option, None, Some, length}
+use Rattle.std.specs.Prelude.{ℕ, ◌≡◌, ◌+◌, ◌^◌, ◌≤◌, List, [], ◌++◌, Option, None, Some, length}
 use Rattle.std.proofs.Common.{refl, length-append, arith}
 use Rattle.nap_list.specs.declared.entry.Entry.{Entry}
 use Rattle.nap_list.specs.declared.sink.Sink.{Ghosts}
@@ -9,10 +9,12 @@ pub record Counting (S : Type 0) : Type 0 where
   pub sink : S
   pub count : Option ℕ
 
--- a count that is so much more than another was, if it is known
+-- A count of so many entries more: their sum, if it was known. It is lost only where 64 bits can't hold that.
 abbrev pub GrowsBy : ℕ → Option ℕ → Option ℕ → Type 0
-GrowsBy n before None = Unit {0}
-GrowsBy n before (Some k) = (m : ℕ) × (before ≡ Some m) × (k ≡ m + n)
+GrowsBy n None None = Unit {0}
+GrowsBy n None (Some k) = ⊥
+GrowsBy n (Some m) None = 2 ^ 64 ≤ m + n
+GrowsBy n (Some m) (Some k) = k ≡ m + n
 
 -- the other sink took these entries, and they were counted
 pub record Took {S : Type 0} (g : Ghosts S) (s : Counting S) (d : List Entry) (t : Counting S) : Type 0 where
@@ -33,7 +35,7 @@ counting g = record {
 
 pub grows_none : (c : Option ℕ) → GrowsBy 0 c c
 grows_none None = tt
-grows_none (Some k) = (k, refl, same k)
+grows_none (Some k) = same k
   where
     same : (k : ℕ) → k ≡ k + 0
     same k = omega arith
@@ -42,15 +44,22 @@ pub took_none : {S : Type 0} (g : Ghosts S) (s : Counting S) → g.took s.sink [
 took_none g s none = record { took = none; count = grows_none s.count }
 
 pub grows_more : (m n : ℕ) (a b c : Option ℕ) → GrowsBy m a b → GrowsBy n b c → GrowsBy (m + n) a c
-grows_more m n a b None first second = tt
-grows_more m n a None (Some k) first second = let bad : ⊥ = cc (second.1) in absurd bad
-grows_more m n a (Some j) (Some k) first second = (first.0, first.1, sum first.0 j second.0 k m n first.2 (some j second.0 second.1) second.2)
+grows_more m n None None None first second = tt
+grows_more m n None None (Some k) first second = second
+grows_more m n None (Some j) c first second = absurd first
+grows_more m n (Some i) None None first second = past i m n (2 ^ 64) first
   where
-    some : (i j : ℕ) → Some i ≡ Some j → i ≡ j
-    some i j h = let e : i ≡ j = cc in e
-
-    sum : (i j l k m n : ℕ) → j ≡ i + m → j ≡ l → k ≡ l + n → k ≡ i + (m + n)
-    sum i j l k m n one same two = omega arith
+    past : (i m n most : ℕ) → most ≤ i + m → most ≤ i + (m + n)
+    past i m n most h = omega arith
+grows_more m n (Some i) None (Some k) first second = absurd second
+grows_more m n (Some i) (Some j) None first second = past i j m n (2 ^ 64) first second
+  where
+    past : (i j m n most : ℕ) → j ≡ i + m → most ≤ j + n → most ≤ i + (m + n)
+    past i j m n most h k = omega arith
+grows_more m n (Some i) (Some j) (Some k) first second = sum i j k m n first second
+  where
+    sum : (i j k m n : ℕ) → j ≡ i + m → k ≡ j + n → k ≡ i + (m + n)
+    sum i j k m n one two = omega arith
 
 pub took_more : {S : Type 0} (g : Ghosts S) (s t u : Counting S) (d e : List Entry) → g.took s.sink (d ++ e) u.sink → Took g s d t → Took g t e u → Took g s (d ++ e) u
 took_more g s t u d e both first second = record {

@@ -6,6 +6,10 @@ use Rattle.std.specs.Prelude.{ℕ}
 abbrev pub digits_limit : ℕ
 digits_limit = 8
 
+-- the most bytes of a request's line, without its end
+abbrev pub line_limit : ℕ
+line_limit = 24
+
 -- the most bytes of a page
 abbrev pub page_limit : ℕ
 page_limit = 16777216

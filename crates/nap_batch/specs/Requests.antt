@@ -6,7 +6,7 @@ use Rattle.nap_batch.specs.declared.front.Front.TheVariants as front
 use Rattle.nap_batch.specs.declared.request.Question.{Question}
 use Rattle.nap_batch.specs.declared.request.Question.TheVariants as question
 use Rattle.nap_batch.specs.declared.request.RequestLine.{RequestLine}
-use Rattle.nap_batch.specs.Limits.{digits_limit, page_limit}
+use Rattle.nap_batch.specs.Limits.{digits_limit, line_limit, page_limit}
 
 -- a list is cut at the first such byte
 pub record Cuts (byte : ℕ) (bytes front back : List ℕ) : Type 0 where
@@ -70,9 +70,10 @@ pub record IsShort (bytes : List ℕ) (n : ℕ) : Type 0 where
   pub missing : length behind + n ≡ request.size
   pub some : 0 < n
 
--- no line ends in these bytes
-abbrev pub IsOpen : List ℕ → Type 0
-IsOpen bytes = All (λ b. b ≢ 10) bytes
+-- no line ends in these bytes, which are no more than a line has
+pub record IsOpen (bytes : List ℕ) : Type 0 where
+  pub none : All (λ b. b ≢ 10) bytes
+  pub few : length bytes ≤ line_limit
 
 -- a request may have begun: its line has no end yet, or its page lacks bytes
 abbrev pub IsBegun : List ℕ → Type 0

@@ -51,6 +51,7 @@ Sends o written text before after (Ok n) =
     × (o.failed before ≡ false → o.flushes after ≡ flushed_once (o.flushes before))
 Sends o written text before after (Err (ended.Write n)) =
     (part : List ℕ) × Appends (o.taken before) (o.taken after) part × (take (length part) text ≡ part) × (n ≡ count_on written (length part)) × (o.failed after ≡ true)
+    × (o.failed before ≡ false → flushing.FlushedOnce o before after)
 Sends o written text before after (Err _) = ⊥
 
 pub record IsSent {O : Type 0} (o : outlet.Ghosts O) (written : ℕ) (text : List ℕ) (before after : O) (result : Result ℕ Ended) : Type 0 where
@@ -61,7 +62,8 @@ abbrev pub Replies : {O : Type 0} → outlet.Ghosts O → ℕ → Question → �
 Replies o written q budget page before after result = (text : List ℕ) × IsAnswered q budget page text × IsSent o written text before after result
 
 -- What the input and the output show: the bytes left in the one and those that the other took, where they tell them; how
--- often the input was read; whether the output was flushed behind its last write, and how often; and which of them failed.
+-- often the input was read; whether the output was flushed behind its last write, and how often; which of them failed, and
+-- whether a write of the output did.
 pub record Pipes : Type 0 where
   pub left : Option (List ℕ)
   pub reads : ℕ
@@ -70,6 +72,7 @@ pub record Pipes : Type 0 where
   pub sent : Bool
   pub flushes : ℕ
   pub output_failed : Bool
+  pub write_failed : Bool
 
 abbrev pub pipes : {I O : Type 0} → inlet.Ghosts I → outlet.Ghosts O → I → O → Pipes
 pipes i o input output = record {
@@ -80,10 +83,20 @@ pipes i o input output = record {
   sent = o.sent output;
   flushes = o.flushes output;
   output_failed = o.failed output;
+  write_failed = o.write_failed output;
 }
 
 abbrev pub pipes_of : Devices → Pipes
-pipes_of d = record { left = d.left; reads = d.reads; input_failed = d.input_failed; taken = d.taken; sent = d.sent; flushes = d.flushes; output_failed = d.output_failed }
+pipes_of d = record {
+  left = d.left;
+  reads = d.reads;
+  input_failed = d.input_failed;
+  taken = d.taken;
+  sent = d.sent;
+  flushes = d.flushes;
+  output_failed = d.output_failed;
+  write_failed = d.write_failed;
+}
 
 abbrev pub reading_of : Pipes → Pipes → Reading
 reading_of before after = record { left = after.left; failed_before = before.input_failed; failed = after.input_failed; reads = after.reads - before.reads }
@@ -103,6 +116,12 @@ EndsBy before after xs rest part end = (part ≡ []) × StopsBy (reading_of befo
 abbrev pub FlushedTimes : ℕ → ℕ → ℕ → Type 0
 FlushedTimes n before after = (n ≡ 0 → after ≡ before) × (n ≢ 0 → after ≡ min (before + n) (2 ^ 64 - 1))
 
+-- How often an output is flushed for so many answers: once behind each. Where a write of the next one failed, it was flushed
+-- no more; and where that was written whole and its flush failed, once more.
+abbrev pub flushes_of : Ended → Bool → ℕ → ℕ
+flushes_of (ended.Write n) false answers = answers + 1
+flushes_of end write_failed answers = answers
+
 -- Requests were answered, one after another, from the devices before to those after, and that ended so.
 pub record Session (before after : Pipes) (end : Ended) : Type 0 where
   pub exchanges : List Exchange
@@ -113,7 +132,7 @@ pub record Session (before after : Pipes) (end : Ended) : Type 0 where
   pub sent : Appends before.taken after.taken (flat_map (λ x. x.answered) exchanges ++ part)
   pub ends : EndsBy before after exchanges rest part end
   pub flushed : exchanges ≢ [] → after.output_failed ≡ false → after.sent ≡ true
-  pub each_flushed : before.output_failed ≡ false → after.output_failed ≡ false → FlushedTimes (length exchanges) before.flushes after.flushes
+  pub each_flushed : before.output_failed ≡ false → FlushedTimes (flushes_of end after.write_failed (length exchanges)) before.flushes after.flushes
 
 -- One request was answered, behind bytes that were held: these are held then, and the output took so many bytes in all.
 pub record Answers (written : ℕ) (old new : List ℕ) (before after : Pipes) (n : ℕ) : Type 0 where
@@ -134,6 +153,7 @@ abbrev pub StopsIn : ℕ → List ℕ → List ℕ → Pipes → Pipes → Ended
 StopsIn written rest part before after (ended.Write n) =
     (x : Exchange) × (behind : List ℕ) × IsExchange x × (rest ≡ x.asked ++ behind) × (take (length part) x.answered ≡ part)
     × (n ≡ count_on written (length part)) × (after.output_failed ≡ true) × (after.input_failed ≡ before.input_failed)
+    × (before.output_failed ≡ false → after.flushes ≡ flushing.flushed after.write_failed before.flushes)
 StopsIn written rest part before after end = (part ≡ []) × StopsBy (reading_of before after) rest end × (after.output_failed ≡ before.output_failed)
 
 -- None was, and that is the end.
@@ -162,12 +182,10 @@ abbrev pub status_of : Ended → ℕ
 status_of ended.Done = 0
 status_of _ = 3
 
--- Standard error took e: all of the line, unless it failed; or what tells that there was no memory for the line.
+-- Standard error took e: all of the line, unless it failed.
 pub record Tells (e : List ℕ) (failed : Bool) (end : Ended) : Type 0 where
-  pub said : Ended
-  pub told_as : (said ≡ end) ⊎ ((end ≢ ended.Done) × (end ≢ ended.Request) × (said ≡ ended.Memory))
-  pub front : take (length e) (ended_text said) ≡ e
-  pub all : failed ≡ false → e ≡ ended_text said
+  pub front : take (length e) (ended_text end) ≡ e
+  pub all : failed ≡ false → e ≡ ended_text end
 
 -- The command ran from the devices before to those after, with this exit status.
 pub record Served (before after : Devices) (status : ℕ) : Type 0 where

@@ -11,7 +11,8 @@ use crate::request::Question;
 use itoa::Buffer;
 use nap_canon::CanonSink;
 use nap_command::{
-    Action, Command, Failure, Printout, answer_stream, count_line, read_stream, refusal_of_text,
+    Action, Command, Printout, answer_stream, count_line, read_stream, refusal_line,
+    refusal_of_text,
 };
 use nap_lines::LineSink;
 use nap_list::{Sink, Target};
@@ -58,20 +59,12 @@ fn check(alloc: Global, budget: Budget, page: &[u8]) -> Result<Printout, AllocEr
     }
 }
 
-/// The line of a page that is refused.
-fn refused_line(alloc: Global, refusal: Refusal) -> Result<Vec<u8>, AllocError>
-    ensures { IfOk result (λ text. text.items ≡ refused_line refusal) }
-{
-    let line = Failure::Refused(refusal).line(alloc)?;
-    Ok(line.into_bytes())
-}
-
 /// The answer that shows a refused page, with no body.
 fn refused(alloc: Global, refusal: Refusal) -> Result<Answer, AllocError>
     ensures { IfOk result (λ a. (a.line.items ≡ refused_line refusal) × (a.body.items ≡ [])) }
 {
     Ok(Answer {
-        line: refused_line(alloc, refusal)?,
+        line: refusal_line(alloc, refusal)?,
         body: Vec::new(alloc),
     })
 }
@@ -140,7 +133,7 @@ fn ended_line(alloc: Global, ended: Result<usize, Refusal>) -> Result<Vec<u8>, A
 {
     match ended {
         Ok(count) => count_line(alloc, count as u64),
-        Err(refusal) => refused_line(alloc, refusal),
+        Err(refusal) => refusal_line(alloc, refusal),
     }
 }
 

@@ -1,8 +1,9 @@
 //! Laws of requests and answers.
 ghost use Rattle.std.specs.Prelude.{◌≡◌};
+ghost use Rattle.nap_batch.specs.declared.front.TheConstants.{LINE};
 ghost use Rattle.nap_batch.specs.declared.request.TheConstants.{DIGITS, PAGE};
 ghost use Rattle.nap_batch.specs.declared.service.TheConstants.{REQUESTS};
-ghost use Rattle.nap_batch.specs.Limits.{digits_limit, page_limit, requests_limit};
+ghost use Rattle.nap_batch.specs.Limits.{digits_limit, line_limit, page_limit, requests_limit};
 ghost use Rattle.nap_batch.specs.Laws.{AnswersAreThoseOfCommands, BegunRequestsAreNone, PlacesAreLines, RequestsAreCutOneWay};
 
 /// Two requests that stand in front of the same bytes are the same.
@@ -28,6 +29,7 @@ pub fn places_are_lines()
 /// The limits are those of our profile: 8 digits, 16,777,216 bytes of a page, and 2^42 requests.
 pub fn limits()
     ensures digits { DIGITS ≡ digits_limit }
+    ensures line { LINE ≡ line_limit }
     ensures page { PAGE ≡ page_limit }
     ensures requests { REQUESTS ≡ requests_limit }
 {}

@@ -145,8 +145,8 @@ pub fn batch<I: Inlet, O: Outlet, E: Outlet>(
             let _ = write_whole(errors, b"request fault\n");
             3
         }
-        Ended::Read => tell(alloc, Failure::Read, errors),
-        Ended::Write(taken) => tell(alloc, Failure::Write(taken), errors),
-        Ended::Memory => tell(alloc, Failure::Memory, errors),
+        Ended::Read => tell(Failure::Read, errors),
+        Ended::Write(taken) => tell(Failure::Write(taken), errors),
+        Ended::Memory => tell(Failure::Memory, errors),
     }
 }

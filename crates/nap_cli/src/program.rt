@@ -26,10 +26,10 @@ fn explain<O: Outlet, E: Outlet>(
         Explains (kind_of error) (seen output errors.old) (seen result.0 errors.new) result.1 }
 {
     let Ok(text) = text_of(alloc, words, &error) else {
-        return (output, tell(alloc, Failure::Memory, errors));
+        return (output, tell(Failure::Memory, errors));
     };
     if error.kind() == ErrorKind::OutOfMemory {
-        return (output, tell(alloc, Failure::Memory, errors));
+        return (output, tell(Failure::Memory, errors));
     }
     if error.use_stderr() {
         let _ = write_whole(errors, text.as_bytes());
@@ -39,7 +39,7 @@ fn explain<O: Outlet, E: Outlet>(
     match write_whole(&mut output, text.as_bytes()) {
         Ok(()) => (output, 0),
         Err(fault) => {
-            let told = tell(alloc, fault, errors);
+            let told = tell(fault, errors);
             (output, told)
         }
     }

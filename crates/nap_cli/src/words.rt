@@ -178,7 +178,9 @@ fn canon_command<'a>(alloc: Global, texts: &'a BudgetTexts) -> Result<clap::Comm
     let stream = Arg::new(alloc, STREAM)
         .long(STREAM)
         .action(ArgAction::SetTrue)
-        .help("Prints while it reads, and keeps no entry, so memory doesn't grow with the page");
+        .help(
+            "Prints while it reads, up to 64 KiB at a time, and keeps no entry,\nso memory doesn't grow with the page",
+        );
     subcommand(alloc, texts, CANON, CANON_USAGE, CANON_HELP, CANON_EXAMPLE)?.arg(stream)
 }
 

@@ -174,17 +174,11 @@ flushed_by false hex write_failed n = flushed write_failed n
 flushed_by true false write_failed n = flushed write_failed n
 flushed_by true true write_failed n = n
 
--- what is told of how a command ended: that, or that there was no memory for the line of a failure
-abbrev pub IsToldAs : Result Verdict Failure → Result Verdict Failure → Type 0
-IsToldAs ended said = (said ≡ ended) ⊎ (IsErr ended × (said ≡ Err failure.Memory))
-
--- Standard error took e where a command ended so: all of the line, unless it failed. The exit status is of what was told.
+-- Standard error took e where a command ended so: all of the line, unless it failed. The exit status says the same.
 pub record Tells (e : List ℕ) (failed : Bool) (ended : Result Verdict Failure) (status : ℕ) : Type 0 where
-  pub said : Result Verdict Failure
-  pub told_as : IsToldAs ended said
-  pub front : take (length e) (told_text said) ≡ e
-  pub all : failed ≡ false → e ≡ told_text said
-  pub status_is : status ≡ exit_status said
+  pub front : take (length e) (told_text ended) ≡ e
+  pub all : failed ≡ false → e ≡ told_text ended
+  pub status_is : status ≡ exit_status ended
 
 -- all that was printed was sent on, unless the output failed, or the command isn't done
 abbrev pub SendsOn : Result Verdict Failure → Bool → Bool → Type 0

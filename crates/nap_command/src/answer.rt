@@ -88,12 +88,12 @@ fn hex_line(alloc: Global, stream: &[u8]) -> Result<Vec<u8>, AllocError>
     Ok(line.into_bytes())
 }
 
-/// The line of a refusal.
-fn refusal_line(alloc: Global, refusal: Refusal) -> Result<Vec<u8>, AllocError>
+/// The line of a refusal, with its end.
+pub fn refusal_line(alloc: Global, refusal: Refusal) -> Result<Vec<u8>, AllocError>
     ensures { IfOk result (λ text. text.items ≡ refusal_text refusal ++ 10 ∷ []) }
 {
-    let line = Failure::Refused(refusal).line(alloc)?;
-    Ok(line.into_bytes())
+    let line = Failure::Refused(refusal).line();
+    Vec::from_slice(alloc, line.as_bytes())
 }
 
 /// What `check` prints of a page that was counted.

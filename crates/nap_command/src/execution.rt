@@ -13,32 +13,24 @@ use crate::device::write_whole;
 use crate::failure::Failure;
 use nap_canon::{ConvertFault, convert};
 use nap_list::{Inlet, Outlet};
-use std::alloc::{AllocError, Global};
+use std::alloc::Global;
 
-/// Tells of a failure on standard error, or that there was no memory for its line, and answers the exit status of what
-/// was told. Whether standard error takes it makes no difference.
-pub fn tell<E: Outlet>(alloc: Global, failure: Failure, errors: &mut E) -> u8
+/// Tells of a failure on standard error, and answers its exit status. Whether standard error takes it makes no difference.
+pub fn tell<E: Outlet>(failure: Failure, errors: &mut E) -> u8
     ensures { (e : List ℕ) × Appends (E.taken errors.old) (E.taken errors.new) e × Tells e (E.failed errors.new) (Err failure) result }
 {
-    match failure.line(alloc) {
-        Ok(line) => {
-            let _ = write_whole(errors, line.as_bytes());
-            failure.status()
-        }
-        Err(AllocError) => {
-            let _ = write_whole(errors, b"no memory\n");
-            Failure::Memory.status()
-        }
-    }
+    let line = failure.line();
+    let _ = write_whole(errors, line.as_bytes());
+    failure.status()
 }
 
 /// Tells of a failure, if a command ended with one, and answers the exit status.
-fn conclude<E: Outlet>(alloc: Global, ended: Result<Verdict, Failure>, errors: &mut E) -> u8
+fn conclude<E: Outlet>(ended: Result<Verdict, Failure>, errors: &mut E) -> u8
     ensures { (e : List ℕ) × Appends (E.taken errors.old) (E.taken errors.new) e × Tells e (E.failed errors.new) ended result }
 {
     match ended {
         Ok(verdict) => verdict.status(),
-        Err(failure) => tell(alloc, failure, errors),
+        Err(failure) => tell(failure, errors),
     }
 }
 
@@ -99,15 +91,15 @@ pub fn execute<I: Inlet, O: Outlet + Drop, E: Outlet>(
     if !command.stream {
         let mut output = output;
         let ended = perform(alloc, command, input, &mut output);
-        let status = conclude(alloc, ended, errors);
+        let status = conclude(ended, errors);
         return (output, status);
     }
     if command.hex {
-        let status = conclude(alloc, Err(Failure::Excluded), errors);
+        let status = conclude(Err(Failure::Excluded), errors);
         return (output, status);
     }
     let (output, converted) = convert(alloc, input, output, command.budget);
     let ended = ended_by(converted);
-    let status = conclude(alloc, ended, errors);
+    let status = conclude(ended, errors);
     (output, status)
 }

@@ -1,12 +1,16 @@
 //! Why a command fails.
-ghost use Rattle.std.specs.Prelude.{◌≡◌, Some, IfOk, string_bytes, ◌++◌, ◌∷◌, []};
-ghost use Rattle.nap_command.specs.declared.failure.Failure.TheVariants.{Memory, Refused};
-ghost use Rattle.nap_command.specs.Failures.{left_text, fault_text, failure_text, status_of};
+ghost use Rattle.std.specs.Prelude.{◌≡◌, ◌≤◌, ◌+◌, ◌++◌, ◌∷◌, [], decimal, length};
+ghost use Rattle.nap_command.specs.declared.failure.Failure.TheVariants.{Memory, Refused, Write};
+ghost use Rattle.nap_command.specs.Failures.{failure_text, refusal_text, status_of};
 
-use nap_codes::Left;
-use nap_reader::{Fault, Refusal};
-use std::alloc::{AllocError, Global};
-use std::fmt::{Display, Formatter, Result as FmtResult, Write};
+use crate::name::fault_name;
+use arrayvec::ArrayString;
+use itoa::Buffer;
+use nap_reader::Refusal;
+use std::alloc::AllocError;
+
+/// As many bytes as the line of a failure has at most, or more.
+pub const LINE: usize = 96;
 
 /// Why a command fails.
 #[derive(Clone, Copy, PartialEq, Eq, Drop)]
@@ -53,67 +57,55 @@ impl Failure {
         }
     }
 
-    /// The line that tells of it, with its end.
-    pub fn line(self, alloc: Global) -> Result<String, AllocError>
-        ensures { IfOk result (λ s. string_bytes s ≡ failure_text self ++ 10 ∷ []) }
+    /// The line that tells of it, with its end. It takes no memory.
+    pub fn line(self) -> ArrayString<LINE>
+        ensures { result.bytes ≡ failure_text self ++ 10 ∷ [] }
     {
-        format!(in alloc; "{self}\n")
-    }
-}
-
-/// The name of a value of another crate, as a line tells it.
-#[derive(Drop)]
-struct Named<'a, T>(&'a T);
-
-impl Display for Named<'_, Left> {
-    ghost output = { λ s. Some (left_text s.0.now) };
-
-    fn fmt<W: Write>(&self, f: &mut Formatter<W>) -> FmtResult {
-        f.write_str(match self.0 {
-            Left::Can => "CAN",
-            Left::Sdc => "SDC",
-            Left::Nsr => "NSR",
-            Left::Deft => "DEFT",
-            Left::Unprotect => "UNPROTECT",
-            Left::Edc1 => "EDC1",
-            Left::Edc2 => "EDC2",
-            Left::Edc3 => "EDC3",
-            Left::Edc4 => "EDC4",
-            Left::IncrementalPoint => "INCREMENTAL-POINT",
-            Left::IncrementalLine => "INCREMENTAL-LINE",
-            Left::IncrementalPoly => "INCREMENTAL-POLY",
-        })
-    }
-}
-
-impl Display for Named<'_, Fault> {
-    ghost output = { λ s. Some (fault_text s.0.now) };
-
-    fn fmt<W: Write>(&self, f: &mut Formatter<W>) -> FmtResult {
-        match self.0 {
-            Fault::LeftOut(left) => write!(f, "LeftOut {}", Named(left)),
-            fault => f.write_str(fault.name()),
-        }
-    }
-}
-
-impl Display for Failure {
-    ghost output = { λ failure. Some (failure_text failure) };
-
-    fn fmt<W: Write>(&self, f: &mut Formatter<W>) -> FmtResult {
+        let mut line = ArrayString::new();
         match self {
-            Failure::Excluded => write!(f, "--hex and --stream exclude each other"),
-            Failure::Read => write!(f, "read fault"),
-            Failure::Hex => write!(f, "hex fault"),
-            Failure::Refused(refusal) => write!(
-                f,
-                "refused {} {} at {}",
-                refusal.fault.number(),
-                Named(&refusal.fault),
-                refusal.place
-            ),
-            Failure::Write(taken) => write!(f, "write fault after {taken} bytes"),
-            Failure::Memory => write!(f, "no memory"),
+            Failure::Excluded => line.push_str("--hex and --stream exclude each other"),
+            Failure::Read => line.push_str("read fault"),
+            Failure::Hex => line.push_str("hex fault"),
+            Failure::Refused(refusal) => push_refusal(&mut line, refusal),
+            Failure::Write(taken) => push_write(&mut line, taken),
+            Failure::Memory => line.push_str("no memory"),
         }
+        line.push('\n');
+        line
     }
+}
+
+/// The decimal digits of a number, behind what a line has.
+fn push_number(line: &mut ArrayString<LINE>, number: u64)
+    requires { length line.old.bytes + 20 ≤ 96 }
+    ensures bytes { line.new.bytes ≡ line.old.bytes ++ decimal number }
+    ensures most { length line.new.bytes ≤ length line.old.bytes + 20 }
+{
+    let mut digits = Buffer::new();
+    line.push_str(digits.format(number));
+}
+
+/// The number, the name and the place of a refusal.
+fn push_refusal(line: &mut ArrayString<LINE>, refusal: Refusal)
+    requires { line.old.bytes ≡ [] }
+    ensures text { line.new.bytes ≡ refusal_text refusal }
+    ensures short { length line.new.bytes ≤ 90 }
+{
+    line.push_str("refused ");
+    push_number(line, u64::from(refusal.fault.number()));
+    line.push_str(" ");
+    line.push_str(fault_name(refusal.fault));
+    line.push_str(" at ");
+    push_number(line, refusal.place);
+}
+
+/// How many bytes an output took before it failed.
+fn push_write(line: &mut ArrayString<LINE>, taken: u64)
+    requires { line.old.bytes ≡ [] }
+    ensures text { line.new.bytes ≡ failure_text (Write taken) }
+    ensures short { length line.new.bytes ≤ 90 }
+{
+    line.push_str("write fault after ");
+    push_number(line, taken);
+    line.push_str(" bytes");
 }

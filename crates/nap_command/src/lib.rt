@@ -7,12 +7,15 @@ mod command;
 mod device;
 mod execution;
 mod failure;
+mod name;
 
 pub use answer::{
-    Printout, Verdict, answer_input, answer_stream, answer_text, count_line, refusal_of_text,
+    Printout, Verdict, answer_input, answer_stream, answer_text, count_line, refusal_line,
+    refusal_of_text,
 };
 pub use collect::{read_input, read_stream};
 pub use command::{Action, Command};
 pub use device::{read_whole, write_whole};
 pub use execution::{execute, tell};
-pub use failure::Failure;
+pub use failure::{Failure, LINE};
+pub use name::fault_name;

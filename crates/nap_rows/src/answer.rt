@@ -164,7 +164,7 @@ pub fn lines_of(alloc: Global, list: &[Entry]) -> Result<String, AllocError> {
 pub fn ended(alloc: Global, refusal: Option<Refusal>) -> Result<String, AllocError> {
     match refusal {
         None => String::from_str(alloc, "accepted"),
-        Some(refusal) => Failure::from(refusal).line(alloc),
+        Some(refusal) => String::from_str(alloc, Failure::from(refusal).line().as_str()),
     }
 }
 

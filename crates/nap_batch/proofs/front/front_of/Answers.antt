@@ -6,7 +6,7 @@ pub returns-then-bytes-gt-LINE : goal.returns-then-bytes-gt-LINE
 returns-then-bytes-gt-LINE c = long_line c.args.bytes.now c.in_default.ensures (omega (arith, c.if-bytes-gt-LINE.true))
 
 pub returns-in_default : goal.returns-in_default
-returns-in_default c = record { endless = λ _. uncut_open c.args.bytes.now c.in_default.ensures; short = λ some. absurd (some refl) }
+returns-in_default c = record { endless = λ _. record { none = uncut_open c.args.bytes.now c.in_default.ensures; few = omega (arith, c.if-bytes-gt-LINE.false) }; short = λ some. absurd (some refl) }
 
 pub returns-in_default-parse_line : goal.returns-in_default-parse_line
 returns-in_default-parse_line c = wrong_line c.args.bytes.now c.in-Some.line.now c.in-Some.behind.now c.in-Some.ensures c.in_default-parse_line.ensures

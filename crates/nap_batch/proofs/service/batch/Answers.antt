@@ -1,4 +1,4 @@
-use Rattle.std.proofs.Common.{[], inl, refl}
+use Rattle.std.proofs.Common.{[], refl}
 use Rattle.std.proofs.KnownBytes.{Appends-nil}
 use Rattle.nap_command.specs.declared.failure.Failure.TheVariants as failure
 use Rattle.nap_batch.specs.declared.service.Ended.TheVariants as ended
@@ -11,7 +11,7 @@ returns-in-Done g c = record {
   session = c.in-Done.ensures;
   e = [];
   told = Appends-nil _;
-  tells = record { said = ended.Done; told_as = inl refl; front = refl; all = λ _. refl };
+  tells = record { front = refl; all = λ _. refl };
   status_is = refl;
 }
 

@@ -1,4 +1,4 @@
-use Rattle.std.proofs.Common.{◌∙◌, [], Ok, Err, inl, refl, rules}
+use Rattle.std.proofs.Common.{◌∙◌, [], Ok, Err, refl, rules}
 use Rattle.std.proofs.KnownBytes.{Appends-nil}
 use Rattle.std.proofs.Math.Bool.{or-false}
 use Rattle.clap.specs.Values.{kind_of}
@@ -22,7 +22,7 @@ returns-in-Ok-write_whole g c =
       ended = Ok verdict.Accepted;
       shown = (write.takes, write.failed ∙ or-false _, write.sent, write.flushes);
       told = Appends-nil (g.E.Outlet.taken c.args.errors.now);
-      tells = record { said = Ok verdict.Accepted; told_as = inl refl; front = refl; all = λ _. refl; status_is = refl };
+      tells = record { front = refl; all = λ _. refl; status_is = refl };
     })
 
 pub returns : goal.returns
