@@ -1,10 +1,22 @@
-"""Compares docs/HEADLINE.md with the sources."""
+"""Compares docs/HEADLINE.md with the sources, and the documents that say the headline with one another."""
 import pathlib
 import re
 import sys
 
 LINES = 150
 WORD = r"[A-Za-z_][\w'-]*"
+# The headline, part by part; and how README.md says each part in its own words.
+HEADLINE = (
+    ("For streams that the reader accepts, canonical streams have equal bytes exactly if the display lists that the "
+     "standard's rules give are equal;",
+     "Two pages that are accepted have canonical streams of equal bytes exactly if the lists that the rules give are equal."),
+    ("a canonical stream uses no macro, no REL opcode and one operand size,",
+     "it defines and calls no macro, moves by no relative opcode and has one length for the operands that it draws with."),
+    ("is accepted with that same display list", "It is accepted too, with the same list;"),
+    ("and is its own canonical stream;", "rewriting it gives its own bytes;"),
+    ("and every answer, refusals with their places included, is independent of how the input was cut.",
+     "The reader gives exactly that answer, refusals with their places too, in whatever pieces the bytes come."),
+)
 DEFINITION = re.compile(rf"(?:abbrev |unfoldable )?(?:pub )?(?:(data|record) (?:pub )?({WORD})|({WORD}) :)")
 
 
@@ -208,12 +220,26 @@ def test_words(page, top, judge):
     judge.take("words: each file to be read is there", files - names)
 
 
+def prose(path):
+    """The words of a document, with a space between any two."""
+    return " ".join(re.sub(r"^> ?", "", path.read_text(encoding="utf-8"), flags=re.M).split())
+
+
+def test_sentence(top, judge):
+    sentence = " ".join(part for part, _ in HEADLINE)
+    for name in ("docs/HEADLINE.md", "docs/PROMISES.md"):
+        judge.take(f"headline: {name} has it word for word", [] if sentence in prose(top / name) else [sentence])
+    readme = prose(top / "README.md")
+    judge.take("headline: README.md says each part in its own words", [own for _, own in HEADLINE if own not in readme])
+
+
 def main():
     top = pathlib.Path(sys.argv[1])
     page = Page(top / "docs" / "HEADLINE.md")
     sources = Sources(top / "crates")
     judge = Judge()
     judge.take(f"form: at most {LINES} lines", [] if len(page.lines) <= LINES else [str(len(page.lines))])
+    test_sentence(top, judge)
     roots = set()
     for file, block in page.clauses:
         source = (top / file).read_text(encoding="utf-8")
