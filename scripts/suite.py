@@ -121,7 +121,7 @@ class Suite:
 
 
 # Those that look at the sources alone; and those that are no parts, or parts of others.
-OF_SOURCES = ("wrong-bodies", "citations", "repeated-clauses", "headline", "examples", "launcher", "trying")
+OF_SOURCES = ("wrong-bodies", "citations", "repeated-clauses", "headline", "launcher", "trying")
 NO_PARTS = ("all", "program", "kept", "rows", "tools")
 # Those that take longest, longest first.
 LONG = (

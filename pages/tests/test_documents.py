@@ -13,7 +13,7 @@ from packers import pack
 from samples import POINT, with_parity
 
 STARTS = (("README.md", "    ", "pages/naplps-pages "), ("README.md", "    ", "./naplps "),
-          ("docs/TOUR.md", "    ", "pages/naplps-pages "), ("docs/COLLECTIONS.md", "    ", "naplps-pages "),
+          ("docs/COLLECTIONS.md", "    ", "naplps-pages "),
           ("man/naplps-pages.1", "$ ", "naplps-pages "))
 DOCUMENTS = sorted(glob.glob(os.path.join(TOP, "**", "*.md"), recursive=True))
 
@@ -66,23 +66,6 @@ def test_commands_of_the_documents(folder, settings, command):
 
 def test_there_are_such_commands():
     assert len(list(shown())) > 30
-
-
-def tour():
-    """The commands of the tour, with what they print."""
-    return re.findall(r"^    (?!# )(.*)\n((?:    # .*\n)+)", read("docs/TOUR.md"), re.MULTILINE)
-
-
-@pytest.mark.parametrize("command, printed", tour())
-def test_commands_print_what_the_tour_says(folder, settings, command, printed):
-    said = subprocess.run(["sh", "-c", command], cwd=folder, stdout=subprocess.PIPE, stderr=subprocess.STDOUT,
-                          text=True, env=settings)
-    assert said.stdout == printed.replace("    # ", "")
-
-
-def test_each_command_of_the_tour_is_run():
-    lines = re.findall(r"^    (?!# )(.*)$", read("docs/TOUR.md"), re.MULTILINE)
-    assert len(tour()) > 12 and set(lines) <= {*shown(), *dict(tour())}
 
 
 def anchors(text):
