@@ -19,7 +19,7 @@
    mostly large enough, and to call again where it wasn't.
 
    The library has no state, opens no file and prints nothing. So threads may call at the same time, with rooms of their
-   own, also on one page. Don't call from a signal handler.
+   own, also on one page. Don't call from a signal handler, nor in the forked child of a process that has threads.
 
    A call takes its memory from malloc and realloc, and gives it back with free before it returns. Only a page that comes
    in pieces keeps some between two calls, in struct naplps_checking. Where there is no memory, the answer is the
