@@ -88,8 +88,8 @@ module _ {S : Type 0} (g : Ghosts S) (h : Ghosts (Counting S)) (took_is : (s t :
   known n before after none h = count n after (subst (λ (b : Option ℕ). GrowsBy n b after) none h)
     where
       count : (n : ℕ) (after : Option ℕ) → GrowsBy n (Some 0) after → IsCount after n
-      count n None past = past
-      count n (Some k) sum = sum
+      count n None past = omega (arith, past)
+      count n (Some k) sum = omega (arith, sum)
 
   pub counted_all : (s : Counting S) (first : S) → s ≡ made first (Some 0) → (budget : ℕ) (p : List ℕ) (t : Counting S) (last : S) (n : Option ℕ) → last ≡ t.sink → n ≡ t.count →
       Collects h s budget p (Ok t) → CountsAll g first budget p (Ok (last, n))

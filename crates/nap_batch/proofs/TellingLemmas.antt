@@ -1,4 +1,4 @@
-use Rattle.std.proofs.Common.{◌≡◌, ◌≢◌, ◌≤◌, ◌||◌, ℕ, List, Bool, true, false, Option, Result, Ok, Err, is_err, refl, ap, sym, subst, ◌∙◌, inl, inr, take, length, length-take, arith}
+use Rattle.std.proofs.Common.{◌≡◌, ◌≤◌, ◌||◌, ℕ, List, Bool, true, false, Option, Result, Ok, Err, is_err, refl, sym, subst, ◌∙◌, take, length, length-take, arith}
 use Rattle.std.proofs.lemmas.List.{take_all}
 use Rattle.std.proofs.Math.Bool.{or-true}
 use Rattle.std.specs.Io.KnownBytes.{Appends}

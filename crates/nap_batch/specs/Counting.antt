@@ -1,5 +1,5 @@
 use Rattle.std.specs.Prelude.{ℕ, ◌≡◌, ◌+◌, ◌^◌, ◌≤◌, List, [], ◌++◌, Option, None, Some, length}
-use Rattle.std.proofs.Common.{refl, length-append, arith}
+use Rattle.std.proofs.Common.{length-append, arith}
 use Rattle.nap_list.specs.declared.entry.Entry.{Entry}
 use Rattle.nap_list.specs.declared.sink.Sink.{Ghosts}
 use Rattle.nap_list.specs.Putting.{SinkShows}
