@@ -12,6 +12,8 @@ from .ending import ENDING
 
 PIECE = 1 << 16
 MOST_COMPLAINT = 2048
+# So many seconds a process may take to end, on a busy machine, that has closed its output.
+GRACE = 5.0
 
 
 @dataclass(frozen=True)
@@ -122,7 +124,7 @@ class Child:
 
     def how_it_ended(self) -> str:
         """Ends the process, if it goes on, and tells its status and the first line of what it complained of."""
-        status = self.status(0.5)
+        status = self.status(GRACE)
         self._hear()
         self.end()
         said = self.complaint.split(b"\n")[0].decode("utf-8", "replace").strip()
