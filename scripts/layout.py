@@ -52,9 +52,9 @@ INSTALLED = Places("lib/", "include/", "lib/pkgconfig/", "${pcfiledir}/../..")
 
 RULES = (
     Rule("pages", "naplps-pages", "bin", 0o755),
-    Rule("pages", "naplps_pages/**/*", "lib/naplps"),
-    Rule(".", "VERSION", "lib/naplps/naplps_pages"),
-    Rule("pages", "naplps/**/*", "lib/naplps"),
+    Rule("python", "naplps_pages/**/*", "lib/naplps"),
+    Rule(".", "VERSION", "lib/naplps/naplps"),
+    Rule("python", "naplps/**/*", "lib/naplps"),
     Rule("man", "*.1", "share/man/man1"),
     Rule(".", "*.md", DOCUMENTS),
     Rule(".", "docs/**/*", DOCUMENTS),

@@ -1,0 +1,206 @@
+"""What the program says of a page, and the one reader of what `naplps batch` prints."""
+import hashlib
+import re
+from dataclasses import dataclass, field, replace
+from typing import Callable, List, NamedTuple, Optional, Sequence, Union
+
+# (Numbers of 18 digits are kept in a store.)
+ACCEPTED = re.compile(rb"accepted (0|[1-9][0-9]{0,17}) entries")
+REFUSED = re.compile(rb"refused ([1-9][0-9]?) ([A-Za-z]+)(?: ([A-Z0-9-]+))? at (0|[1-9][0-9]{0,17})")
+NO_MEMORY = "the program had no memory for it"
+NONSENSE = "the program answered something that is no answer"
+# Refusals that say nothing of the page.
+MEMORY = 21
+OF_THE_MACHINE = {MEMORY: NO_MEMORY, 22: "a device of the program failed"}
+# A line in front of an answer's body has so many bytes at most, and its length so many digits.
+MOST_LINE, MOST_DIGITS = 128, 18
+
+
+@dataclass(frozen=True)
+class Accepted:
+    """The page is accepted: the number of its entries, and what the command asked for."""
+
+    entries: int
+    body: bytes = b""
+
+    @property
+    def line(self) -> str:
+        """The answer as `naplps check` prints it."""
+        return f"accepted {self.entries} entries"
+
+
+@dataclass(frozen=True)
+class Refusal:
+    """The page is refused: number and name of the fault, the code that is left out, and the place of the byte."""
+
+    number: int
+    fault: str
+    code: Optional[str]
+    place: int
+    body: bytes = b""
+
+    @property
+    def name(self) -> str:
+        """The name of the fault, with the code that is left out."""
+        return self.fault if self.code is None else f"{self.fault} {self.code}"
+
+    @property
+    def line(self) -> str:
+        """The refusal as `naplps check` prints it."""
+        return f"refused {self.number} {self.name} at {self.place}"
+
+
+@dataclass(frozen=True)
+class Unanswered:
+    """The program gave no answer, which says nothing of the page."""
+
+    reason: str
+    # Whether it would have been too much, for the program's memory or for the tool's.
+    too_much: bool = False
+
+
+Answer = Union[Accepted, Refusal, Unanswered]
+
+
+class HashedAnswer(NamedTuple):
+    """An answer; and where its body was hashed, that hash, and how many bytes the body had."""
+
+    answer: Answer
+    canon: Optional[bytes] = None
+    length: Optional[int] = None
+
+
+class NotAnswered(Exception):
+    """There is no answer, with the reason."""
+
+    @property
+    def answer(self) -> Unanswered:
+        """This as the answer to a page."""
+        return Unanswered(str(self), isinstance(self, AnswerTooLong))
+
+
+class Nonsense(NotAnswered):
+    """What came from the program isn't an answer."""
+
+    def __init__(self) -> None:
+        super().__init__(NONSENSE)
+
+
+class AnswerTooLong(NotAnswered):
+    """The answer is longer than what is held."""
+
+    def __init__(self, length: int) -> None:
+        super().__init__(f"its answer is too long to be held: {length} bytes")
+
+
+def read_line(line: bytes, length: Optional[int]) -> Answer:
+    """The answer that a line states, for a page of this length (None where it isn't known). Raises Nonsense."""
+    found = ACCEPTED.fullmatch(line)
+    if found:
+        return Accepted(int(found[1]))
+    if line == b"no memory":
+        return Unanswered(NO_MEMORY, too_much=True)
+    found = REFUSED.fullmatch(line)
+    if not found:
+        raise Nonsense
+    number, place = int(found[1]), int(found[4])
+    if number > 22 or (length is not None and place > length):
+        raise Nonsense
+    code = found[3].decode("ascii") if found[3] else None
+    refusal = Refusal(number, found[2].decode("ascii"), code, place)
+    if number in OF_THE_MACHINE:
+        return Unanswered(f"{OF_THE_MACHINE[number]} ({refusal.line})", too_much=number == MEMORY)
+    return refusal
+
+
+def with_body(call: str, answer: Answer, body: bytes) -> Answer:
+    """The answer with the body that the call gives with it. Raises Nonsense for another body."""
+    if isinstance(answer, Unanswered) or call == "check" or (isinstance(answer, Refusal) and call != "places"):
+        if body:
+            raise Nonsense
+        return answer
+    if call == "canon":
+        fits = bool(body)
+    else:
+        fits = body.isascii() and (isinstance(answer, Refusal) or body.count(b"\n") == answer.entries)
+    if not fits:
+        raise Nonsense
+    return replace(answer, body=body)
+
+
+@dataclass
+class AnswerParser:
+    """Takes the answers to a call on some pages as `naplps batch` prints them, in pieces of any lengths.
+
+    A body is held, if it has no more than `most` bytes. Where `most` is None bodies are hashed, and none is held.
+    """
+
+    call: str
+    pages: Sequence[bytes]
+    most: Optional[int]
+    # Called behind a piece that ended an answer, where more answers are to come.
+    goes_on: Callable[[], None] = lambda: None
+    answers: List[HashedAnswer] = field(default_factory=list)
+    # What came of a head that isn't whole yet; the answer of a head, the length of its body, and what lacks of that.
+    _rest: bytes = b""
+    _answer: Optional[Answer] = None
+    _length: int = 0
+    _lacks: int = 0
+    _body: List[bytes] = field(default_factory=list)
+    _hash: "hashlib._Hash" = field(default_factory=hashlib.sha256)
+
+    def take(self, piece: bytes) -> bool:
+        """Takes a piece; whether all answers are there. Raises Nonsense, AnswerTooLong."""
+        come = self._rest + piece
+        at, before = 0, len(self.answers)
+        while at < len(come):
+            if len(self.answers) == len(self.pages):
+                self.answers.pop()  # there is more behind the last answer, which is none then
+                raise Nonsense
+            if self._answer is None:
+                behind = self._head(come, at)
+                if behind is None:
+                    break
+                at = behind
+            part = come[at:at + self._lacks]
+            at += len(part)
+            self._lacks -= len(part)
+            if self.most is None:
+                self._hash.update(part)
+            else:
+                self._body.append(part)
+            if not self._lacks:
+                assert self._answer is not None
+                if self.most is not None:
+                    self.answers.append(HashedAnswer(with_body(self.call, self._answer, b"".join(self._body))))
+                    self._body = []
+                else:
+                    canon = self._hash.digest() if self._length else None
+                    self.answers.append(HashedAnswer(self._answer, canon, self._length or None))
+                self._answer = None
+        self._rest = come[at:]
+        whole = len(self.answers) == len(self.pages)
+        if not whole and len(self.answers) > before:
+            self.goes_on()
+        return whole
+
+    def _head(self, come: bytes, at: int) -> Optional[int]:
+        """Takes the two lines in front of a body; where they end, or None where they aren't whole yet."""
+        first = come.find(b"\n", at)
+        second = come.find(b"\n", first + 1) if first >= 0 else -1
+        if second < 0:
+            if len(come) - at > MOST_LINE:
+                raise Nonsense
+            return None
+        number = come[first + 1:second]
+        if first - at > MOST_LINE or not number.isdigit() or len(number) > MOST_DIGITS:
+            raise Nonsense
+        self._length = self._lacks = int(number)
+        if self.most is not None and self._length > self.most:
+            raise AnswerTooLong(self._length)
+        self._answer = read_line(come[at:first], len(self.pages[len(self.answers)]))
+        if self.most is None:
+            self._hash = hashlib.sha256()
+            if isinstance(self._answer, Accepted) != bool(self._length):
+                raise Nonsense
+        return second + 1

@@ -1,0 +1,68 @@
+"""Finds what answers, once: the library where it is, else the program."""
+import os
+from typing import Optional
+
+from .faults import Unavailable, WrongLibrary
+from .library_backend import SONAME, LibraryBackend
+from .program import NoProgram, find
+from .program_backend import ProgramBackend
+from .protocols import Answerer
+
+# The folder in which this package stands.
+FOLDER = os.path.dirname(os.path.dirname(os.path.realpath(__file__)))
+_found: Optional[Answerer] = None
+
+
+def found() -> Answerer:
+    """What answers. Raises Unavailable, and then looks again the next time."""
+    global _found
+    answers = _found
+    if answers is None:
+        answers = _found = look()  # (of two threads that look at once, each finds one that answers)
+    return answers
+
+
+def look() -> Answerer:
+    """Looks for the library, and then for the program. Raises Unavailable."""
+    named = os.environ.get("NAPLPS_LIBRARY")
+    if named:
+        path = os.path.abspath(os.path.join(named, SONAME) if os.path.isdir(named) else named)
+        if not os.path.isfile(path):
+            raise Unavailable("NAPLPS_LIBRARY names no library, nor a folder with %s: %s" % (SONAME, named))
+        return _loaded(path)
+    library = _library() if named is None else None
+    if library is not None:
+        return library
+    try:
+        return ProgramBackend(find(_command()))
+    except NoProgram as error:
+        missing = "%s isn't there" % SONAME if named is None else "NAPLPS_LIBRARY is empty"
+        raise Unavailable("there is neither the library nor the program: %s, and %s" % (missing, error)) from None
+
+
+def _library() -> Optional[LibraryBackend]:
+    """The library: under the same prefix, that of the sources, or the one that the system finds."""
+    top = os.path.dirname(FOLDER)
+    for path in (os.path.join(top, SONAME), os.path.join(top, "out", SONAME)):
+        if os.path.isfile(path):
+            return _loaded(path)
+    try:
+        return LibraryBackend(SONAME)
+    except OSError as error:
+        if "No such file" in str(error):
+            return None
+        raise WrongLibrary("the library can't be loaded: %s" % error) from None
+
+
+def _loaded(path: str) -> LibraryBackend:
+    try:
+        return LibraryBackend(path)
+    except OSError as error:
+        raise WrongLibrary("the library can't be loaded: %s" % error) from None
+
+
+def _command() -> str:
+    """Where naplps-pages is, beside which the program may be: in the sources, or under a prefix."""
+    inner = os.path.join(os.path.dirname(FOLDER), "pages", "naplps-pages")
+    installed = os.path.join(os.path.dirname(os.path.dirname(FOLDER)), "bin", "naplps-pages")
+    return installed if os.path.isfile(installed) and not os.path.isfile(inner) else inner

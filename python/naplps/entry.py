@@ -1,0 +1,305 @@
+"""The entries of a page: a class for each kind, with the numbers that its line in `naplps list` has.
+
+A position is a pair, x and y, in steps of which ONE are the side of the square. A displacement or a size is such a pair
+too, and may be negative. Colours have 16 bits each of green, red and blue, in this order. docs/PROFILE.md says what
+each kind is, and what its parts mean. `kind` is the first word of the line.
+"""
+from dataclasses import dataclass
+from typing import ClassVar, Optional, Tuple, Union
+
+Position = Tuple[int, int]
+# "start", where nothing has set it yet; "after", where nobody knows, as behind text; or a position.
+Pen = Union[str, Position]
+# The side of the square, in steps.
+ONE = 1 << 23
+
+
+@dataclass(frozen=True)
+class Colour:
+    """A colour by its kind, with the parts green, red and blue, or the addresses."""
+
+    kind: str
+    parts: Tuple[int, ...] = ()
+
+
+@dataclass(frozen=True)
+class Texture:
+    """The texture word, and the size of the mask where one was given."""
+
+    word: int
+    mask: Optional[Position]
+
+
+@dataclass(frozen=True)
+class Look:
+    """How characters look: the two words of TEXT, the size by name or given, and the flags."""
+
+    first: int
+    second: int
+    size: Union[str, Position]
+    reverse: bool
+    underline: bool
+    wrap: bool
+    scroll: bool
+
+
+@dataclass(frozen=True)
+class Point:
+    """A point, with the pel and the colour that it is drawn with."""
+
+    kind: ClassVar[str] = "POINT"
+
+    at: Position
+    pel: Position
+    colour: Colour
+
+    @property
+    def points(self) -> Tuple[Position, ...]:
+        """The point."""
+        return (self.at,)
+
+
+@dataclass(frozen=True)
+class Line:
+    """A line between two points."""
+
+    kind: ClassVar[str] = "LINE"
+
+    start: Position
+    end: Position
+    pel: Position
+    colour: Colour
+    texture: Texture
+
+    @property
+    def points(self) -> Tuple[Position, ...]:
+        """Its ends."""
+        return (self.start, self.end)
+
+
+@dataclass(frozen=True)
+class Arc:
+    """An arc through three points, or a curve through more; filled or its outline alone."""
+
+    filled: bool
+    points: Tuple[Position, ...]
+    pel: Position
+    colour: Colour
+    texture: Texture
+
+    @property
+    def kind(self) -> str:
+        """The first word of its line."""
+        return "ARC-FILLED" if self.filled else "ARC-OUTLINED"
+
+
+@dataclass(frozen=True)
+class Rect:
+    """A rectangle between two opposite corners; filled or its outline alone."""
+
+    filled: bool
+    start: Position
+    end: Position
+    pel: Position
+    colour: Colour
+    texture: Texture
+
+    @property
+    def kind(self) -> str:
+        """The first word of its line."""
+        return "RECT-FILLED" if self.filled else "RECT-OUTLINED"
+
+    @property
+    def points(self) -> Tuple[Position, ...]:
+        """The corners."""
+        return (self.start, self.end)
+
+
+@dataclass(frozen=True)
+class Poly:
+    """A polygon; filled or its outline alone."""
+
+    filled: bool
+    points: Tuple[Position, ...]
+    pel: Position
+    colour: Colour
+    texture: Texture
+
+    @property
+    def kind(self) -> str:
+        """The first word of its line."""
+        return "POLY-FILLED" if self.filled else "POLY-OUTLINED"
+
+
+@dataclass(frozen=True)
+class Char:
+    """A character: its set, "primary", "supplementary", "mosaic" or "drcs", and its code in that.
+
+    `pen` is a position; or "start", where nothing has set it yet, or "after", where nobody knows, as behind text.
+    """
+
+    kind: ClassVar[str] = "CHAR"
+
+    set: str
+    code: int
+    pen: Pen
+    colour: Colour
+    text: Look
+
+
+@dataclass(frozen=True)
+class TextMove:
+    """A move of the cursor: "APB", "APF", "APD", "APU", "APR", "APH", or "APS" with its two bytes."""
+
+    kind: ClassVar[str] = "MOVE"
+
+    move: str
+    bytes: Tuple[int, ...]
+    pen: Pen
+    colour: Colour
+    text: Look
+
+
+@dataclass(frozen=True)
+class ToEol:
+    """REPEAT TO EOL: the last character again, to the end of the line."""
+
+    kind: ClassVar[str] = "TO-EOL"
+
+    pen: Pen
+    colour: Colour
+    text: Look
+
+
+@dataclass(frozen=True)
+class Map:
+    """An address of the colour map gets a value: green, red and blue."""
+
+    kind: ClassVar[str] = "MAP"
+
+    address: int
+    value: Tuple[int, ...]
+
+
+@dataclass(frozen=True)
+class Blink:
+    """A blink to the colour of an address: how long on, how long off, and the delay, as the code has them."""
+
+    kind: ClassVar[str] = "BLINK"
+
+    address: int
+    on: int
+    off: int
+    delay: int
+    colour: Colour
+
+
+@dataclass(frozen=True)
+class BlinkEnd:
+    """The blink of a colour ends."""
+
+    kind: ClassVar[str] = "BLINK-END"
+
+    colour: Colour
+
+
+@dataclass(frozen=True)
+class BlinkMark:
+    """What is drawn from here on blinks, or doesn't."""
+
+    on: bool
+    colour: Colour
+
+    @property
+    def kind(self) -> str:
+        """The first word of its line."""
+        return "BLINK-START" if self.on else "BLINK-STOP"
+
+
+@dataclass(frozen=True)
+class Wait:
+    """A wait, in tenths of a second."""
+
+    kind: ClassVar[str] = "WAIT"
+
+    tenths: int
+
+
+@dataclass(frozen=True)
+class Bell:
+    """The bell."""
+
+    kind: ClassVar[str] = "BELL"
+
+
+@dataclass(frozen=True)
+class Cursor:
+    """The cursor is "flash", "steady" or "off" from here on."""
+
+    kind: ClassVar[str] = "CURSOR"
+
+    state: str
+
+
+@dataclass(frozen=True)
+class Field:
+    """The field: its two opposite corners, or None for the whole screen."""
+
+    kind: ClassVar[str] = "FIELD"
+
+    corners: Optional[Tuple[Position, Position]]
+    pen: Pen
+
+    @property
+    def points(self) -> Tuple[Position, ...]:
+        """The corners, or none."""
+        return self.corners or ()
+
+
+@dataclass(frozen=True)
+class Reset:
+    """RESET, with its two words."""
+
+    kind: ClassVar[str] = "RESET"
+
+    first: int
+    second: int
+    pen: Pen
+
+
+@dataclass(frozen=True)
+class Clear:
+    """CS: the screen is cleared."""
+
+    kind: ClassVar[str] = "CLEAR"
+
+    pen: Pen
+
+
+@dataclass(frozen=True)
+class GlyphStart:
+    """The glyph of a code of the DRCS set begins; what draws it stands before the next DefEnd."""
+
+    kind: ClassVar[str] = "GLYPH"
+
+    code: int
+
+
+@dataclass(frozen=True)
+class MaskStart:
+    """A mask begins, "A", "B", "C" or "D"; what draws it stands before the next DefEnd."""
+
+    kind: ClassVar[str] = "MASK"
+
+    mask: str
+
+
+@dataclass(frozen=True)
+class DefEnd:
+    """A glyph or a mask ends."""
+
+    kind: ClassVar[str] = "END"
+
+
+Entry = Union[Point, Line, Arc, Rect, Poly, Char, TextMove, ToEol, Map, Blink, BlinkEnd, BlinkMark, Wait, Bell, Cursor,
+              Field, Reset, Clear, GlyphStart, MaskStart, DefEnd]

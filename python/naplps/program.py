@@ -1,0 +1,273 @@
+"""The program naplps: where it is, which version, and processes of it, each in a group of its own and with limits.
+
+Signals that end the tool end its processes too, those too that have only just begun.
+"""
+import os
+import resource
+import selectors
+import shutil
+import signal
+import subprocess
+import threading
+import time
+from contextlib import contextmanager
+from types import FrameType
+from typing import IO, Callable, Iterator, List, Optional, Sequence, Set, Tuple, Union
+
+from .answers import NotAnswered
+from .limits import Limits
+
+PIECE = 1 << 16
+MOST_COMPLAINT = 2048
+# So many seconds a process may take to end, on a busy machine, that has closed its output.
+GRACE = 5.0
+SIGNALS = (signal.SIGINT, signal.SIGTERM, signal.SIGHUP)
+
+
+class NoProgram(Exception):
+    """There is no program to ask, with the reason."""
+
+
+class ProcessFailure(NotAnswered):
+    """The process gave no answer, with the reason."""
+
+
+def find(command: str) -> str:
+    """The path of naplps for the command that stands at this path: NAPLPS, beside it, the sources', then PATH."""
+    named = os.environ.get("NAPLPS")
+    if named:
+        path = shutil.which(named)
+        if path is None:
+            raise NoProgram(f"NAPLPS names no program: {named}")
+        return os.path.abspath(path)
+    here = os.path.dirname(command)
+    top = os.path.dirname(here)
+    beside = os.path.join(here, "naplps")
+    if _runs(beside):
+        return beside
+    launcher, why = os.path.join(top, "naplps"), ""
+    if _runs(launcher) and os.path.isdir(os.path.join(top, "crates")):
+        path, why = _ask_launcher(launcher)
+        if path:
+            return path
+    found = shutil.which("naplps")
+    if found is not None:
+        return os.path.abspath(found)
+    raise NoProgram(why or "there is no program naplps: put it beside this command or on PATH, or name it in NAPLPS")
+
+
+def _ask_launcher(launcher: str) -> Tuple[str, str]:
+    """The path of the program of the sources that stand there, or nothing and why there is none. Nothing is built."""
+    said = subprocess.run([launcher], env=dict(os.environ, NAPLPS_WHERE="1"), stdin=subprocess.DEVNULL,
+                          stdout=subprocess.PIPE, stderr=subprocess.PIPE)
+    if said.returncode == 0:
+        return os.fsdecode(said.stdout)[:-1], ""
+    lines = [line.partition(b": ")[2].decode("utf-8", "replace") for line in said.stderr.splitlines()]
+    return "", "; ".join(lines)
+
+
+def _runs(path: str) -> bool:
+    return os.path.isfile(path) and os.access(path, os.X_OK)
+
+
+class Stopped(BaseException):
+    """A signal, by its number, asks the tool to end."""
+
+
+class Ending:
+    """The processes that go on, where signals are watched. A signal that comes while one starts waits for that."""
+
+    def __init__(self) -> None:
+        self.processes: Set["ChildProcess"] = set()
+        self.is_watched = self.is_starting = False
+        self.late: Optional[int] = None
+
+    def watch(self) -> None:
+        """Has signals raise Stopped in the main thread, but for those that are ignored, as under nohup."""
+        self.is_watched = True
+        for number in SIGNALS:
+            if signal.getsignal(number) is not signal.SIG_IGN:
+                signal.signal(number, self._stop)
+
+    def _stop(self, number: int, _: Optional[FrameType]) -> None:
+        if not self.is_starting:
+            raise Stopped(number)
+        self.late = number
+
+    @contextmanager
+    def starting(self, process: "ChildProcess") -> Iterator[None]:
+        """Starts a process inside, and keeps it where signals are watched. Raises Stopped where one came meanwhile."""
+        is_held = self.is_watched and threading.current_thread() is threading.main_thread()
+        if is_held:
+            self.is_starting = True
+        try:
+            yield
+            if self.is_watched:
+                self.processes.add(process)
+        finally:
+            if is_held:
+                self.is_starting = False
+                number, self.late = self.late, None
+                if number is not None:
+                    raise Stopped(number)
+
+    def end_all(self) -> None:
+        """Ends all that go on; no other signal comes between."""
+        for number in SIGNALS:
+            signal.signal(number, signal.SIG_IGN)
+        for process in tuple(self.processes):
+            process.end()
+
+
+ENDING = Ending()
+
+
+class ChildProcess:
+    """One process. Its standard error is read too, so that it can say why it ended."""
+
+    def __init__(self, command: Sequence[str], limits: Limits, source: Union[int, IO[bytes]] = subprocess.PIPE) -> None:
+        self.limits = limits
+        self.complaint = b""
+        self.end_of_time = 0.0
+        self.ended = False
+        try:
+            with ENDING.starting(self):
+                self.process = subprocess.Popen(
+                    command, stdin=source, stdout=subprocess.PIPE, stderr=subprocess.PIPE, bufsize=0,
+                    start_new_session=True)
+        except OSError as error:
+            raise ProcessFailure(f"the program can't be started: {command[0]}: {error.strerror}") from None
+        for what, most in ((resource.RLIMIT_AS, limits.memory), (resource.RLIMIT_CORE, 0)):
+            try:
+                _, hard = resource.prlimit(self.process.pid, what)
+                least = most if hard == resource.RLIM_INFINITY else min(most, hard)
+                resource.prlimit(self.process.pid, what, (least, least))
+            except (OSError, ValueError, AttributeError):
+                pass  # it has ended already, or the system has no such call
+        self.pipes = [pipe for pipe in (self.process.stdin, self.process.stdout, self.process.stderr) if pipe]
+        for pipe in self.pipes:
+            os.set_blocking(pipe.fileno(), False)
+
+    def talk(self, request: bytes, take: Callable[[bytes], bool]) -> None:
+        """Writes the request, and gives what comes to `take` until that says that it has all; at the end of the output
+        it is given nothing. Raises ProcessFailure, also where the output ends before `take` has all.
+        """
+        self.end_of_time = time.monotonic() + self.limits.seconds
+        left = memoryview(request)
+        with selectors.DefaultSelector() as waiting:
+            for pipe in self.pipes:
+                writes = pipe is self.process.stdin
+                if not writes or request:
+                    waiting.register(pipe, selectors.EVENT_WRITE if writes else selectors.EVENT_READ)
+            while True:
+                ready = waiting.select(max(0.0, self.end_of_time - time.monotonic()))
+                if not ready:
+                    raise ProcessFailure(f"no answer in {self.limits.seconds:g} s")
+                for key, _ in ready:
+                    if key.fileobj is self.process.stdin:
+                        left = self._write(left)
+                        if not left:
+                            waiting.unregister(key.fileobj)
+                    elif key.fileobj is self.process.stderr:
+                        if not self._hear():
+                            waiting.unregister(key.fileobj)
+                    elif self._take(take):
+                        return
+
+    def wind(self) -> None:
+        """Lets the time for the next answer begin now."""
+        self.end_of_time = time.monotonic() + self.limits.seconds
+
+    def _write(self, left: memoryview) -> memoryview:
+        assert self.process.stdin
+        try:
+            return left[os.write(self.process.stdin.fileno(), left[:PIECE]):]
+        except BlockingIOError:
+            return left
+        except BrokenPipeError:
+            return left[len(left):]  # it reads no more; what it has said may still come
+
+    def _take(self, take: Callable[[bytes], bool]) -> bool:
+        """Gives what came, which is nothing at the end; whether that was all."""
+        assert self.process.stdout
+        try:
+            piece = os.read(self.process.stdout.fileno(), PIECE)
+        except BlockingIOError:
+            return False
+        if take(piece):
+            return True
+        if not piece:
+            raise ProcessFailure(self.how_it_ended())
+        return False
+
+    def _hear(self) -> bool:
+        assert self.process.stderr
+        try:
+            heard = os.read(self.process.stderr.fileno(), PIECE)
+        except BlockingIOError:
+            return True
+        self.complaint = (self.complaint + heard)[:MOST_COMPLAINT]
+        return bool(heard)
+
+    def status(self, seconds: float) -> Optional[int]:
+        """The status with which it ended; None where it hasn't ended within these seconds."""
+        try:
+            return self.process.wait(seconds)
+        except subprocess.TimeoutExpired:
+            return None
+
+    def how_it_ended(self) -> str:
+        """Ends the process, if it goes on, and tells its status and the first line of what it complained of."""
+        status = self.status(GRACE)
+        self._hear()
+        self.end()
+        said = self.complaint.split(b"\n")[0].decode("utf-8", "replace").strip()
+        said = "".join(each if each.isprintable() else "?" for each in said)
+        return _ending(status) + (f": {said}" if said else "")
+
+    def end(self) -> None:
+        """Ends the process and all that it started, and closes its pipes."""
+        if self.ended:
+            return
+        try:
+            os.killpg(self.process.pid, signal.SIGKILL)
+        except (ProcessLookupError, PermissionError):
+            pass
+        self.process.wait()
+        ENDING.processes.discard(self)
+        for pipe in (self.process.stdin, self.process.stdout, self.process.stderr):
+            if pipe:
+                pipe.close()
+        self.ended = True
+
+
+def _ending(status: Optional[int]) -> str:
+    if status is None:
+        return "the program closed its output without an answer"
+    if status < 0:
+        try:
+            name = signal.Signals(-status).name
+        except ValueError:
+            name = f"signal {-status}"
+        return f"the program was ended by {name}"
+    return f"the program ended with status {status}"
+
+
+def version(path: str, limits: Limits) -> str:
+    """What `naplps --version` prints, or 'unknown'."""
+    said: List[bytes] = []
+
+    def take(piece: bytes) -> bool:
+        said.append(piece)
+        return not piece or len(said) > 4
+    child: Optional[ChildProcess] = None
+    try:
+        child = ChildProcess([path, "--version"], limits)
+        child.talk(b"", take)
+    except ProcessFailure:
+        return "unknown"
+    finally:
+        if child:
+            child.end()
+    line = b"".join(said).split(b"\n")[0].decode("ascii", "replace").strip()
+    return line if line.startswith("naplps ") and line.isprintable() else "unknown"

@@ -1,0 +1,142 @@
+"""Reads entries from the lines that `naplps list` prints, as docs/PROFILE.md has them."""
+import re
+from functools import lru_cache
+from typing import Callable, Dict, Iterable, Iterator, List, Match, Pattern, Tuple
+
+from .answers import MOST_DIGITS
+from .entry import (
+    Arc, Bell, Blink, BlinkEnd, BlinkMark, Char, Clear, Colour, Cursor, DefEnd, Entry, Field, GlyphStart, Line, Look,
+    Map, MaskStart, Pen, Point, Poly, Position, Rect, Reset, TextMove, Texture, ToEol, Wait,
+)
+
+_NUMBER = "[0-9]{1,10}"
+_POINT = f"-?{_NUMBER},-?{_NUMBER}"
+_THREE = ",".join([_NUMBER] * 3)
+_HEX = "[0-9a-f]{2}"
+_SIZE = f"small|medium|normal|tall|double|{_POINT}"
+# Parts of lines, each with its groups.
+_PEN = f" pen=(start|after|{_POINT})"
+_COLOUR = (f" colour=(own-start|own-reset|reset-2|reset-3|direct:{_THREE}|front:{_NUMBER}|"
+           f"pair:{_NUMBER},{_NUMBER})")
+_PEL = f" pel=({_POINT})"
+_INK = f"{_PEL}{_COLOUR} texture=({_NUMBER}/(?:none|{_POINT}))"
+_HAND = f"{_PEN}{_COLOUR} text=({_NUMBER},{_NUMBER}/(?:{_SIZE})/[r-][u-][w-][s-])"
+_TWO = f" ({_POINT}) ({_POINT})"
+_SOME, _MORE = f"((?: {_POINT})+)", f"((?: {_POINT}){{3,}})"
+
+
+class NotALine(ValueError):
+    """A line that `naplps list` doesn't print."""
+
+
+def _position(text: str) -> Position:
+    x, y = text.split(",")
+    return int(x), int(y)
+
+
+def _positions(text: str) -> Tuple[Position, ...]:
+    return tuple(map(_position, text.split()))
+
+
+def _numbers(text: str) -> Tuple[int, ...]:
+    return tuple(map(int, text.split(",")))
+
+
+def _pen(text: str) -> Pen:
+    return _position(text) if "," in text else text
+
+
+@lru_cache(maxsize=4096)
+def _colour(text: str) -> Colour:
+    kind, _, rest = text.partition(":")
+    return Colour(kind, _numbers(rest) if rest else ())
+
+
+@lru_cache(maxsize=4096)
+def _texture(text: str) -> Texture:
+    word, mask = text.split("/")
+    return Texture(int(word), None if mask == "none" else _position(mask))
+
+
+@lru_cache(maxsize=4096)
+def _look(text: str) -> Look:
+    words, size, flags = text.split("/")
+    first, second = _numbers(words)
+    reverse, underline, wrap, scroll = (flag != "-" for flag in flags)
+    return Look(first, second, _position(size) if "," in size else size, reverse, underline, wrap, scroll)
+
+
+def _ink(pel: str, colour: str, texture: str) -> Tuple[Position, Colour, Texture]:
+    return _position(pel), _colour(colour), _texture(texture)
+
+
+def _hand(pen: str, colour: str, look: str) -> Tuple[Pen, Colour, Look]:
+    return _pen(pen), _colour(colour), _look(look)
+
+
+def _move(it: Match[str]) -> TextMove:
+    move, *numbers = it[1].split()
+    return TextMove(move, tuple(int(each, 16) for each in numbers), *_hand(it[2], it[3], it[4]))
+
+
+def _field(it: Match[str]) -> Field:
+    return Field(None if it[2] is None else (_position(it[2]), _position(it[3])), _pen(it[4]))
+
+
+# The lines by their first words: what stands behind these, and what is made of its groups.
+_READERS: Dict[str, Tuple[str, Callable[[Match[str]], Entry]]] = {
+    "POINT": (f" ({_POINT}){_PEL}{_COLOUR}", lambda it: Point(_position(it[1]), _position(it[2]), _colour(it[3]))),
+    "LINE": (_TWO + _INK, lambda it: Line(_position(it[1]), _position(it[2]), *_ink(it[3], it[4], it[5]))),
+    "ARC-OUTLINED": (_MORE + _INK, lambda it: Arc(False, _positions(it[1]), *_ink(it[2], it[3], it[4]))),
+    "ARC-FILLED": (_MORE + _INK, lambda it: Arc(True, _positions(it[1]), *_ink(it[2], it[3], it[4]))),
+    "RECT-OUTLINED": (_TWO + _INK, lambda it: Rect(
+        False, _position(it[1]), _position(it[2]), *_ink(it[3], it[4], it[5]))),
+    "RECT-FILLED": (_TWO + _INK, lambda it: Rect(True, _position(it[1]), _position(it[2]), *_ink(it[3], it[4], it[5]))),
+    "POLY-OUTLINED": (_SOME + _INK, lambda it: Poly(False, _positions(it[1]), *_ink(it[2], it[3], it[4]))),
+    "POLY-FILLED": (_SOME + _INK, lambda it: Poly(True, _positions(it[1]), *_ink(it[2], it[3], it[4]))),
+    "CHAR": (f" (primary|supplementary|mosaic|drcs) ({_HEX}){_HAND}", lambda it: Char(
+        it[1], int(it[2], 16), *_hand(it[3], it[4], it[5]))),
+    "MOVE": (f" (AP[BFDURH]|APS {_HEX} {_HEX}){_HAND}", _move),
+    "TO-EOL": (_HAND, lambda it: ToEol(*_hand(it[1], it[2], it[3]))),
+    "MAP": (f" ({_NUMBER}) ({_THREE})", lambda it: Map(int(it[1]), _numbers(it[2]))),
+    "BLINK": (f" ({_NUMBER}) ({_NUMBER}),({_NUMBER}),({_NUMBER}){_COLOUR}", lambda it: Blink(
+        int(it[1]), int(it[2]), int(it[3]), int(it[4]), _colour(it[5]))),
+    "BLINK-END": (_COLOUR, lambda it: BlinkEnd(_colour(it[1]))),
+    "BLINK-START": (_COLOUR, lambda it: BlinkMark(True, _colour(it[1]))),
+    "BLINK-STOP": (_COLOUR, lambda it: BlinkMark(False, _colour(it[1]))),
+    "WAIT": (f" ({_NUMBER})", lambda it: Wait(int(it[1]))),
+    "BELL": ("", lambda it: Bell()),
+    "CURSOR": (" (flash|steady|off)", lambda it: Cursor(it[1])),
+    "FIELD": (f"( whole|{_TWO}){_PEN}", _field),
+    "RESET": (f" ({_NUMBER}) ({_NUMBER}){_PEN}", lambda it: Reset(int(it[1]), int(it[2]), _pen(it[3]))),
+    "CLEAR": (_PEN, lambda it: Clear(_pen(it[1]))),
+    "GLYPH": (f" ({_HEX})", lambda it: GlyphStart(int(it[1], 16))),
+    "MASK": (" ([A-D])", lambda it: MaskStart(it[1])),
+    "END": ("", lambda it: DefEnd())}
+_KINDS: Dict[str, Tuple[Pattern[str], Callable[[Match[str]], Entry]]] = {
+    kind: (re.compile(kind + behind), make) for kind, (behind, make) in _READERS.items()}
+
+
+def read_line(line: str) -> Entry:
+    """The entry of a line, without its end. Raises NotALine."""
+    known = _KINDS.get(line.partition(" ")[0])
+    found = known[0].fullmatch(line) if known else None
+    if known is None or found is None:
+        raise NotALine(line[:200])
+    return known[1](found)
+
+
+def read(lines: Iterable[str]) -> Iterator[Entry]:
+    """The entries of these lines."""
+    return map(read_line, lines)
+
+
+def placed(body: bytes) -> List[Tuple[int, str]]:
+    """The lines in the body of `places`, each behind its place. Raises NotALine."""
+    rows: List[Tuple[int, str]] = []
+    for row in body.decode("ascii").splitlines():
+        place, _, line = row.partition(" ")
+        if not place.isdigit() or len(place) > MOST_DIGITS:
+            raise NotALine(row[:200])
+        rows.append((int(place), line))
+    return rows

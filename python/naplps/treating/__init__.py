@@ -1,0 +1,1 @@
+"""Treatments of refused pages: each takes something away or rewrites it, and tells what."""

@@ -1,0 +1,40 @@
+"""SAUCE records, which painting programs put behind a file: a record of 128 bytes, and comments before it."""
+from dataclasses import dataclass
+from typing import Dict, Optional
+
+from ..names import shown
+
+RECORD, LINE = 128, 64
+MARK, COMMENTS = b"SAUCE00", b"COMNT"
+# The fields that are told, by their offsets and lengths.
+FIELDS = {"title": (7, 35), "author": (42, 20), "group": (62, 20), "date": (82, 8)}
+NUMBER_OF_LINES = 104
+
+
+@dataclass(frozen=True)
+class Sauce:
+    """How many bytes at the end the record has, with its comments and the 1A before it; and what its fields say."""
+
+    length: int
+    fields: Dict[str, str]
+
+
+def find(data: bytes) -> Optional[Sauce]:
+    """The record at the end of a file, if there is one."""
+    record = data[-RECORD:]
+    if len(record) < RECORD or not record.startswith(MARK):
+        return None
+    length = RECORD
+    lines = record[NUMBER_OF_LINES]
+    comments = length + len(COMMENTS) + LINE * lines
+    if lines and len(data) >= comments and data.startswith(COMMENTS, len(data) - comments):
+        length = comments
+    if data[-length - 1:-length] == b"\x1a":
+        length += 1
+    said = {name: _said(record[at:at + size]) for name, (at, size) in FIELDS.items()}
+    return Sauce(length, {name: text for name, text in said.items() if text})
+
+
+def _said(field: bytes) -> str:
+    """What a field says, on one line."""
+    return shown(field.split(b"\0")[0].rstrip(b" ").decode("cp437"))

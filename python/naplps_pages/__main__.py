@@ -1,0 +1,54 @@
+"""The command as a process: how it ends."""
+import errno
+import os
+import signal
+import sys
+from typing import NoReturn
+
+from naplps.program import ENDING, Stopped
+
+from .cli import main
+from .console import FAILED, tell
+
+
+def run(command: str) -> NoReturn:
+    """The command as a process: ended by a closed pipe or a signal as other filters are, and the program with it."""
+    if sys.stdout is None:
+        tell(f"standard output: {os.strerror(errno.EBADF)}")
+        sys.exit(FAILED)
+    ENDING.watch()
+    try:
+        _end(main(sys.argv[1:], command))
+    except BrokenPipeError:
+        _end_by(signal.SIGPIPE)
+    except Stopped as stopped:
+        ENDING.end_all()
+        _end_by(stopped.args[0])
+
+
+def _end(status: int) -> NoReturn:
+    """Ends with a status, behind the last of the output."""
+    try:
+        sys.stdout.flush()
+    except BrokenPipeError:
+        raise
+    except OSError as error:
+        if status != FAILED:
+            tell(f"standard output: {error.strerror}")
+        os._exit(FAILED)  # (a usual end would flush again)
+    sys.exit(status)
+
+
+def _end_by(number: int) -> NoReturn:
+    signal.signal(number, signal.SIG_DFL)
+    os.kill(os.getpid(), number)
+    os._exit(128 + number)
+
+
+def start() -> NoReturn:
+    """Runs the command that was started, as pip installs it."""
+    run(os.path.realpath(sys.argv[0]))
+
+
+if __name__ == "__main__":
+    start()

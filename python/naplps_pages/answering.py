@@ -1,0 +1,109 @@
+"""The commands check, list and canon: the program's answers for files."""
+from typing import List, Optional
+
+from naplps.answers import Accepted, Answer, Refusal, Unanswered
+from naplps.entry_json import Members, members_of
+from naplps.names import shown
+from naplps.reading import read_line
+
+from . import file_kinds
+from .console import Session, tell
+from .listing import command_of, rows_of
+from .new_files import into, make_folder, put
+from .schema import answered, dumps
+from .source import Page
+
+
+def check(session: Session) -> int:
+    """Whether each page is accepted, or why not; and what the file is."""
+    def work(page: Page) -> None:
+        after = bool(session.earlier.names)
+        answer = session.heard(page).last.answer if after else session.program.ask("check", page)
+        there = session.answered(page, answer)
+        it = file_kinds.described(page, answer)
+        if session.json:
+            session.output.line(dumps({**answered(page.name, answer), **it._asdict()}))
+        elif there and isinstance(answer, (Accepted, Refusal)):
+            more = "" if it.kind == file_kinds.PAGE else file_kinds.told(it)
+            session.output.line(session.front(page.name) + answer.line + more)
+    return session.each(work, more=("kind", "looks_like"))
+
+
+def list_entries(session: Session) -> int:
+    """The lines of each page's entries."""
+    work = _list_json if session.json else _list_lines
+    return session.each(lambda page: work(session, page), more=("list",))
+
+
+def _list_lines(session: Session, page: Page) -> None:
+    if session.earlier.names:
+        _list_after(session, page)
+        return
+    answer = _limited(session.program.ask("list", page))
+    if not session.answered(page, answer):
+        return
+    if isinstance(answer, Refusal):
+        _tell_refusal(session, page, answer)
+    elif isinstance(answer, Accepted):
+        front = session.front(page.name)
+        if front:
+            session.output.text("".join(front + line + "\n" for line in answer.body.decode("ascii").splitlines()))
+        else:
+            session.output.bytes(answer.body)
+
+
+def _list_after(session: Session, page: Page) -> None:
+    """The lines of a page after others."""
+    told = session.heard(page).last
+    if not session.answered(page, told.answer):
+        return
+    if isinstance(told.answer, Refusal):
+        _tell_refusal(session, page, told.answer)
+    else:
+        front = session.front(page.name)
+        session.output.text("".join(front + line + "\n" for line in told.lines or []))
+
+
+def _list_json(session: Session, page: Page) -> None:
+    if session.earlier.names:
+        told = session.heard(page).last
+        answer, entries = told.answer, told.rows or []
+    else:
+        answer = _limited(session.program.ask(command_of(page), page))
+        entries = rows_of(page, answer.body) if isinstance(answer, Accepted) else []
+    session.answered(page, answer)
+    rows: Optional[List[Members]] = None
+    if isinstance(answer, Accepted):
+        rows = [members_of(read_line(line), place) for place, line in entries]
+    session.output.line(dumps({**answered(page.name, answer), "list": rows}))
+
+
+def _limited(answer: Answer) -> Answer:
+    """The answer, which says what else can be done where it would be too much."""
+    if isinstance(answer, Unanswered) and answer.too_much:
+        return Unanswered(answer.reason + "; by itself, as `naplps list < PAGE`, it has no such limit", too_much=True)
+    return answer
+
+
+def _tell_refusal(session: Session, page: Page, answer: Refusal) -> None:
+    """A refused page has no list and no canonical bytes: its refusal is told on standard error."""
+    session.output.flush()
+    tell("%s: %s" % (shown(page.name), answer.line))
+
+
+def canon(session: Session) -> int:
+    """The canonical bytes of each page, printed or put into a folder."""
+    if session.into is not None:
+        make_folder(session.into)
+
+    def work(page: Page) -> None:
+        answer = session.program.ask("canon", page)
+        if not session.answered(page, answer):
+            return
+        if isinstance(answer, Refusal):
+            _tell_refusal(session, page, answer)
+        elif isinstance(answer, Accepted) and session.into is not None:
+            put(into(session.into, page.name), answer.body)
+        elif isinstance(answer, Accepted):
+            session.output.bytes(answer.body)
+    return session.each(work)

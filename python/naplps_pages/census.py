@@ -1,0 +1,151 @@
+"""The command census: which codes outside of what is read stop pages, how often, and on how many pages alone."""
+from collections import Counter
+from dataclasses import dataclass, field
+from typing import Iterator, List, Optional
+
+from naplps.answers import Accepted, Refusal, Unanswered
+from naplps.entry_json import Members
+
+from .codes import Code, Cutter
+from .console import Session
+from .schema import dumps
+from .source import Page
+
+# So many bytes of a page are read on behind its refusal, those of macros counted too.
+MOST_STEPS = 100_000
+# The names that refusals have for codes, by those of the table of codes.
+LEFT_OUT = {name: name for name in ("CAN", "SDC", "NSR", "UNPROTECT", "EDC1", "EDC2", "EDC3", "EDC4")}
+LEFT_OUT.update({"DEFT MACRO": "DEFT", "INCREMENTAL POINT": "INCREMENTAL-POINT", "INCREMENTAL LINE": "INCREMENTAL-LINE",
+                 "INCREMENTAL POLY FILLED": "INCREMENTAL-POLY"})
+ESCAPES = ("announcer", "designation of a C0 set", "designation of a C1 set", "single control function",
+           "designation of a set of several bytes", "switch to another coding system", "revision number",
+           "code of ISO 2022", "escape sequence")
+UNKNOWN_SET = "unknown set"
+EIGHTH_BIT, TRANSPARENT = "eighth bit", "SET COLOR without a colour"
+MOST_SHOWN = 5
+ESTIMATE = ("first: the refusal's own. The rest is an estimate, by a reading of codes that goes on behind the refusal.")
+
+
+@dataclass
+class Row:
+    """One code: on how many pages it is the refusal, how often it was found, on how many pages, on how many alone."""
+
+    first: int = 0
+    times: int = 0
+    pages: int = 0
+    only: int = 0
+
+
+@dataclass
+class Census:
+    """What was found on all pages."""
+
+    accepted: int = 0
+    refused: int = 0
+    without: int = 0
+    in_part: int = 0
+    rows: "dict[str, Row]" = field(default_factory=dict)
+
+    def take(self, names: List[str]) -> None:
+        """Counts a refused page, by the codes that stop it; the first is the refusal's own."""
+        self.refused += 1
+        for name, times in Counter(names).items():
+            row = self.rows.setdefault(name, Row())
+            row.times += times
+            row.pages += 1
+            row.first += name == names[0]
+            row.only += len(set(names)) == 1
+
+    def sorted(self) -> List["tuple[str, Row]"]:
+        """The codes, those on most pages first."""
+        return sorted(self.rows.items(), key=lambda each: (-each[1].pages, -each[1].times, each[0]))
+
+
+def census(session: Session) -> int:
+    """Counts the codes that stop pages."""
+    found = Census()
+
+    def work(page: Page) -> None:
+        answer = session.program.ask("check", page)
+        if not session.answered(page, answer) or isinstance(answer, Unanswered):
+            found.without += 1
+        elif isinstance(answer, Accepted):
+            found.accepted += 1
+        else:
+            names = stops(page.data, answer)
+            found.in_part += names[-1:] == [""]
+            found.take([name for name in names if name])
+    status = session.each(work)
+    found.without = len(session.names) - found.accepted - found.refused
+    for line in [dumps(members(found))] if session.json else lines(found):
+        session.output.line(line)
+    session.output.flush()
+    return status
+
+
+def stops(data: Optional[bytes], answer: Refusal) -> List[str]:
+    """The codes that stop a page, the refusal's own first; at the end an empty name, if it wasn't read to its end."""
+    cutter = Cutter(data or b"", MOST_STEPS)
+    names: List[str] = []
+    own = own_name(data, answer)
+    for code in cutter.codes():
+        name = name_of(code, data or b"")
+        if name is not None and max(code.acts if not code.opcode else code.start, code.start) >= answer.place:
+            names.append(name)
+    if names[:1] != [own]:
+        names.insert(0, own)
+    return names + ([""] if data is None or cutter.steps >= MOST_STEPS else [])
+
+
+def own_name(data: Optional[bytes], answer: Refusal) -> str:
+    """The name of the code that is refused, or of the refusal where that isn't for a code that isn't read."""
+    if answer.code:
+        return answer.code
+    if answer.fault == "EighthBit":
+        return EIGHTH_BIT
+    for code in _at(data, answer.place) if data is not None else ():
+        return name_of(code, data or b"") or answer.fault
+    return answer.fault
+
+
+def _at(data: Optional[bytes], place: int) -> Iterator[Code]:
+    return (code for code in Cutter(data or b"", MOST_STEPS).codes() if code.start <= place < code.end)
+
+
+def name_of(code: Code, data: bytes) -> Optional[str]:
+    """The name of a code that isn't read; nothing of others."""
+    if code.name in LEFT_OUT:
+        return LEFT_OUT[code.name]
+    if code.name == "byte of the eight-bit code":
+        return EIGHTH_BIT
+    if code.name in ESCAPES or code.name.startswith(UNKNOWN_SET):
+        some = data[code.start:code.end]
+        told = some[:MOST_SHOWN].hex(" ").upper() + (" .." if len(some) > MOST_SHOWN else "")
+        return "%s (%s)" % (told, code.name) if some[:1] == b"\x1b" else code.name
+    if code.name == "SET COLOR" and code.end - code.start == 1 and data[code.start:code.end] == b"\x3c":
+        return TRANSPARENT
+    return None
+
+
+def lines(found: Census) -> Iterator[str]:
+    """The table for people."""
+    every = found.accepted + found.refused + found.without
+    without = ", %d without an answer" % found.without if found.without else ""
+    yield "%d %s: %d accepted, %d refused%s" % (
+        every, "page" if every == 1 else "pages", found.accepted, found.refused, without)
+    if not found.rows:
+        return
+    yield "%-44s %8s %8s %8s %8s" % ("What stops pages", "first", "pages", "alone", "times")
+    for name, row in found.sorted():
+        yield "%-44s %8d %8d %8d %8d" % (name, row.first, row.pages, row.only, row.times)
+    yield ESTIMATE
+    if found.in_part:
+        yield "%d of the refused pages were read on in part alone." % found.in_part
+
+
+def members(found: Census) -> Members:
+    """The members of the object in JSON."""
+    codes: List[Members] = [{"code": name, "first": row.first, "pages": row.pages, "alone": row.only,
+                             "times": row.times} for name, row in found.sorted()]
+    return {"accepted": found.accepted, "refused": found.refused, "no_answer": found.without,
+            "in_part": found.in_part, "codes": codes}

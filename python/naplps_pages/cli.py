@@ -1,0 +1,379 @@
+"""The command line: the words that each command takes, what they run, and the status."""
+import argparse
+import contextlib
+import dataclasses
+import os
+import sys
+from typing import Any, Callable, Dict, List, NamedTuple, Optional, Tuple
+
+from naplps.client import Client
+from naplps.limits import MOST_BUDGET, MOST_PAGE, USUAL_BUDGET, Limits
+from naplps.names import shown
+from naplps.program import NoProgram, find
+from naplps.version import VERSION
+
+from . import TOOL, answering, census, curing, explaining, refusals, showing, splitting
+from .collection import commands as collection
+from .collection.part import MOST_PARTS, Part, read_part
+from .collection.printing import FORMS
+from .console import FAILED, WRONG_WORDS, Session, tell
+from .earlier import Earlier, read_earlier
+from .listing import MODEST
+from .new_files import NotWritten
+from .report import commands as reporting
+from .report.limits import MOST_SKETCHES, USUAL_SKETCHES
+from .source import Unread
+from .unexpected import told
+
+LEAST_SECONDS, MOST_SECONDS = 0.01, 1e6
+# Processes of a scan, and of a report.
+MOST_PROCESSES, MOST_DRAWING = 512, 64
+# The commands on a page after others; canon says why it can't be one of them.
+AFTER = ("check", "list", "canon", "explain", "look", "text")
+NO_CANON = ("not for canon: a canonical stream begins where nothing stands, so a page after others has none; `cat` "
+            "joins pages to one that has")
+# The commands on pages whose answers may be as long as they are.
+AT_LENGTH = ("list", "canon")
+ON_PAGES: Dict[str, Callable[[Session], int]] = {
+    "check": answering.check, "list": answering.list_entries, "canon": answering.canon, "explain": explaining.explain,
+    "look": showing.look, "text": showing.text, "cures": curing.cures, "split": splitting.split,
+    "census": census.census}
+EPILOG = ("No file is overwritten. Status: 0 all pages are accepted, 1 some are refused, 2 the command line is wrong, "
+          "3 something couldn't be read, asked or written. The program that is asked is the one that NAPLPS names, or "
+          "naplps next to this command, or on PATH.")
+OF_COLLECTIONS = ("Status: 0, or 1 if something couldn't be read, got no answer or has changed, 2 the command line is "
+                  "wrong, 3 the store, the program or the output failed.")
+OF_REPORTS = ("Status: 0, or 1 if a page in the report has changed since it was scanned, 2 the command line is wrong, "
+              "3 the store, the program or the output failed.")
+FORM_HELP = {"json": "print JSON, an object on each line", "csv": "print the table as CSV",
+             "null": "print only names, each ended by NUL"}
+
+
+def name(text: str) -> str:
+    """The name of a file or a folder. (The system takes an empty one for the current folder, or for nothing.)"""
+    if not text:
+        raise argparse.ArgumentTypeError("the name is empty")
+    return text
+
+
+@dataclasses.dataclass(frozen=True)
+class Number:
+    """Reads a whole number of a range."""
+
+    least: int
+    most: int
+
+    def __call__(self, text: str) -> int:
+        """The number."""
+        if not _is_number(text) or not self.least <= int(text) <= self.most:
+            raise argparse.ArgumentTypeError(f"a number from {self.least} to {self.most}, not {text!r}")
+        return int(text)
+
+
+def _is_number(text: str) -> bool:
+    return text.isascii() and text.isdigit() and len(text) < 20
+
+
+def seconds(text: str) -> float:
+    """A number of seconds."""
+    try:
+        count = float(text)
+    except ValueError:
+        count = 0.0
+    if not LEAST_SECONDS <= count <= MOST_SECONDS:
+        raise argparse.ArgumentTypeError(
+            f"a number of seconds from {LEAST_SECONDS:g} to {MOST_SECONDS:.0f}, not {text!r}")
+    return count
+
+
+def refusal(text: str) -> int:
+    """The number of a refusal."""
+    known = refusals.load()
+    if not _is_number(text) or int(text) not in known:
+        raise argparse.ArgumentTypeError(f"the number of a refusal, not {text!r}: {_refusals()}")
+    return int(text)
+
+
+def reason(text: str) -> refusals.Reason:
+    """A refusal by its number or its name, or a code that is left out, by its name or its bytes."""
+    found = refusals.reason_of(text)
+    if found is None:
+        codes = ", ".join(f"{code.upper()} {title}" for code, title in refusals.CODES.items())
+        raise argparse.ArgumentTypeError(
+            f"a refusal or a code, not {text!r}: {_refusals()}; the codes of LeftOut are {codes}")
+    return found
+
+
+def _refusals() -> str:
+    return ", ".join(f"{each.number} {each.name}" for each in refusals.load().values())
+
+
+def part(text: str) -> Part:
+    """The part of a scan that is named K/N."""
+    try:
+        return read_part(text)
+    except ValueError:
+        raise argparse.ArgumentTypeError(
+            f"a part K/N, where N is from 1 to {MOST_PARTS} and K from 0 to N - 1, not {text!r}") from None
+
+
+class Parser(argparse.ArgumentParser):
+    """A parser that raises OSError where its help can't be printed, with each version of Python.
+
+    Words that it doesn't know are told with the usage of their command. The options of a command are added once it is
+    the one that was named.
+    """
+
+    options: Optional[Callable[["Parser"], None]] = None
+
+    def parse_known_args(self, args: Any = None, namespace: Any = None) -> Any:
+        """What the words say; there is none that isn't known."""
+        options, self.options = self.options, None
+        if options:
+            options(self)
+        given, unknown = super().parse_known_args(args, namespace)
+        if unknown:
+            self.error(f"unrecognized arguments: {' '.join(map(shown, unknown))}")
+        return given, unknown
+
+    def _print_message(self, message: str, file: Any = None) -> None:
+        if file is not None and file is sys.stdout:
+            file.write(message)
+        else:
+            with contextlib.suppress(OSError, AttributeError):
+                super()._print_message(message, file)
+
+
+class Command(NamedTuple):
+    """What the help says of a command, and what adds its options."""
+
+    help: str
+    epilog: str
+    options: Callable[[Parser], None]
+
+
+def parser() -> Parser:
+    """The words that are understood."""
+    top = Parser(prog=TOOL, description="Files, pictures and reasons for NAPLPS pages.", allow_abbrev=False,
+                 epilog=f"`{TOOL} COMMAND --help` describes one command. {EPILOG}")
+    top.add_argument("-V", "--version", action="version", version=f"{TOOL} {VERSION}")
+    commands = top.add_subparsers(dest="command", metavar="COMMAND", required=True)
+    for title, command in COMMANDS.items():
+        one = commands.add_parser(title, help=command.help, epilog=command.epilog, allow_abbrev=False,
+                                  description=command.help[0].upper() + command.help[1:] + ".")
+        one.set_defaults(parser=one)
+        one.options = command.options
+    return top
+
+
+def _page_options(one: Parser) -> None:
+    """The options of a command on pages."""
+    title = one.prog.split()[-1]
+    one.add_argument("pages", metavar="PAGE", nargs=1 if title == "explain" else "+", type=name,
+                     help="a file, PACK!MEMBER for a member of a pack, or - for standard input")
+    if title in ("check", "list", "cures", "split", "census"):
+        one.add_argument("--json", action="store_true", help="print JSON, an object on each line")
+    where: Any = one.add_mutually_exclusive_group() if title == "look" else one
+    if title in ("canon", "look", "cures", "split"):
+        where.add_argument("--into", metavar="FOLDER", type=name, required=title == "split",
+                           help="make a file for each page in this folder")
+    if title == "look":
+        where.add_argument("--svg", metavar="FILE", type=name, help="write the sketch of one page to this file")
+    if title in AFTER:
+        one.add_argument("--after", metavar="PAGE", type=name, action="append", default=[],
+                         help=NO_CANON if title == "canon" else "a page that comes before, whose macros, colours and "
+                         "sets stand; several in their order, each with --after")
+    _asking_options(one)
+
+
+def _asking_options(one: Parser, budget: bool = True) -> None:
+    """The options of a command that asks the program."""
+    if budget:
+        one.add_argument("--budget", metavar="N", type=Number(0, MOST_BUDGET), default=USUAL_BUDGET,
+                         help=f"how many bytes of macro bodies a page may be charged, from 0 to {MOST_BUDGET}; the "
+                         f"default is {USUAL_BUDGET}")
+    one.add_argument("--seconds", metavar="N", type=seconds, default=20.0,
+                     help="how many seconds the program may take for a page; the default is 20")
+
+
+def _scan_options(one: Parser) -> None:
+    one.add_argument("folders", metavar="FOLDER", nargs="+", type=name,
+                     help="a folder of pages, a pack of them, which is a tar, tar.gz or zip file, or a page")
+    one.add_argument("--into", metavar="STORE", type=name, required=True,
+                     help="the store: a file, which is made if there is none")
+    where = one.add_mutually_exclusive_group()
+    where.add_argument("--processes", metavar="N", type=Number(1, MOST_PROCESSES), default=_processors(),
+                       help="how many processes work; by default one for each processor")
+    where.add_argument("--on", metavar="SCHEDULER", type=name,
+                       help="let the workers of Dask work; its scheduler, by its address or by its file")
+    one.add_argument("--most", metavar="BYTES", type=Number(0, 1 << 62), default=MOST_PAGE,
+                     help=f"how many bytes a page may have; the default is {MOST_PAGE}")
+    one.add_argument("--part", metavar="K/N", type=part,
+                     help="take only one of N parts of the files, the first of which is 0/N")
+    one.add_argument("--again", action="store_true", help="read all files and ask about all pages again")
+    one.add_argument("--cures", action="store_true", help="try treatments of refused pages")
+    _asking_options(one)
+
+
+def _merge_options(one: Parser) -> None:
+    one.add_argument("into", metavar="INTO", type=name, help="the new store, a file that isn't there yet")
+    one.add_argument("parts", metavar="STORE", nargs="+", type=name,
+                     help="a file that `scan` made, which stays as it is")
+    one.add_argument("--unfinished", action="store_true",
+                     help="join stores that aren't finished too, and parts of which others are missing")
+
+
+def _equal_options(one: Parser) -> None:
+    one.add_argument("stores", metavar="STORE", nargs="+", type=name,
+                     help="a file that `scan` made, or several, as those of the parts of a scan")
+    one.add_argument("--copies", action="store_true", help="also print groups of files with the same bytes")
+    one.add_argument("--verify", action="store_true", help="read all files again, and compare canonical bytes")
+    _form_options(one, FORMS[1:])
+    _asking_options(one, budget=False)
+
+
+def _refused_options(one: Parser) -> None:
+    _store_option(one)
+    which = one.add_mutually_exclusive_group()
+    which.add_argument("--number", metavar="N", type=refusal,
+                       help="only the refusal with this number, as in `refused 10 Outside`")
+    which.add_argument("--reason", metavar="REASON", type=reason,
+                       help="only this refusal, by its number or name, or only this code that is left out, by its "
+                       "name or bytes, as SDC or 1A")
+    _form_options(one, FORMS[1:])
+
+
+def _convert_options(one: Parser) -> None:
+    _store_option(one)
+    one.add_argument("--into", metavar="FOLDER", type=name, required=True, help="the folder, made if there is none")
+    _form_options(one, FORMS[1:3])
+    _asking_options(one, budget=False)
+
+
+def _status_options(one: Parser) -> None:
+    _store_option(one)
+    _form_options(one, FORMS[1:3])
+
+
+def _report_options(one: Parser) -> None:
+    _store_option(one)
+    _asking_options(one, budget=False)
+    one.add_argument("--into", metavar="FILE", type=name, required=True, help="the file that is made")
+    some = one.add_mutually_exclusive_group()
+    some.add_argument("--sketches", metavar="N", type=Number(0, MOST_SKETCHES), default=USUAL_SKETCHES,
+                      help=f"how many pages have a sketch in it; the default is {USUAL_SKETCHES}")
+    some.add_argument("--all", action="store_true", help=f"a sketch of each page, for up to {MOST_SKETCHES}")
+    one.add_argument("--processes", metavar="N", type=Number(1, MOST_DRAWING),
+                     default=min(os.cpu_count() or 1, MOST_DRAWING),
+                     help="how many processes draw; by default one for each processor")
+
+
+def _serve_options(one: Parser) -> None:
+    _store_option(one)
+    _asking_options(one, budget=False)
+    one.add_argument("--port", metavar="N", type=Number(0, 65535), default=0,
+                     help="the port of 127.0.0.1; by default a free one")
+
+
+def _store_option(one: Parser) -> None:
+    one.add_argument("store", metavar="STORE", type=name, help="a file that `scan` made")
+
+
+def _form_options(one: Parser, forms: Tuple[str, ...]) -> None:
+    some = one.add_mutually_exclusive_group()
+    for form in forms:
+        some.add_argument("--" + form, dest="form", action="store_const", const=form, default="text",
+                          help=FORM_HELP[form])
+
+
+def _processors() -> int:
+    try:
+        number = len(os.sched_getaffinity(0))
+    except AttributeError:  # (not all systems have it)
+        number = os.cpu_count() or 1
+    return min(number, MOST_PROCESSES)
+
+
+COMMANDS = {
+    "check": Command("say whether pages are accepted, or why not", EPILOG, _page_options),
+    "list": Command("print a line for each entry of the pages", EPILOG, _page_options),
+    "canon": Command("print the canonical stream of a page, or write those of many pages to a folder", EPILOG,
+                     _page_options),
+    "explain": Command("show each entry next to the bytes that it comes from, or why the page is refused", EPILOG,
+                       _page_options),
+    "look": Command("make a sketch of a page as SVG: print it, or write it to a file or a folder", EPILOG,
+                    _page_options),
+    "text": Command("print the text of pages", EPILOG, _page_options),
+    "cures": Command("try treatments that make a refused page readable", EPILOG, _page_options),
+    "split": Command("cut a capture into its pages, each a file in a folder", EPILOG, _page_options),
+    "census": Command("count the codes that stop pages", EPILOG, _page_options),
+    "scan": Command("ask about all pages in folders, and keep the answers in a store", OF_COLLECTIONS,
+                    _scan_options),
+    "merge": Command("join stores, as those of the parts of a scan, in a new one", OF_COLLECTIONS, _merge_options),
+    "equal": Command("print groups of pages that draw the same", OF_COLLECTIONS, _equal_options),
+    "refused": Command("print refused pages by the reason", OF_COLLECTIONS, _refused_options),
+    "convert": Command("write the canonical pages to a folder, named by their hashes", OF_COLLECTIONS,
+                       _convert_options),
+    "status": Command("say what was scanned when, and what is left to do", OF_COLLECTIONS, _status_options),
+    "report": Command("make one HTML file that shows what a scan found", OF_REPORTS, _report_options),
+    "serve": Command("show what a scan found to browsers of this machine", OF_REPORTS, _serve_options)}
+
+
+def _given(words: List[str]) -> argparse.Namespace:
+    """What the words say. Exits where they are wrong, or ask for help."""
+    given = parser().parse_args(words)
+    if given.command in ON_PAGES:
+        pages: List[str] = given.pages
+        if len(pages) > 1 and getattr(given, "into", None) is None and given.command in ("canon", "look"):
+            instead = " in place of --svg" if getattr(given, "svg", None) else ""
+            given.parser.error(f"several pages need --into FOLDER{instead}")
+        after: List[str] = getattr(given, "after", [])
+        if given.command == "canon" and after:
+            given.parser.error(f"--after is {NO_CANON}")
+        if (pages + after).count("-") > 1:
+            given.parser.error("- stands for standard input, and can be named once")
+    return given
+
+
+def main(words: List[str], command: str) -> int:
+    """Runs the words; the status. `command` is the path of the command, beside which naplps may stand."""
+    try:
+        given = _given(words)
+    except SystemExit as end:
+        return WRONG_WORDS if end.code else 0
+    except BrokenPipeError:
+        raise
+    except OSError as error:  # of the help, which it prints
+        tell(f"standard output: {error.strerror}")
+        return FAILED
+    try:
+        return _done(given, command)
+    except BrokenPipeError:
+        raise
+    except Exception as error:  # pylint: disable=broad-except
+        tell(told(error))
+        return FAILED
+
+
+def _done(given: argparse.Namespace, command: str) -> int:
+    """Does what was asked for; the status."""
+    if given.command in collection.COMMANDS:
+        return collection.run(given, command)
+    if given.command in reporting.COMMANDS:
+        return reporting.run(given, command)
+    limits = dataclasses.replace(Limits() if given.command in AT_LENGTH else MODEST, seconds=given.seconds)
+    try:
+        client = Client(find(command), given.budget, limits)
+    except NoProgram as error:
+        tell(str(error))
+        return FAILED
+    after: List[str] = getattr(given, "after", [])
+    try:
+        session = Session(client, given.pages, getattr(given, "json", False), getattr(given, "into", None),
+                          getattr(given, "svg", None), read_earlier(after, given.seconds) if after else Earlier())
+        return ON_PAGES[given.command](session)
+    except (NotWritten, Unread) as error:
+        tell(str(error))
+        return FAILED
+    finally:
+        client.close()

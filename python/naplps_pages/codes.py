@@ -1,0 +1,212 @@
+"""Cuts a page into codes with their names, for explanations alone: what a page means the program says.
+
+Macros are followed, since a body may change the sets or begin a code that ends behind the call.
+"""
+from dataclasses import dataclass
+from typing import Dict, Iterator, List, Optional, Tuple
+
+# Steps are bytes that are taken, also those of macros.
+MOST_STEPS = 300_000
+SET_NAMES = {0x42: "primary", 0x7C: "supplementary", 0x57: "PDI", 0x7D: "mosaic", 0x7A: "macro", 0x7B: "DRCS"}
+C0 = {0x00: "NUL", 0x07: "BEL", 0x08: "APB", 0x09: "APF", 0x0A: "APD", 0x0B: "APU", 0x0C: "CS", 0x0D: "APR",
+      0x0E: "SO", 0x0F: "SI", 0x18: "CAN", 0x19: "SS2", 0x1A: "SDC", 0x1C: "APS", 0x1D: "SS3", 0x1E: "APH", 0x1F: "NSR"}
+C1 = {0x40: "DEF MACRO", 0x41: "DEFP MACRO", 0x42: "DEFT MACRO", 0x43: "DEF DRCS", 0x44: "DEF TEXTURE", 0x45: "END",
+      0x46: "REPEAT", 0x47: "REPEAT TO EOL", 0x48: "REVERSE VIDEO", 0x49: "NORMAL VIDEO", 0x4A: "SMALL TEXT",
+      0x4B: "MED TEXT", 0x4C: "NORMAL TEXT", 0x4D: "DOUBLE HEIGHT", 0x4E: "BLINK START", 0x4F: "DOUBLE SIZE",
+      0x50: "PROTECT", 0x51: "EDC1", 0x52: "EDC2", 0x53: "EDC3", 0x54: "EDC4", 0x55: "WORD WRAP ON",
+      0x56: "WORD WRAP OFF", 0x57: "SCROLL ON", 0x58: "SCROLL OFF", 0x59: "UNDERLINE START", 0x5A: "UNDERLINE STOP",
+      0x5B: "FLASH CURSOR", 0x5C: "STEADY CURSOR", 0x5D: "CURSOR OFF", 0x5E: "BLINK STOP", 0x5F: "UNPROTECT"}
+WITH_ARGUMENT = (0x40, 0x41, 0x43, 0x44, 0x46)
+MACROS = (0x40, 0x41)
+OPCODES = ("RESET", "DOMAIN", "TEXT", "TEXTURE", "POINT SET ABS", "POINT SET REL", "POINT ABS", "POINT REL", "LINE ABS",
+           "LINE REL", "SET & LINE ABS", "SET & LINE REL", "ARC OUTLINED", "ARC FILLED", "SET & ARC OUTLINED",
+           "SET & ARC FILLED", "RECT OUTLINED", "RECT FILLED", "SET & RECT OUTLINED", "SET & RECT FILLED",
+           "POLY OUTLINED", "POLY FILLED", "SET & POLY OUTLINED", "SET & POLY FILLED", "FIELD", "INCREMENTAL POINT",
+           "INCREMENTAL LINE", "INCREMENTAL POLY FILLED", "SET COLOR", "WAIT", "SELECT COLOR", "BLINK")
+# Escape sequences that ISO 2022 has and the profile hasn't, by their second byte.
+OTHER_ESCAPES = {0x20: "announcer", 0x21: "designation of a C0 set", 0x22: "designation of a C1 set",
+                 0x23: "single control function", 0x24: "designation of a set of several bytes",
+                 0x25: "switch to another coding system", 0x26: "revision number", 0x27: "code of ISO 2022"}
+
+
+@dataclass(frozen=True)
+class Code:
+    """A code: its bytes in the page, the offset of the byte with which it acts, its name, whether it is an opcode."""
+
+    start: int
+    end: int
+    acts: int
+    name: str
+    opcode: bool = False
+
+
+class PageEnded(Exception):
+    """The page ends amid a code."""
+
+
+class Cutter:
+    """Takes codes off the front of a page, and off the macros that it calls."""
+
+    def __init__(self, page: bytes, most_steps: int = MOST_STEPS) -> None:
+        self.most_steps = most_steps
+        self.length = len(page)
+        # (bytes, how many are taken, the offset that they have, or None for the page itself)
+        self.frames: List[Tuple[bytes, int, Optional[int]]] = [(page, 0, None)]
+        self.sets = ["primary", "PDI", "supplementary", "mosaic"]
+        self.gl = 0
+        self.macros: Dict[int, bytes] = {}
+        self.steps = 0
+        self.last = 0
+
+    def peek(self) -> Optional[Tuple[int, int]]:
+        """The next byte and its offset; None at the end."""
+        while self.frames and self.frames[-1][1] >= len(self.frames[-1][0]):
+            if len(self.frames) == 1:
+                return None
+            self.frames.pop()
+        data, taken, place = self.frames[-1]
+        return data[taken], taken if place is None else place
+
+    def take(self) -> int:
+        """The next byte, which leaves the front."""
+        front = self.peek()
+        if front is None:
+            raise PageEnded
+        data, taken, place = self.frames[-1]
+        self.frames[-1] = (data, taken + 1, place)
+        self.steps += 1
+        self.last = front[1]
+        return front[0]
+
+    def codes(self) -> Iterator[Code]:
+        """The codes, up to the end, or to as many steps as are gone."""
+        while self.steps < self.most_steps:
+            front = self.peek()
+            if front is None:
+                return
+            try:
+                yield self._code(front[1])
+            except PageEnded:
+                yield Code(front[1], self.length, self.length, "unfinished code")
+                return
+
+    def _code(self, start: int) -> Code:
+        byte = self.take()
+        if byte >= 0x80:
+            return self._named(start, "byte of the eight-bit code")
+        if byte >= 0x20:
+            return self._graphic(start, byte, self.sets[self.gl], shifted=False)
+        if byte == 0x1B:
+            return self._escape(start)
+        if byte in (0x19, 0x1D):
+            code = self.take()
+            return self._graphic(start, code, self.sets[2 if byte == 0x19 else 3], shifted=True)
+        if byte in (0x0E, 0x0F):
+            self.gl = 1 if byte == 0x0E else 0
+        if byte == 0x1C:
+            self.take()
+            self.take()
+        return self._named(start, C0.get(byte, "control without effect"))
+
+    def _named(self, start: int, name: str) -> Code:
+        return Code(start, self.last + 1, self.last, name)
+
+    def _graphic(self, start: int, byte: int, name: str, shifted: bool) -> Code:
+        if name == "PDI" and not shifted:
+            return self._opcode(start, byte) if byte < 0x40 else self._named(start, "word without an opcode")
+        if name == "macro":
+            # (its own end is told before the body comes)
+            code = self._named(start, "call of macro %02x" % byte)
+            body = self.macros.get(byte)
+            if body:
+                self.frames.append((body, 0, self.last))
+            return code
+        if name == "primary" and byte == 0x20:
+            return self._named(start, "space")
+        if name == "primary" and byte < 0x7F:
+            return self._named(start, "character %c" % byte)
+        return self._named(start, "%s character %02x" % (name, byte))
+
+    def _opcode(self, start: int, byte: int) -> Code:
+        words: List[int] = []
+        front = self.peek()
+        while front is not None and 0x40 <= front[0] < 0x80:
+            words.append(self.take())
+            front = self.peek()
+        if byte == 0x20 and len(words) > 1 and words[1] & 16:
+            self.macros = {}
+        acts = self.length if front is None else front[1]
+        return Code(start, self.last + 1, acts, OPCODES[byte - 0x20], opcode=True)
+
+    def _escape(self, start: int) -> Code:
+        byte = self.take()
+        if byte in (0x6E, 0x6F):
+            self.gl = 2 if byte == 0x6E else 3
+            return self._named(start, "locking shift %d" % self.gl)
+        if 0x28 <= byte <= 0x2F:
+            return self._designation(start, byte)
+        if byte in OTHER_ESCAPES:
+            return self._other_escape(start, OTHER_ESCAPES[byte])
+        if byte not in C1:
+            return self._named(start, "escape sequence")
+        argument = self.take() if byte in WITH_ARGUMENT else 0
+        code = self._named(start, C1[byte])
+        if byte in MACROS:
+            self._body(argument, presented=byte == 0x41)
+        return code
+
+    def _designation(self, start: int, byte: int) -> Code:
+        final = self.take()
+        if final == 0x20:
+            final = self.take()
+        name = SET_NAMES.get(final)
+        if name:
+            self.sets[(byte - 0x28) % 4] = name
+        return self._named(start, "%s set into G%d" % (name or "unknown", (byte - 0x28) % 4))
+
+    def _other_escape(self, start: int, name: str) -> Code:
+        while True:
+            front = self.peek()
+            if front is None or not 0x20 <= front[0] <= 0x7E:
+                return self._named(start, name)
+            if self.take() >= 0x30:
+                return self._named(start, name)
+
+    def _body(self, name: int, presented: bool) -> None:
+        """Takes the body of a macro, up to the pair that ends it, which stays."""
+        body = bytearray()
+        while True:
+            data, taken, place = self._frame()
+            at = data.find(b"\x1b", taken)
+            stop = len(data) if at < 0 else at
+            body += data[taken:stop]
+            self.steps += stop - taken
+            self.frames[-1] = (data, stop, place)
+            if at < 0:
+                continue
+            if self._ends_body():
+                break
+            body.append(self.take())
+        self.macros[name] = bytes(body)
+        if presented:
+            pair = bytes((self.take(), self.take()))
+            self.frames.append((bytes(body) + pair, 0, self.last))
+
+    def _frame(self) -> Tuple[bytes, int, Optional[int]]:
+        if self.peek() is None:
+            raise PageEnded
+        return self.frames[-1]
+
+    def _ends_body(self) -> bool:
+        """Whether the pair in front ends a body. (A pair over the end of a body is looked at byte by byte.)"""
+        joined = bytearray()
+        for data, taken, _ in reversed(self.frames):
+            joined += data[taken:taken + 2 - len(joined)]
+            if len(joined) == 2:
+                return 0x40 <= joined[1] <= 0x45
+        raise PageEnded
+
+
+def cut(page: bytes) -> Iterator[Code]:
+    """The codes of a page."""
+    return Cutter(page).codes()

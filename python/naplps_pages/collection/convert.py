@@ -1,0 +1,126 @@
+"""The command convert: canonical pages into a folder, named by their hashes."""
+import hashlib
+import os
+import sqlite3
+import stat
+from typing import Dict, Iterator, NamedTuple, Optional
+
+from naplps.answers import Accepted, Answer, Unanswered
+from naplps.client import Client
+from naplps.entry_json import Members
+from naplps.names import shown
+
+from ..new_files import make_folder, put
+from .folders import reason
+from .places import Otherwise, Place, read
+from .printing import NAME, Printer, named, shown_as
+from .store import kept
+from .tables import hashed
+from .verify import OTHER_HASH
+
+COLUMNS = ["canonical", "status", "path", "reason", *NAME]
+PIECE = 1 << 20
+WRITTEN, THERE, CHANGED, NOT_MADE = "written", "there", "changed", "not made"
+PAGES = """SELECT p.canon, p.canon_size, p.own, d.path, f.name, f.at FROM pages p
+    JOIN present f ON f.page = p.id JOIN folders d ON d.id = f.folder
+    WHERE p.canon IS NOT NULL ORDER BY p.canon, d.path, f.name"""
+PAGE = "canon canon_size own path name inode?"
+
+
+class ConvertedRow(NamedTuple):
+    """What came of a canonical page, or of a file that might have brought it."""
+
+    canon: bytes
+    status: str
+    path: str
+    place: Place
+    reason: Optional[str] = None
+
+
+class Conversion:
+    """Puts canonical pages into a folder."""
+
+    def __init__(self, program: Client, into: str) -> None:
+        self.program, self.into = program, into
+        self.counts: Dict[str, int] = {}
+
+    def rows(self, connection: sqlite3.Connection) -> Iterator[ConvertedRow]:
+        """Puts the canonical page of each group in place, and tells what came of it. Raises NotWritten."""
+        make_folder(self.into)
+        done: Optional[bytes] = None
+        for canon, length, own, *place in kept(connection, PAGES, PAGE):
+            if canon != done:
+                row = self._convert(canon, length, own, Place(*place))
+                self.counts[row.status] = self.counts.get(row.status, 0) + 1
+                done = None if row.status == CHANGED else canon  # another file may have the page still
+                yield row
+
+    def _convert(self, canon: bytes, length: int, own: bytes, place: Place) -> ConvertedRow:
+        path = self.path(canon)
+        if os.path.lexists(path):
+            why = _otherwise(path, canon, length)
+            return ConvertedRow(canon, NOT_MADE if why else THERE, path, place, why)
+        try:
+            page = read(place, own)
+        except Otherwise as otherwise:
+            return ConvertedRow(canon, CHANGED, path, place, str(otherwise))
+        try:
+            return self._written(canon, path, place, self.program.ask("canon", page))
+        finally:
+            page.close()
+
+    def _written(self, canon: bytes, path: str, place: Place, answer: Answer) -> ConvertedRow:
+        if not isinstance(answer, Accepted):
+            why = answer.reason if isinstance(answer, Unanswered) else answer.line
+            return ConvertedRow(canon, NOT_MADE, path, place, why)
+        if hashed(answer.body) != canon:
+            return ConvertedRow(canon, NOT_MADE, path, place, OTHER_HASH)
+        make_folder(os.path.dirname(path))
+        put(path, answer.body)
+        return ConvertedRow(canon, WRITTEN, path, place)
+
+    def path(self, canon: bytes) -> str:
+        """Where the canonical page of this hash stands."""
+        name = canon.hex()
+        return os.path.join(self.into, name[:2], name + ".nap")
+
+    def line(self) -> str:
+        """What came of it all, in one line."""
+        number = self.counts.get
+        line = "%d written, %d there" % (number(WRITTEN, 0), number(THERE, 0))
+        if number(CHANGED):
+            line += ", %d files changed since the scan" % self.counts[CHANGED]
+        if number(NOT_MADE):
+            line += ", %d not made" % self.counts[NOT_MADE]
+        return line
+
+
+def show(printer: Printer, row: ConvertedRow) -> None:
+    """Prints a row, in the forms that have rows."""
+    members: Members = {"canonical": row.canon.hex(), "status": row.status, "path": shown(row.path),
+                        "reason": row.reason}
+    if printer.form == "json":
+        printer.object({**members, **named(row.place)})
+    elif printer.form == "csv":
+        printer.row({**members, **shown_as(row.place)})
+
+
+def _otherwise(path: str, canon: bytes, length: int) -> Optional[str]:
+    """What is wrong with what is there in place of a canonical page; None where it has its bytes."""
+    try:
+        status = os.stat(path)
+        if not stat.S_ISREG(status.st_mode):
+            return "is there already, but is no file"
+        if status.st_size == length and _hash_of(path) == canon:
+            return None
+    except OSError as error:
+        return "is there already, but can't be read: %s" % reason(error)
+    return "is there already with other bytes, and isn't written over"
+
+
+def _hash_of(path: str) -> bytes:
+    made = hashlib.sha256()
+    with open(os.open(path, os.O_RDONLY | os.O_NONBLOCK | os.O_CLOEXEC), "rb", buffering=0) as file:
+        for piece in iter(lambda: file.read(PIECE), b""):
+            made.update(piece)
+    return made.digest()

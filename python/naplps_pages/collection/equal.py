@@ -1,0 +1,101 @@
+"""The command equal: groups of pages that draw the same."""
+import sqlite3
+from itertools import groupby
+from typing import Any, Iterable, Iterator, List, NamedTuple, Optional, Tuple
+
+from naplps.entry_json import Members
+from naplps.names import shown
+
+from .places import Place
+from .printing import NAME, Printer, named, numbered, shown_as
+from .store import kept
+
+COLUMNS = ["canonical", "spellings", "files", "entries", "spelling", "hash", *NAME]
+# Canonical hashes that several pages have, and those of pages that several files have.
+SEVERAL = "SELECT canon FROM pages WHERE canon IS NOT NULL GROUP BY canon HAVING count(*) > 1"
+COPIES = """ UNION SELECT p.canon FROM (SELECT page FROM present GROUP BY page HAVING count(*) > 1) AS m
+    CROSS JOIN pages p ON p.id = m.page WHERE p.canon IS NOT NULL"""
+# Groups, by hash and form, since forms mustn't be compared. (CROSS JOIN says in which order SQLite goes.)
+GROUPS = """CREATE TEMP TABLE found AS SELECT s.canon AS canon, t.form AS form, count(DISTINCT p.id) AS spellings,
+    count(*) AS files FROM ({}) AS s CROSS JOIN pages p ON p.canon = s.canon CROSS JOIN terms t ON t.id = p.terms
+    CROSS JOIN present f ON f.page = p.id GROUP BY 1, 2 HAVING {}"""
+MEMBERS = """SELECT g.canon, g.form, p.entries, p.canon_size, p.own, d.path, f.name, f.at FROM found g
+    CROSS JOIN pages p ON p.canon = g.canon CROSS JOIN terms t ON t.id = p.terms AND t.form = g.form
+    CROSS JOIN present f ON f.page = p.id CROSS JOIN folders d ON d.id = f.folder
+    ORDER BY g.spellings DESC, g.files DESC, g.canon, g.form, p.own, d.path, f.name"""
+MEMBER = "canon form entries canon_size own path name inode?"
+
+
+class Spelling(NamedTuple):
+    """Bytes of a page, by their hash, and the files that have them."""
+
+    own: bytes
+    places: List[Place]
+
+
+class Group(NamedTuple):
+    """Pages of one canonical stream, by its hash."""
+
+    canon: bytes
+    form: str
+    entries: int
+    length: int
+    spellings: List[Spelling]
+
+    @property
+    def files(self) -> int:
+        """How many files it has."""
+        return sum(len(each.places) for each in self.spellings)
+
+
+def groups(connection: sqlite3.Connection, copies: bool) -> Iterator[Group]:
+    """The groups, those of most spellings first; those of one spelling, which are copies, only where that is said."""
+    connection.execute(GROUPS.format(SEVERAL + COPIES, "count(*) > 1") if copies else
+                       GROUPS.format(SEVERAL, "count(DISTINCT p.id) > 1"))
+    return grouped(kept(connection, MEMBERS, MEMBER))
+
+
+def grouped(members: Iterable[Tuple[Any, ...]]) -> Iterator[Group]:
+    """The groups of rows of members, which stand in their order."""
+    for (canon, form), some in groupby(members, key=lambda row: (row[0], row[1])):
+        group: Optional[Group] = None
+        for _, _, entries, length, own, *place in some:
+            group = group or Group(canon, form, entries, length, [])
+            if not group.spellings or group.spellings[-1].own != own:
+                group.spellings.append(Spelling(own, []))
+            group.spellings[-1].places.append(Place(*place))
+        if group:
+            yield group
+
+
+def show(printer: Printer, group: Group) -> None:
+    """Prints a group."""
+    if printer.form == "json":
+        printer.object(_object(group))
+        return
+    if printer.form == "text":
+        printer.line("%s, %s, %s: canonical %s" % (
+            numbered(len(group.spellings), "spelling"), numbered(group.files, "file"),
+            numbered(group.entries, "entry", "entries"), group.canon.hex()))
+    for number, own, place in _members(group):
+        if printer.form == "text":
+            printer.line("  %d: %s" % (number, shown(place.path)))
+        elif printer.form == "csv":
+            printer.row({"canonical": group.canon.hex(), "spellings": len(group.spellings), "files": group.files,
+                         "entries": group.entries, "spelling": number, "hash": own.hex(), **shown_as(place)})
+        else:
+            printer.name(place)
+    if printer.form == "null":
+        printer.end()
+
+
+def _members(group: Group) -> Iterator[Tuple[int, bytes, Place]]:
+    for number, spelling in enumerate(group.spellings, 1):
+        for place in spelling.places:
+            yield number, spelling.own, place
+
+
+def _object(group: Group) -> Members:
+    return {"canonical": group.canon.hex(), "canonical_bytes": group.length, "entries": group.entries,
+            "spellings": [{"hash": each.own.hex(), "files": [named(place) for place in each.places]}
+                          for each in group.spellings]}

@@ -1,0 +1,189 @@
+"""Groups of equal pages over several stores that aren't joined: their sorted runs of hashes are merged from disk.
+
+The index of a store is such a run; where a scan was stopped there is none, and SQLite sorts. Of what is merged only the
+pages of groups are kept, in a database of temporary files, so memory doesn't grow with the stores.
+"""
+import heapq
+import sqlite3
+import sys
+from typing import Callable, Iterable, Iterator, List, Optional, Sequence, Tuple
+
+from naplps.names import shown
+
+from .equal import Group, grouped
+from .progress import Progress
+from .sources import CACHE, Row, Source, Sources, lacking, require_apart
+from .store import StoreFailed, show_present
+from .tables import NO_ANSWER
+
+# Pages for which it isn't their store alone that says what counts: without an answer there, or on other terms.
+ODD = "SELECT own FROM pages WHERE state = %d OR terms NOT IN ({})" % NO_ANSWER
+TABLES = """
+    CREATE TABLE odd(own BLOB PRIMARY KEY) WITHOUT ROWID;
+    CREATE TABLE answers(own BLOB, store INTEGER, page INTEGER, state INTEGER, canon BLOB, form TEXT, entries INTEGER,
+        length INTEGER, PRIMARY KEY(own, store)) WITHOUT ROWID;
+    CREATE TABLE wanted(number INTEGER, canon BLOB, store INTEGER, page INTEGER, form TEXT, entries INTEGER,
+        length INTEGER);
+    CREATE TABLE found(number INTEGER, form TEXT, own BLOB, folder BLOB, name BLOB, at INTEGER, entries INTEGER,
+        length INTEGER);
+    CREATE TABLE members(number INTEGER, form TEXT, own BLOB, folder BLOB, name BLOB, at INTEGER, entries INTEGER,
+        length INTEGER, PRIMARY KEY(number, form, own, folder, name)) WITHOUT ROWID;
+"""
+ANSWERS = """SELECT p.own, ?, p.id, p.state, p.canon, t.form, p.entries, p.canon_size FROM temp.odd o
+    CROSS JOIN pages p ON p.own = o.own CROSS JOIN terms t ON t.id = p.terms"""
+# Runs: the hash of canonical bytes, the store, the page there; and of odd pages form, entries and length that count.
+RUN = "SELECT canon, ?, id, NULL, NULL, NULL FROM pages WHERE canon IS NOT NULL {} ORDER BY canon, id"
+COPIES = """SELECT p.canon, ?, p.id, NULL, NULL, NULL
+    FROM (SELECT page FROM present GROUP BY page HAVING count(*) > 1) AS m CROSS JOIN pages p ON p.id = m.page
+    WHERE p.canon IS NOT NULL {} ORDER BY p.canon, p.id"""
+NOT_ODD = "AND {} NOT IN (SELECT page FROM temp.apart)"
+# What counts for odd pages: the answer of the last store that has one.
+ANSWERED = """SELECT w.canon, a.store, a.page, w.form, w.entries, w.length
+    FROM answers a JOIN answers w ON w.own = a.own AND w.store =
+        (SELECT max(b.store) FROM answers b WHERE b.own = a.own AND b.state <> %d)
+    WHERE w.canon IS NOT NULL ORDER BY w.canon, a.store, a.page""" % NO_ANSWER
+FILES = """SELECT w.number, coalesce(w.form, t.form), p.own, d.path, f.name, f.at,
+    coalesce(w.entries, p.entries), coalesce(w.length, p.canon_size) FROM temp.wanted w
+    CROSS JOIN pages p ON p.id = w.page CROSS JOIN terms t ON t.id = p.terms CROSS JOIN present f ON f.page = p.id
+    CROSS JOIN folders d ON d.id = f.folder"""
+# What the rows of these have.
+ANSWER = "own at:count page state:page_state canon? form entries? canon_size?"
+CANON = "canon at:count id form? entries? canon_size?"
+FILE = "id form own path name inode? entries canon_size"
+# (a script ends the transaction that it finds, and each row would be one)
+SORTED = """
+    CREATE TABLE canons(number INTEGER PRIMARY KEY, canon BLOB);
+    INSERT OR IGNORE INTO canons SELECT number, canon FROM wanted;
+    CREATE INDEX wanted_by_store ON wanted(store, page, number, form, entries, length);
+    BEGIN;
+"""
+GROUPS = """
+    INSERT INTO members SELECT * FROM found ORDER BY number, form, own, folder, name;
+    CREATE TABLE ranked AS SELECT number, form FROM members GROUP BY number, form HAVING {} > 1
+        ORDER BY count(DISTINCT own) DESC, count(*) DESC, number, form;
+"""
+# (found and ordered as they stand: nothing is sorted here)
+MEMBERS = """SELECT c.canon, r.form, m.entries, m.length, m.own, m.folder, m.name, m.at FROM ranked r
+    CROSS JOIN canons c ON c.number = r.number CROSS JOIN members m ON m.number = r.number AND m.form = r.form
+    ORDER BY r.rowid, m.own, m.folder, m.name"""
+
+
+def groups(paths: Sequence[str], copies: bool, complain: Callable[[str, str], None]) -> Iterator[Group]:
+    """The groups over these stores, as `equal.groups` gives them of one that has all of it. Raises StoreFailed.
+
+    `complain` is given the names of stores that aren't finished, or beside which others lack, and what is so.
+    """
+    with Sources(paths) as sources:
+        require_apart(sources)
+        for path, why in lacking(sources):
+            complain(path, why)
+        work = sqlite3.connect("", isolation_level=None)  # a database of temporary files
+        try:
+            yield from grouped(_Over(work, sources, copies).members())
+        except sqlite3.Error as error:
+            raise StoreFailed("temporary files of %s and others" % shown(paths[0]), str(error)) from None
+        finally:
+            work.close()
+
+
+def most_budget(paths: Sequence[str]) -> int:
+    """The largest budget of the stores. Raises StoreFailed."""
+    with Sources(paths) as sources:
+        return max(source.number("SELECT coalesce(max(budget), 0) FROM terms") for source in sources)
+
+
+class _Over:
+    """The groups of some sources, of which those behind count more, and a database to work in."""
+
+    def __init__(self, work: sqlite3.Connection, sources: List[Source], copies: bool) -> None:
+        self.work, self.sources, self.copies = work, sources, copies
+        self.has_odd = False
+
+    def members(self) -> Iterator[Row]:
+        """The members of the groups, in their order."""
+        self.work.executescript("PRAGMA journal_mode = OFF; PRAGMA cache_size = %d; %s BEGIN;" % (-CACHE // 2, TABLES))
+        for source in self.sources:
+            try:
+                show_present(source.connection)
+            except sqlite3.Error as error:
+                raise StoreFailed(source.path, str(error)) from None
+        self._set_apart()
+        self._choose()
+        for at, source in enumerate(self.sources):
+            _copy(self.work.execute("SELECT page, number, form, entries, length FROM wanted WHERE store = ? "
+                                    "ORDER BY page", (at,)), source,
+                  "wanted(page INTEGER PRIMARY KEY, number INTEGER, form TEXT, entries INTEGER, length INTEGER)")
+            self.work.executemany("INSERT INTO found VALUES(?, ?, ?, ?, ?, ?, ?, ?)", source.rows(FILES, FILE))
+        self.work.executescript(GROUPS.format("count(*)" if self.copies else "count(DISTINCT own)"))
+        return self.work.execute(MEMBERS)
+
+    def _set_apart(self) -> None:
+        """Looks what counts for odd pages."""
+        all_terms = [list(_terms(source)) for source in self.sources]
+        usual = [terms for some in all_terms for _, terms in some][-1:]
+        for source, some in zip(self.sources, all_terms):
+            numbers = [str(number) for number, terms in some if [terms] == usual]
+            self.work.executemany("INSERT OR IGNORE INTO odd VALUES(?)", source.rows(
+                ODD.format(", ".join(numbers)), "own"))
+        self.has_odd = self.work.execute("SELECT 1 FROM odd LIMIT 1").fetchone() is not None
+        for at, source in enumerate(self.sources if self.has_odd else ()):
+            _copy(self.work.execute("SELECT own FROM odd ORDER BY own"), source, "odd(own BLOB PRIMARY KEY)")
+            self.work.executemany("INSERT INTO answers VALUES(?, ?, ?, ?, ?, ?, ?, ?)", source.rows(
+                ANSWERS, ANSWER, (at,)))
+            _copy(self.work.execute("SELECT page FROM answers WHERE store = ? ORDER BY page", (at,)), source,
+                  "apart(page INTEGER PRIMARY KEY)")
+
+    def _runs(self) -> Iterator[Iterator[Row]]:
+        """The runs, each sorted."""
+        for at, source in enumerate(self.sources):
+            yield source.rows(RUN.format(NOT_ODD.format("id") if self.has_odd else ""), CANON, (at,))
+            if self.copies:
+                yield source.rows(COPIES.format(NOT_ODD.format("p.id") if self.has_odd else ""), CANON, (at,))
+        if self.has_odd:
+            for _ in range(2 if self.copies else 1):  # (each may be that of several files)
+                yield self.work.execute(ANSWERED)
+
+    def _choose(self) -> None:
+        """Merges the runs, and notes the pages of hashes that are there twice."""
+        total = sum(source.number("SELECT count(*) FROM pages") for source in self.sources)
+        progress = Progress(sys.stderr, lambda: total, what="pages")
+        self.work.executemany("INSERT INTO wanted VALUES(?, ?, ?, ?, ?, ?, ?)",
+                              _several(progress.through(heapq.merge(*self._runs()))))
+        progress.clear()
+        self.work.executescript(SORTED)
+
+
+def _several(rows: Iterable[Row]) -> Iterator[Row]:
+    """The rows of runs, in order, whose hash is there twice: each once, behind a number of the hash, in its order."""
+    number = 0
+    last: Optional[Row] = None
+    is_first = False
+    for row in rows:
+        if last is None or row[0] != last[0]:
+            is_first = True
+        else:
+            if is_first:
+                number += 1
+                yield (number, *last)
+                is_first = False
+            if row != last:
+                yield (number, *row)
+        last = row
+
+
+def _terms(source: Source) -> Iterator[Tuple[int, Row]]:
+    """The terms of a source by their numbers, those of the last run behind."""
+    for number, *terms in source.rows("SELECT t.id, t.program_hash, t.form, t.budget FROM terms t LEFT JOIN runs r "
+                                      "ON r.terms = t.id GROUP BY t.id ORDER BY max(r.id)",
+                                      "terms program_hash form budget"):
+        yield number, tuple(terms)
+
+
+def _copy(rows: Iterator[Row], source: Source, table: str) -> None:
+    """Puts rows into a temporary table of a source, which is made."""
+    try:
+        source.connection.execute("CREATE TEMP TABLE %s" % table)
+        marks = ", ".join("?" * (table.count(",") + 1))
+        source.connection.executemany("INSERT INTO temp.%s VALUES(%s)" % (table.split("(")[0], marks), rows)
+    except sqlite3.Error as error:
+        raise StoreFailed(source.path, str(error)) from None

@@ -1,0 +1,126 @@
+"""What the values of a store may be. They are checked where they come out, since anybody may have made the file."""
+import sqlite3
+from functools import lru_cache
+from typing import Any, Callable, Dict, Iterable, Iterator, NamedTuple, Optional, Tuple
+
+from naplps.names import printable
+
+from .. import TOOL
+
+Row = Tuple[Any, ...]
+MOST_NUMBER, MOST_REFUSAL, HASH = (1 << 63) - 1, 99, 32
+WRONG = "isn't a store of %s: it has %s in place of %s"
+
+
+class NotAStore(sqlite3.DatabaseError):
+    """The file isn't a store, with what is wrong with it."""
+
+
+class Kind(NamedTuple):
+    """What a value is, how Python knows that, and how SQL does."""
+
+    name: str
+    fits: Callable[[Any], bool]
+    sql: str
+
+
+def _whole(least: int, most: int, name: str) -> Kind:
+    """Whole numbers of a range."""
+    return Kind(name, lambda value: type(value) is int and least <= value <= most,
+                "typeof({0}) = 'integer' AND {0} BETWEEN %d AND %d" % (least, most))
+
+
+NUMBER = _whole(-MOST_NUMBER - 1, MOST_NUMBER, "a number")
+COUNT = _whole(0, MOST_NUMBER, "a number from 0")
+TEXT = Kind("a text", lambda value: type(value) is str, "typeof({0}) = 'text'")
+BYTES = Kind("bytes", lambda value: type(value) is bytes, "typeof({0}) = 'blob'")
+HASHES = Kind("a hash", lambda value: type(value) is bytes and len(value) == HASH,
+              "typeof({0}) = 'blob' AND length({0}) = %d" % HASH)
+NAME = Kind("a name", lambda value: type(value) is bytes and b"\0" not in value,
+            "typeof({0}) = 'blob' AND instr({0}, x'00') = 0")
+PATH = Kind("a path", lambda value: type(value) is bytes and value.startswith(b"/") and b"\0" not in value,
+            "typeof({0}) = 'blob' AND substr({0}, 1, 1) = x'2F' AND instr({0}, x'00') = 0")
+# The columns of the store, and what is reckoned of them, by name.
+KINDS: Dict[str, Kind] = {
+    **dict.fromkeys(("mtime_ns", "ctime_ns"), NUMBER),
+    **dict.fromkeys(("id", "folder", "page", "run", "terms", "place", "entries", "canon_size", "size", "inode",
+                     "budget", "files", "asked", "count"), COUNT),
+    **dict.fromkeys(("why", "left_out", "fault", "treatments", "version", "form", "tool", "began", "ended",
+                     "hex"), TEXT),
+    **dict.fromkeys(("own", "canon", "copy", "program_hash"), HASHES),
+    "program": NAME, "name": NAME, "path": PATH, "number": _whole(1, MOST_REFUSAL, "the number of a refusal"),
+    "file_state": _whole(0, 6, "the state of a file"), "page_state": _whole(0, 2, "the state of a page"),
+    "flag": _whole(0, 1, "a flag")}
+# The columns of the tables.
+TABLES = {
+    "terms": "id version program_hash form budget",
+    "runs": "id began ended? tool program terms files? asked?",
+    "roots": "run path why?",
+    "folders": "id path state:file_state why? run",
+    "pages": "id own state:page_state number? left_out? place? entries? canon? canon_size? why? terms run",
+    "faults": "number name:fault",
+    "cures": "page terms treatments? entries? copy? why?",
+    "files": "folder name state:file_state why? size? mtime_ns? ctime_ns? inode? page? run"}
+# What an answer has that is accepted or refused; and which numbers there have to be.
+WHOLE = {"runs": "terms IN (SELECT id FROM terms)", "roots": "run IN (SELECT id FROM runs)",
+         "folders": "run IN (SELECT id FROM runs)", "files": "run IN (SELECT id FROM runs)",
+         "cures": "terms IN (SELECT id FROM terms)",
+         "pages": "terms IN (SELECT id FROM terms) AND run IN (SELECT id FROM runs) AND CASE state "
+                  "WHEN 0 THEN entries IS NOT NULL AND canon IS NOT NULL AND canon_size IS NOT NULL AND number IS NULL "
+                  "WHEN 1 THEN number IS NOT NULL AND place IS NOT NULL AND canon IS NULL "
+                  "ELSE canon IS NULL AND number IS NULL END"}
+
+
+class Column(NamedTuple):
+    """A column of a table or of a query: its name, what its values are, and whether there may be none."""
+
+    name: str
+    kind: Kind
+    may_lack: bool
+
+
+@lru_cache(maxsize=None)
+def columns(told: str) -> Tuple[Column, ...]:
+    """Columns by their words: NAME, or NAME:KIND, with ? where there may be no value."""
+    some = []
+    for word in told.split():
+        name, _, kind = word.rstrip("?").partition(":")
+        some.append(Column(name, KINDS[kind or name], word.endswith("?")))
+    return tuple(some)
+
+
+def checked(rows: Iterable[Row], told: str) -> Iterator[Row]:
+    """These rows, once their values are what `columns` says. Texts are made fit to be printed. Raises NotAStore."""
+    some = columns(told)
+    for row in rows:
+        yield tuple([_checked(value, column) for value, column in zip(row, some)])
+
+
+def one(row: Optional[Row], told: str) -> Optional[Row]:
+    """The same for one row, if there is one."""
+    return next(checked((row,), told)) if row is not None else None
+
+
+def _checked(value: Any, column: Column) -> Any:
+    if value is None and column.may_lack:
+        return None
+    if not column.kind.fits(value):
+        raise NotAStore(WRONG % (TOOL, _name_of(value), column.kind.name))
+    return printable(value) if column.kind is TEXT else value
+
+
+def _name_of(value: Any) -> str:
+    """What a value is, for people."""
+    if isinstance(value, (int, float)):
+        return "the number %s" % value
+    return "nothing" if value is None else "a text" if isinstance(value, str) else "%d bytes" % len(value)
+
+
+def require_right(connection: sqlite3.Connection) -> None:
+    """Looks at each value of a store. Raises NotAStore."""
+    for table, told in TABLES.items():
+        rules = ["(%s%s)" % ("%s IS NULL OR " % each.name if each.may_lack else "", each.kind.sql.format(each.name))
+                 for each in columns(told)]
+        rules += [WHOLE[table]] if table in WHOLE else []
+        if connection.execute("SELECT 1 FROM %s WHERE NOT (%s) LIMIT 1" % (table, " AND ".join(rules))).fetchone():
+            raise NotAStore("isn't a store of %s: a row of its table %s isn't one of a scan" % (TOOL, table))

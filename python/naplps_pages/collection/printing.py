@@ -1,0 +1,78 @@
+"""The forms in which a table of a store is printed: text, JSON, CSV, and names alone, each ended by NUL."""
+import csv
+import io
+import os
+import sys
+from typing import List, Sequence
+
+from naplps.entry_json import Members
+from naplps.names import as_json, printable, shown
+
+from ..console import Output
+from ..schema import dumps
+from .places import Place
+
+FORMS = ("text", "json", "csv", "null")
+END = b"\0"
+
+
+class Printer:
+    """Prints a table in one of the forms."""
+
+    def __init__(self, form: str, columns: Sequence[str]) -> None:
+        self.form, self.columns = form, list(columns)
+        self.output = Output(sys.stdout.buffer)
+        if form == "csv":
+            self._csv(self.columns)
+
+    def line(self, text: str) -> None:
+        """A line of text."""
+        self.output.line(printable(text))
+
+    def object(self, members: Members) -> None:
+        """An object of JSON, on a line."""
+        self.output.line(dumps(members))
+
+    def row(self, members: Members) -> None:
+        """A row of CSV, which has those of the members that are columns."""
+        self._csv([_field(members.get(name)) for name in self.columns])
+
+    def name(self, place: Place) -> None:
+        """The name of a file, ended by NUL."""
+        self.output.bytes(os.fsencode(place.path) + END)
+
+    def end(self) -> None:
+        """NUL alone, behind the names that stand together."""
+        self.output.bytes(END)
+
+    def _csv(self, fields: Sequence[str]) -> None:
+        made = io.StringIO()
+        csv.writer(made, lineterminator="\n").writerow(fields)
+        self.output.text(made.getvalue())
+
+    def flush(self) -> None:
+        """Sends on what was printed."""
+        self.output.flush()
+
+
+def _field(value: object) -> str:
+    return "" if value is None else printable(str(value))
+
+
+def named(place: Place) -> Members:
+    """The members that name a file in JSON, where nothing is raw."""
+    return as_json(place.path)
+
+
+def shown_as(place: Place) -> Members:
+    """The columns that name a file in CSV: its name as it is shown, and its bytes where these are others."""
+    name = shown(place.path)
+    return {"name": name, "name_hex": None if name == place.path else os.fsencode(place.path).hex()}
+
+
+def numbered(number: int, one: str, more: str = "") -> str:
+    """So many of something, in words. The plural has an s, if it isn't given."""
+    return "%d %s" % (number, one if number == 1 else more or one + "s")
+
+
+NAME: List[str] = ["name", "name_hex"]

@@ -1,0 +1,136 @@
+"""Tells how far a scan is: in a line that is written over on a terminal, in a line a minute in a log."""
+import os
+import threading
+import time
+from typing import Callable, Iterable, Iterator, Optional, TextIO, TypeVar
+
+from ..console import tell
+from ..packs.naming import is_pack
+from .part import Part, below
+
+# Between two lines, in seconds: on a terminal, in a log.
+OFTEN, SELDOM = 0.25, 60.0
+# The rate is that of about so many seconds.
+SPAN = 10.0
+# Between two looks at the clock, in rows.
+PASSED = 4096
+CLEAR = "\r\x1b[K"
+Row = TypeVar("Row")
+
+
+class Counting(threading.Thread):
+    """Counts the files of folders beside a scan, so that the time that is left can be told."""
+
+    def __init__(self, roots: Iterable[bytes], part: Optional[Part] = None) -> None:
+        super().__init__(daemon=True)
+        self.roots, self.part = list(roots), part
+        self.total: Optional[int] = None
+
+    def run(self) -> None:
+        """Counts, if there are no packs: nobody knows how many files these have."""
+        numbers = [_count(root, self.part) for root in self.roots]
+        self.total = None if None in numbers else sum(number or 0 for number in numbers)
+
+
+def _count(root: bytes, part: Optional[Part]) -> Optional[int]:
+    files = 0
+    if is_pack(root) and not os.path.isdir(root):
+        return None
+    if os.path.isfile(root):
+        return 1
+    stack = [root]
+    while stack:
+        try:
+            with os.scandir(stack.pop()) as entries:
+                for entry in entries:
+                    if entry.is_dir(follow_symlinks=False):
+                        stack.append(entry.path)
+                    elif is_pack(entry.name):
+                        return None
+                    elif part is None or part.takes(below(root, entry.path)):
+                        files += 1
+        except OSError:
+            continue  # it is told where it is read
+    return files
+
+
+class Progress:
+    """Tells of files that are done, or of others. `total` gives how many there are, once that is known."""
+
+    def __init__(self, stream: Optional[TextIO], total: Callable[[], Optional[int]] = lambda: None,
+                 clock: Callable[[], float] = time.monotonic, what: str = "files") -> None:
+        self.stream, self.total, self.clock, self.what = stream, total, clock, what
+        self.terminal = stream is not None and stream.isatty()
+        self.last = self.began = clock()
+        self.done = self.passed = 0
+        self.rate = 0.0
+        self.shown = False
+
+    def show(self, done: int) -> None:
+        """Tells that so many files are done, if it is time to."""
+        now = self.clock()
+        past = now - self.last
+        if self.stream is None or past < (OFTEN if self.terminal else SELDOM):
+            return
+        weight = min(1.0, max(past / SPAN, past / (now - self.began)))
+        self.rate += ((done - self.done) / past - self.rate) * weight
+        self.last, self.done = now, done
+        if self.terminal:
+            self._write(CLEAR + self._line()[:_width(self.stream) - 1])
+            self.shown = True
+        else:
+            tell(self._line())
+
+    def _line(self) -> str:
+        total = self.total()
+        line = "{:,}{} {}, {:,} a second".format(
+            self.done, " of {:,}".format(total) if total else "", self.what, round(self.rate))
+        if total and self.rate > 0 and total >= self.done:
+            line += ", %s left" % duration((total - self.done) / self.rate)
+        return line
+
+    def _write(self, text: str) -> None:
+        assert self.stream
+        try:
+            self.stream.write(text)
+            self.stream.flush()
+        except OSError:
+            self.stream = None  # there is nobody left to tell
+
+    def through(self, rows: Iterable[Row]) -> Iterator[Row]:
+        """The rows, each of which is done once the next is asked for; behind those that came through before."""
+        for row in rows:
+            yield row
+            self.passed += 1
+            if self.passed % PASSED == 0:
+                self.show(self.passed)
+
+    def clear(self) -> None:
+        """Takes the line away, so that others can be written."""
+        if self.shown and self.stream is not None:
+            self._write(CLEAR)
+            self.shown = False
+
+    def tell(self, text: str) -> None:
+        """A line that stays."""
+        self.clear()
+        tell(text)
+
+
+def _width(stream: TextIO) -> int:
+    try:
+        return os.get_terminal_size(stream.fileno()).columns or 80
+    except (OSError, ValueError):
+        return 80
+
+
+def duration(seconds: float) -> str:
+    """A time for people."""
+    whole = int(seconds + 0.5)
+    if whole < 60:
+        return "%d s" % whole
+    if whole < 3600:
+        return "%d min %02d s" % divmod(whole, 60)
+    return "%d h %02d min" % divmod(whole // 60, 60)
+
+

@@ -1,0 +1,106 @@
+"""The command refused: refused pages by the reason."""
+import sqlite3
+from itertools import groupby
+from typing import Iterator, NamedTuple, Optional
+
+from naplps.answers import Refusal
+from naplps.entry_json import Members
+from naplps.names import shown
+from naplps.treating.treatments import grade_of, graded
+
+from ..refusals import Reason as Wanted
+from ..schema import answered
+from .places import Place
+from .printing import NAME, Printer, numbered, shown_as
+from .store import kept
+
+COLUMNS = ["number", "fault", "code", "place", "hash", "tried", "treatments", "grade", *NAME]
+REASONS = """CREATE TEMP TABLE reasons AS SELECT p.number AS number, coalesce(p.left_out, '') AS left_out,
+    count(DISTINCT p.id) AS pages, count(*) AS files FROM pages p JOIN present f ON f.page = p.id
+    WHERE p.number IS NOT NULL {} GROUP BY 1, 2"""
+# (There may be as many reasons as pages, since anybody may have made a store.)
+BY_REASON = "CREATE INDEX temp.reasons_by_number ON reasons(number, left_out)"
+MEMBERS = """SELECT r.number, n.name, r.left_out, r.pages, r.files, p.place, p.own, c.page IS NOT NULL, c.treatments,
+    d.path, f.name FROM pages p CROSS JOIN reasons r ON r.number = p.number AND r.left_out = coalesce(p.left_out, '')
+    CROSS JOIN present f ON f.page = p.id CROSS JOIN folders d ON d.id = f.folder
+    LEFT JOIN faults n ON n.number = r.number LEFT JOIN cures c ON c.page = p.id AND c.terms = p.terms
+    WHERE p.number IS NOT NULL
+    ORDER BY r.files DESC, r.number, r.left_out, d.path, f.name"""
+MEMBER = "number fault left_out pages:count files place own tried:flag treatments? path name"
+
+
+class ReasonCount(NamedTuple):
+    """A reason, and how many pages and files have it."""
+
+    number: int
+    fault: str
+    left_out: str
+    pages: int
+    files: int
+
+
+class RefusedFile(NamedTuple):
+    """A file that is refused; whether treatments were tried, and which make it readable."""
+
+    reason: ReasonCount
+    at: int
+    own: bytes
+    tried: bool
+    treatments: Optional[str]
+    place: Place
+
+    @property
+    def refused(self) -> Refusal:
+        """The refusal."""
+        return Refusal(self.reason.number, self.reason.fault, self.reason.left_out or None, self.at)
+
+
+def members(connection: sqlite3.Connection, wanted: Optional[Wanted]) -> Iterator[RefusedFile]:
+    """The refused files, by the reason, the most frequent first; those of one reason only where it is given."""
+    only = "" if wanted is None else "AND p.number = %d" % wanted.number
+    if wanted is not None and wanted.code:
+        only += " AND p.left_out = '%s'" % wanted.code
+    connection.execute(REASONS.format(only))
+    connection.execute(BY_REASON)
+    for row in kept(connection, MEMBERS, MEMBER):
+        yield RefusedFile(ReasonCount._make(row[:5]), row[5], row[6], bool(row[7]), row[8], Place(row[9], row[10]))
+
+
+def show(printer: Printer, some: Iterator[RefusedFile]) -> None:
+    """Prints refused files."""
+    for reason, each in groupby(some, key=lambda member: member.reason):
+        if printer.form == "text":
+            name = " ".join(part for part in (reason.fault, reason.left_out) if part)
+            printer.line("%d %s: %s, %s" % (
+                reason.number, name, numbered(reason.pages, "page"), numbered(reason.files, "file")))
+        for member in each:
+            _show(printer, member)
+
+
+def _show(printer: Printer, member: RefusedFile) -> None:
+    if printer.form == "text":
+        printer.line("  %s at %d%s" % (shown(member.place.path), member.at, _cure(member)))
+    elif printer.form == "json":
+        printer.object(_object(member))
+    elif printer.form == "csv":
+        reason = member.reason
+        printer.row({"number": reason.number, "fault": reason.fault, "code": reason.left_out, "place": member.at,
+                     "hash": member.own.hex(), "tried": "yes" if member.tried else "no",
+                     "treatments": member.treatments, "grade": _grade(member), **shown_as(member.place)})
+    else:
+        printer.name(member.place)
+
+
+def _cure(member: RefusedFile) -> str:
+    if member.treatments:
+        return ": readable by %s" % graded(member.treatments)
+    return ": no treatment makes it readable" if member.tried else ""
+
+
+def _object(member: RefusedFile) -> Members:
+    return {**answered(member.place.path, member.refused), "hash": member.own.hex(), "tried": member.tried,
+            "treatments": member.treatments.split("+") if member.treatments else None, "grade": _grade(member)}
+
+
+def _grade(member: RefusedFile) -> Optional[str]:
+    return grade_of(member.treatments) if member.treatments else None

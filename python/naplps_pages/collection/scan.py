@@ -1,0 +1,229 @@
+"""The command scan: folders into a store."""
+import hashlib
+import os
+import re
+import sqlite3
+import stat
+import sys
+from dataclasses import dataclass
+from typing import Iterator, List, Optional, Tuple
+
+from naplps.answers import Unanswered
+from naplps.client import Client
+from naplps.limits import MOST_PAGE, Limits
+from naplps.names import shown
+from naplps.program import version
+
+from ..console import Output, tell
+from ..packs.reading import NO_FILE, SEVERAL
+from ..unexpected import Unexpected
+from . import tables
+from .cluster import MOST_FILES, MOST_NAMES, Cluster, ClusterFailed
+from .counts import counted
+from .folders import absolute, is_gone, join, reason
+from .lock import Busy, Lock
+from .part import Part, keep_part
+from .pool import NoWorkers, Pool
+from .progress import Counting, Progress
+from .remote import alike
+from .search import Scope, Search, apart
+from .stopping import Stopping
+from .store import StoreFailed, fold, keep_log, open_to_write
+from .tables import INDICES, Piece
+from .walk import hidden
+from .worker import WorkerOptions
+from .writer import Terms, Writer
+
+COMPLETE, SOME_LACK, FAILED = 0, 1, 3
+# A worker that is silent for so long, beside the time of two answers, hangs.
+PATIENCE = 60.0
+FORM = re.compile(r"canonical form ([0-9A-Za-z. ]+)")
+KEPT = "what was taken is kept, and the same command goes on"
+STOPPED = "stopped; " + KEPT
+# What may go wrong beside faults of the tool.
+EXPECTED = (OSError, sqlite3.Error, NoWorkers, ClusterFailed, StoreFailed)
+
+
+@dataclass(frozen=True)
+class ScanOptions:
+    """What was asked for."""
+
+    folders: List[str]
+    store: str
+    processes: int
+    how: WorkerOptions
+    part: Optional[Part] = None
+    on: Optional[str] = None
+
+
+def terms_of(how: WorkerOptions) -> Terms:
+    """The terms of the program's answers. Raises OSError, or ValueError where it gives none."""
+    limits = Limits(seconds=how.seconds)
+    with open(how.program, "rb") as file:
+        hashed = hashlib.sha256()
+        for piece in iter(lambda: file.read(1 << 20), b""):
+            hashed.update(piece)
+    client = Client(how.program, how.budget, limits)
+    try:
+        answer = client.hash_canon([b""])[0].answer
+    finally:
+        client.close()
+    if isinstance(answer, Unanswered):
+        raise ValueError(answer.reason)
+    told = version(how.program, limits)
+    form = FORM.search(told)
+    return Terms(told, hashed.digest(), form[1] if form else "unknown", how.budget)
+
+
+def scan(options: ScanOptions) -> int:
+    """Scans folders into a store; the status."""
+    try:
+        terms = terms_of(options.how)
+    except (OSError, ValueError) as error:
+        tell("%s: %s" % (shown(options.how.program), reason(error) if isinstance(error, OSError) else error))
+        return FAILED
+    cluster: Optional[Cluster] = None
+    try:
+        roots = apart(map(absolute, options.folders))
+        missing = [(root, why) for root, why in zip(roots, map(_not_there, roots)) if why]
+        if len(missing) == len(roots) and not os.path.lexists(options.store):
+            for root, why in missing:
+                tell("%s: %s" % (shown(os.fsdecode(root)), why))
+            return SOME_LACK  # (a store of nothing is of no use)
+        if options.on is not None:
+            cluster = Cluster(options.on, options.how, alike(terms.program_hash, roots))
+        with Stopping() as stopping, Lock(options.store):
+            run = _scan(options, terms, stopping, roots, cluster)
+    except Busy as busy:
+        tell("%s: another scan is at work on it: %s" % (shown(options.store), busy))
+        return FAILED
+    except ClusterFailed as failed:
+        tell(str(failed))
+        return FAILED
+    except (OSError, NoWorkers) as error:
+        said = reason(error) if isinstance(error, OSError) else str(error)
+        tell("%s: %s" % (shown(options.store), said))
+        return FAILED
+    finally:
+        if cluster:
+            cluster.close()
+    stopping.act()
+    output = Output(sys.stdout.buffer)
+    output.line(run.line)
+    output.flush()
+    return run.status
+
+
+def _not_there(root: bytes) -> Optional[str]:
+    """Why there is neither a folder nor a file of this name; None where there is, or nobody can know."""
+    try:
+        mode = os.stat(root).st_mode
+    except OSError as error:
+        return reason(error) if is_gone(error) else None
+    return None if stat.S_ISDIR(mode) or stat.S_ISREG(mode) else NO_FILE
+
+
+def _scan(options: ScanOptions, terms: Terms, stopping: Stopping, roots: List[bytes],
+          cluster: Optional[Cluster]) -> "ScanRun":
+    connection = open_to_write(options.store)
+    try:
+        keep_part(connection, options.store, options.part, roots)
+        if not keep_log(connection):
+            tell("%s: its file system lets no log stand beside it; it can't be read while it is written"
+                 % shown(options.store))
+        counting = Counting(roots, options.part)
+        progress = Progress(sys.stderr, lambda: counting.total)
+        if progress.terminal:
+            counting.start()
+        writer = Writer(connection, os.fsencode(options.how.program), terms)
+        run = ScanRun(options, writer, progress, stopping)
+        try:
+            run.scan(roots, cluster)
+        except EXPECTED:
+            raise
+        except Exception as error:  # pylint: disable=broad-except
+            raise Unexpected(run.at_work, error) from None
+        return run
+    finally:
+        if connection.in_transaction:
+            connection.execute("ROLLBACK")
+        fold(connection)
+        connection.close()
+
+
+class ScanRun:
+    """One run over the roots."""
+
+    def __init__(self, options: ScanOptions, writer: Writer, progress: Progress, stopping: Stopping) -> None:
+        self.options, self.writer, self.progress, self.stopping = options, writer, progress, stopping
+        scope = Scope(options.how.wanted, hidden(options.store), min(options.how.most, MOST_PAGE), options.part)
+        if options.on is not None:
+            scope = scope._replace(files=MOST_FILES, names=MOST_NAMES)
+        self.search = Search(writer, scope, self._complain)
+        self.found = 0
+        self.status = COMPLETE
+        self.line = ""
+
+    def scan(self, roots: List[bytes], cluster: Optional[Cluster]) -> None:
+        """Scans, on processes of this machine if there is no cluster."""
+        first = (self.options.how, self.options.store, self.writer.terms, self.writer.run)
+        workers = cluster or Pool(self.options.processes, first, PATIENCE + 2 * self.options.how.seconds)
+        try:
+            for piece in workers.run(self.search.chunks(roots)):
+                self._take(piece)
+                if self.stopping.number is not None:
+                    break
+        except ClusterFailed as failed:
+            self.writer.write()
+            raise ClusterFailed("%s; %s" % (failed, KEPT)) from None
+        finally:
+            workers.close()
+            self.progress.clear()
+        self.writer.write()
+        if self.stopping.number is not None:
+            tell(STOPPED)
+        else:
+            self._finish()
+
+    @property
+    def at_work(self) -> str:
+        """The file that was written or searched last."""
+        return os.fsdecode(self.writer.at_work or self.search.path or os.fsencode(self.options.store))
+
+    def _take(self, piece: Optional[Piece]) -> None:
+        if piece:
+            self.found += sum(1 for file in piece[0] if file.name)
+            self.writer.take(piece)
+            for file, why in _lacking(piece):
+                path = self.writer.connection.execute("SELECT path FROM folders WHERE id = ?", (file.folder,))
+                self._complain(join(path.fetchone()[0], file.name), why)
+        if self.writer.is_due:
+            self.writer.write()
+        self.progress.show(self.search.known + self.found)
+
+    def _complain(self, path: bytes, why: str) -> None:
+        """Tells what is wrong with a folder or a file."""
+        self.progress.tell("%s: %s" % (shown(os.fsdecode(path)), why))
+        self.status = SOME_LACK
+
+    def _finish(self) -> None:
+        """Marks what is gone, builds indices, and counts."""
+        writer = self.writer
+        for pack, name in writer.doubles():
+            self._complain(join(pack, name), SEVERAL)
+        writer.sweep(self.search.whole)
+        writer.connection.executescript(INDICES)
+        counts = counted(writer.connection, writer.run)
+        writer.finish(counts.met, counts.asked)
+        self.line = counts.line(self.search.known)
+
+
+def _lacking(piece: Piece) -> Iterator[Tuple[tables.File, str]]:
+    """The files of a piece about which something couldn't be known, and why."""
+    files, answers = piece
+    reasons = {each.own: each.why for each in answers if each.state == tables.NO_ANSWER and each.why}
+    for file in files:
+        if file.state in (tables.UNREADABLE, tables.CHANGED):
+            yield file, file.why or ""
+        elif reasons and file.own in reasons:
+            yield file, reasons[file.own]

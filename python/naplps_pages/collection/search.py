@@ -1,0 +1,240 @@
+"""Searches folders for files that a worker has to look at: those that the store doesn't know as they are."""
+import os
+import sqlite3
+import stat
+from typing import Callable, Iterable, Iterator, List, NamedTuple, Optional, Tuple
+
+from ..packs.naming import inside, is_pack, pack_of
+from ..packs.reading import NO_FILE
+from .file_reader import Marks, marks
+from .folders import is_within, join, reason
+from .kinds import checked
+from .pack_state import PackState, settled
+from .part import Part, below
+from .tables import GONE, READ, UNREADABLE, AskAgain, Chunk, Names
+from .walk import Hidden, Listing, walk
+from .writer import Writer
+
+# The usual sizes of a chunk.
+MOST_FILES, MOST_NAMES = 200, 16 << 10
+# So many rows of the store are looked at together.
+ROWS = 1000
+# A chunk of nothing comes behind so many folders or known files that bring no other, so that nobody waits for long.
+QUIET_FOLDERS, QUIET_FILES = 64, 1000
+EMPTY = "it is empty, and had files before: is it mounted? Nothing in it is marked as gone"
+KNOWN = """SELECT f.name, f.state, f.size, f.mtime_ns, f.ctime_ns, f.inode,
+    f.state = ? AND p.terms = ? AND p.state < 2 AND (p.state = 0 OR NOT ?
+        OR EXISTS(SELECT 1 FROM cures c WHERE c.page = p.id AND c.terms = p.terms))
+    FROM files f LEFT JOIN pages p ON p.id = f.page WHERE f.folder = ? AND f.name > ? ORDER BY f.name LIMIT ?"""
+
+FILE = "name state:file_state size? mtime_ns? ctime_ns? inode? settled:flag?"
+
+
+class KnownFile(NamedTuple):
+    """A file as the store knows it, and whether there is nothing left to ask about it."""
+
+    name: bytes
+    state: int
+    size: Optional[int]
+    mtime_ns: Optional[int]
+    ctime_ns: Optional[int]
+    inode: Optional[int]
+    settled: Optional[int]
+
+
+# Files of one folder that may have to be looked at, by its number and its path; now and then no name is ready yet.
+Found = Tuple[int, bytes, Iterator[Optional[bytes]]]
+
+
+class Scope(NamedTuple):
+    """What is searched for: files of a part, if it isn't all, and members of packs of no more than `most` bytes.
+
+    A chunk has so many files, and so many bytes of names.
+    """
+
+    wanted: AskAgain
+    hides: Hidden
+    most: int
+    part: Optional[Part] = None
+    files: int = MOST_FILES
+    names: int = MOST_NAMES
+
+
+class Search:
+    """Searches roots. `known` counts files that needn't be looked at; `tell` is given folders and what is wrong."""
+
+    def __init__(self, writer: Writer, scope: Scope, tell: Callable[[bytes, str], None]) -> None:
+        self.writer, self.scope, self.tell = writer, scope, tell
+        self.known = 0
+        self.path = b""
+        self.whole: List[bytes] = []
+
+    def chunks(self, roots: Iterable[bytes]) -> Iterator[Chunk]:
+        """The files that a worker has to look at; now and then none, while none is found."""
+        held: List[Names] = []
+        files = length = 0
+        for number, (folder, path, names) in enumerate(each for root in roots for each in self._root(root)):
+            for some in _cut(names, self.scope):
+                if not some or pack_of(path) is not None:
+                    yield ((folder, path, some),) if some else ()
+                    continue
+                held.append((folder, path, some))
+                files += len(some)
+                length += len(path) + sum(map(len, some))
+                if files >= self.scope.files or length >= self.scope.names:
+                    yield tuple(held)
+                    held, files, length = [], 0, 0
+            if number % QUIET_FOLDERS == 0:
+                yield ()
+        if held:
+            yield tuple(held)
+
+    def _root(self, root: bytes) -> Iterator[Found]:
+        if is_pack(root) and not os.path.isdir(root):
+            yield from self._named_pack(root)
+            return
+        if os.path.isfile(root) and not self.writer.has_below(root):
+            yield from self._named_file(root)
+            return
+        why: Optional[str] = None
+        for listing in walk(root, self.scope.hides):
+            self.path = listing.path
+            is_root = listing.path == root
+            if is_root:
+                why = listing.why or self._emptied(listing)
+                self.writer.root(root, why)
+            told = why if is_root else listing.why
+            if told and (is_root or listing.state == UNREADABLE):
+                self.tell(listing.path, told)
+            if self.scope.part:
+                listing = listing._replace(names=self.scope.part.names(below(root, listing.path), listing.names))
+            folder, was_known = self.writer.folder(listing.path, listing.state, listing.why)
+            if listing.state == READ and not (is_root and why):
+                yield folder, listing.path, self._unknown(folder, listing) if was_known else iter(listing.names)
+                yield from self._packs(root, listing)
+        if why is None:
+            self.whole.append(root)
+
+    def _named_pack(self, root: bytes) -> Iterator[Found]:
+        """A pack that was named. It may be a link."""
+        why: Optional[str] = None
+        try:
+            if not stat.S_ISREG(os.stat(root).st_mode):
+                why = NO_FILE
+        except OSError as error:
+            why = reason(error)
+        self.writer.root(root, why)
+        if why is not None:
+            self.tell(root, why)
+        elif self.scope.part is None or self.scope.part.takes(b""):
+            yield self._pack(root, root)
+
+    def _named_file(self, root: bytes) -> Iterator[Found]:
+        """A file that was named, by itself: nothing is said of what stands beside it. It may be a link."""
+        self.path = root
+        self.writer.root(root)
+        self.writer.is_no_folder(root)
+        folder, name = os.path.split(os.path.realpath(root))
+        if (self.scope.part is None or self.scope.part.takes(b"")) and not self.scope.hides.has(folder, name):
+            yield self.writer.folder_of(folder), folder, iter((name,))
+
+    def _packs(self, root: bytes, listing: Listing) -> Iterator[Found]:
+        """The packs in a folder."""
+        for name in listing.packs:
+            path = join(listing.path, name)
+            if self.scope.part is None or self.scope.part.takes(below(root, path)):
+                yield self._pack(path, name, listing.descriptor)
+
+    def _pack(self, path: bytes, name: bytes, descriptor: Optional[int] = None) -> Found:
+        """A pack, which has to be read as a whole, or is known so. What couldn't be read in it is told again then."""
+        self.path = path
+        folder, was_known = self.writer.folder(inside(path), READ, None)
+        known: Optional[PackState] = None
+        if was_known and not self.scope.wanted.again:
+            known = settled(self.writer.connection, folder, self._marks(name, descriptor),
+                            (self.writer.terms, self.scope.wanted.cures, self.scope.most))
+        if known is None:
+            return folder, inside(path), iter((b"",))
+        self.known += known.members
+        for member, why in known.unread:
+            self.tell(join(inside(path), member), why)
+        return folder, inside(path), iter(())
+
+    def _marks(self, name: bytes, descriptor: Optional[int]) -> Optional[Marks]:
+        """The marks of a pack by its name in a folder; a link is followed, since one may be named."""
+        try:
+            return marks(os.stat(name, dir_fd=descriptor))
+        except OSError:
+            return None
+
+    def _emptied(self, listing: Listing) -> Optional[str]:
+        """What is told of a root that is empty, as a disk that isn't mounted is."""
+        empty = not listing.names and not listing.packs and not listing.has_below
+        return EMPTY if empty and self.writer.has_below(listing.path) else None
+
+    def _unknown(self, folder: int, listing: Listing) -> Iterator[Optional[bytes]]:
+        """The names in a folder that has to be looked at, and now and then none. Those that aren't there are noted."""
+        rows = _rows(self.writer.connection, folder, self.writer.terms, self.scope.wanted.cures)
+        row = next(rows, None)
+        for name in listing.names:
+            while row and row.name < name:
+                self._miss(folder, row)
+                row = next(rows, None)
+            if row is None or row.name != name:
+                yield name
+                continue
+            if not self.scope.wanted.again and row.settled and self._is_as_it_was(row, listing.descriptor):
+                self.known += 1
+                if self.known % QUIET_FILES == 0:
+                    yield None
+            else:
+                yield name
+            row = next(rows, None)
+        while row:
+            self._miss(folder, row)
+            row = next(rows, None)
+
+    def _miss(self, folder: int, row: KnownFile) -> None:
+        if row.state != GONE:
+            self.writer.is_gone(folder, row.name)
+
+    def _is_as_it_was(self, row: KnownFile, descriptor: int) -> bool:
+        try:
+            return marks(os.stat(row.name, dir_fd=descriptor, follow_symlinks=False)) == row[2:6]
+        except OSError:
+            return False
+
+
+def _rows(connection: sqlite3.Connection, folder: int, terms: int, cures: bool) -> Iterator[KnownFile]:
+    """What the store knows of a folder's files, in the order of their names."""
+    last = b""
+    while True:
+        some = list(checked(connection.execute(KNOWN, (READ, terms, cures, folder, last, ROWS)), FILE))
+        for row in some:
+            yield KnownFile._make(row)
+        if len(some) < ROWS:
+            return
+        last = some[-1][0]
+
+
+def _cut(names: Iterator[Optional[bytes]], scope: Scope) -> Iterator[Tuple[bytes, ...]]:
+    """The names in parts that aren't too large for a chunk; an empty part where there is none for now."""
+    part: List[bytes] = []
+    length = 0
+    for name in names:
+        if name is None:
+            yield ()
+            continue
+        part.append(name)
+        length += len(name)
+        if len(part) >= scope.files or length >= scope.names:
+            yield tuple(part)
+            part, length = [], 0
+    if part:
+        yield tuple(part)
+
+
+def apart(roots: Iterable[bytes]) -> List[bytes]:
+    """The roots without those that stand in others, in their order."""
+    some = list(dict.fromkeys(roots))
+    return [root for root in some if not any(root != other and is_within(root, other) for other in some)]

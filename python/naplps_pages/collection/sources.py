@@ -1,0 +1,164 @@
+"""Stores that are read together: parts of one scan, or scans of folders that stand apart."""
+import os
+import resource
+import sqlite3
+from dataclasses import dataclass, field
+from typing import Any, Dict, Iterator, List, Optional, Sequence, Tuple
+
+from naplps.names import shown
+
+from .kinds import checked, require_right
+from .lock import is_held
+from .part import Part, kept_part
+from .store import StoreFailed, open_unchanged
+
+# What is held of all their files together, and of each at least, in KiB.
+CACHE, LEAST = 64 << 10, 64
+# Files that are open beside those of stores; and how many a store has.
+OTHERS, EACH = 64, 3
+# So many parts that lack are told by their numbers.
+MOST_LISTED = 5
+Row = Tuple[Any, ...]
+LAST = "SELECT id, began, ended FROM runs ORDER BY id DESC LIMIT 1"
+UNREAD = "SELECT path, why FROM roots WHERE run = ? AND why IS NOT NULL ORDER BY path"
+
+
+@dataclass(eq=False)
+class Source:
+    """A store, as it was when it was opened."""
+
+    path: str
+    connection: sqlite3.Connection
+    part: Optional[Part] = None
+    roots: List[bytes] = field(default_factory=list)
+    unread: List[Tuple[bytes, str]] = field(default_factory=list)
+    began: str = ""
+    ended: Optional[str] = None
+
+    def rows(self, words: str, told: str, values: Sequence[object] = ()) -> Iterator[Row]:
+        """The rows of a query, checked as `told` says. Raises StoreFailed."""
+        try:
+            for row in checked(self.connection.execute(words, values), told):
+                yield row
+        except sqlite3.Error as error:
+            raise StoreFailed(self.path, str(error)) from None
+
+    def require_right(self) -> None:
+        """Looks at each value. Raises StoreFailed."""
+        try:
+            require_right(self.connection)
+        except sqlite3.Error as error:
+            raise StoreFailed(self.path, str(error)) from None
+
+    def number(self, words: str) -> int:
+        """The number that a query has. Raises StoreFailed."""
+        return int(next(self.rows(words, "count"))[0])
+
+
+class Sources:
+    """Stores, the one of which the last scan began first in front. They are closed at the end."""
+
+    def __init__(self, paths: Sequence[str]) -> None:
+        _allow(len(paths))
+        self.all: List[Source] = []
+        self.paths = paths
+
+    def __enter__(self) -> List[Source]:
+        """Opens them. Raises StoreFailed."""
+        try:
+            for path in self.paths:
+                self.all.append(_opened(path, max(LEAST, CACHE // len(self.paths))))
+        except BaseException:
+            self.__exit__()
+            raise
+        self.all.sort(key=lambda source: source.began)
+        return self.all
+
+    def __exit__(self, *_: object) -> None:
+        for source in self.all:
+            source.connection.close()
+
+
+def _allow(number: int) -> None:
+    """Allows this process as many open files as so many stores need, if it may."""
+    soft, hard = resource.getrlimit(resource.RLIMIT_NOFILE)
+    wanted = OTHERS + EACH * number
+    if resource.RLIM_INFINITY not in (soft, hard):
+        wanted = min(wanted, hard)
+    if soft != resource.RLIM_INFINITY and soft < wanted:
+        resource.setrlimit(resource.RLIMIT_NOFILE, (wanted, hard))
+
+
+def _opened(path: str, cache: int) -> Source:
+    source: Optional[Source] = None
+    try:
+        source = Source(path, open_unchanged(path))
+        source.connection.execute("PRAGMA cache_size = %d" % -cache)
+        source.connection.execute("BEGIN")  # (so it stays as it is now, though a scan may be at work)
+        source.part = kept_part(source.connection)
+        source.roots = [each for each, in source.rows("SELECT DISTINCT path FROM roots ORDER BY path", "path")]
+        for run, source.began, source.ended in source.rows(LAST, "run began ended?"):
+            source.unread = [(each, why) for each, why in source.rows(UNREAD, "path why", (run,))]
+        return source
+    except sqlite3.Error as error:
+        if source:
+            source.connection.close()
+        raise StoreFailed(path, str(error)) from None
+
+
+def require_apart(sources: Sequence[Source]) -> None:
+    """Raises StoreFailed where two of the stores may hold the same files."""
+    holding: Dict[bytes, List[Source]] = {}
+    for source in sources:
+        for root in source.roots:
+            holding.setdefault(root, []).append(source)
+    for root, some in holding.items():
+        parts: Dict[Optional[Part], Source] = {}
+        for source in some:
+            other = parts.get(source.part, some[0])
+            if source is not other and not (source.part and source.part.is_beside(other.part)):
+                raise _same(other, source, root)
+            parts[source.part] = source
+        for outer in (each for above in _above(root) for each in holding.get(above, ())):
+            for source in some:
+                if source is not outer:
+                    raise _same(outer, source, root)
+
+
+def _same(one: Source, other: Source, root: bytes) -> StoreFailed:
+    return StoreFailed(other.path, "may hold the same files as %s, of %s" % (shown(one.path), shown(os.fsdecode(root))))
+
+
+def _above(path: bytes) -> Iterator[bytes]:
+    """The folders in which one stands."""
+    while path != os.path.dirname(path):
+        path = os.path.dirname(path)
+        yield path
+
+
+def lacking(sources: Sequence[Source]) -> Iterator[Tuple[str, str]]:
+    """What isn't finished: stores whose scan didn't come to its end or couldn't read a folder that was named, and parts
+    that aren't there; with why.
+    """
+    parts: Dict[Tuple[bytes, int], Dict[int, str]] = {}
+    for source in sources:
+        if not source.began:
+            yield source.path, "nothing was scanned into it"
+        elif source.ended is None:
+            yield source.path, "isn't finished: its scan %s" % (
+                "is at work" if is_held(source.path) else "was stopped, and the same command goes on")
+        for root, why in source.unread:
+            yield source.path, "isn't finished: its scan couldn't read %s: %s" % (shown(os.fsdecode(root)), why)
+        for root in source.roots if source.part else ():
+            assert source.part
+            parts.setdefault((root, source.part.of), {})[source.part.number] = source.path
+    for (root, of), some in parts.items():
+        missing = [str(Part(number, of)) for number in range(of) if number not in some]
+        if missing:
+            yield next(iter(some.values())), "%s of %s %s among the stores" % (
+                _listed(missing), shown(os.fsdecode(root)), "isn't" if len(missing) == 1 else "aren't")
+
+
+def _listed(missing: List[str]) -> str:
+    more = " and %d more" % (len(missing) - MOST_LISTED) if len(missing) > MOST_LISTED else ""
+    return ("part " if len(missing) == 1 else "parts ") + ", ".join(missing[:MOST_LISTED]) + more

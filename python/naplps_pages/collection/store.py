@@ -1,0 +1,225 @@
+"""The store of a collection: one SQLite file, written by one process and read by many."""
+import hashlib
+import os
+import sqlite3
+import stat
+import urllib.parse
+from contextlib import closing
+from functools import lru_cache
+from typing import Any, Dict, Iterator, Tuple
+
+from naplps.names import printable, shown
+from naplps.version import VERSION
+
+from .. import TOOL
+from . import tables
+from .beside import foreign
+from .kinds import checked
+
+# A reader may hold a store that has only a rollback journal so long, in seconds.
+PATIENCE = 60
+FOREIGN, OTHERWISE, LACKS = ("isn't a store of %s: " + each for each in (
+    "it has a %s of something else: %s", "its %s %s isn't that of a store", "it has no table %s"))
+# The view of version 0.2.0 before it knew packs, by the hash of its words.
+EARLIER_LISTING = "3730a18386522f778df118d0b500e6f19a7edc91e7d62b4c11ee8131648c87e8"
+# What is held of the file, in KiB; and how long its log becomes, in pages.
+CACHE, LOG = 32 << 10, 8000
+
+
+class StoreFailed(Exception):
+    """The store can't be used, with the reason."""
+
+    def __init__(self, path: str, reason: str) -> None:
+        super().__init__("%s: %s" % (shown(path), printable(reason)))
+
+
+def _connected(path: str, mode: str) -> sqlite3.Connection:
+    connection = sqlite3.connect(_named(path, mode), uri=True, timeout=PATIENCE, isolation_level=None)
+    connection.execute("PRAGMA trusted_schema = OFF")
+    return connection
+
+
+def _named(path: str, mode: str) -> str:
+    return "file:%s?mode=%s" % (urllib.parse.quote(os.fsencode(os.path.abspath(path))), mode)
+
+
+def reader(path: str) -> sqlite3.Connection:
+    """A connection that only reads. What a scan that was killed left half written, SQLite takes back, if it may."""
+    return _connected(path, "rw")
+
+
+def open_to_read(path: str) -> sqlite3.Connection:
+    """The store, to be read. Raises StoreFailed or sqlite3.Error.
+
+    Until a scan came to its end there are no indices: then the queries go to copies that have some.
+    """
+    _look(path)
+    connection = _checked(path, "rw")
+    connection.execute("PRAGMA cache_size = %d" % -CACHE)
+    if not show_present(connection):
+        connection.execute("CREATE TEMP TABLE pages AS SELECT * FROM main.pages")
+        for column in ("id", "canon"):
+            connection.execute("CREATE INDEX temp.pages_by_%s ON pages(%s)" % (column, column))
+    return connection
+
+
+def open_unchanged(path: str) -> sqlite3.Connection:
+    """The store, to be read while its file stays as it is. Raises StoreFailed or sqlite3.Error."""
+    _look(path)
+    return _checked(path, "ro")
+
+
+def attach(connection: sqlite3.Connection, path: str, name: str) -> None:
+    """Gives another store, which is only read, to a connection by this name."""
+    connection.execute("ATTACH ? AS %s" % name, (_named(path, "ro"),))
+
+
+def show_present(connection: sqlite3.Connection) -> bool:
+    """Gives the files that are there as `present`, in which those of a page are found at once; whether that is cheap.
+
+    Until a scan came to its end there are no indices. Then `present` is a copy that has one.
+    """
+    words = "present AS SELECT folder, name, page, inode AS at FROM files WHERE state = %d" % tables.READ
+    if connection.execute("SELECT 1 FROM sqlite_master WHERE type = 'index' AND name = 'files_by_page'").fetchone():
+        connection.execute("CREATE TEMP VIEW " + words)
+        return True
+    connection.execute("CREATE TEMP TABLE " + words)
+    connection.execute("CREATE INDEX temp.present_by_page ON present(page)")
+    return False
+
+
+def open_to_write(path: str) -> sqlite3.Connection:
+    """The store, to be written; it is made where there is none. Raises StoreFailed or sqlite3.Error."""
+    if os.path.lexists(path):
+        _look(path)
+    _look_beside(path)
+    connection = _checked(path, "rwc")
+    connection.execute("PRAGMA cache_size = %d" % -CACHE)
+    _renew(connection)
+    return connection
+
+
+def _look(path: str) -> None:
+    """Raises StoreFailed where there is no such file, with the system's reason, or where a foreign one is beside it."""
+    try:
+        if not stat.S_ISREG(os.stat(path).st_mode):
+            raise StoreFailed(path, "isn't a file")
+        os.close(os.open(path, os.O_RDONLY | os.O_NONBLOCK | os.O_CLOEXEC))
+    except OSError as error:
+        raise StoreFailed(path, error.strerror or str(error)) from None
+    _look_beside(path)
+
+
+def _look_beside(path: str) -> None:
+    """Raises StoreFailed where SQLite would act on what stands beside the file and isn't its own."""
+    try:
+        why = foreign(path)
+    except OSError as error:
+        why = error.strerror or str(error)
+    if why:
+        raise StoreFailed(path, why)
+
+
+def _is_empty(connection: sqlite3.Connection) -> bool:
+    return not connection.execute("SELECT 1 FROM sqlite_master LIMIT 1").fetchone()
+
+
+def _make(connection: sqlite3.Connection) -> None:
+    """Makes the tables, all or none."""
+    some = (("schema", tables.SCHEMA), ("hash", tables.HASH), ("tool", "%s %s" % (TOOL, VERSION)))
+    values = ", ".join("('%s', '%s')" % each for each in some)
+    connection.executescript(
+        "BEGIN IMMEDIATE; PRAGMA application_id = %d; %s %s; INSERT INTO meta VALUES %s; COMMIT;" % (
+            tables.APPLICATION, tables.TABLES, tables.LISTING, values))
+
+
+def _renew(connection: sqlite3.Connection) -> None:
+    """Puts the view for people in place of the one that an earlier version made, which didn't know of packs."""
+    if connection.execute("SELECT sql FROM sqlite_master WHERE name = 'listing'").fetchone() != (tables.LISTING,):
+        connection.executescript("BEGIN IMMEDIATE; DROP VIEW IF EXISTS listing; %s; COMMIT;" % tables.LISTING)
+
+
+def _checked(path: str, mode: str) -> sqlite3.Connection:
+    """A connection to a file that is a store; an empty one may become one. Raises StoreFailed or sqlite3.Error."""
+    connection = _connected(path, mode)
+    try:
+        if mode == "rwc" and _is_empty(connection):
+            _make(connection)
+        _check(path, connection)
+        _check_schema(path, connection)
+        return connection
+    except UnicodeDecodeError:  # (SQLite says what is wrong with a schema in the schema's own words)
+        connection.close()
+        raise StoreFailed(path, LACKS % (TOOL, "that can be read")) from None
+    except BaseException:
+        connection.close()
+        raise
+
+
+@lru_cache(maxsize=None)
+def _own() -> Dict[Tuple[str, str], str]:
+    """The tables, the indices and the view of a store, by kind and name, as SQLite keeps their words."""
+    with closing(sqlite3.connect(":memory:")) as connection:
+        connection.executescript("%s %s; %s" % (tables.TABLES, tables.LISTING, tables.INDICES))
+        return {(kind, name): words for kind, name, words in connection.execute(
+            "SELECT type, name, sql FROM sqlite_master WHERE sql IS NOT NULL")}
+
+
+def _check_schema(path: str, connection: sqlite3.Connection) -> None:
+    """Raises StoreFailed where tables, indices or views aren't those of a store.
+
+    Other tables and indices than the store's own are nobody's matter. But other views and triggers would act where it
+    is read or written.
+    """
+    found: Dict[Tuple[str, str], str] = {}
+    for kind, name, words in connection.execute("SELECT type, name, sql FROM sqlite_master"):
+        own = _own().get((kind, name))
+        if own is None and kind not in ("table", "index"):
+            raise StoreFailed(path, FOREIGN % (TOOL, kind, name))
+        if own is not None and words != own and not _is_earlier(name, words):
+            raise StoreFailed(path, OTHERWISE % (TOOL, kind, name))
+        found[kind, name] = words
+    for kind, name in _own():
+        if kind == "table" and (kind, name) not in found:
+            raise StoreFailed(path, LACKS % (TOOL, name))
+
+
+def _is_earlier(name: str, words: str) -> bool:
+    """Whether this is the view that an earlier version made."""
+    return name == "listing" and hashlib.sha256(words.encode("utf-8", "replace")).hexdigest() == EARLIER_LISTING
+
+
+def _check(path: str, connection: sqlite3.Connection) -> None:
+    """Raises StoreFailed where the file isn't a store that this tool knows."""
+    if connection.execute("PRAGMA application_id").fetchone()[0] != tables.APPLICATION:
+        raise StoreFailed(path, "is a database of something else, and no store of %s" % TOOL)
+    schema = connection.execute("SELECT value FROM meta WHERE key = 'schema'").fetchone()
+    if schema is None or str(schema[0]) != str(tables.SCHEMA):
+        raise StoreFailed(path, "is a store of schema %s, and this tool knows schema %d" % (
+            schema[0] if schema else "unknown", tables.SCHEMA))
+    made = connection.execute("SELECT value FROM meta WHERE key = 'hash'").fetchone()
+    if made != (tables.HASH,):
+        raise StoreFailed(path, "is a store of hashes by %s, and this tool knows %s" % (
+            made[0] if made else "nothing", tables.HASH))
+
+
+def kept(connection: sqlite3.Connection, words: str, told: str) -> Iterator[Tuple[Any, ...]]:
+    """The rows of a query, checked as `told` says, and taken aside first, so that a scan needn't wait until then."""
+    connection.execute("CREATE TEMP TABLE kept AS " + words)
+    return checked(connection.execute("SELECT * FROM kept ORDER BY rowid"), told)
+
+
+def keep_log(connection: sqlite3.Connection) -> bool:
+    """Lets the store be read while it is written, by a log beside it; whether its file system can do that."""
+    mode = connection.execute("PRAGMA journal_mode = WAL").fetchone()[0]
+    connection.execute("PRAGMA wal_autocheckpoint = %d" % LOG)
+    connection.execute("PRAGMA synchronous = FULL")
+    return bool(mode == "wal")
+
+
+def fold(connection: sqlite3.Connection) -> None:
+    """Makes the store one file again, that can be copied and be read where nothing can be written."""
+    try:
+        connection.execute("PRAGMA journal_mode = DELETE")
+    except sqlite3.OperationalError:
+        pass  # somebody is reading it; what ends last folds the log

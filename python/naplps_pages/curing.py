@@ -1,0 +1,130 @@
+"""The command cures: tries treatments of refused pages, and writes treated copies."""
+import datetime
+import hashlib
+import json
+from typing import Dict, List, Optional
+
+from naplps.answers import Accepted, Answer, Refusal, Unanswered
+from naplps.entry_json import Members
+from naplps.names import as_json, shown
+from naplps.program import version
+from naplps.treating.changes import AROUND, WITHIN, Change
+from naplps.treating.search import Cure, TreatmentSearch
+from naplps.version import VERSION
+
+from . import TOOL
+from .console import Session
+from .new_files import into, make_folder, put, require_free
+from .schema import answered, dumps
+from .source import Page
+
+WARNING = ("The copy is another page. That it is equal to the original, or draws what was meant there, isn't claimed; "
+           "keep the original.")
+GUESS = "The copy is a guess: codes of the page were taken or rewritten whose whole effect isn't certain. "
+
+
+def cures(session: Session) -> int:
+    """Tries treatments for each page that is refused."""
+    if session.into is not None:
+        make_folder(session.into)
+
+    def work(page: Page) -> None:
+        answer = session.program.ask("check", page)
+        if isinstance(answer, Refusal) and page.data is None:
+            answer = Unanswered("the page is longer than 16 MiB: no treatment is tried")
+        if not session.answered(page, answer) and not session.json:
+            return
+        cure, search = None, TreatmentSearch(session.program.ask)
+        if isinstance(answer, Refusal) and page.data is not None:
+            cure = search.find(page.data, answer.place)
+        _report(session, page, answer, cure, search.unsure)
+        if cure and isinstance(answer, Refusal) and session.into is not None:
+            _write(session, session.into, page, answer, cure)
+    return session.each(work, more=("cure", "unsure"))
+
+
+def _report(session: Session, page: Page, answer: Answer, cure: Optional[Cure], unsure: Dict[str, str]) -> None:
+    if session.json:
+        reasons = None if cure or not isinstance(answer, Refusal) else [
+            {"treatment": name, "reason": why} for name, why in unsure.items()]
+        session.output.line(dumps({
+            **answered(page.name, answer), "cure": _members(page, cure) if cure else None, "unsure": reasons}))
+        return
+    lines = [answer.line] if isinstance(answer, (Accepted, Refusal)) else []
+    if isinstance(answer, Refusal):
+        lines += _told(page, cure) if cure else ["no treatment makes it readable", *(
+            "%s: not tried, since it isn't sure: %s" % each for each in unsure.items())]
+    for line in lines:
+        session.output.line(session.front(page.name) + line)
+
+
+def _told(page: Page, cure: Cure) -> List[str]:
+    assert page.data is not None
+    lines = ["%s, %s: %s: %s" % (each.treatment, each.grade, "rewritten" if each.added else "taken away", each.what)
+             for each in cure.treated.changes]
+    lines.append("then: accepted %d entries" % cure.entries)
+    for when, data in (("before", page.data), ("after", cure.treated.data)):
+        lines.append("%s: %d bytes, sha256 %s" % (when, len(data), hashlib.sha256(data).hexdigest()))
+    return lines + [warning(cure)]
+
+
+def _members(page: Page, cure: Cure) -> Members:
+    source = page.data or b""
+    return {"treatments": [told_change(*step) for step in cure.treated.steps()],
+            "grade": WITHIN if cure.treated.is_guess else AROUND, "entries": cure.entries,
+            "source": _bytes(source), "copy": _bytes(cure.treated.data)}
+
+
+def told_change(change: Change, data: bytes) -> Members:
+    """A change of these bytes; `bytes` are those that were taken away, and `edits` tell each place."""
+    taken = change.taken(data)
+    return {"treatment": change.treatment, "grade": change.grade, "what": change.what,
+            "offset": change.edits[0].offset if change.edits else 0, "length": change.length,
+            "bytes": b"".join(taken).hex(), "bits": change.bits, "parity": change.parity or None,
+            "edits": [{"offset": edit.offset, "taken": each.hex(), "put": edit.put.hex()}
+                      for edit, each in zip(change.edits, taken)], "record": change.record or None}
+
+
+def warning(cure: Cure) -> str:
+    """What a copy claims, and what it doesn't."""
+    return GUESS + WARNING if cure.treated.is_guess else WARNING
+
+
+def _bytes(data: bytes) -> Members:
+    return {"bytes": len(data), "sha256": hashlib.sha256(data).hexdigest()}
+
+
+def _write(session: Session, folder: str, page: Page, answer: Refusal, cure: Cure) -> None:
+    """Writes the treated copy, and before it, beside it, where it comes from."""
+    path, data = into(folder, page.name), cure.treated.data
+    note = path + ".json"
+    members = _provenance(session, page, answer, cure)
+    require_free(path, data)
+    if not _tells_the_same(note, members):
+        put(note, (json.dumps(members, indent=2) + "\n").encode("ascii"))
+    put(path, data)
+    if not session.json:
+        session.output.line("%swritten: %s, and %s" % (session.front(page.name), shown(path), shown(note)))
+
+
+def _provenance(session: Session, page: Page, answer: Refusal, cure: Cure) -> Members:
+    """Where a treated copy comes from, by what, and when."""
+    members: Members = {"source_" + key: value for key, value in as_json(page.name).items()}
+    members["refusal"] = answer.line
+    members.update(_members(page, cure))
+    members["program"] = version(session.program.path, session.program.limits)
+    members["tool"] = "%s %s" % (TOOL, VERSION)
+    members["budget"] = session.program.budget
+    members["note"] = warning(cure)
+    members["time"] = datetime.datetime.now(datetime.timezone.utc).strftime("%Y-%m-%dT%H:%M:%SZ")
+    return members
+
+
+def _tells_the_same(note: str, members: Members) -> bool:
+    """Whether there is such a note already, of an earlier time: then that stays."""
+    try:
+        with open(note, encoding="ascii") as file:
+            there = json.load(file)
+        return bool(there == {**members, "time": there["time"]})
+    except (OSError, ValueError, KeyError, TypeError):
+        return False

@@ -1,0 +1,191 @@
+"""The command explain: entries beside the bytes that brought them, and the reason of a refusal."""
+import bisect
+from dataclasses import dataclass, field, replace
+from itertools import groupby
+from textwrap import wrap
+from typing import Iterable, Iterator, List, Optional, Tuple, Union
+
+from naplps.answers import Accepted, Refusal, Unanswered
+from naplps.limits import MOST_LISTED
+from naplps.names import quoted, shown
+
+from .cases import case_of
+from .codes import Code, cut
+from .console import Session
+from .listing import Row as Placed
+from .refusals import PAGE, text_of
+from .source import Page
+
+IN_ROW = 8
+AROUND = 16
+# Kinds of entries that come with the last byte of their own code; the others come with the byte behind a run.
+OF_CONTROLS = ("CHAR", "MOVE", "TO-EOL", "BELL", "CLEAR", "CURSOR", "BLINK-START", "BLINK-STOP", "GLYPH", "MASK", "END")
+
+# Codes of which many may stand behind each other, and bring nothing.
+WITHOUT_EFFECT = ("NUL", "control without effect")
+# The name of what stands behind the codes that are cut: a page of very many is shown up to there.
+REST = "the rest, which isn't cut"
+
+
+@dataclass
+class CodeRow:
+    """Some bytes of the page, the code that they are, and the lines of the entries that came of them."""
+
+    start: int
+    end: int
+    acts: int
+    name: str
+    opcode: bool
+    lines: List[str] = field(default_factory=list)
+
+
+def explain(session: Session) -> int:
+    """Explains a page."""
+    def work(page: Page) -> None:
+        told, every = session.heard(page)
+        answer = told.answer
+        if not session.answered(page, answer) or isinstance(answer, Unanswered):
+            return
+        session.output.line("%s: %s" % (shown(page.name), answer.line))
+        for line in _before(page, answer, every.rows, session.earlier.data):
+            session.output.line(line)
+        if isinstance(answer, Refusal):
+            for line in _reasons(page, answer, session.earlier.data):
+                session.output.line(line)
+    return session.each(work)
+
+
+def _before(page: Page, answer: Union[Accepted, Refusal], entries: Optional[List[Placed]],
+            earlier: bytes) -> Iterator[str]:
+    """The rows of an accepted page, or of a refused one up to the refusal; or why they aren't shown.
+
+    The entries are those of the earlier pages too.
+    """
+    if page.data is None:
+        yield "The page is longer than 16 MiB: its entries aren't shown."
+        return
+    if entries is None:
+        yield "The entries aren't shown: there are more than %d, or their lines are too long." % MOST_LISTED
+        return
+    place = answer.place if isinstance(answer, Refusal) else None
+    rows = assigned(earlier + page.data, entries, None if place is None else len(earlier) + place)
+    rows = behind(rows, len(earlier)) if earlier else rows
+    if place is not None:
+        yield ""
+        yield "What came before:" if rows else "Nothing came before."
+    for row in rows:
+        yield from printed(row, page.data)
+
+
+def assigned(data: bytes, entries: List[Placed], stop: Optional[int]) -> List[CodeRow]:
+    """The rows of a page, up to the place of a refusal, with the entries beside the bytes that brought them."""
+    rows = [row for row in _joined(_rows(cut(data), len(data))) if stop is None or row.start <= stop]
+    starts = [row.start for row in rows]
+    runs = {row.acts: row for row in rows if row.opcode}
+    behind: List[CodeRow] = []
+    for place, line in entries:
+        assert place is not None
+        own = line.split(" ", 1)[0] in OF_CONTROLS
+        at = bisect.bisect_right(starts, place) - 1
+        holder = rows[at] if at >= 0 and place < rows[at].end else None
+        row = (holder or runs.get(place)) if own else (runs.get(place) or holder)
+        if row is None and rows:
+            row = rows[-1]
+        if row is None or row.name == REST:
+            behind.append(CodeRow(place, place, place, "", False, [line]))
+        else:
+            row.lines.append(line)
+    # (the code that is refused stays where a macro that it calls drew something)
+    return [row for row in rows if stop is None or row.end <= stop or row.lines] + behind
+
+
+def behind(rows: Iterable[CodeRow], start: int) -> List[CodeRow]:
+    """The rows of the bytes from the start on, with their offsets behind it."""
+    return [replace(row, start=max(0, row.start - start), end=row.end - start, acts=row.acts - start)
+            for row in rows if row.end > start or row.start >= start]
+
+
+def _joined(rows: Iterable[CodeRow]) -> Iterator[CodeRow]:
+    """The rows, of which those with the same code without effect behind each other are one."""
+    for _, group in groupby(rows, key=lambda row: row.name if row.name in WITHOUT_EFFECT else id(row)):
+        first = next(group)
+        for other in group:
+            first.end = other.end
+        yield first
+
+
+def _rows(codes: Iterable[Code], length: int) -> Iterator[CodeRow]:
+    """Rows without a gap: what comes of a macro has no bytes of its own, and what no code takes is told as that."""
+    done = 0
+    body = False
+    for code in codes:
+        start = max(code.start, done)
+        if code.start > done:
+            yield CodeRow(done, code.start, code.start, "body" if body else "", False)
+        if code.end > start:
+            yield CodeRow(start, code.end, code.acts, code.name, code.opcode)
+            done = code.end
+        body = code.name in ("DEF MACRO", "DEFP MACRO")
+    if done < length:
+        yield CodeRow(done, length, length, REST, False)
+
+
+def printed(row: CodeRow, data: bytes) -> Iterator[str]:
+    """The lines of a row: offset, bytes, name of the code, and an entry in each as long as there are any."""
+    starts = range(row.start, row.start + 1 if row.name == REST else row.end, IN_ROW)
+    for i in range(max(len(starts), len(row.lines))):
+        some = data[starts[i]:min(starts[i] + IN_ROW, row.end)] if i < len(starts) else b""
+        line = "%8s  %-23s  %-26s %s" % (
+            starts[i] if some else row.start if i == 0 else "", some.hex(" "), row.name if i == 0 else "",
+            row.lines[i] if i < len(row.lines) else "")
+        yield line.rstrip(" ")
+
+
+def _reasons(page: Page, answer: Refusal, earlier: bytes) -> Iterator[str]:
+    yield ""
+    around, first = _around(page, answer.place)
+    yield "The bytes around %d:" % answer.place
+    yield from hexdump(around, first, answer.place)
+    if page.data is not None:
+        yield "The code there: %s" % name_at(earlier + page.data, len(earlier) + answer.place)
+    case = "" if page.data is None else case_of(page.data, answer)
+    known = text_of(answer.number, answer.code or "", case)
+    yield ""
+    tries = "`naplps-pages cures` tries %s." % ", ".join(known.treatments) if known.treatments else ""
+    for about, text in (("What it means", known.means), ("It may come from", known.causes),
+                        ("What can be done", known.do), ("Treatments", tries)):
+        if text:
+            yield from wrap("%s: %s" % (about, text), 78, subsequent_indent="    ", break_on_hyphens=False)
+    if known.command:
+        yield "    " + known.command.replace(PAGE, quoted(page.name))
+
+
+def _around(page: Page, place: int) -> Tuple[bytes, int]:
+    first = max(0, place // AROUND * AROUND - (AROUND if place % AROUND < AROUND // 2 else 0))
+    if page.data is not None:
+        return page.data[first:first + 2 * AROUND], first
+    assert page.file
+    page.file.seek(first)
+    return page.file.read(2 * AROUND), first
+
+
+def hexdump(data: bytes, first: int, place: int) -> Iterator[str]:
+    """Bytes in hexadecimal and as characters, sixteen a line, with carets under the byte at the place."""
+    for at in range(0, max(len(data), 1), AROUND):
+        some = data[at:at + AROUND]
+        letters = "".join(chr(byte) if 0x20 <= byte < 0x7F else "." for byte in some)
+        yield "%8d  %-47s  |%s|" % (first + at, some.hex(" "), letters)
+        column = place - first - at
+        is_last = at + AROUND >= len(data)
+        if 0 <= column < AROUND or (is_last and column == AROUND):
+            yield (" " * (10 + 3 * column) + "^^").ljust(10 + 47 + 3 + column) + "^"
+
+
+def name_at(data: bytes, place: int) -> str:
+    """The name of the code at a place, as far as the tables know it."""
+    if place >= len(data):
+        return "none, the page has ended"
+    for code in cut(data):
+        if code.start <= place < code.end:
+            return code.name
+    return "unknown"

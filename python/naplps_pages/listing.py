@@ -1,0 +1,55 @@
+"""The entries of a page with their places, where they are few enough to be shown."""
+from dataclasses import dataclass
+from typing import List, Optional, Tuple
+
+from naplps.answers import NONSENSE, Accepted, Answer, Refusal, Unanswered
+from naplps.client import Client
+from naplps.limits import MOST_LISTED, Limits
+from naplps.reading import placed
+
+from .source import Page
+
+# What the program may take for entries that are to be shown.
+MODEST = Limits(memory=256 << 20, answer=64 << 20)
+# The place of the byte with which an entry came, where that is known, and the entry's line.
+Row = Tuple[Optional[int], str]
+
+
+@dataclass(frozen=True)
+class Listed:
+    """The answer to a page, and its entries, of a refused one those before the refusal; None where they're too much."""
+
+    answer: Answer
+    rows: Optional[List[Row]] = None
+
+    @property
+    def lines(self) -> Optional[List[str]]:
+        """The entries without their places."""
+        return None if self.rows is None else [line for _, line in self.rows]
+
+
+def listed(program: Client, page: Page) -> Listed:
+    """Asks `check` first, and then for the entries where that tells of few. A page above 16 MiB has no places."""
+    answer = program.ask("check", page)
+    if isinstance(answer, Unanswered) or (isinstance(answer, Accepted) and answer.entries > MOST_LISTED):
+        return Listed(answer)
+    if page.data is None and isinstance(answer, Refusal):
+        return Listed(answer)
+    told = program.ask(command_of(page), page)
+    if isinstance(told, Unanswered):
+        return Listed(answer if told.too_much else told)
+    if told.line != answer.line:
+        return Listed(Unanswered(NONSENSE))
+    rows = rows_of(page, told.body)
+    return Listed(answer, rows if len(rows) <= MOST_LISTED else None)
+
+
+def command_of(page: Page) -> str:
+    """The command that tells the entries of a page, with their places if it is 16 MiB or less."""
+    return "list" if page.data is None else "places"
+
+
+def rows_of(page: Page, body: bytes) -> List[Row]:
+    """The entries that the answer to that command has."""
+    return [(None, line) for line in body.decode("ascii").splitlines()] if page.data is None else [*placed(body)]
+

@@ -1,0 +1,98 @@
+"""Files that a command makes: each whole or not at all, and none over another."""
+import errno
+import os
+import tempfile
+
+from naplps.names import leaf, shown
+
+
+class NotWritten(Exception):
+    """A file or standard output couldn't be written, with its name and the system's reason."""
+
+    def __init__(self, name: str, reason: str) -> None:
+        super().__init__("%s: %s" % (shown(name), reason))
+
+
+def put(path: str, data: bytes) -> None:
+    """Makes a file, whole or not at all. One that is there stays: it is a fault, but where it has the same bytes.
+
+    What is no file, as a device or a pipe, is written to.
+    """
+    try:
+        if os.path.exists(path) and not os.path.isfile(path):
+            with open(path, "wb") as device:
+                device.write(data)
+            return
+        _claim(path, data)
+    except FileExistsError:
+        require_free(path, data)
+    except OSError as error:
+        raise NotWritten(path, error.strerror or str(error)) from None
+
+
+def require_free(path: str, data: bytes) -> None:
+    """Raises NotWritten where anything but these bytes is there already."""
+    if os.path.lexists(path) and not _has(path, data):
+        raise NotWritten(path, "is there already with other bytes, and isn't written over")
+
+
+def _claim(path: str, data: bytes) -> None:
+    """Makes a file of a name that nothing has."""
+    part = _part(path, data)
+    try:
+        os.link(part, path)
+    except FileExistsError:
+        raise
+    except OSError:  # a file system without links: there the name is taken first
+        os.close(os.open(path, os.O_WRONLY | os.O_CREAT | os.O_EXCL))
+        os.replace(part, path)
+        return
+    finally:
+        if os.path.lexists(part):
+            os.unlink(part)
+
+
+def _part(path: str, data: bytes) -> str:
+    """A new file with these bytes, which are on the disk, in the folder of the path."""
+    number, part = tempfile.mkstemp(prefix=".naplps-", dir=os.path.dirname(path) or ".")
+    try:
+        with open(number, "wb") as file:
+            file.write(data)
+            file.flush()
+            os.fsync(number)  # (so that a power cut leaves no name of a file without its bytes)
+        os.chmod(part, 0o666 & ~_mask())
+    except BaseException:
+        os.unlink(part)
+        raise
+    return part
+
+
+def _mask() -> int:
+    mask = os.umask(0o077)
+    os.umask(mask)
+    return mask
+
+
+def _has(path: str, data: bytes) -> bool:
+    try:
+        if not os.path.isfile(path) or os.path.getsize(path) != len(data):
+            return False
+        with open(path, "rb") as file:
+            return file.read() == data
+    except OSError:
+        return False
+
+
+def into(folder: str, name: str, ending: str = "") -> str:
+    """The path of a file in a folder that is made of a page's name."""
+    return os.path.join(folder, leaf(name) + ending)
+
+
+def make_folder(folder: str) -> None:
+    """Makes a folder where there is none."""
+    try:
+        os.makedirs(folder, exist_ok=True)
+    except FileExistsError:
+        raise NotWritten(folder, os.strerror(errno.ENOTDIR)) from None
+    except OSError as error:
+        raise NotWritten(folder, error.strerror or str(error)) from None

@@ -1,0 +1,113 @@
+"""Zip files. Their directory is read as a whole, and so can't be of any length."""
+import errno
+import os
+import stat
+import struct
+import zipfile
+import zlib
+from typing import IO, Dict, Iterator, List, Optional, cast
+
+from ..collection.tables import READ, UNREADABLE
+from .member import OUTSIDE, Member, PackLimits, other, passed_over, taken
+from .naming import named
+
+# A directory has so many bytes at most: some 400,000 members.
+MOST_DIRECTORY = 32 << 20
+ENCRYPTED, UTF_8 = 1, 1 << 11
+MOST_SAID = 200
+# What zipfile raises over directories and members that are made up.
+FAULTS = (zipfile.BadZipFile, zipfile.LargeZipFile, NotImplementedError, RuntimeError, ValueError, LookupError,
+          ArithmeticError, TypeError, EOFError, struct.error, zlib.error)
+KINDS = {stat.S_IFLNK: "a symbolic link", stat.S_IFIFO: "a fifo", stat.S_IFSOCK: "a socket", stat.S_IFCHR: "a device",
+         stat.S_IFBLK: "a device"}
+
+
+class _Directory:
+    """A file of which so much is read at once as a directory may have."""
+
+    def __init__(self, file: IO[bytes], limits: PackLimits) -> None:
+        self.file, self.limits = file, limits
+        self.seekable, self.seek, self.tell = file.seekable, file.seek, file.tell
+
+    def read(self, most: int = -1) -> bytes:
+        """As of files."""
+        self.limits.beat()
+        if most > MOST_DIRECTORY:
+            raise zipfile.BadZipFile("its directory is longer than %d bytes" % MOST_DIRECTORY)
+        return self.file.read(most if most >= 0 else MOST_DIRECTORY)
+
+
+class Zip:
+    """A zip file. Behind its members `why` says what is wrong with it as a whole, if something is."""
+
+    def __init__(self, file: IO[bytes], limits: PackLimits) -> None:
+        self.limits = limits
+        self.why: Optional[str] = None
+        self.zip: Optional[zipfile.ZipFile] = None
+        self.infos: Optional[Dict[int, zipfile.ZipInfo]] = None
+        self.next = 0
+        self.size = os.fstat(file.fileno()).st_size
+        try:
+            self.zip = zipfile.ZipFile(cast(IO[bytes], _Directory(file, limits)))
+        except FAULTS as error:
+            self.why = "it can't be read as a zip file: %s" % _said(error)
+        except OSError as error:
+            if error.errno not in (None, errno.EINVAL):  # (that is a place before the start, or none)
+                raise
+            self.why = "it can't be read as a zip file"
+
+    def members(self, start: int = 0, reads: bool = True) -> Iterator[Member]:
+        """The members from a place on, which is 0 or was `next`, that behind the last; also without their bytes."""
+        for number, info in enumerate(self._ordered()[start:], start + 1):
+            self.limits.beat()
+            self.next = number
+            member = self._member(info, reads)
+            if member:
+                yield member
+
+    def member_at(self, at: int) -> Optional[Member]:
+        """The member that begins at this place."""
+        if self.infos is None:
+            self.infos = {info.header_offset: info for info in self._ordered()}
+        info = self.infos.get(at)
+        return self._member(info, True) if info else None
+
+    def _ordered(self) -> List[zipfile.ZipInfo]:
+        return sorted(self.zip.infolist(), key=lambda info: info.header_offset) if self.zip else []
+
+    def _member(self, info: zipfile.ZipInfo, reads: bool) -> Optional[Member]:
+        """A member as it is found; nothing of a folder."""
+        raw = info.orig_filename.encode("utf-8" if info.flag_bits & UTF_8 else "cp437")
+        mode = stat.S_IFMT(info.external_attr >> 16)
+        if raw.endswith(b"/") or mode == stat.S_IFDIR:
+            return None
+        name, why = named(raw)
+        at, size = info.header_offset, info.file_size
+        if not 0 <= at < self.size:
+            return Member(name, UNREADABLE, why or OUTSIDE, None, None)
+        if mode in KINDS and not why:
+            return other(name, KINDS[mode], at)
+        member = passed_over(name, why or _unreadable(info), size, at, self.limits.most)
+        if member or not reads:
+            return member or Member(name, READ, None, size, at)
+        assert self.zip
+        try:
+            with self.zip.open(info) as file:
+                return taken(name, file.read(size + 1), size, at)
+        except FAULTS as error:
+            return Member(name, UNREADABLE, "it can't be unpacked: %s" % _said(error), size, at)
+
+
+def _unreadable(info: zipfile.ZipInfo) -> Optional[str]:
+    """Why a member can't be unpacked, whatever its bytes are."""
+    if info.flag_bits & ENCRYPTED:
+        return "it is encrypted"
+    if info.compress_type not in (zipfile.ZIP_STORED, zipfile.ZIP_DEFLATED):
+        return "its compression isn't known: method %d" % info.compress_type
+    return None
+
+
+def _said(error: Exception) -> str:
+    """What the library says of an error, on one line that isn't long."""
+    said = str(error) or type(error).__name__
+    return "".join(each if each.isprintable() else "?" for each in said)[:MOST_SAID]

@@ -1,0 +1,61 @@
+"""The commands report and serve, as they were asked for on the command line."""
+import argparse
+import sqlite3
+import sys
+
+from naplps.names import shown
+from naplps.program import NoProgram, find
+
+from ..collection.printing import numbered
+from ..collection.scan import COMPLETE, FAILED, SOME_LACK
+from ..collection.store import StoreFailed, open_to_read
+from ..console import Output, tell
+from ..new_files import NotWritten
+from ..unexpected import told
+from . import making, server
+from .drawing import DrawingLimits
+from .limits import SERVED_LINES, SERVED_SKETCH, SERVED_TEXT
+from .sketch_workers import DrawingOptions
+
+Given = argparse.Namespace
+
+
+def run(given: Given, command: str) -> int:
+    """Runs a command; the status. `command` is the path of the tool, beside which naplps may stand."""
+    try:
+        return COMMANDS[given.command](given, command)
+    except (NoProgram, NotWritten, StoreFailed, making.TooLarge, server.NotServed) as error:
+        tell(str(error))
+    except BrokenPipeError:
+        raise
+    except Exception as error:  # pylint: disable=broad-except
+        tell("%s: %s" % (shown(given.store), error if isinstance(error, sqlite3.Error) else told(error)))
+    return FAILED
+
+
+def _report(given: Given, command: str) -> int:
+    made = making.make(open_to_read(given.store), making.ReportOptions(
+        given.store, given.into, find(command), given.sketches, given.all, given.processes,
+        given.seconds))
+    for path, why in made.missed:
+        tell("%s: no sketch: %s" % (shown(path), why))
+    output = Output(sys.stdout.buffer)
+    output.line("%s: %s, %s of equal pages, %d of %s, %d bytes" % (
+        shown(given.into), numbered(made.files, "file"), numbered(made.groups, "group"), made.sketches,
+        numbered(made.pictures, "sketch", "sketches"), made.length))
+    output.flush()
+    return SOME_LACK if made.missed else COMPLETE
+
+
+def _serve(given: Given, command: str) -> int:
+    output = Output(sys.stdout.buffer)
+
+    def began(address: str) -> None:
+        output.line(address)
+        output.flush()
+    how = DrawingOptions(find(command), given.seconds, DrawingLimits(SERVED_SKETCH, SERVED_TEXT, SERVED_LINES))
+    server.serve(given.store, how, given.port, began)
+    return COMPLETE
+
+
+COMMANDS = {"report": _report, "serve": _serve}

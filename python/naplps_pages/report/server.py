@@ -1,0 +1,184 @@
+"""Serves a report to browsers of this machine, and to nobody else."""
+import hmac
+import json
+import os
+import secrets
+import socketserver
+import sqlite3
+from concurrent.futures import ThreadPoolExecutor
+from concurrent.futures import TimeoutError as TookTooLong
+from http.server import BaseHTTPRequestHandler, ThreadingHTTPServer
+from typing import Callable, Dict, Optional, Tuple
+from urllib.parse import parse_qsl
+
+from ..packs.naming import MOST_NAME
+from .desk import Desk
+from .drawing import Drawing
+from .questions import Questions, Unasked, Words
+from .sketch_workers import DrawingOptions
+
+HERE = "127.0.0.1"
+MOST_WORDS, MOST_WORD = 8, 2000
+# Of a file the key has its name in hexadecimal.
+MOST_KEY = 20 + 2 * MOST_NAME
+# How long a client may be silent, and how long is waited for the store at the end, in seconds.
+SILENCE, GRACE = 30, 5
+DRAWING = "drawing"
+# Random bytes of the key in the address.
+KEY_BYTES = 24
+NO_KEY = "the address has a key, which was printed when the server began"
+# So many pages are drawn at the same time, at most.
+MOST_DRAWERS = max(2, min(4, os.cpu_count() or 1))
+HEADERS = {
+    "X-Content-Type-Options": "nosniff", "X-Frame-Options": "DENY", "Referrer-Policy": "no-referrer",
+    "Cross-Origin-Resource-Policy": "same-origin", "Cross-Origin-Opener-Policy": "same-origin",
+    "Cache-Control": "no-store"}
+NOTHING = "default-src 'none'; frame-ancestors 'none'"
+
+
+class NotServed(Exception):
+    """The port can't be had, with the system's reason."""
+
+
+class BadRequest(Exception):
+    """A request that isn't answered, with its status and the reason."""
+
+    def __init__(self, status: int, reason: str) -> None:
+        super().__init__(reason)
+        self.status = status
+
+
+class Server(ThreadingHTTPServer):
+    """A server of one report. One thread asks the store, and processes draw; other threads wait for their clients."""
+
+    daemon_threads = True
+    block_on_close = False
+
+    def __init__(self, port: int, one: ThreadPoolExecutor, questions: Questions, desk: Desk) -> None:
+        self.one, self.questions, self.desk = one, questions, desk
+        # (whoever has no key is told nothing, and a browser doesn't send the address on)
+        self.top = "/%s/" % secrets.token_urlsafe(KEY_BYTES)
+        super().__init__((HERE, port), Handler)
+
+    def server_bind(self) -> None:
+        """Takes the port, without asking anybody for the name of this machine."""
+        socketserver.TCPServer.server_bind(self)
+        self.server_name, self.server_port = HERE, int(self.server_address[1])
+
+    def handle_error(self, request: object, client_address: object) -> None:
+        """A client that went away is nothing to tell."""
+
+
+class Handler(BaseHTTPRequestHandler):
+    """One request."""
+
+    server: Server
+    timeout = SILENCE
+
+    def do_GET(self) -> None:
+        """Answers."""
+        self._answer(True)
+
+    def do_HEAD(self) -> None:
+        """Answers without the body."""
+        self._answer(False)
+
+    def _answer(self, whole: bool) -> None:
+        try:
+            self._check()
+            kind, policy, body = self._asked()
+        except BadRequest as refused:
+            self._send(refused.status, "text/plain", NOTHING, str(refused).encode("utf-8"), whole)
+        except (Unasked, sqlite3.Error) as error:
+            status = 404 if isinstance(error, Unasked) else 500
+            self._send(status, "text/plain", NOTHING, str(error).encode("utf-8"), whole)
+        else:
+            self._send(200, kind, policy, body, whole)
+
+    def _check(self) -> None:
+        """Refuses what comes by another name of this machine, or from a page of another place."""
+        names = self.headers.get_all("Host") or []
+        if names not in (["%s:%d" % (each, self.server.server_port)] for each in (HERE, "localhost")):
+            raise BadRequest(403, "this is served as http://%s:%d/ alone" % (HERE, self.server.server_port))
+        if not hmac.compare_digest(self.path[:len(self.server.top)].encode("utf-8"), self.server.top.encode("ascii")):
+            raise BadRequest(403, NO_KEY)
+        if self._name() and self.headers.get("Sec-Fetch-Site", "same-origin") not in ("same-origin", "none"):
+            raise BadRequest(403, "another site asked for it")
+
+    def _name(self) -> str:
+        """What is asked for, behind the key."""
+        return self.path[len(self.server.top):]
+
+    def _asked(self) -> Tuple[str, str, bytes]:
+        """Kind, policy and body of the answer."""
+        one, questions = self.server.one, self.server.questions
+        if not self._name():
+            page, policy = one.submit(questions.page).result()
+            return "text/html", policy + "; frame-ancestors 'none'", page.encode("utf-8")
+        name, _, query = self._name().partition("?")
+        if name == DRAWING:
+            it = one.submit(questions.wanted, words(query)).result()
+            answer = (self.server.desk.drawing(it) if it else Drawing(why="There is no answer to draw"))._asdict()
+        elif name in questions.ways:
+            answer = one.submit(questions.ask, name, words(query)).result()
+        else:
+            raise BadRequest(404, "there is nothing of that name")
+        return "application/json", NOTHING, json.dumps(answer).encode("ascii")
+
+    def _send(self, status: int, kind: str, policy: str, body: bytes, whole: bool, allow: str = "") -> None:
+        self.send_response(status)
+        more = {"Content-Type": kind + "; charset=utf-8", "Content-Length": str(len(body)),
+                "Content-Security-Policy": policy, **HEADERS, **({"Allow": allow} if allow else {})}
+        for name, value in more.items():
+            self.send_header(name, value)
+        self.end_headers()
+        if whole:
+            self.wfile.write(body)
+
+    def send_error(self, code: int, message: Optional[str] = None, explain: Optional[str] = None) -> None:
+        """A request that can't be read; or one of another method, which isn't allowed."""
+        status = 405 if code == 501 else code
+        self.close_connection = True
+        self._send(status, "text/plain", NOTHING, b"it isn't understood", getattr(self, "command", "") != "HEAD",
+                   "GET, HEAD" if status == 405 else "")
+
+    def version_string(self) -> str:
+        """The name of the server, without versions."""
+        return "naplps-pages"
+
+    def log_message(self, format: str, *args: object) -> None:  # pylint: disable=redefined-builtin
+        """Requests aren't told."""
+
+
+def words(query: str) -> Words:
+    """The words of a query, each of them once. Raises Refused."""
+    try:
+        pairs = parse_qsl(query, keep_blank_values=True, max_num_fields=MOST_WORDS)
+    except ValueError:
+        raise BadRequest(400, "there are too many words") from None
+    made: Dict[str, str] = dict(pairs)
+    if len(made) != len(pairs) or any(
+            len(value) > (MOST_KEY if name == "key" else MOST_WORD) for name, value in made.items()):
+        raise BadRequest(400, "a word is there twice, or is too long")
+    return made
+
+
+def serve(store: str, how: DrawingOptions, port: int, began: Callable[[str], None]) -> None:
+    """Serves until a signal ends it; `began` is told the address. Raises StoreFailed, sqlite3.Error or NotServed."""
+    one = ThreadPoolExecutor(max_workers=1)
+    questions, desk = one.submit(Questions, store).result(), Desk(how, MOST_DRAWERS)
+    try:
+        server = Server(port, one, questions, desk)
+    except OSError as error:
+        raise NotServed("%s:%d: %s" % (HERE, port, os.strerror(error.errno or 0))) from None
+    try:
+        began("http://%s:%d%s" % (HERE, server.server_port, server.top))
+        server.serve_forever()
+    finally:
+        server.server_close()
+        desk.close()
+        try:
+            one.submit(questions.close).result(GRACE)
+        except TookTooLong:
+            pass  # (it only reads)
+        one.shutdown(wait=False)

@@ -1,0 +1,99 @@
+"""The table that one HTML file holds: all files as columns of small numbers, and the names that these stand for."""
+import os
+import sqlite3
+from typing import Dict, List, Optional, Set, Tuple
+
+from naplps.names import shown
+from naplps.treating.treatments import graded
+
+from . import files as of_files
+from .files import ReportFile
+from .groups import GroupSummary
+from .roots import Roots
+
+NONE = -1
+# Of a file: the number of entries or the place of a refusal; and the number of its spelling in the group.
+COLUMNS = ("folder", "name", "size", "answer", "entries", "group", "spelling", "cure", "sketch")
+
+
+class Numbers:
+    """Numbers for names, as they are met."""
+
+    def __init__(self) -> None:
+        self.names: List[str] = []
+        self.numbers: Dict[object, int] = {}
+
+    def of(self, name: str, key: object = None) -> int:
+        """The number of a name; names with different keys are different."""
+        number = self.numbers.setdefault((name, key), len(self.names))
+        if number == len(self.names):
+            self.names.append(name)
+        return number
+
+
+class Table:
+    """All files of a store, in the order of their paths."""
+
+    def __init__(self, connection: sqlite3.Connection, roots: Roots, groups: List[GroupSummary]) -> None:
+        self.files: List[ReportFile] = [of_files.read(row) for row in connection.execute(of_files.ALL)]
+        self.groups = groups
+        self.folders, self.answers, self.cures = Numbers(), Numbers(), Numbers()
+        self.columns: Dict[str, List[object]] = {name: [] for name in COLUMNS}
+        numbers = {group.key: number for number, group in enumerate(groups)}
+        in_group = [numbers.get(file.key, NONE) if file.key else NONE for file in self.files]
+        spellings = _spellings(self.files, in_group)
+        relative: Dict[int, str] = {}
+        for file, group in zip(self.files, in_group):
+            if file.folder not in relative:
+                relative[file.folder] = roots.relative(file.path)
+            self._add(file, relative[file.folder], group, spellings.get((group, file.own), NONE))
+
+    def _add(self, file: ReportFile, folder: str, group: int, spelling: int) -> None:
+        cure = NONE
+        if file.tried:
+            cure = self.cures.of(graded(file.treatments) if file.treatments else "")
+        values = (self.folders.of(folder, file.folder), shown(os.fsdecode(file.name)), file.size,
+                  self.answers.of(file.told, file.number), file.at if file.entries is None else file.entries, group,
+                  spelling, cure, NONE)
+        for name, value in zip(COLUMNS, values):
+            self.columns[name].append(value)
+
+    def group_of(self, number: int) -> int:
+        """The group of a file by their numbers, or NONE."""
+        group = self.columns["group"][number]
+        assert isinstance(group, int)
+        return group
+
+    def place_sketches(self, drawn: Dict[int, int]) -> None:
+        """Notes which sketch the files have, given those of some: equal pages and copies share one."""
+        shared = {_picture(self.files[number]): sketch for number, sketch in drawn.items()}
+        self.columns["sketch"] = [shared.get(_picture(file), NONE) for file in self.files]
+
+    def held(self) -> Dict[str, object]:
+        """What the HTML file holds of it."""
+        return {"folders": self.folders.names, "answers": self.answers.names, "cures": self.cures.names,
+                "numbers": self._numbers(), "columns": self.columns,
+                "groups": [[group.canon.hex()[:16], group.spellings, group.files, group.entries, group.length]
+                           for group in self.groups]}
+
+    def _numbers(self) -> List[int]:
+        """The number of the refusal that each of the answers is, or 0."""
+        made = [0] * len(self.answers.names)
+        for file, answer in zip(self.files, self.columns["answer"]):
+            assert isinstance(answer, int)
+            made[answer] = file.number or 0
+        return made
+
+
+def _picture(file: ReportFile) -> object:
+    """What the pages with one sketch have alike."""
+    return file.key or ((file.page,) if file.page is not None else (file.path, file.name))
+
+
+def _spellings(files: List[ReportFile], in_group: List[int]) -> Dict[Tuple[int, Optional[bytes]], int]:
+    """The number of each spelling within its group, in the order of their hashes."""
+    owns: Dict[int, Set[bytes]] = {}
+    for file, group in zip(files, in_group):
+        if group != NONE and file.own is not None:
+            owns.setdefault(group, set()).add(file.own)
+    return {(group, own): number for group, some in owns.items() for number, own in enumerate(sorted(some))}

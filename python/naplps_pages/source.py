@@ -1,0 +1,121 @@
+"""One page: a file, or standard input."""
+import errno
+import os
+import stat
+import sys
+import tempfile
+from dataclasses import dataclass
+from typing import IO, List, Optional, cast
+
+from naplps.limits import MOST_PAGE
+
+from .packs.naming import BETWEEN, is_pack
+from .packs.reading import NoMember, Packs
+from .pipe import Pipe
+
+PIECE = 1 << 20
+# So much of a pipe is put into a temporary file: what the program takes at most.
+MOST_SPOOLED = 1 << 32
+DEVICES = {stat.S_IFCHR: "it is a device", stat.S_IFBLK: "it is a device", stat.S_IFSOCK: "it is a socket"}
+# (a name in a pack may be longer than one of a file)
+NO_SUCH_FILE = (errno.ENOENT, errno.ENOTDIR, errno.ENAMETOOLONG)
+# The packs of which members are read.
+PACKS = Packs(MOST_PAGE)
+
+
+@dataclass(frozen=True)
+class Page:
+    """The bytes of a page; or, of a page that is longer than MOST_PAGE, the file that has them."""
+
+    name: str
+    data: Optional[bytes]
+    file: Optional[IO[bytes]] = None
+
+    def close(self) -> None:
+        """Closes the file of a long page."""
+        if self.file:
+            self.file.close()
+
+
+class Unread(Exception):
+    """The page can't be read, with the system's reason."""
+
+
+def read(name: str, seconds: float) -> Page:
+    """Reads the page of this name, '-' for standard input, 'PACK!MEMBER' for a member of a pack. Raises Unread.
+
+    A pipe that has a name is waited for so many seconds. Others are waited for as other filters do.
+    """
+    try:
+        if name == "-":
+            if sys.stdin is None:
+                raise OSError(errno.EBADF, os.strerror(errno.EBADF))
+            return _gathered(name, sys.stdin.buffer)
+        kind = stat.S_IFMT(os.stat(name).st_mode)
+        if kind in DEVICES:
+            raise Unread(DEVICES[kind])  # (to open it might do something, and some have no end)
+        if kind == stat.S_IFIFO and not _is_unnamed(name):
+            with Pipe(name, seconds) as pipe:
+                return _gathered(name, cast(IO[bytes], pipe))
+        with open(name, "rb", buffering=0) as file:
+            return _gathered(name, file)
+    except OSError as error:
+        member = _member(name) if error.errno in NO_SUCH_FILE else None
+        if member:
+            return member
+        raise Unread(error.strerror or str(error)) from None
+    except ValueError as error:  # a name with NUL
+        raise Unread(str(error)) from None
+
+
+def _is_unnamed(name: str) -> bool:
+    """Whether the name, as /dev/fd/63, is that of a pipe which was handed to this process."""
+    ours = os.pipe()
+    try:
+        return os.stat(name).st_dev == os.fstat(ours[0]).st_dev
+    finally:
+        for each in ours:
+            os.close(each)
+
+
+def _member(name: str) -> Optional[Page]:
+    """The member of a pack, where the name has a pack that is there in front. Raises Unread."""
+    at = name.find(BETWEEN)
+    while at >= 0:
+        pack = os.path.abspath(os.fsencode(name[:at]))
+        if is_pack(pack) and os.path.isfile(pack):
+            try:
+                return Page(name, PACKS.read(pack, os.fsencode(name[at + 1:])))
+            except NoMember as error:
+                raise Unread(str(error)) from None
+        at = name.find(BETWEEN, at + 1)
+    return None
+
+
+def _gathered(name: str, file: IO[bytes]) -> Page:
+    pieces: List[bytes] = []
+    length = 0
+    while length <= MOST_PAGE:
+        piece = file.read(PIECE)
+        if not piece:
+            return Page(name, b"".join(pieces))
+        pieces.append(piece)
+        length += len(piece)
+    return Page(name, None, _kept(b"".join(pieces), file))
+
+
+def _kept(first: bytes, file: IO[bytes]) -> IO[bytes]:
+    """A file of the whole page, at its start: the file itself where it can go back, else a copy."""
+    if file.seekable():
+        copy: IO[bytes] = open(os.dup(file.fileno()), "rb", buffering=0)
+        copy.seek(-len(first), os.SEEK_CUR)
+        return copy
+    spool = tempfile.TemporaryFile()
+    length = spool.write(first)
+    for piece in iter(lambda: file.read(PIECE), b""):
+        length += spool.write(piece)
+        if length > MOST_SPOOLED:
+            spool.close()
+            raise Unread("it is a pipe of more than %d bytes" % MOST_SPOOLED)
+    spool.seek(0)
+    return spool

@@ -1,0 +1,38 @@
+"""What is told of an exception that nobody expected: one line, and no traceback."""
+import os
+import traceback
+
+from naplps.names import shown
+
+PACKAGE = os.path.dirname(os.path.abspath(__file__))
+# That of the module naplps, which stands beside it.
+MODULE = os.path.join(os.path.dirname(PACKAGE), "naplps")
+MOST_SAID = 200
+FAILED = "the tool itself failed (%s): %s"
+
+
+class Unexpected(Exception):
+    """An exception that nobody expected, with the file that was at work."""
+
+    def __init__(self, name: str, error: Exception) -> None:
+        super().__init__("%s: %s" % (shown(name), told(error)))
+
+
+def told(error: Exception) -> str:
+    """What went wrong, and where in this tool; of the system's faults only its reason."""
+    if isinstance(error, OSError) and error.errno:
+        return os.strerror(error.errno)
+    if isinstance(error, MemoryError):
+        return "there is no memory for it"
+    said = shown("%s: %s" % (type(error).__name__, error))[:MOST_SAID]
+    return FAILED % (_place(error), said)
+
+
+def _place(error: Exception) -> str:
+    """The last line of the tool or the module that it came through."""
+    place = "outside of it"
+    for frame in traceback.extract_tb(error.__traceback__):
+        for folder, start in ((PACKAGE, PACKAGE), (MODULE, os.path.dirname(MODULE))):
+            if frame.filename.startswith(folder + os.sep):
+                place = "%s line %d" % (os.path.relpath(frame.filename, start), frame.lineno or 0)
+    return place

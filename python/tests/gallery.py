@@ -1,0 +1,293 @@
+"""The pages of examples/gallery, which were made here. Run by itself it writes them into a folder."""
+import math
+import os
+import sys
+from typing import Dict, List, Tuple
+
+from naplps.writer import PDI, PageWriter, blocks, star
+
+WHITE = (1.0, 1.0, 1.0)
+
+
+def logo() -> bytes:
+    """A service's logo: circles, a star and arcs."""
+    page = PageWriter().clear().domain()
+    page.rgb(0.08, 0.2, 0.55).rectangle(0, 0, 0.999, 0.78)
+    page.rgb(1, 0.84, 0.1).circle(0.5, 0.46, 0.24)
+    page.rgb(0.08, 0.2, 0.55).circle(0.5, 0.46, 0.19)
+    page.rgb(*WHITE).polygon(star(0.5, 0.46, 0.17))
+    page.rgb(0.92, 0.2, 0.15).domain((0.008, 0.008))
+    page.arc([(0.12, 0.56), (0.5, 0.765), (0.88, 0.56)])
+    page.arc([(0.08 + i * 0.105, 0.19 + 0.01 * (-1) ** i) for i in range(9)])
+    page.domain()
+    page.rgb(*WHITE).at(0.325, 0.085, "POLARIS", "double")
+    page.rgb(0.75, 0.85, 1).at(0.225, 0.03, "VIDEOTEX SERVICE  1984", "normal")
+    return page.made()
+
+
+def _sun() -> PageWriter:
+    """A sun around the pen, which ends where it began."""
+    body = PageWriter(gl=PDI)
+    body.code(0x3C, body.colour(1, 0.85, 0.1))
+    body.code(0x25, body.place(-0.032, 0)).code(0x2D, body.place(0.064, 0)).code(0x25, body.place(0.032, 0))
+    for i in range(8):
+        x, y = math.cos(math.pi * i / 4), math.sin(math.pi * i / 4)
+        ends = [(0.042 * x, 0.042 * y), (0.06 * x, 0.06 * y)]
+        start, ray, back = body.place(*ends[0]), body.place(0.018 * x, 0.018 * y), (
+            -body.units(ends[0][0]) - body.units(0.018 * x), -body.units(ends[0][1]) - body.units(0.018 * y))
+        body.code(0x25, start).code(0x29, ray).code(0x25, body.spelled(*back))
+    return body
+
+
+def _cloud() -> PageWriter:
+    """A cloud around the pen, which ends where it began."""
+    body = PageWriter(gl=PDI)
+    body.code(0x3C, body.colour(0.86, 0.88, 0.93))
+    for x, y, wide in ((-0.05, 0.0, 0.04), (-0.028, 0.012, 0.056), (0.012, 0.0, 0.042)):
+        body.code(0x25, body.place(x, y)).code(0x2D, body.place(wide, 0)).code(0x25, body.place(-x, -y))
+    body.code(0x25, body.place(-0.03, -0.02)).code(0x31, body.place(0.062, 0.02))
+    return body.code(0x25, body.spelled(body.units(0.03) - body.units(0.062), body.units(0.02)))
+
+
+def weather() -> bytes:
+    """A weather map, with macros for its signs."""
+    page = PageWriter().clear().domain()
+    page.macro(0x53, _sun()).macro(0x43, _cloud()).escape(0x2A, 0x7A)
+    page.rgb(0.04, 0.13, 0.36).rectangle(0, 0, 0.999, 0.78)
+    land = [(0.04, 0.3), (0.1, 0.24), (0.3, 0.22), (0.44, 0.2), (0.52, 0.14), (0.58, 0.2), (0.7, 0.18), (0.78, 0.24),
+            (0.93, 0.22), (0.96, 0.32), (0.9, 0.4), (0.84, 0.38), (0.8, 0.5), (0.72, 0.6), (0.66, 0.52), (0.58, 0.46),
+            (0.54, 0.56), (0.46, 0.62), (0.3, 0.64), (0.14, 0.63), (0.08, 0.5)]
+    page.rgb(0.15, 0.48, 0.2).polygon(land)
+    page.rgb(0.9, 0.9, 0.7).texture(2).polygon(land, filled=False)
+    page.rgb(0.55, 0.6, 0.5).texture(1)
+    for x in (0.2, 0.33, 0.46):
+        page.line((x, 0.235), (x, 0.625))
+    page.texture()
+    for x, y, degrees, name in ((0.15, 0.47, -12, 0x53), (0.27, 0.5, -9, 0x53), (0.4, 0.36, -4, 0x43),
+                                (0.7, 0.42, 2, 0x43), (0.86, 0.345, 5, 0x53)):
+        page.to(x, y).call(name)
+        page.rgb(*WHITE).at(x - 0.04, y - 0.1, "%+d" % degrees)
+    page.rgb(0.9, 0.25, 0.2).domain((0.006, 0.006)).arc([(0.1, 0.68), (0.45, 0.54), (0.9, 0.64)]).domain()
+    page.rgb(1, 1, 0.35).at(0.03, 0.69, "WEATHER  MON 14 JAN", "tall")
+    page.rgb(*WHITE).at(0.03, 0.05, "1 MAP  2 FORECAST  3 ROADS  0 INDEX", "normal")
+    return page.made()
+
+
+def index() -> bytes:
+    """An index page: a title bar, lines with numbers, a bar in reverse."""
+    page = PageWriter(3).clear().domain()
+    page.select(9).rectangle(0, 0.69, 0.996, 0.085)
+    page.select(7).at(0.03, 0.7, "NEWS INDEX", "tall")
+    rows = ("CITY COUNCIL VOTES ON BUS FARES", "HARBOUR FERRY: WINTER TIMES", "WHEAT AND CANOLA PRICES",
+            "HOCKEY: LATE SCORES", "SNOW: ROADS AND SCHOOLS", "LIBRARY OPENS ON SUNDAYS", "RADIO AND TELEVISION TODAY",
+            "LETTERS FROM READERS", "WHAT IS VIDEOTEX?")
+    for number, row in enumerate(rows, 1):
+        page.select(11 if number % 2 else 7).at(0.05, 0.66 - number * 0.055, "%2d  %s" % (number, row),
+                                                "normal" if number == 1 else "")
+        if number == 4:
+            page.escape(0x59).text(" NEW").escape(0x5A)
+    page.select(5).at(0.05, 0.03, "", "normal").escape(0x48).text(" PRESS A NUMBER, 0 FOR HELP ").escape(0x49)
+    return page.made()
+
+
+def _house() -> PageWriter:
+    drawing = PageWriter(gl=PDI)
+    drawing.polygon([(0.1, 0.05), (0.9, 0.05), (0.9, 0.5), (0.5, 0.95), (0.1, 0.5)])
+    return drawing
+
+
+def _tree() -> PageWriter:
+    drawing = PageWriter(gl=PDI)
+    return drawing.rectangle(0.42, 0.02, 0.16, 0.3).circle(0.5, 0.6, 0.35)
+
+
+def glyphs() -> bytes:
+    """Glyphs of the page's own: a street of houses and trees."""
+    page = PageWriter().clear().domain()
+    page.glyph(0x21, _house()).glyph(0x22, _tree())
+    page.rgb(0.1, 0.12, 0.3).rectangle(0, 0.3, 0.999, 0.48)
+    page.rgb(0.12, 0.35, 0.15).rectangle(0, 0, 0.999, 0.3)
+    page.rgb(0.95, 0.95, 0.8).circle(0.84, 0.66, 0.05)
+    page.escape(0x2A, 0x7B)
+    for row, (y, size, count) in enumerate(((0.3, "tall", 18), (0.18, "double", 9))):
+        for i in range(count):
+            x = 0.05 + i * 0.9 / count
+            tree = i % 3 == 2
+            page.rgb(*((0.2, 0.65, 0.3) if tree else ((0.9, 0.75, 0.4), (0.85, 0.4, 0.3))[(i + row) % 2]))
+            page.to(x, y).escape({"tall": 0x4D, "double": 0x4F}[size]).raw(0x19, 0x22 if tree else 0x21)
+    page.escape(0x2A, 0x7C)
+    page.rgb(*WHITE).at(0.05, 0.7, "HOMES FOR SALE", "tall")
+    page.at(0.05, 0.05, "MAPLE STREET  4 TO 22", "normal")
+    return page.made()
+
+
+SHIP = ("                 #                      ",
+        "                 ##                     ",
+        "                 ####                   ",
+        "                 #######                ",
+        "               # ##########             ",
+        "              ## ############           ",
+        "             ### ###############        ",
+        "            #### ################       ",
+        "           ##### #################      ",
+        "          ###### ##################     ",
+        "         ####### ###################    ",
+        "                 #                      ",
+        "  ##################################### ",
+        "   ###################################  ",
+        "    #################################   ",
+        "                                        ",
+        "                                        ",
+        "## ## ## ## ## ## ## ## ## ## ## ## ## #")
+
+
+def mosaics() -> bytes:
+    """A ship of mosaic blocks."""
+    page = PageWriter().clear().domain()
+    page.rgb(0.45, 0.8, 1)
+    for row, codes in enumerate(blocks(SHIP)):
+        if row == 4:
+            page.rgb(0.9, 0.55, 0.3)
+        if row == 5:
+            page.rgb(0.25, 0.45, 0.95).escape(0x59)
+        page.to(0.0, 0.5 - row * 5 / 64).escape(0x4F).mosaic(codes)
+    page.escape(0x5A)
+    page.rgb(*WHITE).at(0.25, 0.68, "HARBOUR NEWS", "double")
+    return page.made()
+
+
+def palette() -> bytes:
+    """Colours set in the map, bars in them, and one that blinks."""
+    page = PageWriter().clear().domain()
+    for number in range(1, 15):
+        share = (number - 1) / 13
+        page.select(number).rgb(share, 0.5 + 0.5 * math.sin(share * math.pi), 1 - share)
+    for number in range(1, 15):
+        page.select(number).rectangle(0.02 + (number - 1) * 0.069, 0.2, 0.06, 0.4)
+    page.select(0, 15).blink(15, 5, 5)
+    page.select(15).rgb(1, 0.9, 0.2).at(0.25, 0.66, "COLOURS OF THE MAP", "normal")
+    page.select(15, 1).at(0.2, 0.08, " TWO COLOURS AT ONCE ")
+    return page.made()
+
+
+def chart() -> bytes:
+    """A chart of bars with fills, a line over them, and two axes."""
+    page = PageWriter().clear().domain()
+    page.rgb(0.12, 0.12, 0.16).rectangle(0, 0, 0.999, 0.78)
+    page.rgb(0.35, 0.35, 0.4).texture(1)
+    for i in range(1, 6):
+        page.line((0.12, 0.12 + i * 0.1), (0.95, 0.12 + i * 0.1))
+    page.texture()
+    values = (0.12, 0.2, 0.17, 0.3, 0.38, 0.33, 0.45, 0.42)
+    for i, value in enumerate(values):
+        x = 0.15 + i * 0.1
+        page.rgb(0.2 + 0.08 * i, 0.55, 0.9 - 0.08 * i).texture(0, i % 4).rectangle(x, 0.12, 0.06, value)
+        page.texture().rgb(*WHITE).rectangle(x, 0.12, 0.06, value, filled=False)
+    page.rgb(1, 0.8, 0.2).domain((0.006, 0.006))
+    page.line(*[(0.18 + i * 0.1, 0.17 + value) for i, value in enumerate(values)])
+    page.domain().rgb(*WHITE).line((0.12, 0.68), (0.12, 0.12), (0.95, 0.12))
+    for i in range(6):
+        page.at(0.03, 0.11 + i * 0.1, "%3d" % (i * 20), "normal" if i == 0 else "")
+    for i, month in enumerate("JFMAMJJA"):
+        page.at(0.168 + i * 0.1, 0.06, month)
+    page.rgb(1, 0.8, 0.2).at(0.12, 0.71, "FERRY PASSENGERS, THOUSANDS", "normal")
+    return page.made()
+
+
+def accents() -> bytes:
+    """Accented text, in several lines from one place."""
+    page = PageWriter().clear().domain()
+    page.rgb(0.4, 0.1, 0.3).rectangle(0, 0.67, 0.999, 0.11)
+    page.rgb(1, 0.9, 0.6).at(0.05, 0.69, "M", "tall").accent("acute", "e").text("t").accent("acute", "e")
+    page.text("o et caf").accent("acute", "e").text("s")
+    page.rgb(*WHITE).at(0.05, 0.6, "", "normal").text("A Qu").accent("acute", "e").text("bec, le soleil dispara")
+    page.accent("circumflex", "i").text("t.").raw(0x0D, 0x0A, 0x0A)
+    page.text("  Fran").accent("cedilla", "c").text("ais, o").accent("grave", "u").text(" est la for")
+    page.accent("circumflex", "e").text("t?").raw(0x0D, 0x0A, 0x0A).text("  Gr")
+    page.accent("diaeresis", "u").sign(0x7B).text("e aus K").accent("diaeresis", "o").text("ln, ma")
+    page.accent("tilde", "n").text("ana en Espa").accent("tilde", "n").text("a.")
+    page.raw(0x0D, 0x0A, 0x0A).text("  Th").accent("acute", "e").text(" ").sign(0x23).text("2  caf")
+    page.accent("acute", "e").text(" 15").sign(0x24).text("  10").sign(0x30).text(" C  ").sign(0x3D).text(" heure")
+    return page.made()
+
+
+Roofs = Tuple[Tuple[float, float, float], ...]
+TOWERS: Roofs = ((0.06, 0.1, 0.3), (0.18, 0.08, 0.45), (0.28, 0.14, 0.24), (0.44, 0.09, 0.52), (0.56, 0.12, 0.35),
+                 (0.7, 0.08, 0.42), (0.8, 0.14, 0.28))
+
+
+def _windows(page: PageWriter, x: float, y: float) -> List[Tuple[int, int]]:
+    """The places of four windows, in steps, from a corner."""
+    left, low = page.units(x), page.units(y)
+    return [(left + page.units(dx), low + page.units(dy)) for dx, dy in ((0, 0), (0.03, 0), (0, 0.05), (0.03, 0.05))]
+
+
+def skyline_absolute() -> bytes:
+    """A city at night, with each window named by its place."""
+    page = PageWriter().clear().domain()
+    page.rgb(0.05, 0.05, 0.2).rectangle(0, 0.1, 0.999, 0.68)
+    for x, wide, high in TOWERS:
+        page.rgb(0.3, 0.32, 0.4).rectangle(x, 0.1, wide, high)
+    page.rgb(1, 0.9, 0.4)
+    side = page.spelled(page.units(0.015), page.units(0.03))
+    for x, _, high in TOWERS:
+        for left, low in _windows(page, x + 0.015, high - 0.02):
+            page.code(0x33, page.spelled(left, low) + side)
+    page.rgb(*WHITE).at(0.2, 0.03, "THE CITY BY NIGHT", "normal")
+    return page.made()
+
+
+def skyline_relative() -> bytes:
+    """The same city: the windows are a macro that draws them from the pen, and a rectangle a relative move."""
+    page = PageWriter().clear().domain()
+    body = PageWriter(gl=PDI)
+    side = body.spelled(body.units(0.015), body.units(0.03))
+    for here, (x, y) in zip([(0, 0)] + _windows(body, 0, 0), _windows(body, 0, 0)):
+        dx, dy = x - here[0], y - here[1]
+        if here != (0, 0) or (x, y) != (0, 0):
+            body.code(0x25, body.spelled(dx, dy))
+        body.code(0x31, side).code(0x25, body.spelled(-body.units(0.015), 0))
+    page.macro(0x57, body).escape(0x2A, 0x7A)
+    page.rgb(0.05, 0.05, 0.2).to(0, 0.1)
+    page.code(0x31, page.spelled(page.units(0.999), page.units(0.78) - page.units(0.1)))
+    for x, wide, high in TOWERS:
+        page.rgb(0.3, 0.32, 0.4).to(x, 0.1)
+        page.code(0x31, page.spelled(page.units(x + wide) - page.units(x), page.units(0.1 + high) - page.units(0.1)))
+    page.rgb(1, 0.9, 0.4)
+    for x, _, high in TOWERS:
+        page.to(x + 0.015, high - 0.02).call(0x57)
+    page.rgb(*WHITE).at(0.2, 0.03, "THE CITY BY NIGHT", "normal")
+    return page.made()
+
+
+def signature() -> bytes:
+    """A letter that is signed by INCREMENTAL LINE, a code that isn't read: it is refused there."""
+    page = PageWriter().clear().domain()
+    page.rgb(0.93, 0.9, 0.8).rectangle(0.1, 0.05, 0.8, 0.68)
+    page.rgb(0.15, 0.15, 0.3).at(0.15, 0.64, "DEAR READERS,", "normal")
+    rows = ("from Monday the library", "is open until nine.", "Yours,")
+    for number, row in enumerate(rows):
+        page.at(0.15, 0.55 - number * 0.06, row)
+    page.to(0.2, 0.2).code(0x3A, page.place(0.01, 0.01) + bytes((0x55, 0x6A, 0x4F, 0x72, 0x5C, 0x61)))
+    return page.made()
+
+
+def pages() -> Dict[str, bytes]:
+    """All pages by the names of their files."""
+    return {"accents.nap": accents(), "chart.nap": chart(), "glyphs.nap": glyphs(), "index.nap": index(),
+            "logo.nap": logo(), "mosaics.nap": mosaics(), "palette.nap": palette(), "signature.nap": signature(),
+            "skyline, absolute.nap": skyline_absolute(), "skyline, relative.nap": skyline_relative(),
+            "weather.nap": weather()}
+
+
+def main() -> None:
+    """Writes the pages into the folder that is named."""
+    folder = sys.argv[1]
+    os.makedirs(folder, exist_ok=True)
+    for name, data in pages().items():
+        with open(os.path.join(folder, name), "wb") as file:
+            file.write(data)
+
+
+if __name__ == "__main__":
+    main()

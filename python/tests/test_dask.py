@@ -1,0 +1,235 @@
+"""Scans on Dask's distributed: the same tables, workers and schedulers that end, and workers that aren't alike."""
+import json
+import os
+import socket
+import subprocess
+
+import pytest
+
+from naplps_pages.collection.cluster import ClusterFailed, address_of
+from naplps_pages.collection.remote import alike, difference
+from naplps_pages.collection.tables import hashed
+from naplps_pages.packs.naming import inside
+from packers import pack
+from samples import POINT
+from scans import FAKE, count, is_sound, rows, start, statuses, table, tree, wait_until
+from test_interpreter import hostile_folder
+from test_scan_same import mixed
+
+PYTHON = "/usr/bin/python3"
+WORKER = ("distributed.cli.dask_worker", "--nthreads", "1", "--no-nanny")
+
+
+class LocalCluster:
+    """A scheduler and workers on this machine, in a folder of their own."""
+
+    def __init__(self, folder):
+        self.folder = folder
+        self.file = os.path.join(folder, "scheduler.json")
+        self.processes = []
+        self.scheduler = self._start("distributed.cli.dask_scheduler", "--port", "0", "--scheduler-file", self.file)
+        wait_until(lambda: os.path.exists(self.file) and os.path.getsize(self.file), self.scheduler)
+
+    def worker(self, cwd=None, **more):
+        """Starts a worker."""
+        return self._start(*WORKER, "--scheduler-file", self.file, "--local-directory", self.folder, cwd=cwd, **more)
+
+    def _start(self, module, *words, cwd=None, **more):
+        env = dict(os.environ, DASK_DISTRIBUTED__WORKER__PROFILE__INTERVAL="10s",
+                   DASK_DISTRIBUTED__SCHEDULER__ALLOWED_FAILURES="9", **more)
+        with open(os.path.join(self.folder, "log"), "ab") as log:
+            process = subprocess.Popen(
+                [PYTHON, "-I", "-m", module, "--host", "127.0.0.1", "--no-dashboard", *words], env=env,
+                stdin=subprocess.DEVNULL, stdout=log, stderr=log, cwd=cwd or self.folder)
+        self.processes.append(process)
+        return process
+
+    def close(self):
+        """Ends all of them."""
+        for each in reversed(self.processes):
+            each.kill()
+            each.wait()
+
+
+@pytest.fixture
+def cluster(tmp_path):
+    pytest.importorskip("distributed")
+    folder = os.path.join(str(tmp_path), "cluster")
+    os.mkdir(folder)
+    made = LocalCluster(folder)
+    yield made
+    made.close()
+
+
+@pytest.fixture
+def store(tmp_path):
+    return os.path.join(str(tmp_path), "pages.db")
+
+
+def archive(tmp_path, number):
+    """Files of all kinds, and packs of some."""
+    files = mixed(number)
+    top = tree(os.path.join(str(tmp_path), "pages"), files)
+    for ending in (".tar", ".tgz", ".zip"):
+        pack(os.path.join(top, "pack" + ending), dict(list(files.items())[:number // 4]))
+    os.symlink("nowhere", os.path.join(top, "link"))
+    return top
+
+
+def plain(run, top, store, **more):
+    """The table of a scan on this machine."""
+    said = run(["scan", top, "--into", store + ".plain", "--cures"], **more)
+    assert said.returncode == 0
+    return table(store + ".plain")
+
+
+def test_no_code_of_the_current_folder_of_a_worker_runs(run, tmp_path, store, cluster):
+    folder, ran = hostile_folder(tmp_path)
+    cluster.worker(cwd=folder)
+    said = run(["scan", folder, "--into", store, "--on", cluster.file, "--cures"], cwd=folder)
+    assert said.returncode == 0 and not os.path.exists(ran), (said, open(ran).read())
+
+
+def slow(fake, seconds):
+    return fake(FAKE.replace("    fail(page)\n", "    fail(page)\n    if page: time.sleep(%g)\n" % seconds))
+
+
+def test_two_workers_of_which_one_is_killed_amid(run, naplps, tmp_path, store, cluster):
+    top = archive(tmp_path, 4000)
+    first = cluster.worker()
+    scan = start(["scan", top, "--into", store, "--on", cluster.file, "--cures"], naplps)
+    second = cluster.worker()
+    wait_until(lambda: count(store) > 0, scan)
+    first.kill()
+    out, told = scan.communicate()
+    assert (told, scan.returncode) == (b"", 0) and second.poll() is None
+    wanted = plain(run, top, store)
+    assert out.startswith(b"7001 files: ") and out.endswith(b"; 3 packs\n")
+    assert table(store) == wanted and is_sound(store)
+    said = run(["scan", top, "--into", store, "--on", address_of(cluster.file), "--cures"])
+    assert b"; 7000 known, 0 pages asked about; 3 packs\n" in said.stdout and said.returncode == 0
+
+
+def test_a_scheduler_that_ends_amid(run, fake, tmp_path, store, cluster):
+    top = archive(tmp_path, 4000)
+    program = slow(fake, 0.0005)
+    cluster.worker()
+    address = address_of(cluster.file)
+    scan = start(["scan", top, "--into", store, "--on", address], program)
+    wait_until(lambda: count(store) > 0, scan)
+    cluster.scheduler.kill()
+    out, told = scan.communicate()
+    assert (out, scan.returncode) == (b"", 3)
+    assert told.decode() == (
+        "naplps-pages: %s: the scheduler isn't there any more; what was taken is kept, and the same command goes on\n"
+        % address)
+    taken = count(store)
+    assert is_sound(store) and 0 < taken < 7001
+    told = run(["status", store]).stdout.decode()
+    assert ", was stopped: the same command goes on\n" in told
+    other = store + ".other"
+    assert run(["scan", top, "--into", store], program=program).returncode == 0
+    assert run(["scan", top, "--into", other], program=program).returncode == 0
+    assert table(store) == table(other)
+
+
+def test_a_worker_with_another_program_is_told_before_any_work(run, fake, tmp_path, store, cluster):
+    top = tree(os.path.join(str(tmp_path), "pages"), {"a": POINT})
+    program = fake(FAKE)
+    cluster.worker()
+    # (one worker sees another file at the path of the program: what is mounted there is seen by it alone)
+    other = os.path.join(str(tmp_path), "other")
+    with open(other, "w", encoding="ascii") as file:
+        file.write("#!/bin/sh\n")
+    mounted = subprocess.run(["unshare", "-m", "true"], capture_output=True).returncode == 0
+    if not mounted:
+        pytest.skip("nothing can be mounted here")
+    process = subprocess.Popen(
+        ["unshare", "-m", "sh", "-c", 'mount --bind "$0" "$1" && shift && exec "$@"', other, program, PYTHON, "-m",
+         *WORKER, "--scheduler-file", cluster.file, "--no-dashboard", "--host", "127.0.0.1", "--local-directory",
+         cluster.folder],
+        stdout=subprocess.DEVNULL, stderr=subprocess.DEVNULL, stdin=subprocess.DEVNULL)
+    cluster.processes.append(process)
+    wait_for_workers(cluster, 2)
+    said = run(["scan", top, "--into", store, "--on", cluster.file], program=program)
+    assert (said.stdout, said.returncode) == (b"", 3) and not os.path.exists(store)
+    assert said.stderr.decode().endswith(": %s is another program there\n" % program)
+    assert said.stderr.count(b"is another program there") == 1
+
+
+def wait_for_workers(cluster, number):
+    """Waits until the scheduler has so many workers."""
+    words = ("import sys, distributed; client = distributed.Client(scheduler_file=sys.argv[1]); "
+             "client.wait_for_workers(int(sys.argv[2])); client.close()")
+    subprocess.run([PYTHON, "-c", words, cluster.file, str(number)], check=True, capture_output=True,
+                   timeout=120)
+
+
+def test_what_has_to_be_the_same(tmp_path):
+    program = os.path.join(str(tmp_path), "program")
+    tree(tmp_path, {"program": b"one", "pages/a": POINT})
+    top = os.fsencode(os.path.join(str(tmp_path), "pages"))
+    here = alike(hashed(b"one"), [top, b"/nowhere"])
+    assert here.roots == ((top, os.stat(top).st_ino),) and difference(program, here) is None
+    assert difference(program, here._replace(program=hashed(b"two"))) == "%s is another program there" % program
+    assert difference(program + "?", here) == "%s?: No such file or directory" % program
+    assert difference(program, here._replace(package=b"")).endswith("naplps_pages is another version there")
+    assert difference(program, here._replace(roots=((top, 1),))) == "%s is another folder there" % os.fsdecode(top)
+    assert difference(program, here._replace(roots=((b"/no/folder", 1),))) == "/no/folder: No such file or directory"
+
+
+def test_pages_on_which_the_program_fails(run, fake, tmp_path, store, cluster):
+    top = tree(os.path.join(str(tmp_path), "pages"), {"%03d" % number: b"page %d" % number for number in range(90)})
+    tree(top, {"044 dies": b"die", "045 kills": b"kill its parent"})
+    pack(os.path.join(top, "pack.tar"), {"a": b"page", "b": b"kill its parent"})
+    cluster.worker()
+    said = run(["scan", top, "--into", store, "--on", cluster.file], program=fake(FAKE))
+    reason = "the process that looked at it ended by SIGKILL"
+    found = statuses(store)
+    assert found["044 dies"] == ("no answer", "the program ended with status 7")
+    assert found["045 kills"] == found["pack.tar"] == ("unreadable", reason)
+    assert said.returncode == 1 and b"Traceback" not in said.stderr
+    assert sum(1 for status, _ in found.values() if status == "accepted") >= 90
+
+
+def test_a_pack_is_read_in_parts_that_are_not_too_large(run, naplps, tmp_path, store, cluster):
+    files = {"%d" % number: b"\x0f%d" % number for number in range(25_000)}
+    path = pack(os.path.join(str(tmp_path), "pack.tar"), files)
+    cluster.worker()
+    said = run(["scan", path, "--into", store, "--on", cluster.file])
+    assert said.stdout == b"25000 files: 25000 accepted, 0 refused; 0 known, 25000 pages asked about; 1 pack\n"
+    assert count(store) == 25_001 and rows(store, "SELECT count(*) FROM folders WHERE path = ?", inside(
+        os.fsencode(path))) == [(1,)]
+
+
+def test_no_cluster(run, tmp_path, store):
+    with socket.socket() as free:
+        free.bind(("127.0.0.1", 0))
+        address = "tcp://127.0.0.1:%d" % free.getsockname()[1]
+    tree(tmp_path, {"empty.json": b"", "odd.json": b"[1]", "x.json": json.dumps({"address": address}).encode()})
+    for where, reason in (("empty.json", "it is no file of a scheduler"), ("odd.json", "it is no file of a scheduler"),
+                          ("nowhere.json", "No such file or directory")):
+        path = os.path.join(str(tmp_path), where)
+        with pytest.raises(ClusterFailed, match=reason):
+            address_of(path)
+    assert address_of(address) == address_of(os.path.join(str(tmp_path), "x.json")) == address
+    pytest.importorskip("distributed")
+    said = run(["scan", str(tmp_path), "--into", store, "--on", os.path.join(str(tmp_path), "odd.json")])
+    assert said.returncode == 3 and said.stderr.endswith(b"/odd.json: it is no file of a scheduler\n")
+    assert not os.path.exists(store)
+
+
+def test_dask_that_is_not_installed(run, tmp_path, store):
+    tree(tmp_path, {"none/distributed.py": b"raise ImportError('none')"})
+    said = run(["scan", str(tmp_path), "--into", store, "--on", "127.0.0.1:1"],
+               env={"PYTHONPATH": os.path.join(str(tmp_path), "none")})
+    assert (said.stdout, said.returncode) == (b"", 3)
+    assert said.stderr.decode() == (
+        "naplps-pages: Dask's distributed isn't there for /usr/bin/python3 (Debian: apt-get install "
+        "python3-distributed)\n")
+    assert not os.path.exists(store)
+
+
+def test_words_that_exclude_each_other(run, store):
+    said = run(["scan", "x", "--into", store, "--on", "a:1", "--processes", "2"])
+    assert said.returncode == 2 and b"not allowed with" in said.stderr

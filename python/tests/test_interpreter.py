@@ -1,0 +1,95 @@
+"""No command runs code of the current folder, and no worker that of the environment's folders."""
+import ast
+import glob
+import os
+import signal
+import subprocess
+import sys
+import urllib.request
+
+from conftest import PACKAGES
+from naplps_pages.interpreter import FOLDER, interpreter
+from packers import pack
+from samples import OUTSIDE, POINT, SPELLED
+from scans import start, tree
+
+HOSTILE = """
+with open(%r, "a") as file:
+    file.write(__name__ + "\\n")
+raise ImportError(__name__)
+"""
+
+
+def modules():
+    """The modules that the tool imports, and all others of the standard library where this Python tells their names."""
+    names = set(getattr(sys, "stdlib_module_names", ())) | {"sitecustomize", "usercustomize", "naplps_pages"}
+    for path in glob.glob(os.path.join(PACKAGES, "naplps_pages", "**", "*.py"), recursive=True):
+        with open(path, encoding="utf-8") as source:
+            for node in ast.walk(ast.parse(source.read())):
+                if isinstance(node, ast.Import):
+                    names |= {each.name.split(".")[0] for each in node.names}
+                elif isinstance(node, ast.ImportFrom) and not node.level:
+                    names.add(node.module.split(".")[0])
+    return names
+
+
+def hostile_folder(tmp_path):
+    """A folder of pages with a hostile file for each module; and the file in which they note that they ran."""
+    ran = os.path.join(str(tmp_path), "ran")
+    lines = (HOSTILE % ran).encode()
+    assert {"resource", "signal", "sqlite3", "socket", "hashlib", "multiprocessing"} <= modules()
+    folder = tree(os.path.join(str(tmp_path), "hostile"), {
+        **{name + ".py": lines for name in modules()}, "a.nap": POINT, "b.nap": SPELLED, "c.nap": OUTSIDE})
+    pack(os.path.join(folder, "d.tar"), {"e.nap": POINT})
+    return folder, ran
+
+
+WORDS = [["check", "a.nap"], ["list", "a.nap"], ["canon", "a.nap"], ["explain", "c.nap"], ["look", "a.nap"],
+         ["text", "a.nap"], ["cures", "c.nap"], ["check", "d.tar!e.nap"],
+         ["scan", ".", "--into", "../x.db", "--cures"], ["scan", "a.nap", "--into", "../y.db"],
+         ["equal", "../x.db", "--verify"], ["equal", "../x.db", "--copies"], ["refused", "../x.db"],
+         ["convert", "../x.db", "--into", "../canonical"], ["status", "../x.db"], ["merge", "../m.db", "../x.db"],
+         ["report", "../x.db", "--into", "../x.html"]]
+
+
+def test_no_command_runs_code_of_the_current_folder(run, naplps, tmp_path):
+    folder, ran = hostile_folder(tmp_path)
+    for words in WORDS:
+        said = run(words, cwd=folder)
+        assert said.returncode in (0, 1) and b"Traceback" not in said.stderr, (words, said)
+        assert not os.path.exists(ran), (words, open(ran).read())
+    served = start(["serve", "../x.db", "--port", "0"], naplps, cwd=folder)
+    try:
+        assert urllib.request.urlopen(served.stdout.readline().decode().strip()).status == 200
+    finally:
+        served.send_signal(signal.SIGTERM)
+        served.communicate()
+    assert not os.path.exists(ran)
+
+
+TELLS = "import sys\ndef main(*numbers):\n    print(numbers, *sys.path, sep='\\n')\n"
+
+
+def test_the_path_of_a_worker(tmp_path):
+    own = tree(os.path.join(str(tmp_path), "own"), {"tells.py": TELLS.encode()})
+    base = os.path.join(str(tmp_path), "base")
+    user = subprocess.run([sys.executable, "-m", "site", "--user-site"], env=dict(os.environ, PYTHONUSERBASE=base),
+                          capture_output=True, text=True).stdout.strip()
+    assert user.startswith(base)
+    hostile = tree(user, {"sitecustomize.py": b"print('ran')", "some.pth": b"import sys; print('ran')\n"})
+    here = tree(os.path.join(str(tmp_path), "here"), {"sitecustomize.py": b"print('ran')"})
+    said = subprocess.run(interpreter("tells", 3, 4, folder=own), capture_output=True, text=True, cwd=here, check=True,
+                          env=dict(os.environ, PYTHONPATH=here, PYTHONUSERBASE=base, PYTHONSTARTUP=here))
+    numbers, first, *others = said.stdout.split("\n")[:-1]
+    assert (numbers, first) == ("(3, 4)", own)
+    assert others and not {"", ".", here, hostile} & set(others)
+    assert all("python" in os.path.basename(each) or os.path.basename(each) == "lib-dynload" for each in others)
+
+
+def test_only_one_function_starts_interpreters():
+    for path in glob.glob(os.path.join(FOLDER, "naplps_pages", "**", "*.py"), recursive=True):
+        with open(path, encoding="utf-8") as source:
+            text = source.read()
+        # (the message of --on names it, and starts nothing)
+        number = {"interpreter.py": 1, "cluster.py": 1}.get(os.path.basename(path), 0)
+        assert text.count("sys.executable") == number, path
