@@ -435,6 +435,14 @@ def test_closed_descriptors(naplps, tmp_path):
         assert (said.returncode, said.stderr) == (status, told)
 
 
+def test_a_folder_that_an_older_copy_left_is_passed_over(naplps, tmp_path):
+    os.makedirs(os.path.join(str(tmp_path), "pages", "naplps_pages", "__pycache__"))
+    os.symlink(PACKAGES, os.path.join(str(tmp_path), "python"))
+    command = shutil.copy(COMMAND, os.path.join(str(tmp_path), "pages"))
+    said = subprocess.run([command, "check", "-"], input=POINT, env=dict(os.environ, NAPLPS=naplps), capture_output=True)
+    assert (said.stdout, said.stderr, said.returncode) == (b"accepted 1 entries\n", b"", 0)
+
+
 def test_the_command_without_its_package(tmp_path):
     said = subprocess.run([shutil.copy(COMMAND, str(tmp_path)), "check", "page"], capture_output=True)
     assert (said.stdout, said.returncode) == (b"", 3)
