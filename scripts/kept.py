@@ -47,10 +47,10 @@ def below(name: str) -> List[str]:
     return [crate for crate in every if crate in found]
 
 
-def ask(*words: object, folder: Path = TOP) -> str:
-    """What a command prints; raises NotProved where it fails."""
+def ask(*words: object, folder: Path = TOP, errors: Optional[int] = None) -> str:
+    """What a command prints, and tells on standard error where that goes to STDOUT; raises NotProved where it fails."""
     try:
-        said = subprocess.run(list(map(str, words)), cwd=folder, stdout=subprocess.PIPE, encoding="utf-8")
+        said = subprocess.run([*map(str, words)], cwd=folder, stdout=subprocess.PIPE, stderr=errors, encoding="utf-8")
     except OSError as error:
         raise NotProved(f"{words[0]}: {error.strerror}") from None
     if said.returncode:
@@ -93,7 +93,7 @@ def heap() -> Path:
 def archive() -> Path:
     """The archive of nap_c, proved by `rt lib` and compiled where that is needed."""
     folder = TOP / "crates" / "nap_c"
-    ask("rt", "lib", folder=folder)
+    ask("rt", "lib", folder=folder, errors=subprocess.STDOUT)
     return folder / "out" / ARCHIVE
 
 
@@ -129,8 +129,8 @@ def archive_after_gate() -> Path:
     (folder / "out").mkdir(exist_ok=True)
     made = folder / "out" / ARCHIVE
     made.unlink(missing_ok=True)
-    verdicts = [line for line in ask(*words, "--backend", "llvm", "-o", made, folder=folder).splitlines()
-                if VERDICT.fullmatch(line)]
+    said = ask(*words, "--backend", "llvm", "-o", made, folder=folder, errors=subprocess.STDOUT)
+    verdicts = [line for line in said.splitlines() if VERDICT.fullmatch(line)]
     if len(verdicts) != 1 or not made.is_file():
         raise NotProved("rattle build told no verdict on nap_c")
     return made
