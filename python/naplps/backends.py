@@ -28,7 +28,7 @@ def look() -> Answerer:
     if named:
         path = os.path.abspath(os.path.join(named, SONAME) if os.path.isdir(named) else named)
         if not os.path.isfile(path):
-            raise Unavailable("NAPLPS_LIBRARY names no library, nor a folder with %s: %s" % (SONAME, named))
+            raise Unavailable(f"NAPLPS_LIBRARY names no library, nor a folder with {SONAME}: {named}")
         return _loaded(path)
     library = _library() if named is None else None
     if library is not None:
@@ -36,8 +36,8 @@ def look() -> Answerer:
     try:
         return ProgramBackend(find(_command()))
     except NoProgram as error:
-        missing = "%s isn't there" % SONAME if named is None else "NAPLPS_LIBRARY is empty"
-        raise Unavailable("there is neither the library nor the program: %s, and %s" % (missing, error)) from None
+        missing = f"{SONAME} isn't there" if named is None else "NAPLPS_LIBRARY is empty"
+        raise Unavailable(f"there is neither the library nor the program: {missing}, and {error}") from None
 
 
 def _library() -> Optional[LibraryBackend]:
@@ -51,14 +51,14 @@ def _library() -> Optional[LibraryBackend]:
     except OSError as error:
         if "No such file" in str(error):
             return None
-        raise WrongLibrary("the library can't be loaded: %s" % error) from None
+        raise WrongLibrary(f"the library can't be loaded: {error}") from None
 
 
 def _loaded(path: str) -> LibraryBackend:
     try:
         return LibraryBackend(path)
     except OSError as error:
-        raise WrongLibrary("the library can't be loaded: %s" % error) from None
+        raise WrongLibrary(f"the library can't be loaded: {error}") from None
 
 
 def _command() -> str:

@@ -99,7 +99,7 @@ class LibraryBackend:
             raise self._wrong("its answer has the status %d" % answer.status)
         refused = Refused(answer.number, answer.name.decode("ascii", "replace"), answer.place)
         if refused.number == MEMORY:
-            raise NoMemory("the library had no memory for it (%s)" % refused)
+            raise NoMemory(f"the library had no memory for it ({refused})")
         return Reply(0, text, refused)
 
     @staticmethod
@@ -107,10 +107,10 @@ class LibraryBackend:
         try:
             return ctypes.create_string_buffer(size)
         except (MemoryError, OverflowError, ValueError):
-            raise NoMemory("there is no memory for an answer of %d bytes" % size) from None
+            raise NoMemory(f"there is no memory for an answer of {size} bytes") from None
 
     def _wrong(self, reason: str) -> WrongLibrary:
-        return WrongLibrary("%s isn't the library of this version: %s" % (self.backend.path, reason))
+        return WrongLibrary(f"{self.backend.path} isn't the library of this version: {reason}")
 
 
 class LibraryPieces:

@@ -25,13 +25,13 @@ def _shown(each: str) -> str:
     if each in SHORT:
         return SHORT[each]
     if "\udc80" <= each <= "\udcff":
-        return "\\x%02x" % (ord(each) - 0xDC00)
+        return f"\\x{ord(each) - 0xDC00:02x}"
     if unicodedata.category(each) not in HIDDEN:
         return each
     code = ord(each)
     if code < 0x100:
-        return "\\x%02x" % code
-    return "\\u%04x" % code if code < 0x10000 else "\\U%08x" % code
+        return f"\\x{code:02x}"
+    return f"\\u{code:04x}" if code < 0x10000 else f"\\U{code:08x}"
 
 
 def quoted(name: str) -> str:

@@ -121,7 +121,7 @@ def name_of(code: Code, data: bytes) -> Optional[str]:
     if code.name in ESCAPES or code.name.startswith(UNKNOWN_SET):
         some = data[code.start:code.end]
         told = some[:MOST_SHOWN].hex(" ").upper() + (" .." if len(some) > MOST_SHOWN else "")
-        return "%s (%s)" % (told, code.name) if some[:1] == b"\x1b" else code.name
+        return f"{told} ({code.name})" if some[:1] == b"\x1b" else code.name
     if code.name == "SET COLOR" and code.end - code.start == 1 and data[code.start:code.end] == b"\x3c":
         return TRANSPARENT
     return None
@@ -130,7 +130,7 @@ def name_of(code: Code, data: bytes) -> Optional[str]:
 def lines(found: Census) -> Iterator[str]:
     """The table for people."""
     every = found.accepted + found.refused + found.without
-    without = ", %d without an answer" % found.without if found.without else ""
+    without = f", {found.without} without an answer" if found.without else ""
     yield "%d %s: %d accepted, %d refused%s" % (
         every, "page" if every == 1 else "pages", found.accepted, found.refused, without)
     if not found.rows:
@@ -140,7 +140,7 @@ def lines(found: Census) -> Iterator[str]:
         yield "%-44s %8d %8d %8d %8d" % (name, row.first, row.pages, row.only, row.times)
     yield ESTIMATE
     if found.in_part:
-        yield "%d of the refused pages were read on in part alone." % found.in_part
+        yield f"{found.in_part} of the refused pages were read on in part alone."
 
 
 def members(found: Census) -> Members:

@@ -116,7 +116,7 @@ class Cutter:
             return self._opcode(start, byte) if byte < 0x40 else self._named(start, "word without an opcode")
         if name == "macro":
             # (its own end is told before the body comes)
-            code = self._named(start, "call of macro %02x" % byte)
+            code = self._named(start, f"call of macro {byte:02x}")
             body = self.macros.get(byte)
             if body:
                 self.frames.append((body, 0, self.last))
@@ -125,7 +125,7 @@ class Cutter:
             return self._named(start, "space")
         if name == "primary" and byte < 0x7F:
             return self._named(start, "character %c" % byte)
-        return self._named(start, "%s character %02x" % (name, byte))
+        return self._named(start, f"{name} character {byte:02x}")
 
     def _opcode(self, start: int, byte: int) -> Code:
         words: List[int] = []
@@ -142,7 +142,7 @@ class Cutter:
         byte = self.take()
         if byte in (0x6E, 0x6F):
             self.gl = 2 if byte == 0x6E else 3
-            return self._named(start, "locking shift %d" % self.gl)
+            return self._named(start, f"locking shift {self.gl}")
         if 0x28 <= byte <= 0x2F:
             return self._designation(start, byte)
         if byte in OTHER_ESCAPES:

@@ -29,7 +29,7 @@ class OutputLost(NotWritten):
 def tell(text: str) -> None:
     """A line on standard error. Whatever a terminal wouldn't show as itself has an escape."""
     try:
-        sys.stderr.write("%s: %s\n" % (TOOL, printable(text)))
+        sys.stderr.write(f"{TOOL}: {printable(text)}\n")
         sys.stderr.flush()
     except (OSError, AttributeError):
         pass  # there is nobody left to tell
@@ -88,12 +88,12 @@ class Session:
     def complain(self, name: str, reason: str) -> None:
         """Tells what is wrong with a page, which has the status 3."""
         self.output.flush()
-        tell("%s: %s" % (shown(name), reason))
+        tell(f"{shown(name)}: {reason}")
         self.fail(FAILED)
 
     def front(self, name: str) -> str:
         """What stands in front of the answer to a page: its name, where there are several."""
-        return "%s: " % shown(name) if len(self.names) > 1 else ""
+        return f"{shown(name)}: " if len(self.names) > 1 else ""
 
     def answered(self, page: Page, answer: Answer) -> bool:
         """Keeps the status of an answer, and tells where there is none; whether there is one."""

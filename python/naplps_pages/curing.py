@@ -62,9 +62,9 @@ def _told(page: Page, cure: Cure) -> List[str]:
     assert page.data is not None
     lines = ["%s, %s: %s: %s" % (each.treatment, each.grade, "rewritten" if each.added else "taken away", each.what)
              for each in cure.treated.changes]
-    lines.append("then: accepted %d entries" % cure.entries)
+    lines.append(f"then: accepted {cure.entries} entries")
     for when, data in (("before", page.data), ("after", cure.treated.data)):
-        lines.append("%s: %d bytes, sha256 %s" % (when, len(data), hashlib.sha256(data).hexdigest()))
+        lines.append(f"{when}: {len(data)} bytes, sha256 {hashlib.sha256(data).hexdigest()}")
     return lines + [warning(cure)]
 
 
@@ -104,7 +104,7 @@ def _write(session: Session, folder: str, page: Page, answer: Refusal, cure: Cur
         put(note, (json.dumps(members, indent=2) + "\n").encode("ascii"))
     put(path, data)
     if not session.json:
-        session.output.line("%swritten: %s, and %s" % (session.front(page.name), shown(path), shown(note)))
+        session.output.line(f"{session.front(page.name)}written: {shown(path)}, and {shown(note)}")
 
 
 def _provenance(session: Session, page: Page, answer: Refusal, cure: Cure) -> Members:
@@ -113,7 +113,7 @@ def _provenance(session: Session, page: Page, answer: Refusal, cure: Cure) -> Me
     members["refusal"] = answer.line
     members.update(_members(page, cure))
     members["program"] = version(session.program.path, session.program.limits)
-    members["tool"] = "%s %s" % (TOOL, VERSION)
+    members["tool"] = f"{TOOL} {VERSION}"
     members["budget"] = session.program.budget
     members["note"] = warning(cure)
     members["time"] = datetime.datetime.now(datetime.timezone.utc).strftime("%Y-%m-%dT%H:%M:%SZ")

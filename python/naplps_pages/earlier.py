@@ -30,7 +30,7 @@ class Earlier:
         """What is told where one of the earlier pages is refused."""
         at = next(number for number, end in enumerate(self.ends) if answer.place < end)
         start = self.ends[at - 1] if at else 0
-        return "the page before it, %s, is %s" % (shown(self.names[at]), moved(answer, start).line)
+        return f"the page before it, {shown(self.names[at])}, is {moved(answer, start).line}"
 
 
 class Heard(NamedTuple):
@@ -48,11 +48,11 @@ def read_earlier(names: List[str], seconds: float) -> Earlier:
         try:
             page = read(name, seconds)
         except Unread as error:
-            raise Unread("%s: %s" % (shown(name), error)) from None
+            raise Unread(f"{shown(name)}: {error}") from None
         page.close()
         length = (ends[-1] if ends else 0) + len(page.data or b"")
         if page.data is None or length > MOST_PAGE:
-            raise Unread("%s: the earlier pages are longer than 16 MiB" % shown(name))
+            raise Unread(f"{shown(name)}: the earlier pages are longer than 16 MiB")
         pieces.append(page.data)
         ends.append(length)
     return Earlier(b"".join(pieces), tuple(names), tuple(ends))

@@ -46,7 +46,7 @@ def explain(session: Session) -> int:
         answer = told.answer
         if not session.answered(page, answer) or isinstance(answer, Unanswered):
             return
-        session.output.line("%s: %s" % (shown(page.name), answer.line))
+        session.output.line(f"{shown(page.name)}: {answer.line}")
         for line in _before(page, answer, every.rows, session.earlier.data):
             session.output.line(line)
         if isinstance(answer, Refusal):
@@ -65,7 +65,7 @@ def _before(page: Page, answer: Union[Accepted, Refusal], entries: Optional[List
         yield "The page is longer than 16 MiB: its entries aren't shown."
         return
     if entries is None:
-        yield "The entries aren't shown: there are more than %d, or their lines are too long." % MOST_LISTED
+        yield f"The entries aren't shown: there are more than {MOST_LISTED}, or their lines are too long."
         return
     place = answer.place if isinstance(answer, Refusal) else None
     rows = assigned(earlier + page.data, entries, None if place is None else len(earlier) + place)
@@ -144,18 +144,18 @@ def printed(row: CodeRow, data: bytes) -> Iterator[str]:
 def _reasons(page: Page, answer: Refusal, earlier: bytes) -> Iterator[str]:
     yield ""
     around, first = _around(page, answer.place)
-    yield "The bytes around %d:" % answer.place
+    yield f"The bytes around {answer.place}:"
     yield from hexdump(around, first, answer.place)
     if page.data is not None:
-        yield "The code there: %s" % name_at(earlier + page.data, len(earlier) + answer.place)
+        yield f"The code there: {name_at(earlier + page.data, len(earlier) + answer.place)}"
     case = "" if page.data is None else case_of(page.data, answer)
     known = text_of(answer.number, answer.code or "", case)
     yield ""
-    tries = "`naplps-pages cures` tries %s." % ", ".join(known.treatments) if known.treatments else ""
+    tries = f"`naplps-pages cures` tries {', '.join(known.treatments)}." if known.treatments else ""
     for about, text in (("What it means", known.means), ("It may come from", known.causes),
                         ("What can be done", known.do), ("Treatments", tries)):
         if text:
-            yield from wrap("%s: %s" % (about, text), 78, subsequent_indent="    ", break_on_hyphens=False)
+            yield from wrap(f"{about}: {text}", 78, subsequent_indent="    ", break_on_hyphens=False)
     if known.command:
         yield "    " + known.command.replace(PAGE, quoted(page.name))
 

@@ -16,7 +16,7 @@ def interpreter(module: str, *numbers: int, folder: str = FOLDER) -> List[str]:
     The current folder, the folders that the environment names and those of the user or of a site aren't in its path:
     only `folder` and the standard library are. File names are read as they are read here.
     """
-    names = "utf8=%d" % sys.flags.utf8_mode
+    names = f"utf8={sys.flags.utf8_mode}"
     return [sys.executable, "-I", "-S", "-B", "-X", names, "-c", START, folder, module, *map(str, numbers)]
 
 

@@ -10,7 +10,7 @@ class NotWritten(Exception):
     """A file or standard output couldn't be written, with its name and the system's reason."""
 
     def __init__(self, name: str, reason: str) -> None:
-        super().__init__("%s: %s" % (shown(name), reason))
+        super().__init__(f"{shown(name)}: {reason}")
 
 
 def put(path: str, data: bytes) -> None:

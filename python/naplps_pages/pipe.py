@@ -33,7 +33,7 @@ class Pipe:
             left = self.end - time.monotonic()
             ready = self.poll.poll(max(0, left) * 1000)
             if not ready or left <= 0:
-                raise Late("it is a pipe that didn't end in %g s" % self.seconds)
+                raise Late(f"it is a pipe that didn't end in {self.seconds:g} s")
             try:
                 return os.read(self.descriptor, most)
             except BlockingIOError:

@@ -15,13 +15,13 @@ from .source import Page
 def picture(told: Listed) -> drawing.Sketch:
     """The sketch of a page that has this answer and these entries."""
     answer, lines = told.answer, told.lines
-    said = "then %s" % answer.line if isinstance(answer, Refusal) else ""
+    said = f"then {answer.line}" if isinstance(answer, Refusal) else ""
     if lines is not None:
         return drawing.draw(lines, said)
     if isinstance(answer, Accepted):
         how = "" if answer.entries > MOST_LISTED else ", whose lines are too long"
-        return drawing.empty("No sketch: the page has %d entries%s" % (answer.entries, how))
-    return drawing.empty("No sketch: too much comes first, %s" % said)
+        return drawing.empty(f"No sketch: the page has {answer.entries} entries{how}")
+    return drawing.empty(f"No sketch: too much comes first, {said}")
 
 
 def look(session: Session) -> int:
@@ -38,7 +38,7 @@ def look(session: Session) -> int:
         if isinstance(answer, Refusal):
             session.output.flush()
             before = "; the sketch shows what comes before" if told.lines is not None else ""
-            tell("%s: %s%s" % (shown(page.name), answer.line, before))
+            tell(f"{shown(page.name)}: {answer.line}{before}")
         if session.into is not None:
             put(into(session.into, page.name, ".svg"), drawn)
         elif session.svg is not None:
@@ -62,5 +62,5 @@ def text(session: Session) -> int:
         session.output.text("".join(front + line + "\n" for line in lines_of(read(lines))))
         if isinstance(answer, Refusal):
             session.output.flush()
-            tell("%s: %s; the text is what comes before" % (shown(page.name), answer.line))
+            tell(f"{shown(page.name)}: {answer.line}; the text is what comes before")
     return session.each(work)

@@ -116,6 +116,6 @@ def _kept(first: bytes, file: IO[bytes]) -> IO[bytes]:
         length += spool.write(piece)
         if length > MOST_SPOOLED:
             spool.close()
-            raise Unread("it is a pipe of more than %d bytes" % MOST_SPOOLED)
+            raise Unread(f"it is a pipe of more than {MOST_SPOOLED} bytes")
     spool.seek(0)
     return spool

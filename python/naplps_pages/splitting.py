@@ -55,7 +55,7 @@ def _cuts(data: bytes) -> Iterator["tuple[int, str]"]:
         if _has_nsr(codes):
             yield match.start(), "NSR"
         elif ANNOUNCES.search(codes) and BEGINS.match(data, match.end()):
-            yield match.start(), "1B %02X" % ANNOUNCES.search(codes)[0][1]  # type: ignore[index]
+            yield match.start(), f"1B {ANNOUNCES.search(codes)[0][1]:02X}"  # type: ignore[index]
 
 
 def _has_nsr(codes: bytes) -> bool:
@@ -90,7 +90,7 @@ def _write(session: Session, folder: str, page: Page, some: List[Piece]) -> None
     source = {**{"source_" + key: value for key, value in as_json(page.name).items()},
               "source": {"bytes": len(page.data), "sha256": hashlib.sha256(page.data).hexdigest()},
               "pages": len(some), "program": version(session.program.path, session.program.limits),
-              "tool": "%s %s" % (TOOL, VERSION)}
+              "tool": f"{TOOL} {VERSION}"}
     for number, piece in enumerate(some, 1):
         path = os.path.join(folder, _name(page.name, number, len(some)))
         data = page.data[piece.offset:piece.offset + piece.length]

@@ -15,7 +15,7 @@ class Unexpected(Exception):
     """An exception that nobody expected, with the file that was at work."""
 
     def __init__(self, name: str, error: Exception) -> None:
-        super().__init__("%s: %s" % (shown(name), told(error)))
+        super().__init__(f"{shown(name)}: {told(error)}")
 
 
 def told(error: Exception) -> str:
@@ -24,7 +24,7 @@ def told(error: Exception) -> str:
         return os.strerror(error.errno)
     if isinstance(error, MemoryError):
         return "there is no memory for it"
-    said = shown("%s: %s" % (type(error).__name__, error))[:MOST_SAID]
+    said = shown(f"{type(error).__name__}: {error}")[:MOST_SAID]
     return FAILED % (_place(error), said)
 
 

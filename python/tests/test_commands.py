@@ -439,7 +439,8 @@ def test_a_folder_that_an_older_copy_left_is_passed_over(naplps, tmp_path):
     os.makedirs(os.path.join(str(tmp_path), "pages", "naplps_pages", "__pycache__"))
     os.symlink(PACKAGES, os.path.join(str(tmp_path), "python"))
     command = shutil.copy(COMMAND, os.path.join(str(tmp_path), "pages"))
-    said = subprocess.run([command, "check", "-"], input=POINT, env=dict(os.environ, NAPLPS=naplps), capture_output=True)
+    said = subprocess.run([command, "check", "-"], input=POINT, capture_output=True,
+                          env=dict(os.environ, NAPLPS=naplps))
     assert (said.stdout, said.stderr, said.returncode) == (b"accepted 1 entries\n", b"", 0)
 
 

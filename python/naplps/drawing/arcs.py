@@ -17,7 +17,7 @@ def path(points: Sequence[Place], filled: bool) -> str:
         body = _circle(points) if points[0] == points[2] else _three(points)
     else:
         body = _curve(points)
-    return "M%s %s" % (num(points[0][0]), num(points[0][1])) + body + ("Z" if filled else "")
+    return f"M{num(points[0][0])} {num(points[0][1])}" + body + ("Z" if filled else "")
 
 
 def extent(points: Sequence[Place]) -> Extent:
@@ -105,7 +105,7 @@ def _on_circle(centre: Place, start: Place, turn: float) -> List[Place]:
 
 
 def _lines(places: Sequence[Place]) -> str:
-    return "".join("L%s %s" % (num(x), num(y)) for x, y in places)
+    return "".join(f"L{num(x)} {num(y)}" for x, y in places)
 
 
 def _curve(points: Sequence[Place]) -> str:

@@ -29,7 +29,7 @@ FIRST = first_map()
 def direct(parts: Tuple[int, ...]) -> str:
     """The colour of green, red and blue in 16 bits each, by their upper eight bits."""
     green, red, blue = (part >> 8 for part in parts)
-    return "#%02x%02x%02x" % (red, green, blue)
+    return f"#{red:02x}{green:02x}{blue:02x}"
 
 
 class Palette:

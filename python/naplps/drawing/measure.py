@@ -15,13 +15,13 @@ THIN_IN_GLYPH = 64.0
 
 def num(value: float) -> str:
     """The number with at most two digits behind the point."""
-    text = ("%.2f" % value).rstrip("0").rstrip(".")
+    text = (f"{value:.2f}").rstrip("0").rstrip(".")
     return "0" if text == "-0" else text
 
 
 def fine(value: float) -> str:
     """The number with at most five digits behind the point, for factors."""
-    text = ("%.5f" % value).rstrip("0").rstrip(".")
+    text = (f"{value:.5f}").rstrip("0").rstrip(".")
     return "0" if text == "-0" else text
 
 

@@ -127,7 +127,7 @@ class Paper:
 
     def _ended(self, letter: str, number: int) -> Definition:
         elements, self.open = self.open or [], None
-        return Definition(number, "%s%s%d" % (self.prefix, letter, number), "".join(elements), self.open_weight)
+        return Definition(number, f"{self.prefix}{letter}{number}", "".join(elements), self.open_weight)
 
     def glyph(self, code: int) -> Optional[Definition]:
         """The glyph that may be drawn here; none inside a glyph or a mask."""

@@ -53,7 +53,7 @@ class Shapes:
         """A polygon, closed; where its edges cross, what lies inside an even number of them isn't filled."""
         places = self._places(entry.points)
         style = self.looks.of(entry, extent(places, True))
-        told = " ".join("%s,%s" % (num(x), num(y)) for x, y in places)
+        told = " ".join(f"{num(x)},{num(y)}" for x, y in places)
         self.paper.put('<polygon points="%s" fill-rule="evenodd"%s/>' % (told, style.attributes), style.weight)
 
     def arc(self, entry: Arc) -> None:

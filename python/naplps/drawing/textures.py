@@ -84,7 +84,7 @@ class SvgAttributes:
         """The name of the pattern that fills with this texture, defined once."""
         wide, high = self._tile(texture)
         mask = self.paper.masks.get("ABCD"[pattern - 4]) if pattern >= 4 else None
-        version = "-%d" % mask.number if mask else ""
+        version = f"-{mask.number}" if mask else ""
         key = "%sp%d-%s-%s-%s-%s%s" % (
             self.paper.prefix, pattern, ink[1:], back[1:] if back else "none", num(wide), num(high), version)
         key = key.replace(".", "_")

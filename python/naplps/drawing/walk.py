@@ -148,7 +148,7 @@ def empty(said: str) -> Sketch:
 
 def _caption(drawn: int, total: int, said: str) -> str:
     how_many = "%d entries" % total if drawn == total else "the first %d of %d entries" % (drawn, total)
-    return "Sketch of %s" % how_many + ("; " + said if said else "")
+    return f"Sketch of {how_many}" + ("; " + said if said else "")
 
 
 def _svg(paper: Paper, caption: str, end: str) -> str:
@@ -158,8 +158,8 @@ def _svg(paper: Paper, caption: str, end: str) -> str:
     notes: List[str] = list(paper.notes)
     if tall:
         notes.append("the page draws above the part of the square that screens show")
-    described = "<desc>%s</desc>" % escape("; ".join(notes)) if notes else ""
-    definitions = "<defs>%s</defs>" % "".join(paper.definitions) if paper.definitions else ""
+    described = f"<desc>{escape('; '.join(notes))}</desc>" if notes else ""
+    definitions = f"<defs>{''.join(paper.definitions)}</defs>" if paper.definitions else ""
     below = '<rect y="%d" width="%d" height="%d" fill="#333333"/>' % (HEIGHT, WIDTH, foot)
     below += _line(0, "#cccccc", caption) + (_line(1, "#ffcc66", end) if end else "")
     return ('<svg xmlns="http://www.w3.org/2000/svg" viewBox="0 %d %d %d" width="%d" height="%d" '

@@ -140,7 +140,7 @@ class Writing:
         (front, back), size, underline = run.look
         wide, high = size.wide * WIDTH, size.high * WIDTH
         total = wide * len(run.text)
-        turn = "rotate(%d %s %s)" % (-90 * size.rotation, num(run.x), num(run.y)) if size.rotation else ""
+        turn = f"rotate({-90 * size.rotation} {num(run.x)} {num(run.y)})" if size.rotation else ""
         parts = [_cell(run.x, run.y, total, high, back)] if back else []
         text = "".join(run.text)
         if text.strip(" "):

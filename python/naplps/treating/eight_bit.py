@@ -32,7 +32,7 @@ WHOLE = re.compile(rb"\x1b[\x20-\x27][\x20-\x2f]*[\x30-\x7e]|\x1f[\x40-\x7f]{2}"
 def edits(data: bytes) -> List[Edit]:
     """What has to be changed. Raises NotSure."""
     if len(data) > MOST_LENGTH:
-        raise NotSure("it is longer than %d bytes" % MOST_LENGTH)
+        raise NotSure(f"it is longer than {MOST_LENGTH} bytes")
     if not PICTURE.search(data):
         raise NotSure("no picture code of the right half has an operand")
     conversion = EightBitConversion(data)
@@ -112,9 +112,9 @@ class EightBitConversion:
 
     def _operand(self, place: Tuple[bool, int]) -> None:
         if self.called:
-            raise NotSure("operands stand behind the call of a macro at %d" % self.at)
+            raise NotSure(f"operands stand behind the call of a macro at {self.at}")
         if self.run not in (None, place):
-            raise NotSure("the operands of a picture code go over into the other half at %d" % self.at)
+            raise NotSure(f"the operands of a picture code go over into the other half at {self.at}")
         if self.in_body:
             self.run = place
 
@@ -137,7 +137,7 @@ class EightBitConversion:
 
     def _look_at_macros(self) -> None:
         if self.has_macros and self.has_moved:
-            raise NotSure("macros stand beside locking shifts at %d" % self.at)
+            raise NotSure(f"macros stand beside locking shifts at {self.at}")
 
     def _single_shift(self, register: int) -> None:
         self._code(1)
@@ -149,10 +149,10 @@ class EightBitConversion:
         for _ in range(number):
             byte = self.data[self.at] if self.at < len(self.data) else 0
             if byte >= 0xA0:
-                raise NotSure("an argument has the eighth bit at %d" % self.at)
+                raise NotSure(f"an argument has the eighth bit at {self.at}")
             if not 0x20 <= byte < 0x80:
                 if self.in_body:
-                    raise NotSure("a code in the body of a macro isn't whole at %d" % self.at)
+                    raise NotSure(f"a code in the body of a macro isn't whole at {self.at}")
                 return False
             self._code(1)
         return True
@@ -183,7 +183,7 @@ class EightBitConversion:
         elif found:
             self._code(found.end() - self.at)
         elif byte >= 0x80 or self.in_body:
-            raise NotSure("an escape sequence isn't whole at %d" % self.at)
+            raise NotSure(f"an escape sequence isn't whole at {self.at}")
         else:
             self._code(1)
 
@@ -191,10 +191,10 @@ class EightBitConversion:
         found = DESIGNATION.match(self.data, self.at)
         assert found
         if self.in_body:
-            raise NotSure("a set is designated in the body of a macro at %d" % self.at)
+            raise NotSure(f"a set is designated in the body of a macro at {self.at}")
         final = found[2][0] if found[2] else 0
         if final >= 0x80:
-            raise NotSure("an escape sequence isn't whole at %d" % self.at)
+            raise NotSure(f"an escape sequence isn't whole at {self.at}")
         self._code(found.end() - self.at)
         if final in _KNOWN:
             self.sets[(found[1][0] - 0x28) % 4] = final

@@ -48,7 +48,7 @@ def mark(data: bytes, place: int) -> Iterator[Change]:
     plain = data.translate(PLAIN)
     first = next((byte for byte in plain if byte >= 0x20), 0x40)
     if first >= 0x40 or any(code in plain for code in (b"\x0e", b"\x19", b"\x1b", b"\x1d")):
-        yield Change("mark", AROUND, "the eighth bit of all %d bytes" % len(data), bits=len(data), parity="mark")
+        yield Change("mark", AROUND, f"the eighth bit of all {len(data)} bytes", bits=len(data), parity="mark")
 
 
 def tail(data: bytes, place: int) -> Iterator[Change]:
@@ -56,11 +56,11 @@ def tail(data: bytes, place: int) -> Iterator[Change]:
     for run, name in ((b"\x1a", "1A"), (b"\x00", "00"), (b"\r\n", "line ends")):
         length = len(data) - len(data.rstrip(run))
         if length:
-            yield _cut("tail", len(data) - length, length, "%d bytes at the end: %s" % (length, name))
+            yield _cut("tail", len(data) - length, length, f"{length} bytes at the end: {name}")
     begin = _end_mark(data)
     if begin is not None and data[begin:].strip(b"\x1a"):
         length = len(data) - begin
-        yield _cut("tail", begin, length, "%d bytes at the end: 1A, which ends a file, and what is behind it" % length)
+        yield _cut("tail", begin, length, f"{length} bytes at the end: 1A, which ends a file, and what is behind it")
 
 
 def _end_mark(data: bytes) -> Optional[int]:
@@ -92,7 +92,7 @@ def front(data: bytes, place: int) -> Iterator[Change]:
         names.append(found[0])
         at += found[1]
     if names and not ("NSR with its place" in names and not some.startswith(PLACED, at)):
-        yield _cut("front", 0, at, "%d bytes at the front: %s" % (at, ", ".join(names)))
+        yield _cut("front", 0, at, f"{at} bytes at the front: {', '.join(names)}")
 
 
 def leading(data: bytes, at: int) -> Optional[Tuple[str, int]]:
@@ -118,7 +118,7 @@ def header(data: bytes, place: int) -> Iterator[Change]:
     found = 0
     for at in range(place + 1, min(len(data), place + 1 + MOST_HEADER)):
         if _begins(data, at):
-            yield _cut("header", 0, at, "%d bytes before the first code" % at)
+            yield _cut("header", 0, at, f"{at} bytes before the first code")
             found += 1
             if found == MOST_STARTS:
                 return
@@ -155,16 +155,16 @@ def designations(data: bytes, place: int) -> Iterator[Change]:
 def _without(name: str, data: bytes, what: str) -> Iterator[Change]:
     """Takes codes out of the page, but not out of the bodies of its macros."""
     if len(data) > MOST_WITHIN:
-        raise NotSure("the page is longer than %d bytes" % MOST_WITHIN)
+        raise NotSure(f"the page is longer than {MOST_WITHIN} bytes")
     edits: List[Edit] = []
     for found in IN_THE_MIDDLE[name].finditer(data):
         if found["body"] is None:
             if len(edits) == MOST_EDITS:
-                raise NotSure("there are more than %d codes to be taken out" % MOST_EDITS)
+                raise NotSure(f"there are more than {MOST_EDITS} codes to be taken out")
             edits.append(Edit(found.start(), found.end() - found.start()))
     if edits:
         length = sum(edit.length for edit in edits)
-        yield Change(name, WITHIN, "%d bytes of the page: %s" % (length, what), tuple(edits))
+        yield Change(name, WITHIN, f"{length} bytes of the page: {what}", tuple(edits))
 
 
 def seven_bit(data: bytes, place: int) -> Iterator[Change]:

@@ -17,9 +17,9 @@ def foreign(store: str) -> Optional[str]:
         except FileNotFoundError:
             continue
         if not stat.S_ISREG(status.st_mode) or status.st_nlink != 1:
-            return "what stands beside it, as %s, is no file of its own" % ending
+            return f"what stands beside it, as {ending}, is no file of its own"
         if ending == ENDINGS[0] and _end(path) == NAMES_ANOTHER:
-            return "its journal, %s, isn't that of a store: it names another file" % ending
+            return f"its journal, {ending}, isn't that of a store: it names another file"
     return None
 
 

@@ -49,9 +49,9 @@ def address_of(where: str) -> str:
         with open(where, "rb") as file:
             return str(json.load(file)["address"])
     except OSError as error:
-        raise ClusterFailed("%s: %s" % (shown(where), reason(error))) from None
+        raise ClusterFailed(f"{shown(where)}: {reason(error)}") from None
     except (ValueError, KeyError, TypeError):
-        raise ClusterFailed("%s: it is no file of a scheduler" % shown(where)) from None
+        raise ClusterFailed(f"{shown(where)}: it is no file of a scheduler") from None
 
 
 def _distributed() -> Any:
@@ -74,7 +74,7 @@ class Cluster:
         try:
             self.client = library.Client(self.address, timeout=CONNECT, set_as_default=False, name="naplps-pages")
         except (OSError, ValueError, TypeError) as error:
-            raise ClusterFailed("%s: no scheduler answers: %s" % (self.address, _first_line(error))) from None
+            raise ClusterFailed(f"{self.address}: no scheduler answers: {_first_line(error)}") from None
         self.out: Dict[Any, Chunk] = {}
         self.done: "SimpleQueue[Any]" = SimpleQueue()
         self.again: Deque[Chunk] = deque()
@@ -92,8 +92,8 @@ class Cluster:
             self.client.wait_for_workers(1, timeout=JOIN)
             said = self.client.run(subprocess.run, WORDS, **self._input(()), on_error="return")
         except Exception as error:  # pylint: disable=broad-except
-            raise ClusterFailed("%s: no worker answers: %s" % (self.address, _first_line(error))) from None
-        faults = ["%s: %s" % (worker, fault) for worker, fault in sorted(
+            raise ClusterFailed(f"{self.address}: no worker answers: {_first_line(error)}") from None
+        faults = [f"{worker}: {fault}" for worker, fault in sorted(
             (worker, _fault(each)) for worker, each in said.items()) if fault]
         if faults:
             raise ClusterFailed("; ".join(faults))
@@ -126,7 +126,7 @@ class Cluster:
     def _look(self) -> None:
         """Raises ClusterLost where the scheduler has gone."""
         if self.client.status != "running":
-            raise ClusterLost("%s: the scheduler isn't there any more" % self.address)
+            raise ClusterLost(f"{self.address}: the scheduler isn't there any more")
 
     def _wait(self) -> None:
         """Tells, once, that nothing comes since there are no workers."""
@@ -139,7 +139,7 @@ class Cluster:
         except Exception:  # pylint: disable=broad-except
             return  # it is about to go
         if not workers:
-            tell("%s: there are no workers any more; the scan waits for some" % self.address)
+            tell(f"{self.address}: there are no workers any more; the scan waits for some")
             self.heard = math.inf
 
     def _give(self, chunk: Chunk) -> None:
@@ -164,10 +164,10 @@ class Cluster:
         future.release()
         done = _done(said)
         if done is None:
-            yield from self._lose(chunk, "the process that looked at it %s" % _failure(said))
+            yield from self._lose(chunk, f"the process that looked at it {_failure(said)}")
             return
         if done.differs:
-            raise ClusterFailed("a worker of %s: %s" % (self.address, done.differs))
+            raise ClusterFailed(f"a worker of {self.address}: {done.differs}")
         if done.left:
             self.again.append(done.left)
         yield from done.pieces
@@ -202,7 +202,7 @@ def _done(said: Any) -> Optional[Done]:
 def _fault(said: Any) -> Optional[str]:
     """Why a worker can't be used."""
     done = _done(said)
-    return done.differs if done else "naplps-pages %s" % _failure(said)
+    return done.differs if done else f"naplps-pages {_failure(said)}"
 
 
 def _failure(said: Any) -> str:
@@ -210,7 +210,7 @@ def _failure(said: Any) -> str:
     if isinstance(said, subprocess.CompletedProcess):
         lines: List[str] = said.stderr.decode("utf-8", "replace").strip().split("\n")
         return "ended %s%s" % (ending(said.returncode), ": " + lines[-1] if lines[-1] else "")
-    return "failed: %s" % _first_line(said)
+    return f"failed: {_first_line(said)}"
 
 
 def _first_line(error: object) -> str:

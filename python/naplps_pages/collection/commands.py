@@ -55,7 +55,7 @@ class ErrorReporter:
     def __call__(self, name: str, why: str) -> None:
         """Tells what is wrong with a file."""
         self.printer.flush()
-        tell("%s: %s" % (shown(name), why))
+        tell(f"{shown(name)}: {why}")
         self.status = SOME_LACK
 
 

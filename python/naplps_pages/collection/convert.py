@@ -87,11 +87,11 @@ class Conversion:
     def line(self) -> str:
         """What came of it all, in one line."""
         number = self.counts.get
-        line = "%d written, %d there" % (number(WRITTEN, 0), number(THERE, 0))
+        line = f"{number(WRITTEN, 0)} written, {number(THERE, 0):d} there"
         if number(CHANGED):
-            line += ", %d files changed since the scan" % self.counts[CHANGED]
+            line += f", {self.counts[CHANGED]} files changed since the scan"
         if number(NOT_MADE):
-            line += ", %d not made" % self.counts[NOT_MADE]
+            line += f", {self.counts[NOT_MADE]} not made"
         return line
 
 
@@ -114,7 +114,7 @@ def _otherwise(path: str, canon: bytes, length: int) -> Optional[str]:
         if status.st_size == length and _hash_of(path) == canon:
             return None
     except OSError as error:
-        return "is there already, but can't be read: %s" % reason(error)
+        return f"is there already, but can't be read: {reason(error)}"
     return "is there already with other bytes, and isn't written over"
 
 

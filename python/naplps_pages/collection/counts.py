@@ -41,22 +41,22 @@ class Counts(NamedTuple):
 
     def line(self, known: int) -> str:
         """The counts of a scan for people, of which so many were known."""
-        return self.told("%d known, %s asked about" % (known, numbered(self.asked, "page")))
+        return self.told(f"{known} known, {numbered(self.asked, 'page')} asked about")
 
     def told(self, how: str) -> str:
         """The counts for people, and in their midst how they came."""
         parts = ["%d %s" % (self.pages.get(state, 0), tables.PAGE_STATES[state])
                  for state in (tables.ACCEPTED, tables.REFUSED)]
         if self.pages.get(tables.NO_ANSWER):
-            parts.append("%d without an answer" % self.pages[tables.NO_ANSWER])
-        parts += ["%d %s" % (self.files[state], word) for state, word in WORDS.items() if self.files.get(state)]
-        line = "%s: %s; %s" % (numbered(self.met, "file"), ", ".join(parts), how)
+            parts.append(f"{self.pages[tables.NO_ANSWER]} without an answer")
+        parts += [f"{self.files[state]} {word}" for state, word in WORDS.items() if self.files.get(state)]
+        line = f"{numbered(self.met, 'file')}: {', '.join(parts)}; {how}"
         if self.files.get(tables.GONE):
-            line += "; %d gone" % self.files[tables.GONE]
+            line += f"; {self.files[tables.GONE]} gone"
         if self.packs:
-            line += "; %s" % numbered(self.packs, "pack")
+            line += f"; {numbered(self.packs, 'pack')}"
         if self.folders:
-            line += "; %s unreadable" % numbered(self.folders, "folder")
+            line += f"; {numbered(self.folders, 'folder')} unreadable"
         return line
 
 

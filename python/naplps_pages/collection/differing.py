@@ -37,7 +37,7 @@ class StoredAnswer(NamedTuple):
         """This for people, with the store and a file in front."""
         state, number, left_out, place, entries, canon, _ = self.said
         if state == tables.ACCEPTED:
-            said = "%s, canonical %s" % (Accepted(entries).line, canon.hex())
+            said = f"{Accepted(entries).line}, canonical {canon.hex()}"
         else:
             fault = next(self.source.rows(FAULT, "fault", (number,)), ("",))[0]
             said = Refusal(number, fault, left_out, place).line

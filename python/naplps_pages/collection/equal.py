@@ -79,7 +79,7 @@ def show(printer: Printer, group: Group) -> None:
             numbered(group.entries, "entry", "entries"), group.canon.hex()))
     for number, own, place in _members(group):
         if printer.form == "text":
-            printer.line("  %d: %s" % (number, shown(place.path)))
+            printer.line(f"  {number}: {shown(place.path)}")
         elif printer.form == "csv":
             printer.row({"canonical": group.canon.hex(), "spellings": len(group.spellings), "files": group.files,
                          "entries": group.entries, "spelling": number, "hash": own.hex(), **shown_as(place)})

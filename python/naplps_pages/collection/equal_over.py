@@ -81,7 +81,7 @@ def groups(paths: Sequence[str], copies: bool, complain: Callable[[str, str], No
         try:
             yield from grouped(_Over(work, sources, copies).members())
         except sqlite3.Error as error:
-            raise StoreFailed("temporary files of %s and others" % shown(paths[0]), str(error)) from None
+            raise StoreFailed(f"temporary files of {shown(paths[0])} and others", str(error)) from None
         finally:
             work.close()
 
@@ -101,7 +101,7 @@ class _Over:
 
     def members(self) -> Iterator[Row]:
         """The members of the groups, in their order."""
-        self.work.executescript("PRAGMA journal_mode = OFF; PRAGMA cache_size = %d; %s BEGIN;" % (-CACHE // 2, TABLES))
+        self.work.executescript(f"PRAGMA journal_mode = OFF; PRAGMA cache_size = {-CACHE // 2}; {TABLES} BEGIN;")
         for source in self.sources:
             try:
                 show_present(source.connection)
@@ -182,8 +182,8 @@ def _terms(source: Source) -> Iterator[Tuple[int, Row]]:
 def _copy(rows: Iterator[Row], source: Source, table: str) -> None:
     """Puts rows into a temporary table of a source, which is made."""
     try:
-        source.connection.execute("CREATE TEMP TABLE %s" % table)
+        source.connection.execute(f"CREATE TEMP TABLE {table}")
         marks = ", ".join("?" * (table.count(",") + 1))
-        source.connection.executemany("INSERT INTO temp.%s VALUES(%s)" % (table.split("(")[0], marks), rows)
+        source.connection.executemany(f"INSERT INTO temp.{table.split('(')[0]} VALUES({marks})", rows)
     except sqlite3.Error as error:
         raise StoreFailed(source.path, str(error)) from None

@@ -43,7 +43,7 @@ def look(folder: int, at: int, name: bytes, most: int, held: int, beat: Callable
     if kind != stat.S_IFREG:
         return Seen(File(folder, name, NOT_A_FILE, KINDS.get(kind, "of another kind")))
     if before.st_size > most:
-        return Seen(with_marks(before, File(folder, name, TOO_LONG, "%d bytes" % before.st_size), now))
+        return Seen(with_marks(before, File(folder, name, TOO_LONG, f"{before.st_size} bytes"), now))
     try:
         descriptor = os.open(name, FLAGS, dir_fd=at)
     except OSError as error:

@@ -139,7 +139,7 @@ def _as(column: str, numbers: Dict[int, int]) -> str:
     """What gives the numbers here in place of those of a store, in SQL."""
     usual = max(numbers.values(), default=0)
     others = ["WHEN %d THEN %d" % each for each in numbers.items() if each[1] != usual]
-    return "CASE %s %s ELSE %d END" % (column, " ".join(others), usual) if others else str(usual)
+    return f"CASE {column} {' '.join(others)} ELSE {usual} END" if others else str(usual)
 
 
 def _all_ended(ends: Iterable[Optional[str]]) -> Optional[str]:

@@ -112,15 +112,15 @@ def _checked(value: Any, column: Column) -> Any:
 def _name_of(value: Any) -> str:
     """What a value is, for people."""
     if isinstance(value, (int, float)):
-        return "the number %s" % value
-    return "nothing" if value is None else "a text" if isinstance(value, str) else "%d bytes" % len(value)
+        return f"the number {value}"
+    return "nothing" if value is None else "a text" if isinstance(value, str) else f"{len(value)} bytes"
 
 
 def require_right(connection: sqlite3.Connection) -> None:
     """Looks at each value of a store. Raises NotAStore."""
     for table, told in TABLES.items():
-        rules = ["(%s%s)" % ("%s IS NULL OR " % each.name if each.may_lack else "", each.kind.sql.format(each.name))
+        rules = ["(%s%s)" % (f"{each.name} IS NULL OR " if each.may_lack else "", each.kind.sql.format(each.name))
                  for each in columns(told)]
         rules += [WHOLE[table]] if table in WHOLE else []
-        if connection.execute("SELECT 1 FROM %s WHERE NOT (%s) LIMIT 1" % (table, " AND ".join(rules))).fetchone():
-            raise NotAStore("isn't a store of %s: a row of its table %s isn't one of a scan" % (TOOL, table))
+        if connection.execute(f"SELECT 1 FROM {table} WHERE NOT ({' AND '.join(rules)}) LIMIT 1").fetchone():
+            raise NotAStore(f"isn't a store of {TOOL}: a row of its table {table} isn't one of a scan")

@@ -73,7 +73,7 @@ def _path(store: str) -> str:
 
 def _holder(descriptor: int) -> str:
     told = os.read(descriptor, 32).decode("ascii", "replace").strip()
-    return "process %s" % told if told.isdigit() else "another process"
+    return f"process {told}" if told.isdigit() else "another process"
 
 
 def is_held(store: str) -> bool:

@@ -37,13 +37,13 @@ def merge(into: str, paths: Sequence[str], unfinished: bool) -> bool:
             faults = _looked(into, sources, unfinished)
             counts = _made(into, sources, not faults, stopping)
     except Busy as busy:
-        raise StoreFailed(into, "another process is at work on it: %s" % busy) from None
+        raise StoreFailed(into, f"another process is at work on it: {busy}") from None
     except OSError as error:
         raise NotWritten(into, reason(error)) from None
     stopping.act()
     assert counts is not None
     output = Output(sys.stdout.buffer)
-    output.line(counts.told("from %s" % numbered(len(sources), "store")))
+    output.line(counts.told(f"from {numbered(len(sources), 'store')}"))
     output.flush()
     return not faults
 
@@ -57,7 +57,7 @@ def _looked(into: str, sources: List[Source], unfinished: bool) -> int:
     require_apart(sources)
     faults = list(lacking(sources))
     for path, why in faults:
-        tell("%s: %s" % (shown(path), why))
+        tell(f"{shown(path)}: {why}")
     if faults and not unfinished:
         raise StoreFailed(into, LACKING)
     return len(faults)
@@ -94,7 +94,7 @@ def _require_same(into: str, sources: List[Source], stopping: Stopping) -> None:
     try:
         for number, (one, other) in enumerate(differing(sources, progress, lambda: stopping.number is not None), 1):
             if number <= MOST_TOLD:
-                progress.tell("%s; %s, of the same bytes" % (one.told, other.told))
+                progress.tell(f"{one.told}; {other.told}, of the same bytes")
     finally:
         progress.clear()
     if number:

@@ -14,7 +14,7 @@ MEMBERS = """SELECT count(*), total(NOT CASE f.state WHEN {} THEN coalesce(p.ter
     OR NOT ? OR EXISTS(SELECT 1 FROM cures c WHERE c.page = p.id AND c.terms = p.terms)), 0) WHEN {} THEN f.size > ?
     ELSE 1 END), total(f.state = {}) FROM files f LEFT JOIN pages p ON p.id = f.page
     WHERE f.folder = ? AND f.name <> x'' AND f.state <> {}""".format(READ, TOO_LONG, UNREADABLE, GONE)
-UNREAD = "SELECT name, coalesce(why, '') FROM files WHERE folder = ? AND name <> x'' AND state = %d" % UNREADABLE
+UNREAD = f"SELECT name, coalesce(why, '') FROM files WHERE folder = ? AND name <> x'' AND state = {UNREADABLE}"
 
 OWN = "size? mtime_ns? ctime_ns? inode? state:file_state why"
 

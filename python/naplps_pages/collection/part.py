@@ -50,7 +50,7 @@ def read_part(text: str) -> Part:
     """The part that is named K/N. Raises ValueError."""
     found = WORDS.fullmatch(text)
     if not found or not 0 <= int(found[1]) < int(found[2]) <= MOST_PARTS:
-        raise ValueError("not a part: %r" % text)
+        raise ValueError(f"not a part: {text!r}")
     return Part(int(found[1]), int(found[2]))
 
 
@@ -60,7 +60,7 @@ def kept_part(connection: sqlite3.Connection) -> Optional[Part]:
     try:
         return read_part(str(row[0])) if row else None
     except ValueError:
-        raise NotAStore("isn't a store of %s: it holds no part that there is" % TOOL) from None
+        raise NotAStore(f"isn't a store of {TOOL}: it holds no part that there is") from None
 
 
 def keep_part(connection: sqlite3.Connection, path: str, asked: Optional[Part], roots: Iterable[bytes]) -> None:
@@ -74,7 +74,7 @@ def keep_part(connection: sqlite3.Connection, path: str, asked: Optional[Part], 
         return
     kept = kept_part(connection)
     if kept != asked:
-        raise StoreFailed(path, "holds %s, not %s: each has a store of its own" % (_named(kept), _named(asked)))
+        raise StoreFailed(path, f"holds {_named(kept)}, not {_named(asked)}: each has a store of its own")
     some = list(checked(connection.execute("SELECT DISTINCT path FROM roots"), "path")) if kept else []
     for before, in some:
         for root in roots:
@@ -84,4 +84,4 @@ def keep_part(connection: sqlite3.Connection, path: str, asked: Optional[Part], 
 
 
 def _named(some: Optional[Part]) -> str:
-    return "part %s" % some if some else "all files"
+    return f"part {some}" if some else "all files"

@@ -63,7 +63,7 @@ class WorkerHandle:
             self.chunks.popleft()
             self.reported = 0
         elif what == FAILED:
-            self.reason = "the worker that looked at it failed: %s" % value
+            self.reason = f"the worker that looked at it failed: {value}"
         elif what != ALIVE:
             piece = received(value)
             self.reported += _reported(self.chunks[0], piece[0])
@@ -86,7 +86,7 @@ class WorkerHandle:
         except subprocess.TimeoutExpired:
             self.process.kill()
             status = self.process.wait()
-        return self.reason or "the worker that looked at it ended %s" % ending(status)
+        return self.reason or f"the worker that looked at it ended {ending(status)}"
 
     def close(self) -> None:
         """Asks it to end, at once."""
@@ -166,7 +166,7 @@ class Pool:
         reason = hand.how_it_ended()
         self.stillborn = 0 if hand.spoke else self.stillborn + 1
         if self.stillborn >= MOST_STILLBORN:
-            raise NoWorkers("workers can't be started: %s" % reason)
+            raise NoWorkers(f"workers can't be started: {reason}")
         hand.connection.close()
         self.hands.remove(hand)
         left = [chunk for chunk in hand.left() if chunk]
@@ -192,11 +192,11 @@ class Pool:
 def ending(status: int) -> str:
     """How a process ended, by its status."""
     if status >= 0:
-        return "with status %d" % status
+        return f"with status {status}"
     try:
-        return "by %s" % signal.Signals(-status).name
+        return f"by {signal.Signals(-status).name}"
     except ValueError:
-        return "by signal %d" % -status
+        return f"by signal {-status}"
 
 
 def _is_pack(chunk: Chunk) -> bool:

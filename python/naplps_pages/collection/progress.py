@@ -86,7 +86,7 @@ class Progress:
         line = "{:,}{} {}, {:,} a second".format(
             self.done, " of {:,}".format(total) if total else "", self.what, round(self.rate))
         if total and self.rate > 0 and total >= self.done:
-            line += ", %s left" % duration((total - self.done) / self.rate)
+            line += f", {duration((total - self.done) / self.rate)} left"
         return line
 
     def _write(self, text: str) -> None:
@@ -128,7 +128,7 @@ def duration(seconds: float) -> str:
     """A time for people."""
     whole = int(seconds + 0.5)
     if whole < 60:
-        return "%d s" % whole
+        return f"{whole} s"
     if whole < 3600:
         return "%d min %02d s" % divmod(whole, 60)
     return "%d h %02d min" % divmod(whole // 60, 60)

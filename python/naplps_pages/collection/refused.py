@@ -57,9 +57,9 @@ class RefusedFile(NamedTuple):
 
 def members(connection: sqlite3.Connection, wanted: Optional[Wanted]) -> Iterator[RefusedFile]:
     """The refused files, by the reason, the most frequent first; those of one reason only where it is given."""
-    only = "" if wanted is None else "AND p.number = %d" % wanted.number
+    only = "" if wanted is None else f"AND p.number = {wanted.number}"
     if wanted is not None and wanted.code:
-        only += " AND p.left_out = '%s'" % wanted.code
+        only += f" AND p.left_out = '{wanted.code}'"
     connection.execute(REASONS.format(only))
     connection.execute(BY_REASON)
     for row in kept(connection, MEMBERS, MEMBER):
@@ -71,15 +71,14 @@ def show(printer: Printer, some: Iterator[RefusedFile]) -> None:
     for reason, each in groupby(some, key=lambda member: member.reason):
         if printer.form == "text":
             name = " ".join(part for part in (reason.fault, reason.left_out) if part)
-            printer.line("%d %s: %s, %s" % (
-                reason.number, name, numbered(reason.pages, "page"), numbered(reason.files, "file")))
+            printer.line(f"{reason.number} {name}: {numbered(reason.pages, 'page')}, {numbered(reason.files, 'file')}")
         for member in each:
             _show(printer, member)
 
 
 def _show(printer: Printer, member: RefusedFile) -> None:
     if printer.form == "text":
-        printer.line("  %s at %d%s" % (shown(member.place.path), member.at, _cure(member)))
+        printer.line(f"  {shown(member.place.path)} at {member.at}{_cure(member)}")
     elif printer.form == "json":
         printer.object(_object(member))
     elif printer.form == "csv":
@@ -93,7 +92,7 @@ def _show(printer: Printer, member: RefusedFile) -> None:
 
 def _cure(member: RefusedFile) -> str:
     if member.treatments:
-        return ": readable by %s" % graded(member.treatments)
+        return f": readable by {graded(member.treatments)}"
     return ": no treatment makes it readable" if member.tried else ""
 
 

@@ -81,17 +81,17 @@ def difference(program: str, wanted: Alike) -> Optional[str]:
     """What is another thing here, or isn't here; None where all is the same."""
     try:
         if _hash_of_file(program) != wanted.program:
-            return "%s is another program there" % program
+            return f"{program} is another program there"
     except OSError as error:
-        return "%s: %s" % (program, reason(error))
+        return f"{program}: {reason(error)}"
     if _hash_of_package() != wanted.package:
-        return "%s is another version there" % os.path.join(FOLDER, PACKAGES[-1])
+        return f"{os.path.join(FOLDER, PACKAGES[-1])} is another version there"
     for root, number in wanted.roots:
         try:
             if os.stat(root).st_ino != number:
-                return "%s is another folder there" % os.fsdecode(root)
+                return f"{os.fsdecode(root)} is another folder there"
         except OSError as error:
-            return "%s: %s" % (os.fsdecode(root), reason(error))
+            return f"{os.fsdecode(root)}: {reason(error)}"
     return None
 
 

@@ -88,21 +88,21 @@ def scan(options: ScanOptions) -> int:
         missing = [(root, why) for root, why in zip(roots, map(_not_there, roots)) if why]
         if len(missing) == len(roots) and not os.path.lexists(options.store):
             for root, why in missing:
-                tell("%s: %s" % (shown(os.fsdecode(root)), why))
+                tell(f"{shown(os.fsdecode(root))}: {why}")
             return SOME_LACK  # (a store of nothing is of no use)
         if options.on is not None:
             cluster = Cluster(options.on, options.how, alike(terms.program_hash, roots))
         with Stopping() as stopping, Lock(options.store):
             run = _scan(options, terms, stopping, roots, cluster)
     except Busy as busy:
-        tell("%s: another scan is at work on it: %s" % (shown(options.store), busy))
+        tell(f"{shown(options.store)}: another scan is at work on it: {busy}")
         return FAILED
     except ClusterFailed as failed:
         tell(str(failed))
         return FAILED
     except (OSError, NoWorkers) as error:
         said = reason(error) if isinstance(error, OSError) else str(error)
-        tell("%s: %s" % (shown(options.store), said))
+        tell(f"{shown(options.store)}: {said}")
         return FAILED
     finally:
         if cluster:
@@ -175,7 +175,7 @@ class ScanRun:
                     break
         except ClusterFailed as failed:
             self.writer.write()
-            raise ClusterFailed("%s; %s" % (failed, KEPT)) from None
+            raise ClusterFailed(f"{failed}; {KEPT}") from None
         finally:
             workers.close()
             self.progress.clear()
@@ -203,7 +203,7 @@ class ScanRun:
 
     def _complain(self, path: bytes, why: str) -> None:
         """Tells what is wrong with a folder or a file."""
-        self.progress.tell("%s: %s" % (shown(os.fsdecode(path)), why))
+        self.progress.tell(f"{shown(os.fsdecode(path))}: {why}")
         self.status = SOME_LACK
 
     def _finish(self) -> None:

@@ -93,7 +93,7 @@ def _opened(path: str, cache: int) -> Source:
     source: Optional[Source] = None
     try:
         source = Source(path, open_unchanged(path))
-        source.connection.execute("PRAGMA cache_size = %d" % -cache)
+        source.connection.execute(f"PRAGMA cache_size = {-cache}")
         source.connection.execute("BEGIN")  # (so it stays as it is now, though a scan may be at work)
         source.part = kept_part(source.connection)
         source.roots = [each for each, in source.rows("SELECT DISTINCT path FROM roots ORDER BY path", "path")]
@@ -126,7 +126,7 @@ def require_apart(sources: Sequence[Source]) -> None:
 
 
 def _same(one: Source, other: Source, root: bytes) -> StoreFailed:
-    return StoreFailed(other.path, "may hold the same files as %s, of %s" % (shown(one.path), shown(os.fsdecode(root))))
+    return StoreFailed(other.path, f"may hold the same files as {shown(one.path)}, of {shown(os.fsdecode(root))}")
 
 
 def _above(path: bytes) -> Iterator[bytes]:
@@ -148,7 +148,7 @@ def lacking(sources: Sequence[Source]) -> Iterator[Tuple[str, str]]:
             yield source.path, "isn't finished: its scan %s" % (
                 "is at work" if is_held(source.path) else "was stopped, and the same command goes on")
         for root, why in source.unread:
-            yield source.path, "isn't finished: its scan couldn't read %s: %s" % (shown(os.fsdecode(root)), why)
+            yield source.path, f"isn't finished: its scan couldn't read {shown(os.fsdecode(root))}: {why}"
         for root in source.roots if source.part else ():
             assert source.part
             parts.setdefault((root, source.part.of), {})[source.part.number] = source.path
@@ -160,5 +160,5 @@ def lacking(sources: Sequence[Source]) -> Iterator[Tuple[str, str]]:
 
 
 def _listed(missing: List[str]) -> str:
-    more = " and %d more" % (len(missing) - MOST_LISTED) if len(missing) > MOST_LISTED else ""
+    more = f" and {len(missing) - MOST_LISTED} more" if len(missing) > MOST_LISTED else ""
     return ("part " if len(missing) == 1 else "parts ") + ", ".join(missing[:MOST_LISTED]) + more

@@ -89,26 +89,26 @@ def state_of(it: Status) -> str:
     """How the last scan stands."""
     if it.busy:
         return "is at work"
-    return "ended %s UTC" % it.run.ended if it.run and it.run.ended else "was stopped: the same command goes on"
+    return f"ended {it.run.ended} UTC" if it.run and it.run.ended else "was stopped: the same command goes on"
 
 
 def lines(it: Status) -> List[Tuple[str, str]]:
     """What is told of it, as pairs."""
-    some = [("store", "%s, %d bytes" % (shown(it.path), os.path.getsize(it.path)))]
+    some = [("store", f"{shown(it.path)}, {os.path.getsize(it.path)} bytes")]
     if it.run:
-        some += [("scan", "began %s UTC, %s" % (it.run.began, state_of(it))), ("tool", it.run.tool),
-                 ("program", "%s, %s" % (shown(os.fsdecode(it.run.program)), it.run.version)),
+        some += [("scan", f"began {it.run.began} UTC, {state_of(it)}"), ("tool", it.run.tool),
+                 ("program", f"{shown(os.fsdecode(it.run.program))}, {it.run.version}"),
                  ("program hash", it.run.program_hash), ("budget", str(it.run.budget))]
-    some += [("folder", shown(os.fsdecode(path)) + (": %s" % why if why else "")) for path, why in it.roots]
+    some += [("folder", shown(os.fsdecode(path)) + (f": {why}" if why else "")) for path, why in it.roots]
     if it.part:
         some.append(("part", str(it.part)))
     files = sum(number for name, number in it.counts.items() if name != tables.FILE_STATES[tables.GONE])
     some.append(("files", str(files)))
     for name, number in sorted(it.counts.items(), key=lambda each: -each[1]):
         some.append((name, str(number)))
-        some += [("", "%d: %s" % (many, why)) for (of, why), many in sorted(it.reasons.items()) if of == name and why]
+        some += [("", f"{many}: {why}") for (of, why), many in sorted(it.reasons.items()) if of == name and why]
     some += [("distinct pages", str(it.pages)), ("canonical pages", str(it.canonical))]
-    left = ["%d %s" % (number, name) for name, number in it.left.items()]
+    left = [f"{number} {name}" for name, number in it.left.items()]
     if it.run and not it.run.ended:
         left.append("what the scan hasn't reached")
     return some + [("left", ", ".join(left) or "nothing")]

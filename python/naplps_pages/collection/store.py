@@ -30,7 +30,7 @@ class StoreFailed(Exception):
     """The store can't be used, with the reason."""
 
     def __init__(self, path: str, reason: str) -> None:
-        super().__init__("%s: %s" % (shown(path), printable(reason)))
+        super().__init__(f"{shown(path)}: {printable(reason)}")
 
 
 def _connected(path: str, mode: str) -> sqlite3.Connection:
@@ -40,7 +40,7 @@ def _connected(path: str, mode: str) -> sqlite3.Connection:
 
 
 def _named(path: str, mode: str) -> str:
-    return "file:%s?mode=%s" % (urllib.parse.quote(os.fsencode(os.path.abspath(path))), mode)
+    return f"file:{urllib.parse.quote(os.fsencode(os.path.abspath(path)))}?mode={mode}"
 
 
 def reader(path: str) -> sqlite3.Connection:
@@ -55,11 +55,11 @@ def open_to_read(path: str) -> sqlite3.Connection:
     """
     _look(path)
     connection = _checked(path, "rw")
-    connection.execute("PRAGMA cache_size = %d" % -CACHE)
+    connection.execute(f"PRAGMA cache_size = {-CACHE}")
     if not show_present(connection):
         connection.execute("CREATE TEMP TABLE pages AS SELECT * FROM main.pages")
         for column in ("id", "canon"):
-            connection.execute("CREATE INDEX temp.pages_by_%s ON pages(%s)" % (column, column))
+            connection.execute(f"CREATE INDEX temp.pages_by_{column} ON pages({column})")
     return connection
 
 
@@ -71,7 +71,7 @@ def open_unchanged(path: str) -> sqlite3.Connection:
 
 def attach(connection: sqlite3.Connection, path: str, name: str) -> None:
     """Gives another store, which is only read, to a connection by this name."""
-    connection.execute("ATTACH ? AS %s" % name, (_named(path, "ro"),))
+    connection.execute(f"ATTACH ? AS {name}", (_named(path, "ro"),))
 
 
 def show_present(connection: sqlite3.Connection) -> bool:
@@ -79,7 +79,7 @@ def show_present(connection: sqlite3.Connection) -> bool:
 
     Until a scan came to its end there are no indices. Then `present` is a copy that has one.
     """
-    words = "present AS SELECT folder, name, page, inode AS at FROM files WHERE state = %d" % tables.READ
+    words = f"present AS SELECT folder, name, page, inode AS at FROM files WHERE state = {tables.READ}"
     if connection.execute("SELECT 1 FROM sqlite_master WHERE type = 'index' AND name = 'files_by_page'").fetchone():
         connection.execute("CREATE TEMP VIEW " + words)
         return True
@@ -94,7 +94,7 @@ def open_to_write(path: str) -> sqlite3.Connection:
         _look(path)
     _look_beside(path)
     connection = _checked(path, "rwc")
-    connection.execute("PRAGMA cache_size = %d" % -CACHE)
+    connection.execute(f"PRAGMA cache_size = {-CACHE}")
     _renew(connection)
     return connection
 
@@ -126,7 +126,7 @@ def _is_empty(connection: sqlite3.Connection) -> bool:
 
 def _make(connection: sqlite3.Connection) -> None:
     """Makes the tables, all or none."""
-    some = (("schema", tables.SCHEMA), ("hash", tables.HASH), ("tool", "%s %s" % (TOOL, VERSION)))
+    some = (("schema", tables.SCHEMA), ("hash", tables.HASH), ("tool", f"{TOOL} {VERSION}"))
     values = ", ".join("('%s', '%s')" % each for each in some)
     connection.executescript(
         "BEGIN IMMEDIATE; PRAGMA application_id = %d; %s %s; INSERT INTO meta VALUES %s; COMMIT;" % (
@@ -136,7 +136,7 @@ def _make(connection: sqlite3.Connection) -> None:
 def _renew(connection: sqlite3.Connection) -> None:
     """Puts the view for people in place of the one that an earlier version made, which didn't know of packs."""
     if connection.execute("SELECT sql FROM sqlite_master WHERE name = 'listing'").fetchone() != (tables.LISTING,):
-        connection.executescript("BEGIN IMMEDIATE; DROP VIEW IF EXISTS listing; %s; COMMIT;" % tables.LISTING)
+        connection.executescript(f"BEGIN IMMEDIATE; DROP VIEW IF EXISTS listing; {tables.LISTING}; COMMIT;")
 
 
 def _checked(path: str, mode: str) -> sqlite3.Connection:
@@ -160,7 +160,7 @@ def _checked(path: str, mode: str) -> sqlite3.Connection:
 def _own() -> Dict[Tuple[str, str], str]:
     """The tables, the indices and the view of a store, by kind and name, as SQLite keeps their words."""
     with closing(sqlite3.connect(":memory:")) as connection:
-        connection.executescript("%s %s; %s" % (tables.TABLES, tables.LISTING, tables.INDICES))
+        connection.executescript(f"{tables.TABLES} {tables.LISTING}; {tables.INDICES}")
         return {(kind, name): words for kind, name, words in connection.execute(
             "SELECT type, name, sql FROM sqlite_master WHERE sql IS NOT NULL")}
 
@@ -192,7 +192,7 @@ def _is_earlier(name: str, words: str) -> bool:
 def _check(path: str, connection: sqlite3.Connection) -> None:
     """Raises StoreFailed where the file isn't a store that this tool knows."""
     if connection.execute("PRAGMA application_id").fetchone()[0] != tables.APPLICATION:
-        raise StoreFailed(path, "is a database of something else, and no store of %s" % TOOL)
+        raise StoreFailed(path, f"is a database of something else, and no store of {TOOL}")
     schema = connection.execute("SELECT value FROM meta WHERE key = 'schema'").fetchone()
     if schema is None or str(schema[0]) != str(tables.SCHEMA):
         raise StoreFailed(path, "is a store of schema %s, and this tool knows schema %d" % (
@@ -212,7 +212,7 @@ def kept(connection: sqlite3.Connection, words: str, told: str) -> Iterator[Tupl
 def keep_log(connection: sqlite3.Connection) -> bool:
     """Lets the store be read while it is written, by a log beside it; whether its file system can do that."""
     mode = connection.execute("PRAGMA journal_mode = WAL").fetchone()[0]
-    connection.execute("PRAGMA wal_autocheckpoint = %d" % LOG)
+    connection.execute(f"PRAGMA wal_autocheckpoint = {LOG}")
     connection.execute("PRAGMA synchronous = FULL")
     return bool(mode == "wal")
 

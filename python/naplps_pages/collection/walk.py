@@ -8,7 +8,7 @@ from .tables import READ, UNREADABLE, VANISHED
 
 # Each row of a folder has its whole path, so a deep one would cost the square of its depth.
 MOST_PATH = 64 << 10
-TOO_LONG = "its path is longer than %d bytes" % MOST_PATH
+TOO_LONG = f"its path is longer than {MOST_PATH} bytes"
 # A folder by its device and its number.
 Identity = Tuple[int, int]
 

@@ -63,7 +63,7 @@ class Writer:
         self._begin()
         self.terms = self._terms(terms)
         self.run = self._insert("INSERT INTO runs(began, tool, program, terms) VALUES(datetime('now'), ?, ?, ?)",
-                                ("%s %s" % (TOOL, VERSION), program, self.terms))
+                                (f"{TOOL} {VERSION}", program, self.terms))
         self.write()
 
     def _begin(self) -> None:
@@ -136,7 +136,7 @@ class Writer:
             self._pages()
             self._files()
             self.connection.executemany(
-                "UPDATE files SET state = %d, why = NULL, run = ? WHERE folder = ? AND name = ?" % GONE,
+                f"UPDATE files SET state = {GONE}, why = NULL, run = ? WHERE folder = ? AND name = ?",
                 ((self.run, *each) for each in self.gone))
         if self.connection.in_transaction:
             self.connection.execute("COMMIT")
@@ -210,7 +210,7 @@ class Writer:
                 "SELECT id, path FROM folders WHERE path >= ? AND path < ? AND (run <> ? OR state = ?) AND state <> ?",
                 (below, below[:-1] + b"0", self.run, VANISHED, GONE)).fetchall()
             ids = [(each,) for each, path in missed if not any(is_within(path, one) for one in closed)]
-            self.connection.executemany("UPDATE folders SET state = %d, why = NULL WHERE id = ?" % GONE, ids)
+            self.connection.executemany(f"UPDATE folders SET state = {GONE}, why = NULL WHERE id = ?", ids)
             self.connection.executemany(
                 "UPDATE files SET state = %d, why = NULL, run = %d WHERE folder = ? AND state <> %d" % (
                     GONE, self.run, GONE), ids)

@@ -40,5 +40,5 @@ def named(raw: bytes) -> Tuple[bytes, Optional[str]]:
     elif not parts:
         why = "it has no name"
     elif len(name) > MOST_NAME:
-        why = "its name is longer than %d bytes" % MOST_NAME
+        why = f"its name is longer than {MOST_NAME} bytes"
     return (name, None) if why is None else ((whole or b".")[:MOST_NAME], why)

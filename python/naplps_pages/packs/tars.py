@@ -40,7 +40,7 @@ class _Head:
     def read(self, most: int) -> bytes:
         """As of files."""
         if not 0 <= most <= self.left:
-            raise ValueError("a header of %d bytes" % most)
+            raise ValueError(f"a header of {most} bytes")
         self.left -= most
         block = self.stream.read(most)
         self.first = self.first or block

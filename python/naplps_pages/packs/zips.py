@@ -33,7 +33,7 @@ class _Directory:
         """As of files."""
         self.limits.beat()
         if most > MOST_DIRECTORY:
-            raise zipfile.BadZipFile("its directory is longer than %d bytes" % MOST_DIRECTORY)
+            raise zipfile.BadZipFile(f"its directory is longer than {MOST_DIRECTORY} bytes")
         return self.file.read(most if most >= 0 else MOST_DIRECTORY)
 
 
@@ -50,7 +50,7 @@ class Zip:
         try:
             self.zip = zipfile.ZipFile(cast(IO[bytes], _Directory(file, limits)))
         except FAULTS as error:
-            self.why = "it can't be read as a zip file: %s" % _said(error)
+            self.why = f"it can't be read as a zip file: {_said(error)}"
         except OSError as error:
             if error.errno not in (None, errno.EINVAL):  # (that is a place before the start, or none)
                 raise
@@ -95,7 +95,7 @@ class Zip:
             with self.zip.open(info) as file:
                 return taken(name, file.read(size + 1), size, at)
         except FAULTS as error:
-            return Member(name, UNREADABLE, "it can't be unpacked: %s" % _said(error), size, at)
+            return Member(name, UNREADABLE, f"it can't be unpacked: {_said(error)}", size, at)
 
 
 def _unreadable(info: zipfile.ZipInfo) -> Optional[str]:
@@ -103,7 +103,7 @@ def _unreadable(info: zipfile.ZipInfo) -> Optional[str]:
     if info.flag_bits & ENCRYPTED:
         return "it is encrypted"
     if info.compress_type not in (zipfile.ZIP_STORED, zipfile.ZIP_DEFLATED):
-        return "its compression isn't known: method %d" % info.compress_type
+        return f"its compression isn't known: method {info.compress_type}"
     return None
 
 

@@ -38,7 +38,7 @@ def _report(given: Given, command: str) -> int:
         given.store, given.into, find(command), given.sketches, given.all, given.processes,
         given.seconds))
     for path, why in made.missed:
-        tell("%s: no sketch: %s" % (shown(path), why))
+        tell(f"{shown(path)}: no sketch: {why}")
     output = Output(sys.stdout.buffer)
     output.line("%s: %s, %s of equal pages, %d of %s, %d bytes" % (
         shown(given.into), numbered(made.files, "file"), numbered(made.groups, "group"), made.sketches,

@@ -67,7 +67,7 @@ def _answers(connection: sqlite3.Connection) -> List[Tuple[str, int]]:
     """What there is to say of files, and of how many."""
     counts: Dict[str, int] = {}
     for *reasons, number in checked(connection.execute(
-            "SELECT %s, count(*) %s WHERE %s GROUP BY 1, 2, 3, 4, 5, 6, 7" % (OF_FILES, FROM, THERE)), REASON):
+            f"SELECT {OF_FILES}, count(*) {FROM} WHERE {THERE} GROUP BY 1, 2, 3, 4, 5, 6, 7"), REASON):
         name = told(*reasons)
         counts[name] = counts.get(name, 0) + number
     return sorted(counts.items(), key=lambda each: (-each[1], each[0]))

@@ -17,8 +17,8 @@ JOINS = """JOIN folders d ON d.id = f.folder LEFT JOIN pages p ON p.id = f.page 
     LEFT JOIN terms t ON t.id = p.terms LEFT JOIN faults n ON n.number = p.number
     LEFT JOIN cures c ON c.page = p.id AND c.terms = p.terms"""
 FROM = "FROM files f " + JOINS
-THERE = "f.state <> %d AND %s" % (tables.GONE, tables.IS_FILE)
-ALL = "SELECT %s %s WHERE %s ORDER BY d.path, f.name" % (COLUMNS, FROM, THERE)
+THERE = f"f.state <> {tables.GONE} AND {tables.IS_FILE}"
+ALL = f"SELECT {COLUMNS} {FROM} WHERE {THERE} ORDER BY d.path, f.name"
 # States whose reasons differ by a number only.
 NUMBERED = (tables.TOO_LONG,)
 
@@ -107,4 +107,4 @@ def reason(number: int, fault: str, left_out: Optional[str]) -> str:
 
 def because(state: str, why: Optional[str]) -> str:
     """A state, and why it is so where that is known."""
-    return "%s: %s" % (state, why) if why else state
+    return f"{state}: {why}" if why else state

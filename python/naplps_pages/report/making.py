@@ -63,13 +63,13 @@ def make(connection: sqlite3.Connection, options: ReportOptions) -> ReportTotals
         some = groups.load(connection)
         facts = load_facts(connection, options.store, some)
         if facts.files > MOST_FILES:
-            raise TooLarge("%d files are too many for one file; `naplps-pages serve` shows them" % facts.files)
+            raise TooLarge(f"{facts.files} files are too many for one file; `naplps-pages serve` shows them")
         table = Table(connection, facts.roots, some)
     finally:
         connection.execute("ROLLBACK")
     pictures = sketch_choice.pictures(table)
     if options.all and pictures > MOST_SKETCHES:
-        raise TooLarge("%d sketches are too many for one file; `naplps-pages serve` shows them" % pictures)
+        raise TooLarge(f"{pictures} sketches are too many for one file; `naplps-pages serve` shows them")
     numbers = sketch_choice.choose(table, MOST_SKETCHES if options.all else options.sketches)
     drawings, missed = _drawings(table, numbers, options)
     held = "%s of %s sketches are in this file." % ("{:,}".format(len(drawings)), "{:,}".format(pictures))

@@ -23,7 +23,7 @@ NAMES = 12
 HITS = "CREATE TEMP TABLE hits AS SELECT f.folder AS folder, f.name AS name %s WHERE %s ORDER BY d.path, f.name"
 PART = "SELECT %s FROM hits h CROSS JOIN files f ON f.folder = h.folder AND f.name = h.name %s WHERE h.rowid > ? " \
     "AND h.rowid <= ? ORDER BY h.rowid" % (of_files.COLUMNS, of_files.JOINS)
-ONE = "SELECT %s %s WHERE f.folder = ? AND f.name = ? AND %s" % (of_files.COLUMNS, of_files.FROM, of_files.THERE)
+ONE = f"SELECT {of_files.COLUMNS} {of_files.FROM} WHERE f.folder = ? AND f.name = ? AND {of_files.THERE}"
 MEMBERS = "SELECT %s FROM pages p CROSS JOIN terms t ON t.id = p.terms CROSS JOIN files f ON f.page = p.id AND " \
     "f.state = 0 CROSS JOIN folders d ON d.id = f.folder LEFT JOIN faults n ON n.number = p.number LEFT JOIN cures c " \
     "ON c.page = p.id AND c.terms = p.terms WHERE p.canon = ? AND t.form = ? ORDER BY p.own, d.path, f.name LIMIT ?" \
@@ -111,7 +111,7 @@ class Questions:
             self.part = text.lower()
             conditions.append("has(f.folder, f.name)")
         if answer:
-            conditions.append("told(%s) = ?" % of_files.REASONS)
+            conditions.append(f"told({of_files.REASONS}) = ?")
             values.append(answer)
         self.found = ()
         self.connection.execute("DROP TABLE IF EXISTS temp.hits")
@@ -173,11 +173,11 @@ class Questions:
 
 def key_of(file: ReportFile) -> str:
     """What a file is asked for by."""
-    return "%d-%s" % (file.folder, file.name.hex())
+    return f"{file.folder}-{file.name.hex()}"
 
 
 def _number(words: Words, name: str, most: int = 1 << 40) -> int:
     text = words.get(name, "")
     if not text.isascii() or not text.isdigit() or len(text) > 12 or int(text) > most:
-        raise Unasked("%s: no number that is understood" % name)
+        raise Unasked(f"{name}: no number that is understood")
     return int(text)

@@ -43,7 +43,7 @@ def _different(names: List[str]) -> List[str]:
     made = []
     for name in names:
         seen[name] = seen.get(name, 0) + 1
-        made.append(name if seen[name] == 1 else "%s (%d)" % (name, seen[name]))
+        made.append(name if seen[name] == 1 else f"{name} ({seen[name]})")
     return made
 
 

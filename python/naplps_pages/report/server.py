@@ -57,7 +57,7 @@ class Server(ThreadingHTTPServer):
     def __init__(self, port: int, one: ThreadPoolExecutor, questions: Questions, desk: Desk) -> None:
         self.one, self.questions, self.desk = one, questions, desk
         # (whoever has no key is told nothing, and a browser doesn't send the address on)
-        self.top = "/%s/" % secrets.token_urlsafe(KEY_BYTES)
+        self.top = f"/{secrets.token_urlsafe(KEY_BYTES)}/"
         super().__init__((HERE, port), Handler)
 
     def server_bind(self) -> None:
@@ -98,8 +98,8 @@ class Handler(BaseHTTPRequestHandler):
     def _check(self) -> None:
         """Refuses what comes by another name of this machine, or from a page of another place."""
         names = self.headers.get_all("Host") or []
-        if names not in (["%s:%d" % (each, self.server.server_port)] for each in (HERE, "localhost")):
-            raise BadRequest(403, "this is served as http://%s:%d/ alone" % (HERE, self.server.server_port))
+        if names not in ([f"{each}:{self.server.server_port}"] for each in (HERE, "localhost")):
+            raise BadRequest(403, f"this is served as http://{HERE}:{self.server.server_port}/ alone")
         if not hmac.compare_digest(self.path[:len(self.server.top)].encode("utf-8"), self.server.top.encode("ascii")):
             raise BadRequest(403, NO_KEY)
         if self._name() and self.headers.get("Sec-Fetch-Site", "same-origin") not in ("same-origin", "none"):
@@ -172,7 +172,7 @@ def serve(store: str, how: DrawingOptions, port: int, began: Callable[[str], Non
     except OSError as error:
         raise NotServed("%s:%d: %s" % (HERE, port, os.strerror(error.errno or 0))) from None
     try:
-        began("http://%s:%d%s" % (HERE, server.server_port, server.top))
+        began(f"http://{HERE}:{server.server_port}{server.top}")
         server.serve_forever()
     finally:
         server.server_close()
