@@ -206,4 +206,3 @@ def blocks(rows: Sequence[str]) -> List[List[int]]:
 
 def _is_on(rows: Sequence[str], row: int, column: int) -> bool:
     return row < len(rows) and column < len(rows[row]) and rows[row][column] == "#"
-

@@ -52,4 +52,3 @@ def command_of(page: Page) -> str:
 def rows_of(page: Page, body: bytes) -> List[Row]:
     """The entries that the answer to that command has."""
     return [(None, line) for line in body.decode("ascii").splitlines()] if page.data is None else [*placed(body)]
-

@@ -148,6 +148,13 @@ def test_types(tmp_path):
     assert said.returncode == 0, said.stdout
 
 
+@pytest.mark.skipif(not has("ruff"), reason="there is no ruff")
+def test_ruff():
+    said = subprocess.run(["ruff", "check", "--no-cache", "naplps", "naplps_pages"], capture_output=True, text=True,
+                          cwd=PACKAGES)
+    assert said.returncode == 0, said.stdout
+
+
 def script_without_tools(tmp_path, script):
     """The script as it is where none of the tools is there, and a note of what apt-get is asked."""
     note, binary = os.path.join(str(tmp_path), "asked"), os.path.join(str(tmp_path), "bin")

@@ -132,5 +132,3 @@ def duration(seconds: float) -> str:
     if whole < 3600:
         return "%d min %02d s" % divmod(whole, 60)
     return "%d h %02d min" % divmod(whole // 60, 60)
-
-
