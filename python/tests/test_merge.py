@@ -114,7 +114,7 @@ def test_an_answer_counts_more_than_none(run, fake, here, monkeypatch):
 def test_unfinished_parts(run, fake, here, monkeypatch):
     tree("pages", {"%02d/%03d" % (number // 100, number): b"page %d" % number for number in range(400)})
     program = fake(FAKE.replace("    fail(page)\n", """    fail(page)
-    if page and 'SLOW' in os.environ: time.sleep(0.02)
+    if page and 'SLOW' in os.environ: time.sleep(0.1)
 """))
     monkeypatch.setenv("SLOW", "yes")
     work = start(["scan", "pages", "--into", "0.db", "--part", "0/2", "--processes", "1"], program)
