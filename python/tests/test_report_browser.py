@@ -121,7 +121,7 @@ def test_reasons(page):
                     "each.innerText))")
     assert [row[0] for row in rows] == ["6 LeftOut CAN", "10 Outside", "19 Cut"]
     assert [row[2] for row in rows] == ["1"] * 3
-    assert rows[0][4] == "The profile leaves CAN out."
+    assert rows[0][4] == "The byte 18, cancel. It stops the macros that are being played."
     page.run(CLICK % (".chart button", "10 Outside"))
     page.until(TOLD % "files" + " === '1 to 1 of 1 file'")
     text = details(page, "refused/outside.nap")
