@@ -138,3 +138,4 @@ def _drop(drop: Callable[[CheckingStruct], None], checking: CheckingStruct, lock
     """Gives a page up. One that another thread was in when this process was forked is no whole one, and stays."""
     if lock.acquire(blocking=False):
         drop(checking)
+        lock.release()
