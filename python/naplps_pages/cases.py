@@ -1,5 +1,6 @@
 """Which common case a refusal is, by the bytes of the page: the cases of refusals.txt."""
 from naplps.answers import Refusal
+from naplps.treating.captures import seems_a_capture
 from naplps.treating.changes import EIGHTH, ODD
 from naplps.treating.treatments import MOST_BEHIND_END, MOST_FRONT, leading
 
@@ -12,8 +13,14 @@ def case_of(data: bytes, answer: Refusal) -> str:
     if answer.code == "SDC" and len(data) - answer.place <= MOST_BEHIND_END + 1:
         return "at the end"
     if answer.fault == "BadEscape" or answer.code in ("CAN", "NSR"):
-        return "at the front" if _is_in_front(data, answer.place) else ""
+        return _of_leading_codes(data, answer)
     return ""
+
+
+def _of_leading_codes(data: bytes, answer: Refusal) -> str:
+    if answer.code != "CAN" and seems_a_capture(data):
+        return "several pages"
+    return "at the front" if _is_in_front(data, answer.place) else ""
 
 
 def has_parity(data: bytes) -> bool:

@@ -6,8 +6,9 @@ from typing import Dict, List, Optional
 
 from naplps.answers import Accepted, Answer, Refusal, Unanswered
 from naplps.entry_json import Members
-from naplps.names import as_json, shown
+from naplps.names import as_json, quoted, shown
 from naplps.program import version
+from naplps.treating.captures import seems_a_capture
 from naplps.treating.changes import AROUND, WITHIN, Change
 from naplps.treating.search import Cure, TreatmentSearch
 from naplps.version import VERSION
@@ -53,9 +54,16 @@ def _report(session: Session, page: Page, answer: Answer, cure: Optional[Cure], 
     lines = [answer.line] if isinstance(answer, (Accepted, Refusal)) else []
     if isinstance(answer, Refusal):
         lines += _told(page, cure) if cure else ["no treatment makes it readable", *(
-            "%s: not tried, since it isn't sure: %s" % each for each in unsure.items())]
+            "%s: not tried, since it isn't sure: %s" % each for each in unsure.items()), *_several(page)]
     for line in lines:
         session.output.line(session.front(page.name) + line)
+
+
+def _several(page: Page) -> List[str]:
+    """What is told of a file that seems to hold several pages."""
+    if page.data is None or not seems_a_capture(page.data):
+        return []
+    return [f"it seems to hold several pages, which this cuts apart: {TOOL} split {quoted(page.name)} --into pages"]
 
 
 def _told(page: Page, cure: Cure) -> List[str]:

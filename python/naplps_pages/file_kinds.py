@@ -2,12 +2,11 @@
 from typing import IO, Iterable, Iterator, NamedTuple, Optional, Tuple
 
 from naplps.answers import Accepted, Answer, Refusal
+from naplps.treating.captures import LEADING_ON
 
 from .source import PIECE, Page
 
 PAGE, TEXT, BLANK = "page", "text", "blank"
-# SO, SS2, ESC and SS3. Without them a page can only type primary characters, move, clear and ring.
-LEADING_ON = (b"\x0e", b"\x19", b"\x1b", b"\x1d")
 # So many bytes of a file are looked at for what it looks like.
 MOST_LOOKED_AT = 512
 MAC_HEADER = 128

@@ -2,13 +2,13 @@
 import hashlib
 import json
 import os
-import re
-from typing import Iterator, List, NamedTuple
+from typing import List
 
 from naplps.answers import Accepted, Answer, Refusal, Unanswered
 from naplps.entry_json import Members
 from naplps.names import as_json, leaf, shown
 from naplps.program import version
+from naplps.treating.captures import Piece, pieces
 from naplps.version import VERSION
 
 from . import TOOL
@@ -19,47 +19,6 @@ from .source import Page
 
 # A capture of more pages isn't cut.
 MOST_PAGES = 100_000
-# A macro's body, in which nothing is a code; or codes that stand before a page: CAN, NSR with its place, announcers.
-LEADING = rb"\x18|\x1f(?:[\x40-\x7f]{2})?|\x1b[\x20-\x27][\x20-\x2f]*[\x30-\x7e]"
-PLACES = re.compile(rb"(?P<body>\x1b[\x40\x41][^\x1b]+(?:\x1b(?![\x40-\x45])[^\x1b]*)*)|(?P<codes>(?:%s)+)" % LEADING,
-                    re.DOTALL)
-NSR, ANNOUNCES = re.compile(rb"\x1f"), re.compile(rb"\x1b[\x22\x25]")
-# What begins a page: CS, or SO with an opcode.
-BEGINS = re.compile(rb"\x0c|\x0e[\x20-\x3f]")
-
-
-class Piece(NamedTuple):
-    """A part of a capture: where it is, and what stands there that it was cut for."""
-
-    offset: int
-    length: int
-    cut_at: str
-
-
-def pieces(data: bytes) -> List[Piece]:
-    """The pages of a capture, which follow each other without a gap.
-
-    It is cut at NSR, and at ESC 22 or ESC 25 before the first code of a page, with the codes that stand before a page
-    around them. CS alone is no such place, since a page may clear the screen anywhere.
-    """
-    found = [(0, "the beginning"), *((at, why) for at, why in _cuts(data) if at)]
-    ends = [at for at, _ in found[1:]] + [len(data)]
-    return [Piece(at, end - at, why) for (at, why), end in zip(found, ends) if end > at]
-
-
-def _cuts(data: bytes) -> Iterator["tuple[int, str]"]:
-    for match in PLACES.finditer(data):
-        codes = match["codes"]
-        if codes is None:
-            continue
-        if _has_nsr(codes):
-            yield match.start(), "NSR"
-        elif ANNOUNCES.search(codes) and BEGINS.match(data, match.end()):
-            yield match.start(), f"1B {ANNOUNCES.search(codes)[0][1]:02X}"  # type: ignore[index]
-
-
-def _has_nsr(codes: bytes) -> bool:
-    return NSR.search(codes) is not None
 
 
 def split(session: Session) -> int:

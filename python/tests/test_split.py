@@ -10,7 +10,7 @@ from hypothesis import given
 from hypothesis import strategies as st
 
 from conftest import file
-from naplps_pages.splitting import pieces
+from naplps.treating.captures import pieces
 from pictures import picture
 from samples import POINT, POINT_AND_BELL
 

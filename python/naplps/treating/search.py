@@ -3,17 +3,16 @@ from dataclasses import dataclass, field
 from typing import Callable, Dict, Iterable, List, Optional, Set, Tuple
 
 from ..answers import Accepted, Answer, Refusal
-from ..reading import placed
+from .captures import LEADING_ON
 from .changes import AROUND, Change, Treated, digest
 from .treatments import TREATMENTS, treated, untreated
 
 # So many treatments are tried together, and the program is asked so often in each of the two rounds.
 MOST_TOGETHER = 3
 MOST_ASKED = 100
-# So many are looked at in each round, and more of a page that is no longer than this.
+# So many are looked at in each round, and on so many one more treatment is tried, those first that change least.
 MOST_LOOKED_AT = 400
-# Kinds of entries that bytes before a page may be read as.
-OF_TEXT = ("CHAR", "MOVE", "TO-EOL", "BELL")
+MOST_EXPANDED = 32
 Ask = Callable[[str, bytes], Answer]
 # Bytes that are refused, and the place.
 Sick = Tuple[Treated, int]
@@ -42,6 +41,7 @@ class TreatmentSearch:
     """One search: what was tried, and why some treatments weren't."""
 
     ask: Ask
+    beat: Callable[[], None] = lambda: None
     tried: Set[bytes] = field(default_factory=set)
     unsure: Dict[str, str] = field(default_factory=dict)
     asked: int = 0
@@ -54,8 +54,7 @@ class TreatmentSearch:
         """
         start = untreated(source)
         self.tried.add(digest(source))
-        around = tuple(name for name, each in TREATMENTS.items() if each.grade == AROUND and (
-            name != "header" or _is_no_picture(self.ask, source)))
+        around = tuple(name for name, each in TREATMENTS.items() if each.grade == AROUND)
         sick: List[Sick] = [(start, place)]
         cure = self._round(sick, around)
         if cure is None:
@@ -68,8 +67,10 @@ class TreatmentSearch:
         """Tries one more of these treatments on what is refused, again and again; what stays refused is added."""
         level = sick
         for _ in range(MOST_TOGETHER):
-            some = [each for it, place in level if len(it.changes) < MOST_TOGETHER
-                    for each in treated(it, place, names, self.unsure)]
+            some: List[Treated] = []
+            for it, place in [each for each in level if len(each[0].changes) < MOST_TOGETHER][:MOST_EXPANDED]:
+                self.beat()
+                some += treated(it, place, _left(it, names), self.unsure)
             cure, level = self._first(sorted(some, key=lambda each: each.cost))
             if cure:
                 return cure
@@ -81,7 +82,7 @@ class TreatmentSearch:
         refused: List[Sick] = []
         for each in some:
             answer = self._answer(each)
-            if isinstance(answer, Accepted):
+            if isinstance(answer, Accepted) and _is_enough(each, answer):
                 return Cure(each, answer.entries), refused
             if isinstance(answer, Refusal):
                 refused.append((each, answer.place))
@@ -101,13 +102,18 @@ class TreatmentSearch:
         return self.ask("check", data)
 
 
-def find(ask: Ask, source: bytes, place: int) -> Optional[Cure]:
-    """The least change with which bytes that are refused at a place are accepted."""
-    return TreatmentSearch(ask).find(source, place)
+def find(ask: Ask, source: bytes, place: int, beat: Callable[[], None] = lambda: None) -> Optional[Cure]:
+    """The least change with which bytes that are refused at a place are accepted; `beat` is called now and then."""
+    return TreatmentSearch(ask, beat).find(source, place)
 
 
-def _is_no_picture(ask: Ask, source: bytes) -> bool:
-    """Whether nothing but text comes before the refusal, so that the bytes there may be a header."""
-    before = ask("places", source)
-    return isinstance(before, Refusal) and all(
-        line.split(" ", 1)[0] in OF_TEXT for _, line in placed(before.body))
+def _left(it: Treated, names: Tuple[str, ...]) -> Tuple[str, ...]:
+    """The treatments that may come next: each once, but for ends."""
+    done = {change.treatment for change in it.changes} - {"tail"}
+    return tuple(name for name in names if name not in done)
+
+
+def _is_enough(it: Treated, answer: Accepted) -> bool:
+    """Whether what is left is a page, or text that is most of the source: a few bytes of any file are text."""
+    data = it.data
+    return 2 * len(data) >= len(it.source) or (answer.entries > 0 and any(code in data for code in LEADING_ON))

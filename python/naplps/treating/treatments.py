@@ -3,10 +3,13 @@ import re
 from typing import Callable, Dict, Iterator, List, NamedTuple, Optional, Tuple
 
 from . import eight_bit, sauce
+from .captures import BEGINS, CLEAR, END_OF_BODY, LEADING_ON, outside, seems_a_capture, tokens
 from .changes import AROUND, EIGHTH, ODD, PLAIN, WITHIN, Change, Edit, NotSure, Treated
 
 # How many bytes behind a refusal may belong to a header, and how many starts of a page are tried among them.
 MOST_HEADER = 4096
+# So many bytes may come before the refusal.
+MOST_BEFORE = 1 << 16
 MOST_STARTS = 8
 # How many codes at the front are cut, and among how many bytes.
 MOST_CODES = 16
@@ -16,13 +19,16 @@ MOST_BEHIND_END = 1023
 # A page with more codes that a treatment would take isn't treated by it.
 MOST_EDITS = 4096
 # Nor is a longer one treated by those that take codes out of its midst.
-MOST_WITHIN = 1 << 20
-# A macro's body, which is no code; and behind it the codes that are taken out of the midst of a page.
-BODY = rb"(?P<body>\x1b[\x40\x41][^\x1b]+(?:\x1b(?![\x40-\x45])[^\x1b]*)*)"
-IN_THE_MIDDLE: Dict[str, "re.Pattern[bytes]"] = {name: re.compile(BODY + b"|" + code, re.DOTALL) for name, code in (
-    ("can", rb"\x18"), ("nsr", rb"\x1f(?:[\x40-\x7f]{2})?"), ("end", rb"\x1a"),
+MOST_WITHIN = 1 << 18
+# Codes that are taken out of the midst of a page.
+IN_THE_MIDDLE: Dict[str, "re.Pattern[bytes]"] = {name: tokens(code) for name, code in (
+    ("can", rb"\x18"), ("nsr", rb"\x1f(?:[\x40-\x7f]{2})?"),
     ("designations", rb"\x1b(?:[\x20-\x27][\x20-\x2f]*[\x30-\x7e]|"
                      rb"[\x28-\x2f]\x20?(?![\x42\x57\x7a-\x7d])[\x30-\x7e])"))}
+END_OR_BODY = re.compile(rb"\x1a|" + END_OF_BODY.pattern)
+DEFINITIONS = (b"\x1b\x40", b"\x1b\x41")
+# A picture code with an operand, behind SO.
+PICTURE = re.compile(rb"\x0e[\x20-\x3f][\x40-\x7f]")
 # Behind such a code text begins at a place of the page's own: CS, APS or APH.
 PLACED = (b"\x0c", b"\x1c", b"\x1e")
 
@@ -47,7 +53,7 @@ def mark(data: bytes, place: int) -> Iterator[Change]:
         return
     plain = data.translate(PLAIN)
     first = next((byte for byte in plain if byte >= 0x20), 0x40)
-    if first >= 0x40 or any(code in plain for code in (b"\x0e", b"\x19", b"\x1b", b"\x1d")):
+    if first >= 0x40 or any(code in plain for code in LEADING_ON):
         yield Change("mark", AROUND, f"the eighth bit of all {len(data)} bytes", bits=len(data), parity="mark")
 
 
@@ -65,11 +71,20 @@ def tail(data: bytes, place: int) -> Iterator[Change]:
 
 def _end_mark(data: bytes) -> Optional[int]:
     """Where the first 1A stands behind which at most so many bytes are left, if it is in no macro's body."""
-    least = len(data) - MOST_BEHIND_END - 1
-    if data.find(b"\x1a", max(0, least)) < 0:
-        return None
-    return next((found.start() for found in IN_THE_MIDDLE["end"].finditer(data)
-                 if found["body"] is None and found.start() >= least), None)
+    least = max(0, len(data) - MOST_BEHIND_END - 1)
+    in_body = _is_in_body(data, least)
+    for found in END_OR_BODY.finditer(data, least):
+        if found[0] != b"\x1a":
+            in_body = found[0] in DEFINITIONS
+        elif not in_body:
+            return found.start()
+    return None
+
+
+def _is_in_body(data: bytes, at: int) -> bool:
+    """Whether the body of a macro goes on there: the last of the codes that end a body begins one."""
+    last = max(data.rfind(bytes((0x1B, code)), 0, at) for code in range(0x40, 0x46))
+    return last >= 0 and data[last:last + 2] in DEFINITIONS
 
 
 def _cut(name: str, offset: int, length: int, what: str, grade: str = AROUND) -> Change:
@@ -114,18 +129,22 @@ def leading(data: bytes, at: int) -> Optional[Tuple[str, int]]:
 
 
 def header(data: bytes, place: int) -> Iterator[Change]:
-    """Cuts off what stands before the first code of a page, behind the place: CS, or SO with an opcode."""
-    found = 0
+    """Cuts off what stands before the first code of a page, behind the place: CS, or SO with an opcode.
+
+    What is left has to have a picture code with an operand, else the end of any file may look like a page. What comes
+    before the place has none of such first codes, and what is cut no codes that stand before a page.
+    """
+    if place > MOST_BEFORE or BEGINS.search(data, 0, place):
+        return
+    found, plain = 0, data.translate(PLAIN)
     for at in range(place + 1, min(len(data), place + 1 + MOST_HEADER)):
-        if _begins(data, at):
+        if BEGINS.match(data, at):
+            if not PICTURE.search(plain, at) or seems_a_capture(data[:at + 1]):
+                return
             yield _cut("header", 0, at, f"{at} bytes before the first code")
             found += 1
             if found == MOST_STARTS:
                 return
-
-
-def _begins(data: bytes, at: int) -> bool:
-    return data[at] == 0x0C or (data[at] == 0x0E and 0x20 <= (data[at + 1:at + 2] or b"\0")[0] < 0x40)
 
 
 def record(data: bytes, place: int) -> Iterator[Change]:
@@ -157,11 +176,12 @@ def _without(name: str, data: bytes, what: str) -> Iterator[Change]:
     if len(data) > MOST_WITHIN:
         raise NotSure(f"the page is longer than {MOST_WITHIN} bytes")
     edits: List[Edit] = []
-    for found in IN_THE_MIDDLE[name].finditer(data):
-        if found["body"] is None:
-            if len(edits) == MOST_EDITS:
-                raise NotSure(f"there are more than {MOST_EDITS} codes to be taken out")
-            edits.append(Edit(found.start(), found.end() - found.start()))
+    for found in outside(data, IN_THE_MIDDLE[name]):
+        if len(edits) == MOST_EDITS:
+            raise NotSure(f"there are more than {MOST_EDITS} codes to be taken out")
+        if found.start() and data.startswith(CLEAR, found.end()):
+            raise NotSure(f"another page seems to begin at {found.start()}")
+        edits.append(Edit(found.start(), found.end() - found.start()))
     if edits:
         length = sum(edit.length for edit in edits)
         yield Change(name, WITHIN, f"{length} bytes of the page: {what}", tuple(edits))

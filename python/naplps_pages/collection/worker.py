@@ -137,7 +137,7 @@ class Worker:
         """The row with what the treatments of a refused page come to."""
         if answered.state != tables.REFUSED or answered.place is None:
             return answered
-        cure = find(self._ask, data, answered.place)
+        cure = find(self._ask, data, answered.place, self.beat)
         if cure is None:
             return answered._replace(cured=Cured())
         names = "+".join(each.treatment for each in cure.treated.changes)
