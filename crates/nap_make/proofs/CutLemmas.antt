@@ -1,0 +1,26 @@
+use Rattle.std.proofs.Common.{ℕ, ◌≡◌, ◌≢◌, List, [], ◌∷◌, ◌++◌, refl, sym, subst, ◌∙◌}
+use Rattle.std.specs.Prelude.{All}
+use Rattle.std.proofs.lemmas.List.Elements.{All-head, All-tail}
+use Rattle.nap_make.specs.Cutting.{Cuts}
+
+-- A list is cut in one way.
+
+pub one_cut : (b : ℕ) (f k g l : List ℕ) → All (λ x. x ≢ b) f → All (λ x. x ≢ b) g → f ++ b ∷ k ≡ g ++ b ∷ l → (f ≡ g) × (k ≡ l)
+one_cut b [] k [] l none also same = (refl, cc)
+one_cut b [] k (y ∷ g) l none also same = absurd (All-head (λ x. x ≢ b) y g also (cc))
+one_cut b (x ∷ f) k [] l none also same = absurd (All-head (λ z. z ≢ b) x f none (cc))
+one_cut b (x ∷ f) k (y ∷ g) l none also same =
+    let more = one_cut b f k g l (All-tail (λ z. z ≢ b) x f none) (All-tail (λ z. z ≢ b) y g also) (cc) in
+    (cc, more.1)
+
+-- the parts of a list that was cut are those of a text that has no such byte in front of its own
+pub cut_text : (b : ℕ) (xs f k g l : List ℕ) → Cuts b xs f k → All (λ x. x ≢ b) g → xs ≡ g ++ b ∷ l → (f ≡ g) × (k ≡ l)
+cut_text b xs f k g l cut none is = one_cut b f k g l cut.first none (sym cut.joins ∙ is)
+
+-- a list without such a byte isn't cut
+pub no_cut : (b : ℕ) (xs f k : List ℕ) → All (λ x. x ≢ b) xs → xs ≡ f ++ b ∷ k → ⊥
+no_cut b xs f k none is = never f (subst (λ (ys : List ℕ). All (λ x. x ≢ b) ys) is none)
+  where
+    never : (f : List ℕ) → All (λ x. x ≢ b) (f ++ b ∷ k) → ⊥
+    never [] none = All-head (λ x. x ≢ b) b k none refl
+    never (x ∷ f) none = never f (All-tail (λ z. z ≢ b) x (f ++ b ∷ k) none)

@@ -1,0 +1,75 @@
+use Rattle.std.proofs.Common.{ℕ, ◌^◌, ◌<◌, ◌≤◌, ◌≡◌, ◌≢◌, List, [], ◌∷◌, length, get_or, take, zero, suc, ap, sym, subst, ◌∙◌, arith}
+use Rattle.std.specs.Char.{digit_value}
+use Rattle.std.specs.Fmt.{decimal}
+use Rattle.std.specs.Str.Parse.{AllDigits, digits_value}
+use Rattle.std.proofs.Math.Nat.{pow-le-pow_right}
+use Rattle.std.proofs.lemmas.Fmt.{decimal_digit, decimal_injective, decimal_is_IsNumeral, decimal_nonempty, decimal-digits_value, first_decimal, length-decimal-le}
+use Rattle.std.proofs.lemmas.Int.Digits.{digits_value-lt}
+use Rattle.std.proofs.lemmas.List.{length-take-le}
+use Rattle.std.proofs.lemmas.Str.Parse.{numerals_by_value, tells_digits}
+use Rattle.nap_make.specs.Numbers.{IsNumeralOf, IsShort}
+
+pub fits64 : (n : ℕ) → IsShort n → n < 2 ^ 64
+fits64 n short = omega (arith, short)
+
+-- What a text that is a number's is like.
+
+pub not_empty : (ds : List ℕ) (n : ℕ) → IsShort n → ds ≡ decimal n → length ds ≡ 0 → ⊥
+not_empty ds n short is none =
+    let some = decimal_nonempty n (fits64 n short) in
+    let same : length ds ≡ length (decimal n) = ap (λ (xs : List ℕ). length xs) is in
+    omega (arith, some, same, none)
+
+pub not_long : (ds : List ℕ) (n : ℕ) → IsShort n → ds ≡ decimal n → 8 < length ds → ⊥
+not_long ds n short is long =
+    let few = length-decimal-le 8 n (omega arith) short (fits64 n short) in
+    let same : length ds ≡ length (decimal n) = ap (λ (xs : List ℕ). length xs) is in
+    omega (arith, few, same, long)
+
+pub digit_at : (ds : List ℕ) (i : ℕ) → AllDigits 10 ds → i < length ds → digit_value (get_or ds i 0) < 10
+digit_at [] i all within = absurd (omega (arith, within))
+digit_at (d ∷ ds) zero all within = all.0
+digit_at (d ∷ ds) (suc i) all within = digit_at ds i all.1 (omega (arith, within))
+
+pub a_digit : (ds : List ℕ) (n i : ℕ) → IsShort n → ds ≡ decimal n → i < length ds → digit_value (get_or ds i 0) < 10
+a_digit ds n i short is within = digit_at ds i (subst (λ (xs : List ℕ). AllDigits 10 xs) (sym is) (decimal_is_IsNumeral n (fits64 n short)).0.1) within
+
+-- What a few digits write.
+
+-- fewer than eight digits write a number that leaves room for one more
+pub small : (ds : List ℕ) (i : ℕ) → AllDigits 10 (take i ds) → i < length ds → length ds ≤ 8 → digits_value 10 (take i ds) < 10 ^ 7
+small ds i all within few =
+    let low = digits_value-lt 10 (take i ds) all in
+    let size = length-take-le i ds (omega (arith, within)) in
+    let short : length (take i ds) ≤ 7 = omega (arith, size, within, few) in
+    let most : 10 ^ length (take i ds) ≤ 10 ^ 7 = pow-le-pow_right {n = 10} (omega arith) short in
+    omega (arith, low, most)
+
+pub short_value : (ds : List ℕ) → AllDigits 10 ds → length ds ≤ 8 → IsShort (digits_value 10 ds)
+short_value ds all few =
+    let low = digits_value-lt 10 ds all in
+    let most : 10 ^ length ds ≤ 10 ^ 8 = pow-le-pow_right {n = 10} (omega arith) few in
+    omega (arith, low, most)
+
+-- Numbers by their digits.
+
+-- digits tell their number
+pub numeral_tells : (ds : List ℕ) (m n : ℕ) → IsNumeralOf ds m → IsShort n → ds ≡ decimal n → m ≡ n
+numeral_tells ds m n told short is = sym told.value ∙ ap (λ (xs : List ℕ). digits_value 10 xs) is ∙ (decimal_is_IsNumeral n (fits64 n short)).1
+
+-- digits without a zero in front, or one alone, are the decimal ones of their number
+pub no_zero : (ds : List ℕ) (n : ℕ) → IsNumeralOf ds n → (get_or ds 0 0 ≡ 48 → length ds ≡ 1) → ds ≡ decimal n
+no_zero ds n told lone =
+    sym (ap decimal (sym told.value) ∙ decimal-digits_value (numerals_by_value (AllDigits 10) tells_digits) ds told.numeral.1 told.numeral.0 lone (subst (λ (m : ℕ). m < 2 ^ 64) (sym told.value) (fits64 n told.short)))
+
+-- and others are those of none
+pub zero_first : (ds : List ℕ) (n : ℕ) → IsShort n → ds ≡ decimal n → get_or ds 0 0 ≡ 48 → length ds ≢ 1 → ⊥
+zero_first ds zero short is first more = more (ap (λ (xs : List ℕ). length xs) (is ∙ decimal_digit 0 (omega arith)))
+zero_first ds (suc n) short is first more =
+    let high = first_decimal (suc n) (omega arith) (fits64 (suc n) short) in
+    let same : get_or ds 0 0 ≡ get_or (decimal (suc n)) 0 0 = ap (λ (xs : List ℕ). get_or xs 0 0) is in
+    omega (arith, high, same, first)
+
+-- a text that is that of two numbers is that of one
+pub same_number : (ds : List ℕ) (m n : ℕ) → ds ≡ decimal m → ds ≡ decimal n → m < 2 ^ 64 → n < 2 ^ 64 → m ≡ n
+same_number ds m n one two m_fits n_fits = decimal_injective m n m_fits n_fits (sym one ∙ two)

@@ -1,0 +1,244 @@
+use Rattle.std.proofs.Common.{ℕ, ◌<◌, ◌/◌, ◌%◌, ◌≡◌, ◌≢◌, Bool, true, false, cond, List, [], ◌∷◌, ◌++◌, get_or, refl, ap, sym, subst, ◌∙◌, arith, codes, append_assoc}
+use Rattle.std.specs.Prelude.{All, Option, Some, None}
+use Rattle.std.specs.Fmt.{decimal}
+use Rattle.std.proofs.lemmas.Fmt.{decimal_injective}
+use Rattle.std.proofs.lemmas.List.{append_cancel_left}
+use Rattle.std.proofs.lemmas.List.Elements.{All-head}
+use Rattle.nap_values.specs.Colours.{HasSixteenBitParts}
+use Rattle.nap_values.specs.Coordinates.{Coordinates, Displacement, IsInSquare, IsInRange}
+use Rattle.nap_values.specs.Laws.{IsWord}
+use Rattle.nap_codes.specs.declared.code_set.CharSet.{CharSet}
+use Rattle.nap_codes.specs.declared.code_set.CharSet.TheVariants as char_sets
+use Rattle.nap_codes.specs.declared.control.CursorKind.{CursorKind}
+use Rattle.nap_codes.specs.declared.control.CursorKind.TheVariants as cursors
+use Rattle.nap_codes.specs.declared.control.Mask.{Mask}
+use Rattle.nap_codes.specs.declared.control.Mask.TheVariants as masks
+use Rattle.nap_codes.specs.declared.control.Size.{Size}
+use Rattle.nap_codes.specs.declared.control.Size.TheVariants as named_sizes
+use Rattle.nap_list.specs.declared.attribute.CharSize.{CharSize}
+use Rattle.nap_list.specs.declared.attribute.CharSize.TheVariants as sizes
+use Rattle.nap_list.specs.declared.attribute.Colour.{Colour}
+use Rattle.nap_list.specs.declared.attribute.Colour.TheVariants as colours
+use Rattle.nap_list.specs.declared.attribute.Origin.TheVariants as origins
+use Rattle.nap_list.specs.declared.attribute.Pen.{Pen}
+use Rattle.nap_list.specs.declared.attribute.Pen.TheVariants as pens
+use Rattle.nap_list.specs.declared.attribute.Preset.TheVariants as presets
+use Rattle.nap_list.specs.declared.attribute.TextLook.{TextLook}
+use Rattle.nap_list.specs.declared.attribute.Texture.{Texture}
+use Rattle.nap_list.specs.Range.{ColourInRange, HandInRange, InkInRange, IsAddress, IsByte, PenInRange, SizeInRange, TextInRange, TextureInRange}
+use Rattle.nap_lines.specs.Lines.{code_text, colour_text, cursor_text, grb_text, hand_text, ink_text, look_text, mask_size_text, mask_text, move_text, pen_text, point_text, set_text, size_text, texture_text}
+use Rattle.nap_make.specs.declared.look.TextModes.{TextModes}
+use Rattle.nap_make.specs.Fields.{MaskInRange, colour_field, look_field, modes_text, pel_field, pen_field, texture_field}
+use Rattle.nap_make.specs.Reading.{Always, Both, pair_text}
+use Rattle.nap_make.proofs.AttributeLemmas.{hand_end, hand_parts, hand_triple, ink_end, ink_parts, ink_triple, texture_pair, texture_parts}
+use Rattle.nap_make.proofs.CodeLemmas.{digit_tells}
+use Rattle.nap_make.proofs.ColourLemmas.{grb_triple, part_pair, part_triple}
+use Rattle.nap_make.proofs.LayoutLemmas.{Tells, alike_tell, both_tell}
+use Rattle.nap_make.proofs.LookLemmas.{look_parts, look_triple, modes_bytes, size_modes}
+use Rattle.nap_make.proofs.NameLemmas.{value_in_table}
+use Rattle.nap_make.proofs.PlaceLemmas.{addr_pair, move_spells, move_tells, point_spells, point_tells, word_pair, word_triple}
+
+-- Values that are written alike are equal, field by field.
+
+-- texts that something reads back tell their values
+pub told_by : {V : Type 0} (P : V → Type 0) (f : V → List ℕ) (read : List ℕ → V) → ((v : V) → P v → read (f v) ≡ v) → Tells P f
+told_by P f read again v w v_fits w_fits is = sym (again v v_fits) ∙ ap read is ∙ again w w_fits
+
+-- texts behind a key
+key_tells : {V : Type 0} (P : V → Type 0) (f : V → List ℕ) (key : List ℕ) → Tells P f → Tells P (λ v. key ++ f v)
+key_tells P f key tells v w v_fits w_fits is = tells v w v_fits w_fits (append_cancel_left key (f v) (f w) is)
+
+-- a text of digits and signs begins with no letter
+pub low_start : (b : ℕ) (xs l : List ℕ) → 57 < b → All (λ x. x < 58) xs → xs ≡ b ∷ l → ⊥
+low_start b xs l high low is =
+    let first : b < 58 = All-head (λ x. x < 58) b l (subst (λ (s : List ℕ). All (λ x. x < 58) s) is low) in
+    omega (arith, first, high)
+
+pub low_point : (p : Coordinates) → IsInSquare p → All (λ x. x < 58) (point_text p)
+low_point = point_spells (λ x. x < 58) (λ d low high. high) (omega arith)
+
+low_move : (m : Displacement) → IsInRange m → All (λ x. x < 58) (move_text m)
+low_move = move_spells (λ x. x < 58) (λ d low high. high) (omega arith) (omega arith)
+
+pub word_tells : Tells IsWord decimal
+word_tells m n m_fits n_fits is = decimal_injective m n (omega (arith, m_fits)) (omega (arith, n_fits)) is
+
+pub addr_tells : Tells IsAddress decimal
+addr_tells m n m_fits n_fits is = decimal_injective m n (omega (arith, m_fits)) (omega (arith, n_fits)) is
+
+pub times_tell : Tells (Both IsWord (Both IsWord IsWord)) (pair_text decimal 44 (pair_text decimal 44 decimal))
+times_tell = both_tell word_triple word_tells (both_tell word_pair word_tells word_tells)
+
+pub grb_tells : Tells HasSixteenBitParts grb_text
+grb_tells = alike_tell grb_triple (λ (t : ℕ × (ℕ × ℕ)). record { g = t.0; r = t.1.0; b = t.1.1 }) (λ c. refl) (both_tell part_triple part_tells (both_tell part_pair part_tells part_tells))
+  where
+    part_tells : Tells (λ n. n < 65536) decimal
+    part_tells m n m_fits n_fits is = decimal_injective m n (omega (arith, m_fits)) (omega (arith, n_fits)) is
+
+-- both digits of a code tell it
+pub code_tells : Tells IsByte code_text
+code_tells m n m_fits n_fits is =
+    let high = digit_tells (m / 16) (n / 16) (omega (arith, m_fits)) (omega (arith, n_fits)) (ap (λ (s : List ℕ). get_or s 0 0) is) in
+    let low = digit_tells (m % 16) (n % 16) (omega arith) (omega arith) (ap (λ (s : List ℕ). get_or s 1 0) is) in
+    omega (arith, high, low)
+
+-- Values that have a word of their own.
+
+pub set_tells : Tells Always set_text
+set_tells = told_by Always set_text (value_in_table ((codes "primary", char_sets.Primary) ∷ (codes "supplementary", char_sets.Supplementary) ∷ (codes "mosaic", char_sets.Mosaic) ∷ []) char_sets.Drcs) again
+  where
+    again : (set : CharSet) → Always set → value_in_table ((codes "primary", char_sets.Primary) ∷ (codes "supplementary", char_sets.Supplementary) ∷ (codes "mosaic", char_sets.Mosaic) ∷ []) char_sets.Drcs (set_text set) ≡ set
+    again char_sets.Primary any = refl
+    again char_sets.Supplementary any = refl
+    again char_sets.Mosaic any = refl
+    again char_sets.Drcs any = refl
+
+pub cursor_tells : Tells Always cursor_text
+cursor_tells = told_by Always cursor_text (value_in_table ((codes "flash", cursors.Flash) ∷ (codes "steady", cursors.Steady) ∷ []) cursors.Off) again
+  where
+    again : (kind : CursorKind) → Always kind → value_in_table ((codes "flash", cursors.Flash) ∷ (codes "steady", cursors.Steady) ∷ []) cursors.Off (cursor_text kind) ≡ kind
+    again cursors.Flash any = refl
+    again cursors.Steady any = refl
+    again cursors.Off any = refl
+
+pub mask_tells : Tells Always mask_text
+mask_tells = told_by Always mask_text (value_in_table ((codes "A", masks.A) ∷ (codes "B", masks.B) ∷ (codes "C", masks.C) ∷ []) masks.D) again
+  where
+    again : (mask : Mask) → Always mask → value_in_table ((codes "A", masks.A) ∷ (codes "B", masks.B) ∷ (codes "C", masks.C) ∷ []) masks.D (mask_text mask) ≡ mask
+    again masks.A any = refl
+    again masks.B any = refl
+    again masks.C any = refl
+    again masks.D any = refl
+
+named_tells : Tells Always (λ (n : Size). size_text (sizes.Named n))
+named_tells = told_by Always (λ (n : Size). size_text (sizes.Named n)) (value_in_table ((codes "small", named_sizes.Small) ∷ (codes "medium", named_sizes.Medium) ∷ (codes "normal", named_sizes.Normal) ∷ (codes "tall", named_sizes.Tall) ∷ []) named_sizes.Double) again
+  where
+    again : (n : Size) → Always n → value_in_table ((codes "small", named_sizes.Small) ∷ (codes "medium", named_sizes.Medium) ∷ (codes "normal", named_sizes.Normal) ∷ (codes "tall", named_sizes.Tall) ∷ []) named_sizes.Double (size_text (sizes.Named n)) ≡ n
+    again named_sizes.Small any = refl
+    again named_sizes.Medium any = refl
+    again named_sizes.Normal any = refl
+    again named_sizes.Tall any = refl
+    again named_sizes.Double any = refl
+
+-- Values of several forms.
+
+-- no displacement is written as a size by name is
+no_name : (n : Size) (m : Displacement) → IsInRange m → move_text m ≡ size_text (sizes.Named n) → ⊥
+no_name named_sizes.Small m fits is = low_start 115 (move_text m) (codes "mall") (omega arith) (low_move m fits) is
+no_name named_sizes.Medium m fits is = low_start 109 (move_text m) (codes "edium") (omega arith) (low_move m fits) is
+no_name named_sizes.Normal m fits is = low_start 110 (move_text m) (codes "ormal") (omega arith) (low_move m fits) is
+no_name named_sizes.Tall m fits is = low_start 116 (move_text m) (codes "all") (omega arith) (low_move m fits) is
+no_name named_sizes.Double m fits is = low_start 100 (move_text m) (codes "ouble") (omega arith) (low_move m fits) is
+
+size_tells : Tells SizeInRange size_text
+size_tells (sizes.Named m) (sizes.Named n) m_fits n_fits is = ap sizes.Named (named_tells m n tt tt is)
+size_tells (sizes.Named m) (sizes.Given n) m_fits n_fits is = absurd (no_name m n n_fits (sym is))
+size_tells (sizes.Given m) (sizes.Named n) m_fits n_fits is = absurd (no_name n m m_fits is)
+size_tells (sizes.Given m) (sizes.Given n) m_fits n_fits is = ap sizes.Given (move_tells m n m_fits n_fits is)
+
+mask_size_tells : Tells MaskInRange mask_size_text
+mask_size_tells None None m_fits n_fits is = refl
+mask_size_tells None (Some n) m_fits n_fits is = absurd (low_start 110 (move_text n) (codes "one") (omega arith) (low_move n n_fits) (sym is))
+mask_size_tells (Some m) None m_fits n_fits is = absurd (low_start 110 (move_text m) (codes "one") (omega arith) (low_move m m_fits) is)
+mask_size_tells (Some m) (Some n) m_fits n_fits is = ap (λ (d : Displacement). Some d) (move_tells m n m_fits n_fits is)
+
+pen_tells : Tells PenInRange pen_text
+pen_tells pens.Start pens.Start m_fits n_fits is = refl
+pen_tells pens.Start (pens.At q) m_fits n_fits is = absurd (low_start 115 (point_text q) (codes "tart") (omega arith) (low_point q n_fits) (sym is))
+pen_tells pens.Start pens.After m_fits n_fits is = let first : 115 ≡ 97 = ap (λ (s : List ℕ). get_or s 0 0) is in absurd (omega (arith, first))
+pen_tells (pens.At p) pens.Start m_fits n_fits is = absurd (low_start 115 (point_text p) (codes "tart") (omega arith) (low_point p m_fits) is)
+pen_tells (pens.At p) (pens.At q) m_fits n_fits is = ap pens.At (point_tells p q m_fits n_fits is)
+pen_tells (pens.At p) pens.After m_fits n_fits is = absurd (low_start 97 (point_text p) (codes "fter") (omega arith) (low_point p m_fits) is)
+pen_tells pens.After pens.Start m_fits n_fits is = let first : 97 ≡ 115 = ap (λ (s : List ℕ). get_or s 0 0) is in absurd (omega (arith, first))
+pen_tells pens.After (pens.At q) m_fits n_fits is = absurd (low_start 97 (point_text q) (codes "fter") (omega arith) (low_point q n_fits) (sym is))
+pen_tells pens.After pens.After m_fits n_fits is = refl
+
+-- the first letter of a colour
+abbrev letter_of : Colour → ℕ
+letter_of (colours.Own origin) = 111
+letter_of (colours.Direct grb) = 100
+letter_of (colours.Front addr) = 102
+letter_of (colours.Pair front back) = 112
+letter_of (colours.ByReset preset) = 114
+
+first_letter : (c : Colour) → get_or (colour_text c) 0 0 ≡ letter_of c
+first_letter (colours.Own origins.AtStart) = refl
+first_letter (colours.Own origins.AfterReset) = refl
+first_letter (colours.Direct grb) = refl
+first_letter (colours.Front addr) = refl
+first_letter (colours.Pair front back) = refl
+first_letter (colours.ByReset presets.Two) = refl
+first_letter (colours.ByReset presets.Three) = refl
+
+pair_tells : (a b c d : ℕ) → IsAddress a × IsAddress b → IsAddress c × IsAddress d → colour_text (colours.Pair a b) ≡ colour_text (colours.Pair c d) → colours.Pair a b ≡ colours.Pair c d
+pair_tells a b c d one two is =
+    let numbers = append_cancel_left (codes "pair:") (decimal a ++ codes "," ++ decimal b) (decimal c ++ codes "," ++ decimal d) is in
+    let same = both_tell addr_pair addr_tells addr_tells (a, b) (c, d) one two (sym (append_assoc (decimal a) (codes ",") (decimal b)) ∙ numbers ∙ append_assoc (decimal c) (codes ",") (decimal d)) in
+    ap (λ (p : ℕ × ℕ). colours.Pair p.0 p.1) same
+
+colour_tells : Tells ColourInRange colour_text
+colour_tells c d c_fits d_fits is = by c d c_fits d_fits is (sym (first_letter c) ∙ ap (λ (s : List ℕ). get_or s 0 0) is ∙ first_letter d)
+  where
+    by : (c d : Colour) → ColourInRange c → ColourInRange d → colour_text c ≡ colour_text d → letter_of c ≡ letter_of d → c ≡ d
+    by (colours.Own origins.AtStart) (colours.Own origins.AtStart) c_fits d_fits is same = refl
+    by (colours.Own origins.AtStart) (colours.Own origins.AfterReset) c_fits d_fits is same = let fifth : 115 ≡ 114 = ap (λ (s : List ℕ). get_or s 4 0) is in absurd (omega (arith, fifth))
+    by (colours.Own origins.AfterReset) (colours.Own origins.AtStart) c_fits d_fits is same = let fifth : 114 ≡ 115 = ap (λ (s : List ℕ). get_or s 4 0) is in absurd (omega (arith, fifth))
+    by (colours.Own origins.AfterReset) (colours.Own origins.AfterReset) c_fits d_fits is same = refl
+    by (colours.Direct a) (colours.Direct b) c_fits d_fits is same = ap colours.Direct (grb_tells a b c_fits d_fits (append_cancel_left (codes "direct:") (grb_text a) (grb_text b) is))
+    by (colours.Front a) (colours.Front b) c_fits d_fits is same = ap colours.Front (addr_tells a b c_fits d_fits (append_cancel_left (codes "front:") (decimal a) (decimal b) is))
+    by (colours.Pair a b) (colours.Pair c d) c_fits d_fits is same = pair_tells a b c d c_fits d_fits is
+    by (colours.ByReset presets.Two) (colours.ByReset presets.Two) c_fits d_fits is same = refl
+    by (colours.ByReset presets.Two) (colours.ByReset presets.Three) c_fits d_fits is same = let last : 50 ≡ 51 = ap (λ (s : List ℕ). get_or s 6 0) is in absurd (omega (arith, last))
+    by (colours.ByReset presets.Three) (colours.ByReset presets.Two) c_fits d_fits is same = let last : 51 ≡ 50 = ap (λ (s : List ℕ). get_or s 6 0) is in absurd (omega (arith, last))
+    by (colours.ByReset presets.Three) (colours.ByReset presets.Three) c_fits d_fits is same = refl
+    by c d c_fits d_fits is same = absurd (omega (arith, same))
+
+-- What entries are drawn with.
+
+texture_tells : Tells TextureInRange texture_text
+texture_tells = alike_tell texture_pair (λ (t : ℕ × Option Displacement). record { word = t.0; mask = t.1 }) (λ t. refl) (both_tell texture_parts word_tells mask_size_tells)
+
+flag_tells : (a b : Bool) (letter : ℕ) → letter ≢ 45 → cond a letter 45 ≡ cond b letter 45 → a ≡ b
+flag_tells true true letter other is = refl
+flag_tells true false letter other is = absurd (other is)
+flag_tells false true letter other is = absurd (other (sym is))
+flag_tells false false letter other is = refl
+
+modes_tell : Tells Always modes_text
+modes_tell m n any also is =
+    let bytes = sym (modes_bytes m) ∙ is ∙ modes_bytes n in
+    let reverse = flag_tells m.reverse n.reverse 114 (λ e. omega (arith, e)) (ap (λ (s : List ℕ). get_or s 0 0) bytes) in
+    let underline = flag_tells m.underline n.underline 117 (λ e. omega (arith, e)) (ap (λ (s : List ℕ). get_or s 1 0) bytes) in
+    let wrap = flag_tells m.wrap n.wrap 119 (λ e. omega (arith, e)) (ap (λ (s : List ℕ). get_or s 2 0) bytes) in
+    let scroll = flag_tells m.scroll n.scroll 115 (λ e. omega (arith, e)) (ap (λ (s : List ℕ). get_or s 3 0) bytes) in
+    rw (reverse, underline, wrap, scroll) refl
+
+look_tells : Tells TextInRange look_text
+look_tells =
+    alike_tell look_triple (λ (t : (ℕ × ℕ) × (CharSize × TextModes)). record { first = t.0.0; second = t.0.1; size = t.1.0; reverse = t.1.1.reverse; underline = t.1.1.underline; wrap = t.1.1.wrap; scroll = t.1.1.scroll }) (λ t. refl)
+    (both_tell look_parts (both_tell word_pair word_tells word_tells) (both_tell size_modes size_tells modes_tell))
+
+pub pel_field_tells : Tells IsInRange pel_field
+pel_field_tells = key_tells IsInRange move_text (codes "pel=") move_tells
+
+pub colour_field_tells : Tells ColourInRange colour_field
+colour_field_tells = key_tells ColourInRange colour_text (codes "colour=") colour_tells
+
+texture_field_tells : Tells TextureInRange texture_field
+texture_field_tells = key_tells TextureInRange texture_text (codes "texture=") texture_tells
+
+pub pen_field_tells : Tells PenInRange pen_field
+pen_field_tells = key_tells PenInRange pen_text (codes "pen=") pen_tells
+
+look_field_tells : Tells TextInRange look_field
+look_field_tells = key_tells TextInRange look_text (codes "text=") look_tells
+
+pub ink_tells : Tells InkInRange ink_text
+ink_tells =
+    alike_tell ink_triple (λ (t : Displacement × (Colour × Texture)). record { pel = t.0; colour = t.1.0; texture = t.1.1 }) (λ i. refl)
+    (both_tell ink_parts pel_field_tells (both_tell ink_end colour_field_tells texture_field_tells))
+
+pub hand_tells : Tells HandInRange hand_text
+hand_tells =
+    alike_tell hand_triple (λ (t : Pen × (Colour × TextLook)). record { pen = t.0; colour = t.1.0; text = t.1.1 }) (λ h. refl)
+    (both_tell hand_parts pen_field_tells (both_tell hand_end colour_field_tells look_field_tells))

@@ -1,0 +1,6 @@
+use Rattle.std.proofs.Common.{arith, codes}
+use Rattle.std.proofs.lemmas.Slice.Eq.{text_from_reads}
+use Rattle.nap_make.proofs.choice.char_set.Goals as goal
+
+pub returns-in-supplementary : goal.returns-in-supplementary
+returns-in-supplementary c = record { fitting = tt; written = text_from_reads c.args.bytes.now (codes "supplementary") (omega arith) (omega arith) }

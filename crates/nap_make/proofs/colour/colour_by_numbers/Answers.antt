@@ -1,0 +1,20 @@
+use Rattle.std.proofs.Common.{◌∙◌, ap}
+use Rattle.nap_make.specs.declared.colour.ColourKind.TheVariants as kinds
+use Rattle.nap_make.specs.Fields.{kind_name}
+use Rattle.nap_make.proofs.ColourLemmas.{no_colon, no_kind, no_numbers}
+use Rattle.nap_make.proofs.colour.colour_by_numbers.Goals as goal
+
+pub returns-in_err-name : goal.returns-in_err-name
+returns-in_err-name c = rw (c.from_residual.ensures) (no_colon c.args.bytes.now c.in_err-name.ensures)
+
+pub returns-in_err-kind : goal.returns-in_err-kind
+returns-in_err-kind c = rw (c.from_residual-in_err-kind.ensures) (no_kind c.args.bytes.now _ _ c.in_ok-name.ensures c.in_err-kind.ensures)
+
+pub returns-in_err-grb-in-Direct : goal.returns-in_err-grb-in-Direct
+returns-in_err-grb-in-Direct c = rw (c.from_residual-in_err-grb-in-Direct.ensures) (no_numbers c.args.bytes.now _ _ kinds.Direct c.in_ok-name.ensures (c.in_ok-kind.ensures ∙ ap kind_name c.in-Direct.is) c.in_err-grb-in-Direct.ensures)
+
+pub returns-in_err-front-in-Front : goal.returns-in_err-front-in-Front
+returns-in_err-front-in-Front c = rw (c.from_residual-in_err-front-in-Front.ensures) (no_numbers c.args.bytes.now _ _ kinds.Front c.in_ok-name.ensures (c.in_ok-kind.ensures ∙ ap kind_name c.in-Front.is) c.in_err-front-in-Front.ensures)
+
+pub returns-in_err-front-in-Pair : goal.returns-in_err-front-in-Pair
+returns-in_err-front-in-Pair c = rw (c.from_residual-in_err-front-in-Pair.ensures) (no_numbers c.args.bytes.now _ _ kinds.Pair c.in_ok-name.ensures (c.in_ok-kind.ensures ∙ ap kind_name c.in-Pair.is) c.in_err-front-in-Pair.ensures)

@@ -1,0 +1,11 @@
+use Rattle.std.proofs.Common.{arith, codes, refl}
+use Rattle.nap_list.specs.declared.entry.Entry.TheVariants as entry
+use Rattle.nap_make.proofs.column.column.Goals as goal
+
+-- a bell's line begins with nothing
+pub returns : goal.returns
+returns c = record {
+  low = omega arith;
+  high = omega arith;
+  before = record { entry = entry.Bell; more = codes "BELL"; proper = record { in_range = tt; well_made = tt }; begins = refl };
+}

@@ -1,0 +1,7 @@
+use Rattle.std.specs.Fmt.{decimal}
+use Rattle.nap_list.specs.Range.{IsAddress}
+use Rattle.nap_make.proofs.LayoutLemmas.{reads_tried}
+use Rattle.nap_make.proofs.number.addr.Goals as goal
+
+pub returns : goal.returns
+returns c = reads_tried IsAddress decimal c.args.bytes.now c.in_ok-number.number c.try_new.result c.in_ok-number.ensures c.try_new.ensures.found c.try_new.ensures.value

@@ -1,0 +1,294 @@
+//! Where a line that is no entry's goes wrong.
+ghost use Rattle.std.specs.Prelude.{◌≤◌, IfOk, IsTrue, length};
+ghost use Rattle.nap_make.specs.Entries.{BeginsLine, Extends, TellsColumn};
+
+use crate::attribute::{colour_field, look_field, pel_field, pen_field, texture_field};
+use crate::choice::{char_set, cursor_kind, mask, plain_step};
+use crate::colour::grb;
+use crate::cut::{after, cut, is};
+use crate::name::Name;
+use crate::number::{addr, code, three_words, word};
+use crate::place::point;
+use crate::reading::read;
+use crate::shape::first_point;
+use nap_list::SHAPE_POINTS;
+use std::alloc::{AllocError, Global};
+
+/// What a field of a line has to be.
+#[derive(Clone, Copy, PartialEq, Eq, Debug, Drop)]
+enum Field {
+    Addr,
+    Aps,
+    Code,
+    Colour,
+    Cursor,
+    Look,
+    Mask,
+    Parts,
+    Pel,
+    Pen,
+    Point,
+    Set,
+    Step,
+    Texture,
+    Times,
+    Whole,
+    Word,
+}
+
+impl Field {
+    /// Whether bytes are such a field.
+    fn is_read(self, bytes: &[u8]) -> bool {
+        match self {
+            Field::Addr => addr(bytes).is_some(),
+            Field::Aps => is(bytes, b"APS"),
+            Field::Code => code(bytes).is_some(),
+            Field::Colour => colour_field(bytes).is_some(),
+            Field::Cursor => cursor_kind(bytes).is_some(),
+            Field::Look => look_field(bytes).is_some(),
+            Field::Mask => mask(bytes).is_some(),
+            Field::Parts => grb(bytes).is_some(),
+            Field::Pel => pel_field(bytes).is_some(),
+            Field::Pen => pen_field(bytes).is_some(),
+            Field::Point => point(bytes).is_some(),
+            Field::Set => char_set(bytes).is_some(),
+            Field::Step => plain_step(bytes).is_some(),
+            Field::Texture => texture_field(bytes).is_some(),
+            Field::Times => three_words(bytes).is_some(),
+            Field::Whole => is(bytes, b"whole"),
+            Field::Word => word(bytes).is_some(),
+        }
+    }
+}
+
+impl Field {
+    /// Such a field.
+    fn sample(self) -> &'static str {
+        match self {
+            Field::Addr | Field::Word => "0",
+            Field::Aps => "APS",
+            Field::Code => "20",
+            Field::Colour => "colour=own-start",
+            Field::Cursor => "off",
+            Field::Look => "text=0,0/small/----",
+            Field::Mask => "A",
+            Field::Parts | Field::Times => "0,0,0",
+            Field::Pel => "pel=0,0",
+            Field::Pen => "pen=start",
+            Field::Point => "0,0",
+            Field::Set => "primary",
+            Field::Step => "APB",
+            Field::Texture => "texture=0/none",
+            Field::Whole => "whole",
+        }
+    }
+}
+
+/// The fields of what lines and areas are drawn with.
+const INK: &[Field] = &[Field::Pel, Field::Colour, Field::Texture];
+
+/// The fields of a move of text, which has bytes of its own if it is APS.
+fn fields_of_move(rest: &[u8]) -> &'static [Field] {
+    if after(rest, b"APS ").is_some() {
+        return &[
+            Field::Aps,
+            Field::Code,
+            Field::Code,
+            Field::Pen,
+            Field::Colour,
+            Field::Look,
+        ];
+    }
+    &[Field::Step, Field::Pen, Field::Colour, Field::Look]
+}
+
+/// The fields of a field of the screen.
+fn fields_of_area(rest: &[u8]) -> &'static [Field] {
+    if after(rest, b"whole ").is_some() {
+        return &[Field::Whole, Field::Pen];
+    }
+    &[Field::Point, Field::Point, Field::Pen]
+}
+
+/// The fields behind a name, but for the points of a shape.
+fn fields_of(name: Name, rest: &[u8]) -> &'static [Field] {
+    match name {
+        Name::Point => &[Field::Point, Field::Pel, Field::Colour],
+        Name::Line | Name::RectOutlined | Name::RectFilled => &[
+            Field::Point,
+            Field::Point,
+            Field::Pel,
+            Field::Colour,
+            Field::Texture,
+        ],
+        Name::ArcOutlined | Name::ArcFilled | Name::PolyOutlined | Name::PolyFilled => INK,
+        Name::Char => &[
+            Field::Set,
+            Field::Code,
+            Field::Pen,
+            Field::Colour,
+            Field::Look,
+        ],
+        Name::Move => fields_of_move(rest),
+        Name::ToEol => &[Field::Pen, Field::Colour, Field::Look],
+        Name::Map => &[Field::Addr, Field::Parts],
+        Name::Blink => &[Field::Addr, Field::Times, Field::Colour],
+        Name::BlinkEnd | Name::BlinkStart | Name::BlinkStop => &[Field::Colour],
+        Name::Wait => &[Field::Word],
+        Name::Bell | Name::End => &[],
+        Name::Cursor => &[Field::Cursor],
+        Name::Field => fields_of_area(rest),
+        Name::Reset => &[Field::Word, Field::Word, Field::Pen],
+        Name::Clear => &[Field::Pen],
+        Name::Glyph => &[Field::Code],
+        Name::Mask => &[Field::Mask],
+    }
+}
+
+/// Points of a shape that has too few, and what it is drawn with.
+const POINTS: &[Field] = &[
+    Field::Point,
+    Field::Point,
+    Field::Point,
+    Field::Pel,
+    Field::Colour,
+    Field::Texture,
+];
+
+/// What isn't as it should be: how many bytes there are of it, and the fields that should stand there.
+#[derive(Clone, Copy, Drop)]
+struct Wrong {
+    /// How many bytes there are from where it begins.
+    size: usize,
+    /// The fields that should stand there.
+    fields: &'static [Field],
+}
+
+/// What isn't as it should be where these fields should stand.
+fn wrong_fields(fields: &'static [Field], bytes: &[u8]) -> Wrong
+    ensures { result.size ≤ length bytes.now }
+{
+    let mut rest = bytes;
+    for (place, field) in fields.iter().enumerate() {
+        let wrong = Wrong {
+            size: rest.len(),
+            fields: &fields[place..],
+        };
+        if place + 1 == fields.len() {
+            return wrong;
+        }
+        match cut(rest, b' ') {
+            Some((text, more)) => {
+                if !field.is_read(text) {
+                    return wrong;
+                }
+                rest = more;
+            }
+            None => return wrong,
+        }
+    }
+    Wrong {
+        size: rest.len(),
+        fields: &[],
+    }
+}
+
+/// What isn't as it should be behind the name of a shape that has at least so many points.
+fn wrong_shape(least: usize, rest: &[u8]) -> Wrong
+    ensures { result.size ≤ length rest.now }
+{
+    let mut left = rest;
+    for count in 0..SHAPE_POINTS {
+        match first_point(left) {
+            Some(next) => left = next.1,
+            None => {
+                if count < least {
+                    return Wrong {
+                        size: left.len(),
+                        fields: POINTS,
+                    };
+                }
+                return wrong_fields(INK, left);
+            }
+        }
+    }
+    wrong_fields(INK, left)
+}
+
+/// What isn't as it should be behind a name and its space.
+fn wrong_behind(name: Name, rest: &[u8]) -> Wrong
+    ensures { result.size ≤ length rest.now }
+{
+    match name {
+        Name::ArcOutlined | Name::ArcFilled => wrong_shape(3, rest),
+        Name::PolyOutlined | Name::PolyFilled => wrong_shape(2, rest),
+        _ => wrong_fields(fields_of(name, rest), rest),
+    }
+}
+
+/// What isn't as it should be of a line.
+fn wrong_part(bytes: &[u8]) -> Wrong
+    ensures { result.size ≤ length bytes.now }
+{
+    match cut(bytes, b' ') {
+        Some((name, rest)) => match Name::of(name) {
+            Some(Name::Bell | Name::End) => Wrong {
+                size: rest.len() + 1,
+                fields: &[],
+            },
+            Some(name) => wrong_behind(name, rest),
+            None => Wrong {
+                size: bytes.len(),
+                fields: &[],
+            },
+        },
+        None => Wrong {
+            size: bytes.len(),
+            fields: &[],
+        },
+    }
+}
+
+/// These bytes, and such fields behind them.
+fn completed(alloc: Global, front: &[u8], fields: &[Field]) -> Result<Vec<u8>, AllocError>
+    ensures { IfOk result (λ text. Extends front.now text.items) }
+{
+    let mut text = Vec::new(alloc);
+    text.extend_from_slice(front)?;
+    let Some((last, others)) = fields.split_last() else {
+        return Ok(text);
+    };
+    for field in others {
+        text.extend_from_slice(field.sample().as_bytes())?;
+        text.extend_from_slice(b" ")?;
+    }
+    text.extend_from_slice(last.sample().as_bytes())?;
+    Ok(text)
+}
+
+/// Whether a line that has such fields behind these bytes is an entry's.
+fn begins_line(alloc: Global, front: &[u8], fields: &[Field]) -> bool
+    ensures { IsTrue result → BeginsLine front.now }
+{
+    match completed(alloc, front, fields) {
+        Ok(text) => match read(alloc, text.as_slice()) {
+            Ok(Some(_)) => true,
+            Ok(None) => false,
+            Err(_) => false,
+        },
+        Err(_) => false,
+    }
+}
+
+/// The column, from one on, of the first field of a line that isn't as it should be, so that what is before it begins an
+/// entry's line.
+pub(crate) fn column(alloc: Global, bytes: &[u8]) -> usize
+    ensures { TellsColumn bytes.now result }
+{
+    let wrong = wrong_part(bytes);
+    let right = bytes.len() - wrong.size;
+    if begins_line(alloc, &bytes[..right], wrong.fields) {
+        return right + 1;
+    }
+    1
+}

@@ -1,0 +1,13 @@
+//! Laws of lines, as contracts of functions that do nothing.
+ghost use Rattle.nap_make.specs.Laws.{LineTellsEntry, LinesAreBounded, LinesTellLists};
+
+/// Entries in range that have equal lines are equal, and so are lists of them.
+pub fn lines_tell_apart()
+    ensures entries { LineTellsEntry }
+    ensures lists { LinesTellLists }
+{}
+
+/// No line of a well-made entry in range has more than 32,112 bytes.
+pub fn lines_are_bounded()
+    ensures { LinesAreBounded }
+{}

@@ -1,0 +1,21 @@
+//! Entries of a display list by their lines.
+#![tactic(auto)]
+
+mod attribute;
+mod choice;
+mod colour;
+mod column;
+mod cut;
+mod entry;
+mod fault;
+mod kind;
+pub mod laws;
+mod look;
+mod name;
+mod number;
+mod place;
+mod reading;
+mod shape;
+
+pub use entry::entry_of_line;
+pub use fault::LineFault;

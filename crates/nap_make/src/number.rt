@@ -1,0 +1,167 @@
+//! Numbers.
+ghost use Rattle.std.specs.Prelude.{◌≡◌, ◌≢◌, ◌<◌, ◌≤◌, ◌∷◌, ℕ, negsuc, pos, suc, MatchOption, decimal};
+ghost use Rattle.std.specs.Char.{digit_char};
+ghost use Rattle.std.specs.Fmt.{signed_decimal};
+ghost use Rattle.nap_values.specs.Laws.{IsWord};
+ghost use Rattle.nap_list.specs.Entry.{IsCode};
+ghost use Rattle.nap_list.specs.Range.{IsAddress};
+ghost use Rattle.nap_lines.specs.Lines.{code_text};
+ghost use Rattle.nap_make.specs.Numbers.{IsShort, IsNumeralOf, IsSigned, IsNibble};
+ghost use Rattle.nap_make.specs.Reading.{WritesNone, Reads, Both, pair_text};
+
+use crate::cut::cut;
+use nap_values::{Addr, Word};
+
+/// The most digits of a number.
+const DIGITS: usize = 8;
+
+/// A displacement goes less far than this up and to the right, and no farther down and to the left.
+const FAR: u32 = 8_388_608;
+
+/// Each word is below this.
+const WORDS: u32 = Word::LIMIT as u32;
+
+/// The number that a few digits write.
+fn numeral(digits: &[u8]) -> Option<u32>
+    ensures { MatchOption result (WritesNone IsShort decimal digits.now) (IsNumeralOf digits.now) }
+{
+    if digits.len() == 0 {
+        return None;
+    }
+    if digits.len() > DIGITS {
+        return None;
+    }
+    let mut value: u32 = 0;
+    for digit in digits {
+        if !digit.is_ascii_digit() {
+            return None;
+        }
+        value = value * 10 + u32::from(*digit - b'0');
+    }
+    Some(value)
+}
+
+/// The number that is written so, below the limit.
+pub(crate) fn number_below(digits: &[u8], limit: u32) -> Option<u32>
+    requires { limit ≤ 100000000 }
+    ensures { Reads (λ n. n < limit) decimal digits.now result }
+{
+    let value = numeral(digits)?;
+    if value >= limit {
+        return None;
+    }
+    if digits[0] != b'0' {
+        return Some(value);
+    }
+    if digits.len() == 1 {
+        return Some(value);
+    }
+    None
+}
+
+/// The number below zero that is written so behind its minus.
+fn negative(digits: &[u8]) -> Option<i32>
+    ensures { MatchOption result ((n : ℕ) → IsSigned (negsuc n) → digits.now ≢ decimal (suc n)) (λ z. IsSigned z × (45 ∷ digits.now ≡ signed_decimal z)) }
+{
+    let size = number_below(digits, FAR + 1)?;
+    if size == 0 {
+        return None;
+    }
+    Some(-(size as i32))
+}
+
+/// The number that is written so, without a sign.
+fn positive(digits: &[u8]) -> Option<i32>
+    ensures { MatchOption result ((n : ℕ) → IsSigned (pos n) → digits.now ≢ decimal n) (λ z. IsSigned z × (digits.now ≡ signed_decimal z)) }
+{
+    let size = number_below(digits, FAR)?;
+    Some(size as i32)
+}
+
+/// The number of 24 bits that is written so, with a minus if it is below zero.
+pub(crate) fn signed(bytes: &[u8]) -> Option<i32>
+    ensures { Reads IsSigned signed_decimal bytes.now result }
+{
+    if bytes.len() == 0 {
+        return None;
+    }
+    if bytes[0] != b'-' {
+        return positive(bytes);
+    }
+    negative(&bytes[1..])
+}
+
+/// The word that is written so.
+pub(crate) fn word(bytes: &[u8]) -> Option<Word>
+    ensures { Reads IsWord decimal bytes.now result }
+{
+    let number = number_below(bytes, WORDS)?;
+    Word::try_new(number as u8)
+}
+
+/// Two words with a comma between them.
+pub(crate) fn two_words(bytes: &[u8]) -> Option<(Word, Word)>
+    ensures { Reads (Both IsWord IsWord) (pair_text decimal 44 decimal) bytes.now result }
+{
+    let (first, second) = cut(bytes, b',')?;
+    let first = word(first)?;
+    let second = word(second)?;
+    Some((first, second))
+}
+
+/// Three words with commas between them.
+pub(crate) fn three_words(bytes: &[u8]) -> Option<(Word, (Word, Word))>
+    ensures { Reads (Both IsWord (Both IsWord IsWord)) (pair_text decimal 44 (pair_text decimal 44 decimal)) bytes.now result }
+{
+    let (first, others) = cut(bytes, b',')?;
+    let first = word(first)?;
+    let others = two_words(others)?;
+    Some((first, others))
+}
+
+/// The address of the colour map that is written so.
+pub(crate) fn addr(bytes: &[u8]) -> Option<Addr>
+    ensures { Reads IsAddress decimal bytes.now result }
+{
+    let number = number_below(bytes, Addr::LIMIT)?;
+    Addr::try_new(number)
+}
+
+/// Two addresses with a comma between them.
+pub(crate) fn two_addrs(bytes: &[u8]) -> Option<(Addr, Addr)>
+    ensures { Reads (Both IsAddress IsAddress) (pair_text decimal 44 decimal) bytes.now result }
+{
+    let (first, second) = cut(bytes, b',')?;
+    let first = addr(first)?;
+    let second = addr(second)?;
+    Some((first, second))
+}
+
+/// The value of a lower-case hexadecimal digit.
+fn nibble(digit: u8) -> Option<u8>
+    ensures { MatchOption result ((d : ℕ) → IsNibble d → digit ≢ digit_char d) (λ d. IsNibble d × (digit ≡ digit_char d)) }
+{
+    match digit {
+        b'0'..=b'9' => Some(digit - b'0'),
+        b'a'..=b'f' => Some(digit - b'a' + 10),
+        _ => None,
+    }
+}
+
+/// The code of a character, from `20` to `7F`, that is written so.
+pub(crate) fn code(bytes: &[u8]) -> Option<u8>
+    ensures { Reads IsCode code_text bytes.now result }
+{
+    if bytes.len() != 2 {
+        return None;
+    }
+    let high = nibble(bytes[0])?;
+    let low = nibble(bytes[1])?;
+    if high < 2 {
+        return None;
+    }
+    if high > 7 {
+        return None;
+    }
+    Some(high * 16 + low)
+}
