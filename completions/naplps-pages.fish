@@ -5,6 +5,7 @@ complete -c naplps-pages -n __fish_use_subcommand -a list -d 'Print a line for e
 complete -c naplps-pages -n __fish_use_subcommand -a canon -d 'Print a canonical stream, or write those of pages to a folder'
 complete -c naplps-pages -n __fish_use_subcommand -a explain -d 'Show each entry next to its bytes, or why a page is refused'
 complete -c naplps-pages -n __fish_use_subcommand -a look -d 'Make a sketch of a page as SVG'
+complete -c naplps-pages -n __fish_use_subcommand -a play -d 'Make one HTML file that plays a page'
 complete -c naplps-pages -n __fish_use_subcommand -a text -d 'Print the text of pages'
 complete -c naplps-pages -n __fish_use_subcommand -a cures -d 'Try treatments that make a refused page readable'
 complete -c naplps-pages -n __fish_use_subcommand -a split -d 'Cut a capture into its pages, each a file'
@@ -15,16 +16,22 @@ complete -c naplps-pages -n __fish_use_subcommand -a equal -d 'Print groups of p
 complete -c naplps-pages -n __fish_use_subcommand -a refused -d 'Print refused pages by the reason'
 complete -c naplps-pages -n __fish_use_subcommand -a convert -d 'Write the canonical pages to a folder'
 complete -c naplps-pages -n __fish_use_subcommand -a status -d 'Say what was scanned when, and what is left to do'
+complete -c naplps-pages -n __fish_use_subcommand -a files -d 'Print each file with all that is known of it'
+complete -c naplps-pages -n __fish_use_subcommand -a find -d 'Find pages by their words, and print the lines'
 complete -c naplps-pages -n __fish_use_subcommand -a report -d 'Make one HTML file that shows what a scan found'
 complete -c naplps-pages -n __fish_use_subcommand -a serve -d 'Show it to browsers of this machine'
-complete -c naplps-pages -n '__fish_seen_subcommand_from check list cures split census equal refused convert status' -l json \
+complete -c naplps-pages -n '__fish_seen_subcommand_from check list cures split census equal refused convert status files find' -l json \
     -d 'Print JSON, an object on each line'
-complete -c naplps-pages -n '__fish_seen_subcommand_from equal refused convert status' -l csv -d 'Print the table as CSV'
-complete -c naplps-pages -n '__fish_seen_subcommand_from equal refused' -l null -d 'Print only names, each ended by NUL'
-complete -c naplps-pages -n '__fish_seen_subcommand_from canon look cures split scan convert report' -l into -r \
+complete -c naplps-pages -n '__fish_seen_subcommand_from equal refused convert status files find' -l csv -d 'Print the table as CSV'
+complete -c naplps-pages -n '__fish_seen_subcommand_from equal refused files find' -l null -d 'Print only names, each ended by NUL'
+complete -c naplps-pages -n '__fish_seen_subcommand_from canon look play cures split scan convert report' -l into -r \
     -d 'The folder or file to write into, or the store of a scan'
+complete -c naplps-pages -n '__fish_seen_subcommand_from explain report serve' -l full -d 'A row for each character'
 complete -c naplps-pages -n '__fish_seen_subcommand_from check list explain look text' -l after -r \
     -d 'A page that comes before'
+complete -c naplps-pages -n '__fish_seen_subcommand_from look' -l sheet -r -d 'Write one picture of all pages to this file'
+complete -c naplps-pages -n '__fish_seen_subcommand_from look' -l png -d 'Make PNG instead of SVG'
+complete -c naplps-pages -n '__fish_seen_subcommand_from look' -l past -d 'Draw also what stands behind a refusal, by guess'
 complete -c naplps-pages -n '__fish_seen_subcommand_from look' -l svg -r -d 'Write the sketch to this file'
 complete -c naplps-pages -n '__fish_seen_subcommand_from scan report' -l processes -x -d 'How many processes work'
 complete -c naplps-pages -n '__fish_seen_subcommand_from scan' -l on -r -d 'Work on Dask: the address or file of its scheduler'
@@ -32,17 +39,25 @@ complete -c naplps-pages -n '__fish_seen_subcommand_from scan' -l part -x -d 'Ta
 complete -c naplps-pages -n '__fish_seen_subcommand_from scan' -l most -x -d 'How many bytes a page may have'
 complete -c naplps-pages -n '__fish_seen_subcommand_from scan' -l again -d 'Read and ask all again'
 complete -c naplps-pages -n '__fish_seen_subcommand_from scan' -l cures -d 'Try treatments of refused pages'
+complete -c naplps-pages -n '__fish_seen_subcommand_from scan' -l words -d 'Keep the text of each page'
+complete -c naplps-pages -n '__fish_seen_subcommand_from files' -l kind -x -d 'Only this kind'
+complete -c naplps-pages -n '__fish_seen_subcommand_from files' -l refused -x -d 'Only this refusal or code, or any'
 complete -c naplps-pages -n '__fish_seen_subcommand_from merge' -l unfinished -d 'Join also what is not finished'
 complete -c naplps-pages -n '__fish_seen_subcommand_from equal' -l copies -d 'Also print groups of files with the same bytes'
+complete -c naplps-pages -n '__fish_seen_subcommand_from equal' -l treated \
+    -d 'Put copies treated around pages beside others'
+complete -c naplps-pages -n '__fish_seen_subcommand_from equal' -l guesses \
+    -d 'Also print groups of copies treated within'
 complete -c naplps-pages -n '__fish_seen_subcommand_from equal' -l verify -d 'Read all files again, and compare canonical bytes'
 complete -c naplps-pages -n '__fish_seen_subcommand_from refused' -l number -x -d 'Only this refusal'
 complete -c naplps-pages -n '__fish_seen_subcommand_from refused' -l reason -x -d 'Only this refusal or code'
-complete -c naplps-pages -n '__fish_seen_subcommand_from check list canon explain look text cures split census scan' -l budget -x \
+complete -c naplps-pages -n '__fish_seen_subcommand_from check list canon explain look play text cures split census scan' -l budget -x \
     -d 'How many bytes of macro bodies a page may be charged'
-complete -c naplps-pages -n '__fish_seen_subcommand_from check list canon explain look text cures split census scan equal convert report serve' \
+complete -c naplps-pages -n '__fish_seen_subcommand_from check list canon explain look play text cures split census scan equal convert report serve' \
     -l seconds -x \
     -d 'How many seconds the program may take for a page'
 complete -c naplps-pages -n '__fish_seen_subcommand_from report' -l sketches -x -d 'How many pages have a sketch'
+complete -c naplps-pages -n '__fish_seen_subcommand_from report' -l replace -d 'Put it in place of a report'
 complete -c naplps-pages -n '__fish_seen_subcommand_from report' -l all -d 'A sketch of each page'
 complete -c naplps-pages -n '__fish_seen_subcommand_from serve' -l port -x -d 'The port of 127.0.0.1'
 complete -c naplps-pages -s h -l help -d 'Print help'

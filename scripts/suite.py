@@ -125,7 +125,8 @@ OF_SOURCES = ("wrong-bodies", "citations", "repeated-clauses", "headline", "laun
 NO_PARTS = ("all", "program", "kept", "rows", "tools")
 # Those that take longest, longest first.
 LONG = (
-    "faults", "pages-packs", "pages-commands", "hostile", "pages-scans", "pages-collections", "batch", "pages-parts",
+    "faults", "pages-packs", "pages-commands", "hostile", "pages-scans", "pages-collections", "pages-player", "batch",
+    "pages-parts",
 )
 
 

@@ -36,7 +36,7 @@ def find(command: str) -> str:
     """The path of naplps for the command that stands at this path: NAPLPS, beside it, the sources', then PATH."""
     named = os.environ.get("NAPLPS")
     if named:
-        path = shutil.which(named)
+        path = shutil.which(named) if os.path.dirname(named) else on_path(named)
         if path is None:
             raise NoProgram(f"NAPLPS names no program: {named}")
         return os.path.abspath(path)
@@ -50,10 +50,15 @@ def find(command: str) -> str:
         path, why = _ask_launcher(launcher)
         if path:
             return path
-    found = shutil.which("naplps")
+    found = on_path("naplps")
     if found is not None:
         return os.path.abspath(found)
     raise NoProgram(why or "there is no program naplps: put it beside this command or on PATH, or name it in NAPLPS")
+
+
+def on_path(name: str) -> Optional[str]:
+    """A program by PATH. Folders of it that are the current one or below it don't count: anybody may fill them."""
+    return shutil.which(name, path=os.pathsep.join(filter(os.path.isabs, os.get_exec_path())))
 
 
 def _ask_launcher(launcher: str) -> Tuple[str, str]:

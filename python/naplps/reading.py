@@ -1,7 +1,7 @@
 """Reads entries from the lines that `naplps list` prints, as docs/PROFILE.md has them."""
 import re
 from functools import lru_cache
-from typing import Callable, Dict, Iterable, Iterator, List, Match, Pattern, Tuple
+from typing import Callable, Dict, Iterable, Iterator, List, Match, Pattern, Sequence, Tuple
 
 from .answers import MOST_DIGITS
 from .entry import (
@@ -23,6 +23,10 @@ _INK = f"{_PEL}{_COLOUR} texture=({_NUMBER}/(?:none|{_POINT}))"
 _HAND = f"{_PEN}{_COLOUR} text=({_NUMBER},{_NUMBER}/(?:{_SIZE})/[r-][u-][w-][s-])"
 _TWO = f" ({_POINT}) ({_POINT})"
 _SOME, _MORE = f"((?: {_POINT})+)", f"((?: {_POINT}){{3,}})"
+
+
+# What the lines of characters begin with.
+OFTEN = "CHAR "
 
 
 class NotALine(ValueError):
@@ -119,6 +123,11 @@ _KINDS: Dict[str, Tuple[Pattern[str], Callable[[Match[str]], Entry]]] = {
 
 def read_line(line: str) -> Entry:
     """The entry of a line, without its end. Raises NotALine."""
+    # (a page has the same letter in the same look again and again)
+    return _read_again(line) if line.startswith(OFTEN) else _read_line(line)
+
+
+def _read_line(line: str) -> Entry:
     known = _KINDS.get(line.partition(" ")[0])
     found = known[0].fullmatch(line) if known else None
     if known is None or found is None:
@@ -126,9 +135,34 @@ def read_line(line: str) -> Entry:
     return known[1](found)
 
 
+_read_again = lru_cache(maxsize=4096)(_read_line)
+
+
 def read(lines: Iterable[str]) -> Iterator[Entry]:
     """The entries of these lines."""
     return map(read_line, lines)
+
+
+class Entries:
+    """The entries of lines, each read where it is asked for first; those that were asked for by number are kept."""
+
+    def __init__(self, lines: Sequence[str]) -> None:
+        self.lines = lines
+        self._kept: Dict[int, Entry] = {}
+
+    def __len__(self) -> int:
+        return len(self.lines)
+
+    def __getitem__(self, number: int) -> Entry:
+        kept = self._kept.get(number)
+        if kept is None:
+            kept = self._kept[number] = read_line(self.lines[number])
+        return kept
+
+    def __iter__(self) -> Iterator[Entry]:
+        kept = self._kept
+        for number, line in enumerate(self.lines):
+            yield kept.get(number) or read_line(line)
 
 
 def placed(body: bytes) -> List[Tuple[int, str]]:

@@ -9,7 +9,7 @@ from naplps.reading import read_line
 from . import file_kinds
 from .console import Session, tell
 from .listing import command_of, rows_of
-from .new_files import into, make_folder, put
+from .new_files import make_folder, put_inside
 from .schema import answered, dumps
 from .source import Page
 
@@ -103,7 +103,7 @@ def canon(session: Session) -> int:
         if isinstance(answer, Refusal):
             _tell_refusal(session, page, answer)
         elif isinstance(answer, Accepted) and session.into is not None:
-            put(into(session.into, page.name), answer.body)
+            put_inside(session.path_for(page.name), answer.body)
         elif isinstance(answer, Accepted):
             session.output.bytes(answer.body)
     return session.each(work)

@@ -5,6 +5,7 @@ from typing import Iterator, List, Optional
 
 from naplps.answers import Accepted, Refusal, Unanswered
 from naplps.entry_json import Members
+from naplps.names import printable
 
 from .codes import Code, Cutter
 from .console import Session
@@ -23,7 +24,10 @@ ESCAPES = ("announcer", "designation of a C0 set", "designation of a C1 set", "s
 UNKNOWN_SET = "unknown set"
 EIGHTH_BIT, TRANSPARENT = "eighth bit", "SET COLOR without a colour"
 MOST_SHOWN = 5
-ESTIMATE = ("first: the refusal's own. The rest is an estimate, by a reading of codes that goes on behind the refusal.")
+# So many bytes behind the place of a refusal belong to its escape sequence.
+MOST_BEHIND = 64
+ESTIMATE = ("first: the refusal's own, which is exact. The rest is an estimate, by a reading of codes that goes on "
+            "behind the refusal.")
 
 
 @dataclass
@@ -49,11 +53,15 @@ class Census:
     def take(self, names: List[str]) -> None:
         """Counts a refused page, by the codes that stop it; the first is the refusal's own."""
         self.refused += 1
+        self.rows.setdefault(names[0], Row()).first += 1
+        self.note(names)
+
+    def note(self, names: List[str]) -> None:
+        """Notes the codes that stop a page."""
         for name, times in Counter(names).items():
             row = self.rows.setdefault(name, Row())
             row.times += times
             row.pages += 1
-            row.first += name == names[0]
             row.only += len(set(names)) == 1
 
     def sorted(self) -> List["tuple[str, Row]"]:
@@ -77,10 +85,15 @@ def census(session: Session) -> int:
             found.take([name for name in names if name])
     status = session.each(work)
     found.without = len(session.names) - found.accepted - found.refused
-    for line in [dumps(members(found))] if session.json else lines(found):
-        session.output.line(line)
-    session.output.flush()
+    show(session, found)
     return status
+
+
+def show(session: Session, found: Census) -> None:
+    """Prints a census."""
+    for line in [dumps(members(found))] if session.json else lines(found):
+        session.output.line(printable(line))
+    session.output.flush()
 
 
 def stops(data: Optional[bytes], answer: Refusal) -> List[str]:
@@ -106,6 +119,20 @@ def own_name(data: Optional[bytes], answer: Refusal) -> str:
     for code in _at(data, answer.place) if data is not None else ():
         return name_of(code, data or b"") or answer.fault
     return answer.fault
+
+
+def stop_of(data: bytes, answer: Refusal) -> Optional[str]:
+    """The name of the code that is refused, where the answer has neither that nor a fault that says as much."""
+    if answer.fault == "BadEscape":
+        start = data.rfind(b"\x1b", 0, answer.place + 1)
+        some = data[max(start, 0):answer.place + MOST_BEHIND]
+        code = next(Cutter(some).codes(), None)
+        if start >= 0 and code and code.end > answer.place - start:
+            return name_of(code, some)
+    if answer.fault == "BadEscape" or (answer.fault == "Missing" and data.startswith(b"\x3c", answer.place)):
+        name = own_name(data, answer)
+        return name if name != answer.fault else None
+    return None
 
 
 def _at(data: Optional[bytes], place: int) -> Iterator[Code]:
@@ -140,7 +167,7 @@ def lines(found: Census) -> Iterator[str]:
         yield "%-44s %8d %8d %8d %8d" % (name, row.first, row.pages, row.only, row.times)
     yield ESTIMATE
     if found.in_part:
-        yield f"{found.in_part} of the refused pages were read on in part alone."
+        yield f"{found.in_part} of the refused pages were read on in part, or not at all."
 
 
 def members(found: Census) -> Members:

@@ -12,32 +12,41 @@ from naplps.names import shown
 from naplps.program import NoProgram, find
 from naplps.version import VERSION
 
-from . import TOOL, answering, census, curing, explaining, refusals, showing, splitting
+from . import TOOL, answering, census, curing, explaining, playing, refusals, showing, splitting
 from .collection import commands as collection
+from .collection.every_file import ANY
 from .collection.part import MOST_PARTS, Part, read_part
+from .collection.pool import MOST_PROCESSES
 from .collection.printing import FORMS
+from .collection.store import is_store
 from .console import FAILED, WRONG_WORDS, Session, tell
 from .earlier import Earlier, read_earlier
 from .listing import MODEST
 from .new_files import NotWritten
+from .png import NoPng
 from .report import commands as reporting
 from .report.limits import MOST_SKETCHES, USUAL_SKETCHES
+from .sheet import MOST_PAGES
 from .source import Unread
 from .unexpected import told
 
 LEAST_SECONDS, MOST_SECONDS = 0.01, 1e6
-# Processes of a scan, and of a report.
-MOST_PROCESSES, MOST_DRAWING = 512, 64
+# Processes of a report.
+MOST_DRAWING = 64
 # The commands on a page after others; canon says why it can't be one of them.
 AFTER = ("check", "list", "canon", "explain", "look", "text")
 NO_CANON = ("not for canon: a canonical stream begins where nothing stands, so a page after others has none; `cat` "
             "joins pages to one that has")
+# The options that a session has.
+OPTIONS = ("json", "into", "svg", "full", "past", "png", "sheet")
 # The commands on pages whose answers may be as long as they are.
 AT_LENGTH = ("list", "canon")
 ON_PAGES: Dict[str, Callable[[Session], int]] = {
     "check": answering.check, "list": answering.list_entries, "canon": answering.canon, "explain": explaining.explain,
-    "look": showing.look, "text": showing.text, "cures": curing.cures, "split": splitting.split,
-    "census": census.census}
+    "look": showing.look, "play": playing.play, "text": showing.text, "cures": curing.cures,
+    "split": splitting.split, "census": census.census}
+# The commands on pages that take a store too.
+OF_STORES = ("look", "cures", "census")
 EPILOG = ("No file is overwritten. Status: 0 all pages are accepted, 1 some are refused, 2 the command line is wrong, "
           "3 something couldn't be read, asked or written. The program that is asked is the one that NAPLPS names, or "
           "naplps next to this command, or on PATH.")
@@ -45,6 +54,7 @@ OF_COLLECTIONS = ("Status: 0, or 1 if something couldn't be read, got no answer 
                   "wrong, 3 the store, the program or the output failed.")
 OF_REPORTS = ("Status: 0, or 1 if a page in the report has changed since it was scanned, 2 the command line is wrong, "
               "3 the store, the program or the output failed.")
+FULL_HELP = "a row for each character, also where letters of one look follow each other"
 FORM_HELP = {"json": "print JSON, an object on each line", "csv": "print the table as CSV",
              "null": "print only names, each ended by NUL"}
 
@@ -102,6 +112,11 @@ def reason(text: str) -> refusals.Reason:
         raise argparse.ArgumentTypeError(
             f"a refusal or a code, not {text!r}: {_refusals()}; the codes of LeftOut are {codes}")
     return found
+
+
+def reason_or_any(text: str) -> refusals.Reason:
+    """The same, or any refusal."""
+    return ANY if text == "any" else reason(text)
 
 
 def _refusals() -> str:
@@ -169,16 +184,26 @@ def parser() -> Parser:
 def _page_options(one: Parser) -> None:
     """The options of a command on pages."""
     title = one.prog.split()[-1]
-    one.add_argument("pages", metavar="PAGE", nargs=1 if title == "explain" else "+", type=name,
-                     help="a file, PACK!MEMBER for a member of a pack, or - for standard input")
+    one.add_argument("pages", metavar="PAGE", nargs=1 if title in ("explain", "play") else "+", type=name,
+                     help="a file, PACK!MEMBER for a member of a pack, or - for standard input" + (
+                         "; or a STORE, for the files that it has" if title in OF_STORES else ""))
     if title in ("check", "list", "cures", "split", "census"):
         one.add_argument("--json", action="store_true", help="print JSON, an object on each line")
     where: Any = one.add_mutually_exclusive_group() if title == "look" else one
     if title in ("canon", "look", "cures", "split"):
         where.add_argument("--into", metavar="FOLDER", type=name, required=title == "split",
                            help="make a file for each page in this folder")
+    if title == "play":
+        one.add_argument("--into", metavar="FILE", type=name, required=True, help="the file that is made")
     if title == "look":
         where.add_argument("--svg", metavar="FILE", type=name, help="write the sketch of one page to this file")
+        where.add_argument("--sheet", metavar="FILE", type=name,
+                           help=f"write one picture of all pages, of {MOST_PAGES} at most, to this file")
+        one.add_argument("--png", action="store_true", help="make PNG instead of SVG, by rsvg-convert of librsvg")
+        one.add_argument("--past", action="store_true", help="of a refused page draw what stands behind the refusal "
+                         "too, by guess: hatched, and told as a guess")
+    if title == "explain":
+        one.add_argument("--full", action="store_true", help=FULL_HELP)
     if title in AFTER:
         one.add_argument("--after", metavar="PAGE", type=name, action="append", default=[],
                          help=NO_CANON if title == "canon" else "a page that comes before, whose macros, colours and "
@@ -202,7 +227,7 @@ def _scan_options(one: Parser) -> None:
     one.add_argument("--into", metavar="STORE", type=name, required=True,
                      help="the store: a file, which is made if there is none")
     where = one.add_mutually_exclusive_group()
-    where.add_argument("--processes", metavar="N", type=Number(1, MOST_PROCESSES), default=_processors(),
+    where.add_argument("--processes", metavar="N", type=Number(1, MOST_PROCESSES),
                        help="how many processes work; by default one for each processor")
     where.add_argument("--on", metavar="SCHEDULER", type=name,
                        help="let the workers of Dask work; its scheduler, by its address or by its file")
@@ -212,6 +237,7 @@ def _scan_options(one: Parser) -> None:
                      help="take only one of N parts of the files, the first of which is 0/N")
     one.add_argument("--again", action="store_true", help="read all files and ask about all pages again")
     one.add_argument("--cures", action="store_true", help="try treatments of refused pages")
+    one.add_argument("--words", action="store_true", help="keep the text of each page, for `find`")
     _asking_options(one)
 
 
@@ -227,6 +253,10 @@ def _equal_options(one: Parser) -> None:
     one.add_argument("stores", metavar="STORE", nargs="+", type=name,
                      help="a file that `scan` made, or several, as those of the parts of a scan")
     one.add_argument("--copies", action="store_true", help="also print groups of files with the same bytes")
+    one.add_argument("--treated", action="store_true",
+                     help="put copies that were treated around their pages beside others, as `scan --cures` found them")
+    one.add_argument("--guesses", action="store_true",
+                     help="the same, and also print groups of copies that were treated within, which are guesses")
     one.add_argument("--verify", action="store_true", help="read all files again, and compare canonical bytes")
     _form_options(one, FORMS[1:])
     _asking_options(one, budget=False)
@@ -238,8 +268,8 @@ def _refused_options(one: Parser) -> None:
     which.add_argument("--number", metavar="N", type=refusal,
                        help="only the refusal with this number, as in `refused 10 Outside`")
     which.add_argument("--reason", metavar="REASON", type=reason,
-                       help="only this refusal, by its number or name, or only this code that is left out, by its "
-                       "name or bytes, as SDC or 1A")
+                       help="only this refusal, by its number or name, or only this code, by its name or bytes, as "
+                       "SDC, 1A or 1B22")
     _form_options(one, FORMS[1:])
 
 
@@ -255,10 +285,28 @@ def _status_options(one: Parser) -> None:
     _form_options(one, FORMS[1:3])
 
 
+def _files_options(one: Parser) -> None:
+    _store_option(one)
+    one.add_argument("--kind", metavar="KIND", type=name,
+                     help="only pages of this kind, page, text or blank; or refused files that look so, as GIF")
+    one.add_argument("--refused", metavar="REASON", type=reason_or_any,
+                     help="only refused files: by number, name or code, as `refused --reason`; or any")
+    _form_options(one, FORMS[1:])
+
+
+def _find_options(one: Parser) -> None:
+    one.add_argument("words", metavar="WORD", nargs="+", type=name,
+                     help="a word, which stands for all that begin so; or words between quotes, in their order")
+    _store_option(one)
+    _form_options(one, FORMS[1:])
+
+
 def _report_options(one: Parser) -> None:
     _store_option(one)
     _asking_options(one, budget=False)
     one.add_argument("--into", metavar="FILE", type=name, required=True, help="the file that is made")
+    one.add_argument("--replace", action="store_true", help="put it in place of a report that is there")
+    one.add_argument("--full", action="store_true", help=FULL_HELP)
     some = one.add_mutually_exclusive_group()
     some.add_argument("--sketches", metavar="N", type=Number(0, MOST_SKETCHES), default=USUAL_SKETCHES,
                       help=f"how many pages have a sketch in it; the default is {USUAL_SKETCHES}")
@@ -273,6 +321,7 @@ def _serve_options(one: Parser) -> None:
     _asking_options(one, budget=False)
     one.add_argument("--port", metavar="N", type=Number(0, 65535), default=0,
                      help="the port of 127.0.0.1; by default a free one")
+    one.add_argument("--full", action="store_true", help=FULL_HELP)
 
 
 def _store_option(one: Parser) -> None:
@@ -286,14 +335,6 @@ def _form_options(one: Parser, forms: Tuple[str, ...]) -> None:
                           help=FORM_HELP[form])
 
 
-def _processors() -> int:
-    try:
-        number = len(os.sched_getaffinity(0))
-    except AttributeError:  # (not all systems have it)
-        number = os.cpu_count() or 1
-    return min(number, MOST_PROCESSES)
-
-
 COMMANDS = {
     "check": Command("say whether pages are accepted, or why not", EPILOG, _page_options),
     "list": Command("print a line for each entry of the pages", EPILOG, _page_options),
@@ -303,6 +344,7 @@ COMMANDS = {
                        _page_options),
     "look": Command("make a sketch of a page as SVG: print it, or write it to a file or a folder", EPILOG,
                     _page_options),
+    "play": Command("make one HTML file that plays a page as it came down the line", EPILOG, _page_options),
     "text": Command("print the text of pages", EPILOG, _page_options),
     "cures": Command("try treatments that make a refused page readable", EPILOG, _page_options),
     "split": Command("cut a capture into its pages, each a file in a folder", EPILOG, _page_options),
@@ -315,8 +357,21 @@ COMMANDS = {
     "convert": Command("write the canonical pages to a folder, named by their hashes", OF_COLLECTIONS,
                        _convert_options),
     "status": Command("say what was scanned when, and what is left to do", OF_COLLECTIONS, _status_options),
+    "files": Command("print each file with all that is known of it", OF_COLLECTIONS, _files_options),
+    "find": Command("find pages by their words, and print the lines", OF_COLLECTIONS, _find_options),
     "report": Command("make one HTML file that shows what a scan found", OF_REPORTS, _report_options),
     "serve": Command("show what a scan found to browsers of this machine", OF_REPORTS, _serve_options)}
+
+
+def _check_output(given: argparse.Namespace, pages: List[str]) -> None:
+    """Exits where the options don't say where what is made of all pages goes."""
+    svg, sheet = getattr(given, "svg", None), getattr(given, "sheet", None)
+    if len(pages) > 1 and getattr(given, "into", None) is None and not sheet:
+        given.parser.error(f"several pages need --into FOLDER{' in place of --svg' if svg else ''}")
+    if svg and given.png:
+        given.parser.error("--png and --svg exclude each other; --png prints, and > FILE keeps that")
+    if sheet and len(pages) > MOST_PAGES:
+        given.parser.error(f"a sheet has {MOST_PAGES} pages at most")
 
 
 def _given(words: List[str]) -> argparse.Namespace:
@@ -324,9 +379,8 @@ def _given(words: List[str]) -> argparse.Namespace:
     given = parser().parse_args(words)
     if given.command in ON_PAGES:
         pages: List[str] = given.pages
-        if len(pages) > 1 and getattr(given, "into", None) is None and given.command in ("canon", "look"):
-            instead = " in place of --svg" if getattr(given, "svg", None) else ""
-            given.parser.error(f"several pages need --into FOLDER{instead}")
+        if given.command in ("canon", "look"):
+            _check_output(given, pages)
         after: List[str] = getattr(given, "after", [])
         if given.command == "canon" and after:
             given.parser.error(f"--after is {NO_CANON}")
@@ -369,10 +423,15 @@ def _done(given: argparse.Namespace, command: str) -> int:
         return FAILED
     after: List[str] = getattr(given, "after", [])
     try:
-        session = Session(client, given.pages, getattr(given, "json", False), getattr(given, "into", None),
-                          getattr(given, "svg", None), read_earlier(after, given.seconds) if after else Earlier())
+        if given.command in OF_STORES and len(given.pages) == 1 and is_store(given.pages[0]):
+            if given.command == "look" and given.into is None:
+                given.parser.error("a store needs --into FOLDER")
+            return collection.of_store(given, client)
+        options = {name: value for name, value in vars(given).items() if name in OPTIONS}
+        session = Session(client, given.pages, **options,
+                          earlier=read_earlier(after, given.seconds) if after else Earlier())
         return ON_PAGES[given.command](session)
-    except (NotWritten, Unread) as error:
+    except (NotWritten, Unread, NoPng) as error:
         tell(str(error))
         return FAILED
     finally:

@@ -1,7 +1,8 @@
 """Standard output and standard error; and the run of a command on single pages, with its status."""
+import os
 import sys
 from dataclasses import dataclass, field
-from typing import IO, Callable, List, Optional, Sequence
+from typing import IO, Callable, Dict, List, Optional, Sequence
 
 from naplps.answers import NONSENSE, Answer, Refusal, Unanswered
 from naplps.client import Client
@@ -11,7 +12,8 @@ from naplps.reading import NotALine
 
 from . import TOOL
 from .earlier import Earlier, Heard, heard
-from .new_files import NotWritten
+from .new_files import NotWritten, below, make_folders
+from .png import NoPng
 from .schema import answered, dumps, unread
 from .source import Page, Unread, read
 from .unexpected import told
@@ -77,9 +79,15 @@ class Session:
     json: bool = False
     into: Optional[str] = None
     svg: Optional[str] = None
+    full: bool = False
+    past: bool = False
+    png: bool = False
+    sheet: Optional[str] = None
     earlier: Earlier = field(default_factory=Earlier)
     output: Output = field(default_factory=lambda: Output(sys.stdout.buffer))
     status: int = ACCEPTED
+    paths: Dict[str, str] = field(default_factory=dict)
+    reader: Callable[[str, float], Page] = read
 
     def fail(self, status: int) -> None:
         """Keeps the gravest status."""
@@ -94,6 +102,16 @@ class Session:
     def front(self, name: str) -> str:
         """What stands in front of the answer to a page: its name, where there are several."""
         return f"{shown(name)}: " if len(self.names) > 1 else ""
+
+    def path_for(self, name: str, ending: str = "") -> str:
+        """The path of the file for a page in the folder that is given, where folders are made. Raises NotWritten."""
+        assert self.into is not None
+        if name not in self.paths:
+            self.paths.update(below(self.names))
+        path = self.paths[name] + ending
+        if os.path.dirname(path):
+            make_folders(self.into, path)
+        return os.path.join(self.into, path)
 
     def answered(self, page: Page, answer: Answer) -> bool:
         """Keeps the status of an answer, and tells where there is none; whether there is one."""
@@ -113,7 +131,7 @@ class Session:
         for name in self.names:
             page: Optional[Page] = None
             try:
-                page = read(name, self.program.limits.seconds)
+                page = self.reader(name, self.program.limits.seconds)
                 work(page)
             except (OutputLost, BrokenPipeError):
                 raise
@@ -121,6 +139,8 @@ class Session:
                 self._without(name, unread(name, str(error)), more)
             except NotALine:
                 self._without(name, answered(name, Unanswered(NONSENSE)), more)
+            except NoPng as error:
+                self.complain(name, str(error))
             except NotWritten as error:
                 tell(str(error))
                 self.fail(FAILED)

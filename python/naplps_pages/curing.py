@@ -2,6 +2,7 @@
 import datetime
 import hashlib
 import json
+import os
 from typing import Dict, List, Optional
 
 from naplps.answers import Accepted, Answer, Refusal, Unanswered
@@ -15,12 +16,14 @@ from naplps.version import VERSION
 
 from . import TOOL
 from .console import Session
-from .new_files import into, make_folder, put, require_free
+from .new_files import make_folder, put_inside, require_free
 from .schema import answered, dumps
 from .source import Page
 
 WARNING = ("The copy is another page. That it is equal to the original, or draws what was meant there, isn't claimed; "
            "keep the original.")
+# A note that is there already is read if it is no more than so many times as long as the tool's own.
+MOST_SPACED = 4
 GUESS = "The copy is a guess: codes of the page were taken or rewritten whose whole effect isn't certain. "
 
 
@@ -40,7 +43,7 @@ def cures(session: Session) -> int:
             cure = search.find(page.data, answer.place)
         _report(session, page, answer, cure, search.unsure)
         if cure and isinstance(answer, Refusal) and session.into is not None:
-            _write(session, session.into, page, answer, cure)
+            _write(session, page, answer, cure)
     return session.each(work, more=("cure", "unsure"))
 
 
@@ -102,15 +105,15 @@ def _bytes(data: bytes) -> Members:
     return {"bytes": len(data), "sha256": hashlib.sha256(data).hexdigest()}
 
 
-def _write(session: Session, folder: str, page: Page, answer: Refusal, cure: Cure) -> None:
+def _write(session: Session, page: Page, answer: Refusal, cure: Cure) -> None:
     """Writes the treated copy, and before it, beside it, where it comes from."""
-    path, data = into(folder, page.name), cure.treated.data
+    path, data = session.path_for(page.name), cure.treated.data
     note = path + ".json"
     members = _provenance(session, page, answer, cure)
     require_free(path, data)
     if not _tells_the_same(note, members):
-        put(note, (json.dumps(members, indent=2) + "\n").encode("ascii"))
-    put(path, data)
+        put_inside(note, _as_note(members))
+    put_inside(path, data)
     if not session.json:
         session.output.line(f"{session.front(page.name)}written: {shown(path)}, and {shown(note)}")
 
@@ -128,11 +131,17 @@ def _provenance(session: Session, page: Page, answer: Refusal, cure: Cure) -> Me
     return members
 
 
+def _as_note(members: Members) -> bytes:
+    return (json.dumps(members, indent=2) + "\n").encode("ascii")
+
+
 def _tells_the_same(note: str, members: Members) -> bool:
-    """Whether there is such a note already, of an earlier time: then that stays."""
+    """Whether there is such a note already, of an earlier time: then that stays, also if it is spaced otherwise."""
     try:
+        if not os.path.isfile(note) or os.path.getsize(note) > MOST_SPACED * len(_as_note(members)):
+            return False
         with open(note, encoding="ascii") as file:
             there = json.load(file)
         return bool(there == {**members, "time": there["time"]})
-    except (OSError, ValueError, KeyError, TypeError):
+    except (OSError, ValueError, KeyError, TypeError, RecursionError):
         return False

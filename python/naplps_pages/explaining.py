@@ -12,6 +12,7 @@ from naplps.names import quoted, shown
 from .cases import case_of
 from .codes import Code, cut
 from .console import Session
+from .folding import MOST_IN_ROW, folded, goes_on
 from .listing import Row as Placed
 from .refusals import PAGE, text_of
 from .source import Page
@@ -23,6 +24,8 @@ OF_CONTROLS = ("CHAR", "MOVE", "TO-EOL", "BELL", "CLEAR", "CURSOR", "BLINK-START
 
 # Codes of which many may stand behind each other, and bring nothing.
 WITHOUT_EFFECT = ("NUL", "control without effect")
+# The name of characters that have one row.
+CHARACTERS = "characters"
 # The name of what stands behind the codes that are cut: a page of very many is shown up to there.
 REST = "the rest, which isn't cut"
 
@@ -47,7 +50,7 @@ def explain(session: Session) -> int:
         if not session.answered(page, answer) or isinstance(answer, Unanswered):
             return
         session.output.line(f"{shown(page.name)}: {answer.line}")
-        for line in _before(page, answer, every.rows, session.earlier.data):
+        for line in _before(page, answer, every.rows, session.earlier.data, session.full):
             session.output.line(line)
         if isinstance(answer, Refusal):
             for line in _reasons(page, answer, session.earlier.data):
@@ -56,10 +59,11 @@ def explain(session: Session) -> int:
 
 
 def _before(page: Page, answer: Union[Accepted, Refusal], entries: Optional[List[Placed]],
-            earlier: bytes) -> Iterator[str]:
+            earlier: bytes, is_full: bool) -> Iterator[str]:
     """The rows of an accepted page, or of a refused one up to the refusal; or why they aren't shown.
 
-    The entries are those of the earlier pages too.
+    The entries are those of the earlier pages too. Characters that differ in nothing but their letter have one row,
+    where all isn't asked for.
     """
     if page.data is None:
         yield "The page is longer than 16 MiB: its entries aren't shown."
@@ -73,8 +77,36 @@ def _before(page: Page, answer: Union[Accepted, Refusal], entries: Optional[List
     if place is not None:
         yield ""
         yield "What came before:" if rows else "Nothing came before."
-    for row in rows:
+    for row in rows if is_full else joined_characters(rows):
         yield from printed(row, page.data)
+
+
+def joined_characters(rows: Iterable[CodeRow]) -> Iterator[CodeRow]:
+    """The rows, of which those with characters that go on behind each other are one, and entries of one look too."""
+    waiting: Optional[CodeRow] = None
+    for row in rows:
+        if waiting is not None and _goes_on(waiting, row):
+            waiting = replace(waiting, end=row.end, name=CHARACTERS, lines=waiting.lines + row.lines)
+            continue
+        if waiting is not None:
+            yield _folded(waiting)
+        waiting = row
+    if waiting is not None:
+        yield _folded(waiting)
+
+
+def _goes_on(last: CodeRow, row: CodeRow) -> bool:
+    """Whether a row is a character that goes on behind the last one."""
+    return (len(last.lines) < MOST_IN_ROW and len(row.lines) == 1 and last.end == row.start and _is_character(row)
+            and (last.name == CHARACTERS or _is_character(last)) and goes_on(last.lines[-1], row.lines[0]))
+
+
+def _is_character(row: CodeRow) -> bool:
+    return len(row.lines) == 1 and (row.name == "space" or "character " in row.name)
+
+
+def _folded(row: CodeRow) -> CodeRow:
+    return replace(row, lines=[each.line for each in folded(row.lines)])
 
 
 def assigned(data: bytes, entries: List[Placed], stop: Optional[int]) -> List[CodeRow]:

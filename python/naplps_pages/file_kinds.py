@@ -1,4 +1,5 @@
 """What a file is, by its bytes and the answer: a page, text alone or blank; and what a refused file looks like."""
+import re
 from typing import IO, Iterable, Iterator, NamedTuple, Optional, Tuple
 
 from naplps.answers import Accepted, Answer, Refusal
@@ -10,6 +11,8 @@ PAGE, TEXT, BLANK = "page", "text", "blank"
 # So many bytes of a file are looked at for what it looks like.
 MOST_LOOKED_AT = 512
 MAC_HEADER = 128
+# In an accepted page they stand in the bodies of its macros alone.
+DEFINITION, BEGINNINGS = b"\x1b\x40", re.compile(rb"\x1f|\x1b[\x22\x25]")
 
 
 class Magic(NamedTuple):
@@ -35,6 +38,11 @@ MAGIC = tuple(Magic(offset, data, name) for offset, data, name in (
     (0, b"\xfe\xff", "text in UTF-16"), (0, b"SAUCE00", "SAUCE record")))
 
 
+# What files of all formats but those that are known further behind begin with.
+FRONTS = tuple({magic.data for magic in MAGIC if not magic.offset})
+BEHIND = tuple(magic for magic in MAGIC if magic.offset)
+
+
 class Description(NamedTuple):
     """The kind of an accepted page; or what a refused file looks like, where it is a format that is known here."""
 
@@ -56,9 +64,15 @@ def kind(pieces: Iterable[bytes], answer: Accepted) -> str:
     return PAGE if any(leading in piece for piece in pieces for leading in LEADING_ON) else TEXT
 
 
+def last_beginning(data: bytes) -> int:
+    """Where the last NSR, ESC 22 or ESC 25 of an accepted page stands; -1 where there is none."""
+    at = data.find(DEFINITION)
+    return max((found.start() for found in BEGINNINGS.finditer(data, at)), default=-1) if at >= 0 else -1
+
+
 def looks_like(beginning: bytes, length: int) -> Optional[str]:
     """The format of a file of this length that begins so."""
-    for magic in MAGIC:
+    for magic in MAGIC if beginning.startswith(FRONTS) else BEHIND:
         if beginning.startswith(magic.data, magic.offset):
             return magic.name
     return "MacBinary" if _is_mac_binary(beginning, length) else None

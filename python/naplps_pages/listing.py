@@ -1,11 +1,12 @@
 """The entries of a page with their places, where they are few enough to be shown."""
 from dataclasses import dataclass
+from functools import cached_property
 from typing import List, Optional, Tuple
 
 from naplps.answers import NONSENSE, Accepted, Answer, Refusal, Unanswered
 from naplps.client import Client
 from naplps.limits import MOST_LISTED, Limits
-from naplps.reading import placed
+from naplps.reading import Entries, placed
 
 from .source import Page
 
@@ -22,10 +23,15 @@ class Listed:
     answer: Answer
     rows: Optional[List[Row]] = None
 
-    @property
+    @cached_property
     def lines(self) -> Optional[List[str]]:
-        """The entries without their places."""
+        """The lines of the entries without their places."""
         return None if self.rows is None else [line for _, line in self.rows]
+
+    @cached_property
+    def entries(self) -> Optional[Entries]:
+        """The entries, each of which is read once. Reading one raises NotALine where a line isn't that of an entry."""
+        return None if self.lines is None else Entries(self.lines)
 
 
 def listed(program: Client, page: Page) -> Listed:

@@ -2,6 +2,7 @@
 import errno
 import os
 import tempfile
+from typing import Dict, Iterable
 
 from naplps.names import leaf, shown
 
@@ -14,18 +15,31 @@ class NotWritten(Exception):
 
 
 def put(path: str, data: bytes) -> None:
-    """Makes a file, whole or not at all. One that is there stays: it is a fault, but where it has the same bytes.
-
-    What is no file, as a device or a pipe, is written to.
-    """
+    """Makes a file that was named by itself. There, what is no file, as a device or a pipe, is written to."""
     try:
         if os.path.exists(path) and not os.path.isfile(path):
             with open(path, "wb") as device:
                 device.write(data)
             return
+    except OSError as error:
+        raise NotWritten(path, error.strerror or str(error)) from None
+    put_inside(path, data)
+
+
+def put_inside(path: str, data: bytes) -> None:
+    """Makes a file of a folder, whole or not at all. What is there stays: it is a fault, but a file of these bytes."""
+    try:
         _claim(path, data)
     except FileExistsError:
         require_free(path, data)
+    except OSError as error:
+        raise NotWritten(path, error.strerror or str(error)) from None
+
+
+def replace(path: str, data: bytes) -> None:
+    """Makes a file, whole or not at all, in place of one that may be there."""
+    try:
+        os.replace(_part(path, data), path)
     except OSError as error:
         raise NotWritten(path, error.strerror or str(error)) from None
 
@@ -83,9 +97,21 @@ def _has(path: str, data: bytes) -> bool:
         return False
 
 
-def into(folder: str, name: str, ending: str = "") -> str:
-    """The path of a file in a folder that is made of a page's name."""
-    return os.path.join(folder, leaf(name) + ending)
+def below(names: Iterable[str]) -> Dict[str, str]:
+    """For each name of a page the path of a file that is made of it: the name without the folder that all are in."""
+    paths = {name: os.path.abspath(name) for name in names if name != "-"}
+    common = os.path.commonpath([os.path.dirname(path) for path in paths.values()]) if paths else ""
+    return {"-": leaf("-"), **{name: os.path.relpath(path, common) for name, path in paths.items()}}
+
+
+def make_folders(folder: str, path: str) -> None:
+    """Makes the folders in which a path below a folder stands. Raises NotWritten where one of them is a link."""
+    parts = os.path.dirname(path).split(os.sep)
+    for number in range(1, len(parts) + 1):
+        each = os.path.join(folder, *parts[:number])
+        if os.path.islink(each):
+            raise NotWritten(each, "is a link, and isn't followed")
+        make_folder(each)
 
 
 def make_folder(folder: str) -> None:

@@ -14,6 +14,8 @@ HEAD = re.compile(r"(\d+) (\w+)(?: ([A-Z0-9-]+))?(?:, ([a-z ]+))?")
 CODES = {"18": "CAN", "1a": "SDC", "1f": "NSR", "1b42": "DEFT", "1b51": "EDC1", "1b52": "EDC2", "1b53": "EDC3",
          "1b54": "EDC4", "1b5f": "UNPROTECT", "39": "INCREMENTAL-POINT", "3a": "INCREMENTAL-LINE",
          "3b": "INCREMENTAL-POLY"}
+# An escape sequence that isn't read, by its bytes or the first of them, and the refusal that it is.
+SEQUENCE, ESCAPE = re.compile("1b([2-7][0-9a-f]){1,7}"), 2
 # What stands for the name of a page in a command.
 PAGE = "PAGE"
 
@@ -59,14 +61,16 @@ class Reason(NamedTuple):
 
 
 def reason_of(text: str) -> Optional[Reason]:
-    """The refusal of this number or name, or the code that is left out of this name or these bytes, as 1A or 0x18."""
+    """The refusal of this number or name, or the code of this name or these bytes, as SDC, 1A, 0x18 or 1B 22."""
     word = text.lower().replace(" ", "")
     bare = word[2:] if word.startswith("0x") else word
     for number, known in load().items():
         if word in (str(number), known.name.lower()):
             return Reason(number)
     found = [each for each in every() if each.code and (word == each.code.lower() or CODES.get(bare) == each.code)]
-    return Reason(found[0].number, found[0].code) if found else None
+    if found:
+        return Reason(found[0].number, found[0].code)
+    return Reason(ESCAPE, bytes.fromhex(bare).hex(" ").upper()) if SEQUENCE.fullmatch(bare) else None
 
 
 def text_of(number: int, code: str = "", case: str = "") -> RefusalText:

@@ -1,23 +1,31 @@
 """The commands look and text: what a page shows."""
+from typing import NamedTuple, Optional
+
 from naplps import drawing
 from naplps.answers import Accepted, Refusal
 from naplps.limits import MOST_LISTED
 from naplps.names import shown
 from naplps.page_text import lines_of
-from naplps.reading import read
+from naplps.reading import Entries
 
+from . import png
 from .console import Session, tell
+from .earlier import Heard
+from .guessing import Guesser
 from .listing import Listed
-from .new_files import into, make_folder, put
+from .new_files import make_folder, put, put_inside
+from .sheet import ContactSheet, Tile
 from .source import Page
 
+TOO_MUCH_COMES = "too many entries"
 
-def picture(told: Listed) -> drawing.Sketch:
-    """The sketch of a page that has this answer and these entries."""
-    answer, lines = told.answer, told.lines
-    said = f"then {answer.line}" if isinstance(answer, Refusal) else ""
-    if lines is not None:
-        return drawing.draw(lines, said)
+
+def picture(told: Listed, treated: str = "") -> drawing.Sketch:
+    """The sketch of a page that has this answer and these entries, of a copy that is treated so if it is one."""
+    answer, entries = told.answer, told.entries
+    said = f"then {answer.line}" if isinstance(answer, Refusal) else treated
+    if entries is not None:
+        return drawing.draw(entries, said)
     if isinstance(answer, Accepted):
         how = "" if answer.entries > MOST_LISTED else ", whose lines are too long"
         return drawing.empty(f"No sketch: the page has {answer.entries} entries{how}")
@@ -25,41 +33,99 @@ def picture(told: Listed) -> drawing.Sketch:
 
 
 def look(session: Session) -> int:
-    """A sketch of each page: printed, or put into a file or a folder."""
+    """A sketch of each page: printed, or put into a file or a folder; or one sheet of all."""
+    if session.png:
+        png.find()
     if session.into is not None:
         make_folder(session.into)
+    if session.sheet is not None:
+        return _sheet(session, session.sheet)
 
     def work(page: Page) -> None:
-        told, every = session.heard(page)
-        answer = told.answer
-        if not session.answered(page, answer):
+        heard = session.heard(page)
+        if not session.answered(page, heard.last.answer):
             return
-        drawn = picture(Listed(answer, every.rows)).svg.encode("utf-8")
-        if isinstance(answer, Refusal):
-            session.output.flush()
-            before = "; the sketch shows what comes before" if told.lines is not None else ""
-            tell(f"{shown(page.name)}: {answer.line}{before}")
+        made = _made(session, _drawn(session, page, heard).svg)
         if session.into is not None:
-            put(into(session.into, page.name, ".svg"), drawn)
+            put_inside(session.path_for(page.name, ".png" if session.png else ".svg"), made)
         elif session.svg is not None:
-            put(session.svg, drawn)
+            put(session.svg, made)
         else:
-            session.output.bytes(drawn)
+            session.output.bytes(made)
     return session.each(work)
+
+
+def _sheet(session: Session, path: str) -> int:
+    """One picture of all pages. Those without an answer are told, and not in it."""
+    sheet = ContactSheet()
+
+    def work(page: Page) -> None:
+        heard = session.heard(page)
+        answer = heard.last.answer
+        if session.answered(page, answer):
+            said = answer.line if isinstance(answer, (Accepted, Refusal)) else ""
+            told = _with_guess(session, page, heard)
+            drawn = None if told.entries is None else drawing.drawn(told.entries, "", told.guess, sheet.prefix())
+            said += "; then a guess" if told.guess else ""
+            sheet.add(Tile(shown(page.name), said if drawn or isinstance(answer, Refusal) else TOO_MUCH_COMES, drawn))
+    status = session.each(work)
+    put(path, _made(session, sheet.svg()))
+    return status
+
+
+def _made(session: Session, svg: str) -> bytes:
+    """The bytes of a picture, as SVG or as PNG."""
+    data = svg.encode("utf-8")
+    return png.png_of(data, session.program.limits.seconds) if session.png else data
+
+
+class _Shown(NamedTuple):
+    """The entries that are drawn, if they are few enough, and which of them are a guess."""
+
+    entries: Optional[Entries]
+    guess: Optional[drawing.Guess] = None
+
+
+def _with_guess(session: Session, page: Page, heard: Heard) -> _Shown:
+    """What is drawn of a page that was answered. A refusal is told, and what the sketch shows then."""
+    told, answer = Listed(heard.last.answer, heard.every.rows), heard.last.answer
+    if not isinstance(answer, Refusal):
+        return _Shown(told.entries)
+    first = len(session.earlier.data)
+    guessed = None
+    if session.past and page.data is not None:
+        guessed = Guesser(session.program, session.earlier.data + page.data).guess(heard.every)
+    session.output.flush()
+    shows = "; the sketch shows what comes before" if told.lines is not None else ""
+    if session.past:
+        shows += ", and hatched a guess of what stands behind" if guessed else "; what stands behind can't be read on"
+    tell(f"{shown(page.name)}: {answer.line}{shows}")
+    if guessed is None:
+        return _Shown(told.entries)
+    return _Shown(Entries(guessed.lines), drawing.Guess(guessed.start, guessed.said(first)))
+
+
+def _drawn(session: Session, page: Page, heard: Heard) -> drawing.Sketch:
+    """The sketch of a page that was answered."""
+    told = _with_guess(session, page, heard)
+    if told.guess is None or told.entries is None:
+        return picture(Listed(heard.last.answer, heard.every.rows))
+    answer = heard.last.answer
+    return drawing.draw(told.entries, f"then {answer.line}" if isinstance(answer, Refusal) else "", told.guess)
 
 
 def text(session: Session) -> int:
     """The text of each page."""
     def work(page: Page) -> None:
         told = session.heard(page).last
-        answer, lines = told.answer, told.lines
+        answer, entries = told.answer, told.entries
         if not session.answered(page, answer):
             return
-        if lines is None:
+        if entries is None:
             session.complain(page.name, "too much for its text to be asked")
             return
         front = session.front(page.name)
-        session.output.text("".join(front + line + "\n" for line in lines_of(read(lines))))
+        session.output.text("".join(front + line + "\n" for line in lines_of(entries)))
         if isinstance(answer, Refusal):
             session.output.flush()
             tell(f"{shown(page.name)}: {answer.line}; the text is what comes before")

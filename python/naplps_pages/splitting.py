@@ -13,7 +13,7 @@ from naplps.version import VERSION
 
 from . import TOOL
 from .console import FAILED, REFUSED, Session
-from .new_files import make_folder, put, require_free
+from .new_files import make_folder, put_inside, require_free
 from .schema import answered, dumps
 from .source import Page
 
@@ -59,8 +59,8 @@ def _write(session: Session, folder: str, page: Page, some: List[Piece]) -> None
             session.complain(path, answer.reason)
         note = _note(source, number, piece, data)
         require_free(path, data)
-        put(path + ".json", (json.dumps(note, indent=2) + "\n").encode("ascii"))
-        put(path, data)
+        put_inside(path + ".json", (json.dumps(note, indent=2) + "\n").encode("ascii"))
+        put_inside(path, data)
         _tell(session, path, piece, answer)
     if not session.json:
         session.output.line("%s%d pages: %d accepted, %d refused" % (

@@ -12,7 +12,8 @@ WORDS = ["--headless", "--no-sandbox", "--disable-gpu", "--hide-scrollbars", "--
          "--disable-background-networking", "--disable-component-update", "--disable-default-apps", "--mute-audio",
          "--host-resolver-rules=MAP * ~NOTFOUND, EXCLUDE 127.0.0.1", "--remote-debugging-pipe"]
 PATIENCE = 300
-KEYS = {"Enter": (13, "\r"), "Tab": (9, ""), "Escape": (27, ""), " ": (32, " "), "ArrowRight": (39, "")}
+KEYS = {"Enter": (13, "\r"), "Tab": (9, ""), "Escape": (27, ""), " ": (32, " "), "End": (35, ""), "Home": (36, ""),
+        "ArrowLeft": (37, ""), "ArrowRight": (39, ""), "ArrowDown": (40, "")}
 
 
 def _as_3_and_4(*pipes):
@@ -93,6 +94,7 @@ class Browser:
 
     def open(self, address, ready="document.body && document.body.dataset.ready"):
         """Opens a page, and waits until it says that it is ready."""
+        self.call("Page.navigate", url="about:blank")  # (or another part of the same page would be no new one)
         self.requests, self.referers, self.errors = [], [], []
         self.call("Page.navigate", url=address)
         self.until(ready)
@@ -116,8 +118,8 @@ class Browser:
         self.call("Emulation.setEmulatedMedia", media=media, features=features)
 
     def press(self, key, shift=False):
-        """Presses a key."""
-        code, text = KEYS[key]
+        """Presses a key: one of those with a name, or of a letter or a digit."""
+        code, text = KEYS.get(key) or (ord(key.upper()), key)
         words = {"key": key, "code": "Space" if key == " " else key, "windowsVirtualKeyCode": code,
                  "modifiers": 8 if shift else 0}
         self.call("Input.dispatchKeyEvent", type="keyDown", text=text, **words)

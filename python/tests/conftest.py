@@ -75,13 +75,15 @@ def run_as_nobody(naplps: str, tmp_path: pathlib.Path) -> Run:
     for name in ("naplps", "naplps_pages"):
         shutil.copytree(os.path.join(PACKAGES, name), copy / name, ignore=unwanted)
     shutil.copy(os.path.join(TOP, "VERSION"), copy / "naplps")
-    for source in (COMMAND, naplps):
-        shutil.copy(source, copy)
+    shutil.copy(COMMAND, copy)
+    program = copy / "program" / os.path.basename(naplps)
+    program.parent.mkdir()
+    shutil.copy(naplps, program)
     for folder in (tmp_path, *list(tmp_path.parents)[:2]):
-        folder.chmod(0o755)
+        folder.chmod(folder.stat().st_mode | 0o055)
     for path in (copy, *copy.rglob("*")):
         path.chmod(path.stat().st_mode | 0o444 | (0o111 if path.is_dir() or path.stat().st_mode & 0o100 else 0))
-    where = dict(os.environ, NAPLPS=str(copy / os.path.basename(naplps)))
+    where = dict(os.environ, NAPLPS=str(program))
 
     def runs(*words: str, cwd: Optional[str] = None) -> "subprocess.CompletedProcess[bytes]":
         return subprocess.run([str(copy / "naplps-pages"), *words], capture_output=True, cwd=cwd, env=where,

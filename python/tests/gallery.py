@@ -261,7 +261,7 @@ def skyline_relative() -> bytes:
 
 
 def signature() -> bytes:
-    """A letter that is signed by INCREMENTAL LINE, a code that isn't read: it is refused there."""
+    """A letter that is signed by INCREMENTAL LINE, a code that isn't read: it is refused there, amid the page."""
     page = PageWriter().clear().domain()
     page.rgb(0.93, 0.9, 0.8).rectangle(0.1, 0.05, 0.8, 0.68)
     page.rgb(0.15, 0.15, 0.3).at(0.15, 0.64, "DEAR READERS,", "normal")
@@ -269,6 +269,7 @@ def signature() -> bytes:
     for number, row in enumerate(rows):
         page.at(0.15, 0.55 - number * 0.06, row)
     page.to(0.2, 0.2).code(0x3A, page.place(0.01, 0.01) + bytes((0x55, 0x6A, 0x4F, 0x72, 0x5C, 0x61)))
+    page.rgb(0.7, 0.2, 0.15).rectangle(0.15, 0.155, 0.4, 0.008).at(0.15, 0.1, "your librarian")
     return page.made()
 
 

@@ -161,6 +161,21 @@ def junk(chance: Random, number: int) -> Old:
     return old("junk %s %d" % (name, number), data)
 
 
+def again(chance: Random, number: int, page: bytes) -> Old:
+    """A page that is there as it is too, in another form."""
+    name, data, *treatments = chance.choice((
+        ("tape", with_parity(page), "parity"), ("disk", dos_end(chance, page, chance.randrange(3)), "tail"),
+        ("art", sauce(page), "sauce"), ("wide", in_eight_bits(page), "eight-bit")))
+    return old("%s %d.nap" % (name, number), data, page, *treatments)
+
+
+def swallowed(chance: Random, number: int) -> Old:
+    """A page with the body of a macro that isn't ended before the next page: what begins that is in the body."""
+    one, other = picture(chance, number), writing(chance, number)
+    beginning = chance.choice((b"\x1f", b"\x1b\x22\x46", b"\x1b\x25\x41"))
+    return old("swallowed %d.nap" % number, one + b"\x1b\x40\x21" + beginning + other + b"\x1b\x45")
+
+
 # What formats junk is of, as it is told.
 LOOKS = {"gif": "GIF", "gz": "gzip", "pdf": "PDF", "doc": "OLE (an older Office file)", "zipped": "ZIP",
          "DS_Store": ".DS_Store", "exe": "program of DOS or Windows"}
@@ -181,4 +196,7 @@ def box(number: int = 3000, seed: int = 1983) -> List[Old]:
         some.append(old("copy %d.nap" % at, source.data))
         source = chance.choice(pictures)
         some.append(Old("spelling %d.nap" % at, respelled(chance, source.data), "spelling", source.data))
+        some.append(again(chance, at, chance.choice(pictures).data))
+        if at % 10 == 0:
+            some.append(swallowed(chance, at))
     return some

@@ -43,6 +43,9 @@ def held(path):
     """The table and the drawings that an HTML file holds."""
     with open(path, encoding="utf-8") as file:
         text = file.read()
-    found = re.findall(r'<script type="text/plain" (id="table"|class="block")>([A-Za-z0-9+/=]*)</script>', text)
-    values = [json.loads(zlib.decompress(base64.b64decode(data))) for _, data in found]
-    return values[0], values[1:]
+    parts = {name: [json.loads(zlib.decompress(base64.b64decode(data))) for data in re.findall(
+        '<script type="text/plain" %s>([A-Za-z0-9+/=]*)</script>' % name, text)]
+        for name in ('id="table"', 'class="block"', 'class="texts"')}
+    table, blocks, texts = parts.values()
+    left = iter([each for some in texts for each in some])
+    return table[0], [{**block, "text": [next(left) for _ in block["sketch"]]} for block in blocks]

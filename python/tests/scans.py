@@ -6,7 +6,7 @@ import time
 from typing import NamedTuple, Optional
 
 from conftest import COMMAND
-from naplps_pages.collection import tables
+from naplps_pages.collection import schemas, tables
 from naplps_pages.collection.part import keep_part, read_part
 from naplps_pages.collection.store import open_to_write
 from naplps_pages.collection.writer import Terms, Writer
@@ -73,12 +73,19 @@ class FileRow(NamedTuple):
     treatments: Optional[str] = None
     treated_entries: Optional[int] = None
     treated: Optional[bytes] = None
+    kind: Optional[int] = None
+    looks_like: Optional[str] = None
+    several: Optional[int] = None
+    grade: Optional[int] = None
+    treated_canon: Optional[bytes] = None
+    treated_size: Optional[int] = None
 
 
 def table(store, top=""):
     """The files of a store with their answers, as they are independent of runs, of numbers and of the top folder."""
     found = rows(store, "SELECT d.path, f.name, f.state, f.why, f.size, p.own, p.state, p.number, p.left_out, p.place, "
-                        "p.entries, p.canon, p.canon_size, p.why, c.treatments, c.entries, c.copy FROM files f "
+                        "p.entries, p.canon, p.canon_size, p.why, c.treatments, c.entries, c.copy, p.kind, "
+                        "p.looks_like, p.several, c.grade, c.canon, c.canon_size FROM files f "
                         "JOIN folders d ON d.id = f.folder LEFT JOIN pages p ON p.id = f.page "
                         "LEFT JOIN cures c ON c.page = p.id")
     cut = len(os.fsencode(top))
@@ -93,11 +100,13 @@ TABLES = {
     "runs": "SELECT ended IS NULL, tool, program, %s, files, asked FROM runs r" % TERMS % "r",
     "roots": "SELECT path, why FROM roots",
     "folders": "SELECT path, state, why, run = (SELECT max(id) FROM runs) FROM folders",
-    "pages": "SELECT own, state, number, left_out, place, entries, canon, canon_size, why, %s, run = "
-             "(SELECT max(id) FROM runs) FROM pages p" % TERMS % "p",
+    "pages": "SELECT own, state, number, left_out, place, entries, canon, canon_size, why, kind, looks_like, "
+             "several, stop, %s, run = (SELECT max(id) FROM runs) FROM pages p" % TERMS % "p",
     "faults": "SELECT number, name FROM faults",
-    "cures": "SELECT p.own, c.treatments, c.entries, c.copy, c.why, %s FROM cures c JOIN pages p ON p.id = c.page" %
-             TERMS % "c",
+    "cures": "SELECT p.own, c.treatments, c.entries, c.copy, c.why, c.grade, c.canon, c.canon_size, %s FROM cures c "
+             "JOIN pages p ON p.id = c.page" % TERMS % "c",
+    "texts": "SELECT p.own, t.source, t.text, t.first, t.why, %s FROM texts t JOIN pages p ON p.id = t.page" %
+             TERMS % "t",
     "files": "SELECT d.path, f.name, f.state, f.why, f.size, f.mtime_ns, f.ctime_ns, f.inode, p.own, f.run = "
              "(SELECT max(id) FROM runs) FROM files f JOIN folders d ON d.id = f.folder LEFT JOIN pages p "
              "ON p.id = f.page",
@@ -121,7 +130,7 @@ def written(store, root, found, terms=Terms("naplps", b"\0" * 32, "2", 1048576),
              for at, (name, answer) in enumerate(found)]
     writer.take((tuple(files), tuple(answer for _, answer in found)))
     writer.write()
-    connection.executescript(tables.INDICES)
+    connection.executescript(schemas.INDICES)
     writer.finish(len(files), len(files))
     if began:
         connection.execute("UPDATE runs SET began = ?", (began,))
@@ -134,7 +143,8 @@ def made_up(store, first, number, part=None):
     canon = [tables.hashed(b"canonical %d" % (at - 1 if at % 10 in (1, 7) else at))
              for at in range(first, first + number)]
     written(store, b"/archive", [
-        (b"p%09d.nap" % at, tables.Answered(one, tables.ACCEPTED, entries=165, canon=other, canon_size=1060))
+        (b"p%09d.nap" % at, tables.Answered(one, tables.ACCEPTED, entries=165, canon=other, canon_size=1060,
+                                         kind=tables.PAGE, several=0))
         for at, one, other in zip(range(first, first + number), own, canon)], part=read_part(part) if part else None)
 
 

@@ -3,6 +3,7 @@ import os
 import shutil
 import sqlite3
 
+from naplps_pages.collection import schemas
 from packers import pack
 from samples import OUTSIDE, POINT, SPELLED
 from scans import tree
@@ -13,8 +14,10 @@ FILES = {"a.nap": POINT, "b.nap": SPELLED, "c.nap": POINT, "d/e.nap": OUTSIDE, "
 # The commands that take a store, each with the words for one that is named STORE.
 COMMANDS = (
     ["status"], ["status", "--json"], ["status", "--csv"], ["equal"], ["equal", "--json"], ["equal", "--csv"],
-    ["equal", "--copies", "--null"], ["equal", "--copies", "--verify"], ["equal", "OTHER"], ["refused"],
-    ["refused", "--json"], ["refused", "--csv"], ["refused", "--number", "10"], ["convert", "--into", "canonical"],
+    ["equal", "--copies", "--null"], ["equal", "--copies", "--verify"], ["equal", "--guesses"], ["equal", "OTHER"],
+    ["refused"], ["census"], ["cures", "--into", "canonical"], ["look", "--into", "canonical"],
+    ["refused", "--json"], ["refused", "--csv"], ["files"], ["files", "--json"], ["files", "--csv", "--refused", "any"],
+    ["refused", "--number", "10"], ["convert", "--into", "canonical"],
     ["report", "--into", "report.html", "--processes", "1"], ["scan"], ["merge"], ["merge", "OTHER", "--unfinished"])
 
 
@@ -58,4 +61,19 @@ def copied(store, path, words=""):
         connection.executescript(words)
     finally:
         connection.close()
+    return path
+
+
+def earlier(store, path):
+    """The store as one of the schema before has it, with the rest of what it has; its path."""
+    made = sqlite3.connect(path, isolation_level=None)
+    made.executescript("PRAGMA application_id = %d; %s %s; %s" % (
+        0x4E41504C, schemas.tables(schemas.EARLIER), schemas.listing(schemas.EARLIER), schemas.INDICES))
+    made.execute("ATTACH ? AS new", (store,))
+    tables = [name for name, in made.execute("SELECT name FROM main.sqlite_master WHERE type = 'table'")]
+    for name in tables:
+        some = ", ".join(row[1] for row in made.execute(f"PRAGMA main.table_info({name})"))
+        made.execute(f"INSERT INTO main.{name} SELECT {some} FROM new.{name}")
+    made.execute("UPDATE main.meta SET value = ? WHERE key = 'schema'", (str(schemas.EARLIER),))
+    made.close()
     return path

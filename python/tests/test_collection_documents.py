@@ -1,14 +1,17 @@
 """What docs/COLLECTIONS.md shows of the tool: each command prints what stands behind it, in their order."""
+import json
 import os
 import re
 import shutil
+import sqlite3
 import subprocess
+from xml.etree import ElementTree
 
 import pytest
 
 from conftest import COMMAND, TOP
 from naplps_pages import cli
-from naplps_pages.collection import store, tables
+from naplps_pages.collection import store, tables, word_index
 from samples import has
 from scans import tree
 
@@ -35,7 +38,7 @@ def shell(folder, words):
 
 def test_the_tour(archive):
     shown = re.findall(r"^    (naplps-pages .*)\n((?:    # .*\n)+)", TEXT, re.MULTILINE)
-    assert len(shown) == 5
+    assert len(shown) == 8
     for words, printed in shown:
         assert shell(archive, words) == printed.replace("    # ", "")
 
@@ -59,19 +62,95 @@ def test_the_names_of_the_pages(archive):
 
 def test_the_tables_of_the_store(tmp_path):
     connection = store.open_to_write(str(tmp_path / "pages.db"))
+    assert word_index.make(connection)
     found = {name: [row[1] for row in connection.execute("PRAGMA table_info(%s)" % name)] for name, in
              connection.execute("SELECT name FROM sqlite_master WHERE type = 'table'").fetchall()}
     columns = [row[1] for row in connection.execute("PRAGMA table_info(listing)")]
     connection.close()
     told = dict(re.findall(r"^\| `(\w+)` \| (.*) \|$", TEXT[TEXT.index("### The store"):], re.MULTILINE))
-    assert set(told) == set(found)
+    assert set(told) == set(found) - set(word_index.SHADOWS)
+    assert all(f"`{name}`" in TEXT for name in word_index.SHADOWS)
     for name, row in told.items():
         if name != "meta":
             assert re.findall(r"`(\w+)`", row) == found[name], name
     assert re.findall(r"`(\w+)`", re.search(r"a row for each file:([^.]*)\.", TEXT.replace("\n", " "))[1]) == columns
-    for states in (tables.FILE_STATES, tables.PAGE_STATES):
+    for states in (tables.FILE_STATES, tables.PAGE_STATES, tables.KINDS, tables.GRADES):
         assert ", ".join("%d %s" % each for each in enumerate(states)) in TEXT.replace("\n", " ").replace(
             "changed while it was read", "changed")
+
+
+def recipe(name):
+    """The lines of a recipe for other tools."""
+    return re.search(r"<!-- other: %s -->\n```sh\n(.*?)```" % name, TEXT, re.DOTALL)[1]
+
+
+def scripted(folder, name, *words):
+    """What a recipe prints, given these words; and its status."""
+    said = subprocess.run(["sh", "-c", recipe(name), "sh", *words], cwd=folder, capture_output=True, text=True)
+    assert said.stderr == ""
+    return said.stdout, said.returncode
+
+
+def test_two_lists_side_by_side(archive):
+    tree(archive, {"a.nap": b"\x0fHELLO\x07 ALL", "b.nap": b"\x0fHELLO\x07 YOU", "c.nap": b"\x0f\x1f"})
+    look = "colour=own-start text=0,0/normal/----"
+    assert scripted(archive, "diff", "a.nap", "b.nap") == (
+        '3c3\n< CHAR " ALL" pen=after %s\n---\n> CHAR " YOU" pen=after %s\n' % (look, look), 1)
+    with open(os.path.join(archive, "one.list"), encoding="ascii") as folded:
+        assert folded.read() == 'CHAR "HELLO" pen=start %s\nBELL\nCHAR " ALL" pen=after %s\n' % (look, look)
+    assert scripted(archive, "diff", "a.nap", "a.nap") == ("", 0)
+
+
+@pytest.mark.skipif(not has("sha256sum"), reason="there is no sha256sum")
+def test_a_bag(archive):
+    shell(archive, "naplps-pages scan pages --into pages.db")
+    assert scripted(archive, "bag") == ("6 written, 0 there\n", 0)
+    with open(os.path.join(archive, "bag", "manifest-sha256.txt"), encoding="ascii") as file:
+        lines = file.read().splitlines()
+    assert len(lines) == 6 and all(re.fullmatch(
+        r"([0-9a-f]{64})  data/[0-9a-f]{2}/\1\.nap", line) for line in lines)
+
+
+@pytest.mark.skipif(not has("git"), reason="there is no git")
+def test_changes_in_git(archive):
+    user = "-c user.name=nobody -c user.email=nobody@example.org"
+    shell(archive, f"git init -q . && git add pages && git {user} commit -q -m pages")
+    assert scripted(archive, "git") == ("", 0)
+    tree(archive, {"pages/point.nap": b"\x0fA\x07", "pages/hello.nap": b"\x0f\x18"})
+    said = shell(archive, "git --no-pager diff")
+    assert "\n+BELL\n" in said and "\n-CHAR primary 48 " in said and "refused 6 LeftOut CAN at 1" in said
+
+
+@pytest.mark.skipif(not word_index.has_fts5(), reason="SQLite has no FTS5")
+def test_metadata_of_datasette(archive):
+    with open(os.path.join(TOP, "examples", "datasette.json"), encoding="utf-8") as file:
+        (it,) = json.load(file)["databases"].values()
+    shell(archive, "naplps-pages scan pages --into pages.db --words")
+    connection = sqlite3.connect(os.path.join(archive, "pages.db"))
+    columns = {name: {row[1] for row in connection.execute("PRAGMA table_info(%s)" % name)} for name in it["tables"]}
+    listing, texts = it["tables"]["listing"], it["tables"]["texts"]
+    assert {*listing["facets"], listing["sort"]} <= columns["listing"] and texts["fts_pk"] in columns["texts"]
+    assert texts["fts_table"] == word_index.NAME
+    found = connection.execute(it["queries"]["find"]["sql"], {"words": "hello"}).fetchall()
+    connection.close()
+    assert [(os.path.basename(name), first) for name, first in found] == [("hello.nap", "Hello world!")]
+
+
+@pytest.mark.skipif(not has("jq"), reason="there is no jq")
+def test_a_note_as_an_event_of_premis(archive):
+    tree(archive, {"a&b.nap": b"\x0fHELLO\x1a<\x1a"})
+    subprocess.run(["naplps-pages", "cures", "a&b.nap", "--into", "treated"], cwd=archive, capture_output=True)
+    with open(os.path.join(archive, "treated", "a&b.nap.json"), encoding="utf-8") as file:
+        note = json.load(file)
+    said, status = scripted(archive, "premis", os.path.join("treated", "a&b.nap.json"))
+    event = ElementTree.fromstring(said)
+    texts = {each.tag.split("}")[1]: (each.text or "").strip() for each in event.iter()}
+    assert status == 0 and texts["eventDateTime"] == note["time"]
+    assert texts["eventOutcome"] == "%s; then accepted %d entries" % (note["refusal"], note["entries"])
+    values = [each.text for each in event.iter() if each.tag.endswith("linkingObjectIdentifierValue")]
+    assert values == [note["source"]["sha256"], note["copy"]["sha256"]]
+    assert all(each["what"] in texts["eventDetail"] for each in note["treatments"])
+    assert texts["eventOutcomeDetailNote"] == note["note"]
 
 
 def options(name, command):

@@ -103,16 +103,17 @@ def test_refused(run, store, pages):
     raw = run(["refused", store, "--null", "--number", "10"]).stdout
     assert raw == os.fsencode(pages) + b"/out\0" + os.fsencode(pages) + b"/\xff out\0"
     out = {"status": "refused", "number": 10, "fault": "Outside", "code": None, "place": 3, "entries": None,
-           "reason": None, "hash": hashlib.sha256(OUTSIDE).hexdigest(), "tried": False, "treatments": None,
-           "grade": None}
+           "reason": None, "stops": None, "hash": hashlib.sha256(OUTSIDE).hexdigest(), "tried": False,
+           "treatments": None, "grade": None}
     assert [json.loads(line) for line in lines(run(["refused", store, "--json"]))[:2]] == [
         {"name": pages + "/out", **out},
         {"name": pages + "/\\xff out", "name_hex": os.fsencode(pages + "/").hex() + b"\xff out".hex(), **out}]
     table = list(csv.reader(io.StringIO(run(["refused", store, "--csv", "--number", "19"]).stdout.decode())))
-    assert table[0] == ["number", "fault", "code", "place", "hash", "tried", "treatments", "grade", "name", "name_hex"]
-    assert [(row[:4], row[5:]) for row in table[1:]] == [
-        (["19", "Cut", "", "1"], ["no", "", "", pages + "/cut", ""]),
-        (["19", "Cut", "", "2"], ["no", "", "", pages + "/cut too", ""])]
+    assert table[0] == ["number", "fault", "code", "stops", "place", "hash", "tried", "treatments", "grade", "name",
+                        "name_hex"]
+    assert [(row[:5], row[6:]) for row in table[1:]] == [
+        (["19", "Cut", "", "", "1"], ["no", "", "", pages + "/cut", ""]),
+        (["19", "Cut", "", "", "2"], ["no", "", "", pages + "/cut too", ""])]
 
 
 NAMES = (b"a\nb", b"\x1b]0;x\x07", b"\xff", "\u202e.nap".encode(), b"a\\b", b"plain", b"=1+1", b'"quoted", twice',
@@ -297,7 +298,8 @@ def test_status(run, naplps, store, pages):
         "store:           %s, %d bytes" % (store, os.path.getsize(store)),
         "scan:            began %s UTC, ended %s UTC" % (began, ended), "tool:            naplps-pages " + VERSION,
         "program:         %s, %s" % (naplps, version), "program hash:    " + program_hash, "budget:          1048576",
-        "folder:          " + pages, "files:           9", "accepted:        5", "refused:         4",
+        "folder:          " + pages, "files:           9", "accepted:        5",
+        "                 3: page", "                 2: text", "refused:         4",
         "distinct pages:  6", "canonical pages: 2", "left:            nothing"]
     it = json.loads(lines(run(["status", store, "--json"]))[0])
     assert (it["files"], it["pages"], it["canonical"], it["left"], it["at_work"]) == (

@@ -197,7 +197,8 @@ def test_a_pack_is_read_in_parts_that_are_not_too_large(run, naplps, tmp_path, s
     path = pack(os.path.join(str(tmp_path), "pack.tar"), files)
     cluster.worker()
     said = run(["scan", path, "--into", store, "--on", cluster.file])
-    assert said.stdout == b"25000 files: 25000 accepted, 0 refused; 0 known, 25000 pages asked about; 1 pack\n"
+    assert said.stdout == (
+        b"25000 files: 25000 accepted (25000 texts), 0 refused; 0 known, 25000 pages asked about; 1 pack\n")
     assert count(store) == 25_001 and rows(store, "SELECT count(*) FROM folders WHERE path = ?", inside(
         os.fsencode(path))) == [(1,)]
 
@@ -230,6 +231,7 @@ def test_dask_that_is_not_installed(run, tmp_path, store):
     assert not os.path.exists(store)
 
 
-def test_words_that_exclude_each_other(run, store):
-    said = run(["scan", "x", "--into", store, "--on", "a:1", "--processes", "2"])
+@pytest.mark.parametrize("number", [1, 2, len(os.sched_getaffinity(0))])
+def test_words_that_exclude_each_other(run, store, number):
+    said = run(["scan", "x", "--into", store, "--on", "a:1", "--processes", str(number)])
     assert said.returncode == 2 and b"not allowed with" in said.stderr

@@ -57,7 +57,8 @@ def settings(folder, naplps):
 @pytest.mark.parametrize("command", sorted(set(shown())))
 def test_commands_of_the_documents(folder, settings, command):
     if "pages.db" in command and "naplps-pages scan" not in command:
-        subprocess.run(["naplps-pages", "scan", "pages", "--into", "pages.db"], cwd=folder, env=settings, check=True)
+        scan = ["naplps-pages", "scan", "pages", "--into", "pages.db", "--words"]
+        subprocess.run(scan, cwd=folder, env=settings, check=True)
     said = subprocess.run(["sh", "-c", command], cwd=folder, capture_output=True, env=settings)
     told = said.stderr.decode("utf-8", "replace")
     assert said.returncode in (0, 1), told

@@ -1,16 +1,20 @@
 """The eight-bit form: written in seven bits it does the same, or says why it isn't sure."""
+import os
+import re
+from collections import Counter
 from random import Random
 
 import pytest
 from hypothesis import given
 from hypothesis import strategies as st
 
+from conftest import TOP
 from eight_model import acts
 from naplps.answers import Accepted
 from naplps.client import Client
 from naplps.treating.changes import NotSure, edited, undone
 from naplps.treating.eight_bit import MOST_LENGTH, edits
-from old_files import in_eight_bits
+from old_files import box, in_eight_bits
 from pictures import picture
 
 PICTURES = (b"\xa6\xd2\xc0\xc0", b"\xa4\xc9", b"\xa9\xc9", b"\xa7\xc9\xc0\xc0\xc9", b"\xa1\xc8", b"\xbe\xc4",
@@ -100,3 +104,42 @@ def test_what_isnt_sure_is_named(data, why):
     (FIRST + b"\x1b\x22\x46\x1f\x41\x42", b"\x0e\x26\x52\x40\x40\x1b\x22\x46\x1f\x41\x42")])
 def test_what_is_written(data, wanted):
     assert edited(data, edits(data)) == wanted
+
+
+def drawn(chance):
+    """A page of the eight-bit form, of the same parts as above, with up to two macros."""
+    some = [chance.choice(chance.choice((PICTURES, PICTURES, TEXTS, CONTROLS, SETS)))
+            for _ in range(chance.randrange(4, 15))]
+    for _ in range(chance.choice((0, 0, 0, 1, 2))):
+        body = b"".join(chance.choice(chance.choice((PICTURES, TEXTS, CONTROLS))) for _ in range(chance.randrange(5)))
+        some.insert(chance.randrange(len(some)), b"\x80!" + body + b"\x85")
+    return b"".join(some)
+
+
+def test_the_figures_of_the_decisions(naplps):
+    pages = {each.page or each.data for each in box() if each.sort == "picture" or each.page}
+    program, alike, same = Client(naplps), 0, 0
+    try:
+        for page in pages:
+            made = edited(in_eight_bits(page), edits(in_eight_bits(page)))
+            answers = [program.ask("canon", each) for each in (page, made)]
+            alike += made == page
+            same += isinstance(answers[0], Accepted) and answers[0] == answers[1]
+    finally:
+        program.close()
+    chance, reasons, right = Random(1983), Counter(), 0
+    for _ in range(3000):
+        data = drawn(chance)
+        try:
+            made = edited(data, edits(data))
+        except NotSure as error:
+            reasons[str(error).split(" at ")[0]] += 1
+            continue
+        right += acts(made, eight=False) == acts(data, eight=True)
+    with open(os.path.join(TOP, "docs", "DECISIONS.md"), encoding="utf-8") as document:
+        section = document.read().split("### Two grades of treatments\n")[1].split("\n## ")[0]
+    told = {number.replace(",", "") for number in re.findall(r"[0-9][0-9,]*", section)}
+    assert {str(number) for number in (len(pages), alike, right, sum(reasons.values()))} <= told and same == len(pages)
+    assert right + sum(reasons.values()) == 3000
+    for reason, number in reasons.items():
+        assert f"| {reason} | {number:,} |" in section, (reason, number)

@@ -7,6 +7,8 @@ import subprocess
 import sys
 import urllib.request
 
+import pytest
+
 from conftest import PACKAGES
 from naplps_pages.interpreter import FOLDER, interpreter
 from packers import pack
@@ -93,3 +95,24 @@ def test_only_one_function_starts_interpreters():
         # (the message of --on names it, and starts nothing)
         number = {"interpreter.py": 1, "cluster.py": 1}.get(os.path.basename(path), 0)
         assert text.count("sys.executable") == number, path
+
+
+@pytest.mark.parametrize("path", [".:%s", ":%s", "%s:", "../here:%s"])
+def test_no_program_of_the_current_folder_is_run(tmp_path, path):
+    """Also where PATH names that folder, or none, which is the same."""
+    here = tree(os.path.join(str(tmp_path), "here"), {"a.nap": POINT, "naplps": b"", "rsvg-convert": b""})
+    ran, elsewhere = os.path.join(str(tmp_path), "ran"), os.path.join(str(tmp_path), "elsewhere")
+    for name in ("naplps", "rsvg-convert"):
+        with open(os.path.join(here, name), "w", encoding="ascii") as file:
+            file.write("#!/bin/sh\n>> %s\n" % ran)
+        os.chmod(os.path.join(here, name), 0o755)
+    os.mkdir(elsewhere)
+    lines = ("import sys; sys.path[0] = %r\nfrom naplps_pages import png\nfrom naplps import program\n"
+             "for find in (lambda: program.find('/nowhere/x/y'), lambda: png.png_of(b'<svg/>', 9)):\n"
+             "    try:\n        print(find())\n    except (png.NoPng, program.NoProgram) as error:\n"
+             "        print(error)\n" % PACKAGES)
+    env = {**os.environ, "PATH": path % elsewhere, "PYTHONDONTWRITEBYTECODE": "1"}
+    env.pop("NAPLPS", None)
+    said = subprocess.run([sys.executable, "-c", lines], cwd=here, env=env, capture_output=True, check=True).stdout
+    assert said.startswith(b"there is no program naplps: ") and b"\nPNG needs rsvg-convert, " in said
+    assert not os.path.exists(ran)

@@ -69,7 +69,7 @@ def test_stores_that_differ(run, fake, here):
     scan(run, fake(FAKE.replace("b'bad'", "b'goo'").replace("9.9", "9.8")), "two", "newer.db")
     said = run(["merge", "all.db", "newer.db", "one.db"])
     assert (said.returncode, said.stderr) == (0, b"")
-    assert said.stdout in (b"8 files: 6 accepted, 2 refused; from 2 stores\n",)
+    assert said.stdout in (b"8 files: 6 accepted (6 texts), 2 refused; from 2 stores\n",)
     assert statuses("all.db")["good"] == statuses("all.db")["copy"]
 
 
@@ -107,14 +107,14 @@ def test_an_answer_counts_more_than_none(run, fake, here, monkeypatch):
     assert said.returncode == 1 and statuses("two.db")["copy"][0] == "no answer"
     for name, words in (("a.db", ["one.db", "two.db"]), ("b.db", ["two.db", "one.db"])):
         said = run(["merge", name, *words])
-        assert (said.returncode, said.stdout) == (0, b"3 files: 3 accepted, 0 refused; from 2 stores\n")
+        assert (said.returncode, said.stdout) == (0, b"3 files: 3 accepted (3 texts), 0 refused; from 2 stores\n")
         assert statuses(name)["copy"] == statuses(name)["dies"] == ("accepted", None)
 
 
 def test_unfinished_parts(run, fake, here, monkeypatch):
     tree("pages", {"%02d/%03d" % (number // 100, number): b"page %d" % number for number in range(400)})
     program = fake(FAKE.replace("    fail(page)\n", """    fail(page)
-    if page and 'SLOW' in os.environ: time.sleep(0.1)
+    if page and 'SLOW' in os.environ: time.sleep(0.2)
 """))
     monkeypatch.setenv("SLOW", "yes")
     work = start(["scan", "pages", "--into", "0.db", "--part", "0/2", "--processes", "1"], program)
@@ -139,14 +139,15 @@ def test_unfinished_parts(run, fake, here, monkeypatch):
     assert {name: before[name] for name in before if not name.endswith("-shm")} == {
         name: data for name, data in contents().items() if name in before and not name.endswith("-shm")}
     met = rows("all.db", "SELECT count(*) FROM files")[0][0]
-    assert said.stdout == b"%d files: %d accepted, 0 refused; from 2 stores\n" % (met, met) and 200 < met < 400
+    assert said.stdout == (
+        b"%d files: %d accepted (%d texts), 0 refused; from 2 stores\n") % (met, met, met) and 200 < met < 400
     state = run(["status", "all.db"]).stdout
     assert b", was stopped: the same command goes on\n" in state and state.endswith(b"what the scan hasn't reached\n")
     # (the whole goes on from there, and so does the part)
     assert b"; %d known" % met in scan(run, program, "pages", "all.db").stdout
     scan(run, program, "pages", "0.db", "--part", "0/2")
     assert run(["merge", "both.db", "0.db", "1.db"]).stdout == (
-        b"400 files: 400 accepted, 0 refused; from 2 stores\n")
+        b"400 files: 400 accepted (400 texts), 0 refused; from 2 stores\n")
 
 
 def test_a_folder_that_was_not_there(run, fake, here):
@@ -159,7 +160,8 @@ def test_a_folder_that_was_not_there(run, fake, here):
     refused(run, ["all.db", "0.db", "1.db"], lack, "all.db: " + NOT_MADE)
     os.rename("away", "pages")
     scan(run, fake(FAKE), "pages", "1.db", "--part", "1/2")
-    assert run(["merge", "all.db", "0.db", "1.db"]).stdout == b"10 files: 10 accepted, 0 refused; from 2 stores\n"
+    assert run(["merge", "all.db", "0.db", "1.db"]).stdout == (
+        b"10 files: 10 accepted (10 texts), 0 refused; from 2 stores\n")
 
 
 def test_parts_that_lack(run, fake, here):
@@ -196,7 +198,8 @@ def test_stores_of_folders_that_stand_apart(run, fake, here):
     program = fake(FAKE)
     scan(run, program, "one", "1.db")
     scan(run, program, "one more", "2.db")
-    assert run(["merge", "all.db", "1.db", "2.db"]).stdout == b"4 files: 2 accepted, 2 refused; from 2 stores\n"
+    assert run(["merge", "all.db", "1.db", "2.db"]).stdout == (
+        b"4 files: 2 accepted (2 texts), 2 refused; from 2 stores\n")
     run(["scan", "one", "one more", "--into", "both.db"], program=program)
     assert every_table("all.db") == every_table("both.db")
 
@@ -219,14 +222,14 @@ def test_what_is_no_store(run, here):
     made_up("part.db", 0, 20)
     made_up("other.db", 0, 20)
     with sqlite3.connect("other.db") as connection:
-        connection.execute("UPDATE meta SET value = 2 WHERE key = 'schema'")
+        connection.execute("UPDATE meta SET value = 3 WHERE key = 'schema'")
     connection.close()
     connection = sqlite3.connect("foreign.db")
     connection.execute("CREATE TABLE other(x)")
     connection.close()
     tree(".", {"text.db": b"what is this?" * 100, "short.db": open("part.db", "rb").read()[:5000]})
     os.mkdir("folder.db")
-    for name, reason in (("other.db", "is a store of schema 2, and this tool knows schema 1"),
+    for name, reason in (("other.db", "is a store of schema 3, and this tool knows schemas 1 and 2"),
                          ("foreign.db", "is a database of something else, and no store of naplps-pages"),
                          ("text.db", "file is not a database"), ("short.db", "database disk image is malformed"),
                          ("folder.db", "isn't a file"), ("none.db", "No such file or directory")):
@@ -289,7 +292,8 @@ def test_a_merge_that_is_ended_amid(naplps, run, large, number):
     if number != signal.SIGKILL:
         assert after == before
     said = run(["merge", "all.db", *large])
-    assert (said.stdout, said.returncode) == (b"40000 files: 40000 accepted, 0 refused; from 2 stores\n", 0)
+    assert (said.stdout, said.returncode) == ((
+        b"40000 files: 40000 accepted (40000 pages), 0 refused; from 2 stores\n"), 0)
     assert is_sound("all.db") and {*contents()} == {*before, "all.db"}
 
 
@@ -328,11 +332,12 @@ def test_progress_on_a_terminal(naplps, large):
                           env=dict(os.environ, NAPLPS=naplps, PYTHONPATH=PACKAGES))
     told_of = re.findall(rb"\r\x1b\[K([0-9]+) of 8 MiB, [0-9,]+ a second", said.stdout)
     assert told_of and [int(each) for each in told_of] == sorted(int(each) for each in told_of)
-    assert said.returncode == 0 and said.stdout.endswith(b"40000 files: 40000 accepted, 0 refused; from 2 stores\r\n")
+    assert said.returncode == 0 and said.stdout.endswith((
+        b"40000 files: 40000 accepted (40000 pages), 0 refused; from 2 stores\r\n"))
 
 
 def test_more_stores_than_files_may_be_open(naplps, here):
     some = parts(60, 5)
     said = subprocess.run(["sh", "-c", 'ulimit -S -n 40; exec "$@"', "sh", COMMAND, "merge", "all.db", *some],
                           capture_output=True, env=dict(os.environ, NAPLPS=naplps))
-    assert (said.stdout, said.stderr) == (b"300 files: 300 accepted, 0 refused; from 60 stores\n", b"")
+    assert (said.stdout, said.stderr) == (b"300 files: 300 accepted (300 pages), 0 refused; from 60 stores\n", b"")

@@ -11,7 +11,7 @@ from typing import NamedTuple, Optional
 import pytest
 
 from naplps.client import Client
-from naplps_pages.collection import tables
+from naplps_pages.collection import schemas
 from naplps_pages.packs.naming import named
 from naplps_pages.report.drawing import DrawingLimits, draw
 from naplps_pages.report.questions import Questions
@@ -20,6 +20,7 @@ from packers import add, entry, pack, written, zip_of
 from reports import held
 from samples import OUTSIDE, POINT, SPELLED, with_parity
 from scans import FAKE, children, count, is_sound, rows, start, statuses, table, tree, wait_until
+from stores import earlier
 from test_scan_same import mixed
 
 FILES = {"a": POINT, "b": SPELLED, "c": POINT, "sub/bad": OUTSIDE, "sub/parity": with_parity(POINT), "empty": b""}
@@ -128,8 +129,9 @@ def test_packs_below_a_folder_and_named(run, at, store):
     os.symlink("b.tar", os.path.join(at, "link.tar"))
     os.mkfifo(os.path.join(at, "fifo.zip"))
     said = scan(run, at, "--into", store)
-    assert said.stdout == (b"12 files: 6 accepted, 4 refused, 2 not regular files; 0 known, 5 pages asked about; "
-                           b"3 packs\n") and said.returncode == 0
+    assert said.stdout == (
+        b"12 files: 6 accepted (3 pages, 3 texts), 4 refused, 2 not regular files; 0 known, 5 pages asked about; "
+        b"3 packs\n") and said.returncode == 0
     assert b"; 10 known, 0 pages asked about; 3 packs\n" in scan(run, at, "--into", store).stdout
     names = {os.path.relpath(name, at) for name, in rows(store, "SELECT name FROM listing")}
     assert {"b.tar!x/y", "deep/in/c.zip!z", "deep/d.tgz!x/y", "folder.zip/page", "link.tar", "fifo.zip"} < names
@@ -144,7 +146,7 @@ def test_a_pack_that_is_unchanged_is_not_read_again(run, at, store):
     path = pack(os.path.join(at, "pack.tgz"), FILES)
     scan(run, at, "--into", store)
     said = scan(run, at, "--into", store)
-    assert said.stdout == b"7 files: 4 accepted, 3 refused; 7 known, 0 pages asked about; 1 pack\n"
+    assert said.stdout == b"7 files: 4 accepted (3 pages, 1 blank), 3 refused; 7 known, 0 pages asked about; 1 pack\n"
     runs = "SELECT DISTINCT f.run FROM files f JOIN folders d ON d.id = f.folder WHERE substr(d.path, -2) = x'212F'"
     assert rows(store, runs) == [(1,)]
     os.utime(path, (1, 1))                                      # (read again, but its bytes are known)
@@ -245,7 +247,7 @@ def test_a_worker_that_is_killed_amid_a_pack_costs_nothing(run, fake, at, store)
     wait_until(lambda: rows_asked(store) > 0 and children(it.pid), it)
     os.kill(children(it.pid)[0], signal.SIGKILL)
     out, told = it.communicate()
-    assert (told, it.returncode) == (b"", 0) and out.startswith(b"1500 files: 1500 accepted")
+    assert (told, it.returncode) == (b"", 0) and out.startswith(b"1500 files: 1500 accepted (1500 texts)")
     assert b" gone" not in out
 
 
@@ -268,7 +270,7 @@ def test_a_pack_that_grows_while_it_is_read(run, fake, at, store):
     _, told = it.communicate()
     assert told.decode() == "naplps-pages: %s: it grew while it was read\n" % path and it.returncode == 1
     said = scan(run, path, "--into", store, program=fake(FAKE))
-    assert b"600 files: 600 accepted, 0 refused; 0 known" in said.stdout and said.returncode == 0
+    assert b"600 files: 600 accepted (600 texts), 0 refused; 0 known" in said.stdout and said.returncode == 0
 
 
 @pytest.mark.skipif(os.geteuid() != 0, reason="only root can be another user")
@@ -376,15 +378,15 @@ CREATE VIEW listing AS SELECT CAST(d.path || CASE WHEN substr(d.path, -1) = x'2F
 
 def test_a_store_of_an_earlier_version(run, at, store):
     tree(at, {"page": POINT})
-    scan(run, at, "--into", store)
-    connection = sqlite3.connect(store)
+    scan(run, at, "--into", store + ".new")
+    connection = sqlite3.connect(earlier(store + ".new", store))
     connection.executescript("DROP VIEW listing; " + EARLIER)
     connection.close()
     assert run(["equal", store]).returncode == 0
     pack(os.path.join(at, "pack.tar"), FILES)
     assert scan(run, at, "--into", store).returncode == 0
     assert statuses(store)["pack.tar!a"] == ("accepted", None)
-    assert rows(store, "SELECT value FROM meta WHERE key = 'schema'") == [(str(tables.SCHEMA),)]
+    assert rows(store, "SELECT value FROM meta WHERE key = 'schema'") == [(str(schemas.SCHEMA),)]
 
 
 def test_parts_have_packs_as_a_whole(run, at, store):

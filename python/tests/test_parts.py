@@ -106,7 +106,7 @@ def test_only_files_of_the_part_are_gone(run, fake, pages, tmp_path):
         assert names(store, pages) == before[at] - lost
     into = os.path.join(str(tmp_path), "all.db")
     said = run(["merge", into, *stores])
-    assert said.stdout == b"249 files: 249 accepted, 0 refused; from 3 stores; 53 gone\n"
+    assert said.stdout == b"249 files: 249 accepted (149 pages, 100 texts), 0 refused; from 3 stores; 53 gone\n"
     assert rows(into, "SELECT count(*) FROM files WHERE state = 6") == [(len(lost),)] == [(53,)]
 
 

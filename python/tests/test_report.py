@@ -8,7 +8,7 @@ import pytest
 
 from conftest import file
 from naplps.writer import PageWriter
-from naplps_pages.report import making
+from naplps_pages.report import choices, making
 from naplps_pages.report.drawing import Drawing
 from naplps_pages.report.embedding import shortened
 from naplps_pages.report.roots import Roots
@@ -110,7 +110,8 @@ def test_what_is_held_of_pages(made):
 
 
 def test_a_long_list_is_held_in_part(made):
-    html, _ = made({"a.nap": words("A" * 300), "b.nap": words("A" * 300) + OUTSIDE})
+    rings = b"\x0f" + b"A\x07" * 300  # (no two characters stand one behind the other, so each has a row)
+    html, _ = made({"a.nap": rings, "b.nap": rings + OUTSIDE})
     table, (block,) = held(html)
     long, refused = table["columns"]["sketch"]
     assert block["first"][long] == 0 and block["lines"][long].count("\n") == 47
@@ -191,6 +192,53 @@ def test_a_file_that_cannot_be_made_is_told_at_once(made, run, tmp_path, name, r
     html = os.path.join(str(tmp_path), name)
     said = run(["report", os.path.join(str(tmp_path), "pages.db"), "--into", html])
     assert (said.returncode, said.stderr.decode()) == (3, "naplps-pages: %s: %s\n" % (html, reason))
+
+
+def test_a_report_is_replaced_where_that_is_asked(made, run, tmp_path):
+    html, _ = made({"a": POINT})
+    store = os.path.join(str(tmp_path), "pages.db")
+    with open(html, "rb") as page:
+        before = page.read()
+    tree(os.path.join(str(tmp_path), "archive"), {"b": OUTSIDE})
+    run(["scan", os.path.join(str(tmp_path), "archive"), "--into", store])
+    said = run(["report", store, "--into", html, "--replace"])
+    assert said.returncode == 0 and len(held(html)[0]["columns"]["name"]) == 2
+    with open(html, "rb") as page:
+        assert page.read() != before
+    assert sorted(os.listdir(str(tmp_path))) == ["archive", "pages.db", "report.html"]
+
+
+@pytest.mark.parametrize("name", ["pages.db", "archive/a", "empty", "link"])
+def test_what_is_no_report_is_not_replaced(made, run, tmp_path, name):
+    made({"a": POINT})
+    file(str(tmp_path), "empty", b"")
+    os.symlink("nothing", os.path.join(str(tmp_path), "link"))
+    path = os.path.join(str(tmp_path), name)
+    said = run(["report", os.path.join(str(tmp_path), "pages.db"), "--into", path, "--replace"])
+    assert said.returncode == 3 and said.stderr.decode().startswith("naplps-pages: %s: " % path)
+    assert os.path.islink(path) or b"<html" not in open(path, "rb").read()
+
+
+def test_progress_is_told(monkeypatch, capsys):
+    monkeypatch.setattr("naplps_pages.collection.progress.SELDOM", 0)
+    drawings = list(making._told(iter([(1, Drawing()), (0, Drawing())]), 2))
+    assert [number for number, _ in drawings] == [1, 0]
+    assert "naplps-pages: 2 of 2 sketches, " in capsys.readouterr().err
+
+
+def test_first_words_and_hashes(made):
+    html, _ = made({"a.nap": words("HELLO  WORLD"), "b.nap": words("A" * 100), "c.nap": POINT})
+    table, _ = held(html)
+    assert table["says"] == ["HELLO WORLD", "A" * 60, ""]
+    assert table["hashes"][table["columns"]["page"][2]] == hashlib.sha256(POINT).hexdigest()[:16]
+
+
+def test_folders_to_choose():
+    some = choices._folders([("a", 1), ("a/b", 2), ("c/d.zip!/", 3), ("", 4), ("x/y/z", 5)])
+    assert some == [("a", 3), ("a/b", 2), ("c", 3), ("c/d.zip!/", 3), ("x", 5), ("x/y", 5), ("x/y/z", 5)]
+    many = choices._folders(("top/%04d" % at, 1) for at in range(1000))
+    assert many == [("top", 1000)]
+    assert len(choices._folders(("%04d" % at, 1) for at in range(1000))) == 500
 
 
 @pytest.mark.parametrize("command", [["report", "--into", "x.html"], ["serve"]])

@@ -1,4 +1,5 @@
 """Reports in a browser, from a file and served: what is shown, which keys reach it, and that nothing else acts."""
+import hashlib
 import os
 import re
 import subprocess
@@ -7,15 +8,19 @@ import pytest
 
 from browser import Browser
 from conftest import COMMAND
-from reports import HOSTILE, MARKUP, collection
-from samples import has
-from scans import start
+from reports import HOSTILE, MARKUP, SPELLED, collection, words
+from samples import POINT, has
+from scans import start, wait_until
 
 pytestmark = pytest.mark.skipif(not has("chromium"), reason="there is no chromium")
 NAMES = "[...document.querySelectorAll('#files td:first-child button')].map((each) => each.textContent)"
 TOLD = "document.querySelector('#%s-pager span').textContent"
 OPEN = "document.getElementById('details').open"
 DETAILS = "document.getElementById('details').innerText"
+LEAVES = "[...document.querySelectorAll('#wall .leaf')].map((each) => each.textContent)"
+COLUMNS = "new Set([...document.querySelectorAll('#wall > li')].map((each) => each.style.left)).size"
+WALL_TOLD = "document.getElementById('wall-told').textContent"
+TITLE = "document.getElementById('details-title').textContent"
 CLICK = "[...document.querySelectorAll(%r)].find((each) => each.textContent === %r).click()"
 
 
@@ -55,15 +60,28 @@ def address(request, archive, naplps):
 
 @pytest.fixture
 def page(browser, address):
-    """The report, opened anew; behind the test it has told no fault, asked for nothing else, and nothing has acted."""
+    """The list of the report, opened anew."""
+    yield from opened(browser, address, "#list")
+
+
+@pytest.fixture
+def wall(browser, address):
+    """The wall of the report, opened anew."""
+    yield from opened(browser, address, "")
+
+
+def opened(browser, address, part):
+    """Opens a part; behind the test it has told no fault, asked for nothing else, and nothing has acted."""
     browser.size(1240, 900)
     browser.look()
-    browser.open(address)
+    browser.open(address + part)
+    browser.until(TOLD % "groups")
     yield browser
     browser.until("[...document.images].every((each) => each.complete && each.naturalWidth > 0)")
     assert browser.errors == [] and browser.run("document.body.dataset.fault") is None
     assert browser.run("typeof hacked") == "undefined"
-    ways = r"((files|groups|details|drawing)\?[A-Za-z0-9=&%+*._~-]*)?" if address.startswith("http") else ""
+    ways = r"((files|find|groups|details|drawing|thumbnail|played)\?[A-Za-z0-9=&%+*._~-]*)?"
+    ways = ways if address.startswith("http") else ""
     own = re.compile(re.escape(address) + ways + "|blob:.*")
     assert [each for each in browser.requests if not own.fullmatch(each)] == [] == browser.referers
 
@@ -84,13 +102,13 @@ def details(page, name):
 
 
 def test_counts_and_the_first_parts(page, archive):
+    assert page.run(TOLD % "files") == "1 to 100 of %d files" % archive[1]
     counts = page.run("Object.fromEntries([...document.querySelectorAll('.counts > div')].map((each) => "
                       "[each.querySelector('dt').textContent, each.querySelector('dd').textContent]))")
     assert counts["files"] == str(archive[1]) and counts["refused"] == "3" and counts["not read"] == "1"
     assert counts["groups of equal pages that are spelled differently"] == counts["groups of copies alone"] == "1"
     title = page.run("document.title")
     assert title == page.run("document.querySelector('h1').textContent") == "NAPLPS pages of archive"
-    assert page.run(TOLD % "files") == "1 to 100 of %d files" % archive[1]
     assert page.run(TOLD % "groups") == "1 to 1 of 1 group"
 
 
@@ -117,6 +135,8 @@ def test_search(page):
 
 
 def test_reasons(page):
+    page.run("location.hash = '#summary'")
+    page.until("!document.getElementById('view-summary').hidden")
     rows = page.run("[...document.querySelectorAll('.chart tbody tr')].map((row) => [...row.cells].map((each) => "
                     "each.innerText))")
     assert [row[0] for row in rows] == ["6 LeftOut CAN", "10 Outside", "19 Cut"]
@@ -130,6 +150,8 @@ def test_reasons(page):
 
 
 def test_groups(page):
+    page.run("location.hash = '#equal'")
+    page.until("!document.getElementById('view-equal').hidden")
     card = page.run("document.querySelector('#groups > li').innerText")
     assert re.sub(r"\s+", " ", card).startswith("Group 1 3 files, 2 spellings, 1 entry ")
     assert card.count("Spelling A, 5 bytes") == card.count("Spelling B, 5 bytes") == 1
@@ -180,14 +202,18 @@ def test_hostile_texts_do_nothing(page):
 
 
 def test_a_keyboard_alone_reaches_everything(page):
-    page.run("document.body.focus()")
-    for _ in range(400):
-        page.press("Tab")
-        if page.run("document.activeElement === document.body || (document.activeElement.reached = true, false)"):
-            break
+    for view in ("#list", "#equal", "#summary", "#pages"):
+        page.run("location.hash = %r" % view)
+        page.until("!document.getElementById('view-%s').hidden" % view[1:])
+        page.run("document.activeElement.blur()")
+        for _ in range(400):
+            page.press("Tab")
+            if page.run("document.activeElement === document.body || (document.activeElement.reached = true, false)"):
+                break
     missed = page.run("[...document.querySelectorAll('button, input, select, a')].filter((each) => !each.disabled && "
-                      "!each.closest('dialog') && !each.reached).map((each) => each.outerHTML)")
+                      "each.tabIndex >= 0 && !each.closest('dialog') && !each.reached).map((each) => each.outerHTML)")
     assert missed == [] and page.run("document.querySelector('.sketch').reached")
+    assert page.run("document.querySelectorAll('#wall .tile[tabindex=\"0\"]').length") == 1
 
 
 def test_a_keyboard_alone_opens_and_closes(page):
@@ -211,7 +237,7 @@ def test_all_pictures_and_controls_have_names(page, opened):
     found = [(each["role"]["value"], each.get("name", {}).get("value", "")) for each in nodes
              if not each.get("ignored") and each.get("role", {}).get("value") in roles]
     assert [each for each in found if not each[1]] == []
-    assert {"button", "heading"} | ({"image", "dialog", "region"} if opened else {"checkbox", "searchbox"}) <= {
+    assert {"button", "heading"} | ({"image", "dialog", "region"} if opened else {"link", "searchbox"}) <= {
         role.replace("img", "image") for role, _ in found}
 
 
@@ -223,10 +249,179 @@ def test_nothing_is_wider_than_the_page(page, width, media, dark):
     assert page.run("document.documentElement.scrollWidth") <= width
     light = page.run("getComputedStyle(document.body).backgroundColor") in ("rgb(255, 255, 255)", "rgb(245, 247, 249)")
     assert light == (media == "print" or not dark)
-    assert page.run("getComputedStyle(document.getElementById('files-form')).display") == ("none" if media else "flex")
+    assert page.run("getComputedStyle(document.getElementById('bar')).display") == ("none" if media else "flex")
     if not media:
         details(page, "equal/one.nap")
         assert page.run("((it) => it.scrollWidth <= it.clientWidth)(document.getElementById('details'))")
+
+
+def test_the_wall(wall, archive):
+    """All pages in the order of their names, without what is no page; pictures without the strip below."""
+    assert wall.run("!document.getElementById('view-pages').hidden && document.getElementById('view-list').hidden")
+    wall.until("document.querySelectorAll('#wall img').length > 10")
+    some = wall.run(LEAVES)
+    assert some[:5] == ["a.nap", "b.nap", "copy of one.nap", "one.nap", "two.nap"]
+    assert wall.run(WALL_TOLD).endswith(" of %d pages" % (archive[1] - 1))
+    wall.until("document.querySelector('#wall img').naturalHeight > 0")
+    assert wall.run("document.querySelector('#wall img').naturalHeight") == 800
+    wall.until("document.querySelectorAll('#wall .says')[0].textContent === 'COPIED'")
+
+
+def test_the_wall_has_elements_only_where_it_is_seen(wall, archive):
+    number = archive[1] - 1
+    few = wall.run("document.querySelectorAll('#wall > li').length")
+    wall.run("document.querySelector('#wall .tile').focus()")
+    wall.press("End")
+    wall.until("document.activeElement.closest('li')?.dataset.at === '%d'" % (number - 1))
+    wall.until("document.activeElement.querySelector('img')")
+    assert wall.run("document.activeElement.getAttribute('aria-label')").startswith("refused/outside.nap, 10 Outside")
+    assert wall.run("document.querySelectorAll('#wall > li').length") <= few + 30 < number
+    wall.press("Home")
+    wall.until("document.activeElement.closest('li')?.dataset.at === '0'")
+    for key, at in (("ArrowRight", 1), ("ArrowDown", 1 + wall.run(COLUMNS))):
+        wall.press(key)
+        assert wall.run("document.activeElement.closest('li').dataset.at") == str(at)
+
+
+def test_a_page_of_the_wall_and_those_beside_it(wall):
+    wall.until("document.querySelectorAll('#wall .leaf').length > 5")
+    wall.run("document.querySelectorAll('#wall .tile')[2].focus()")
+    wall.press("Enter")
+    wall.until(OPEN + " && %s === 'equal/copy of one.nap'" % TITLE)
+    wall.press("ArrowRight")
+    wall.until(TITLE + " === 'equal/one.nap'")
+    wall.press("Escape")
+    wall.until("!" + OPEN)
+    assert wall.run("document.activeElement.closest('li').dataset.at") == "3"
+    assert wall.run("location.hash") == "#pages"
+
+
+def test_each_page_has_an_address(wall, address):
+    own = hashlib.sha256(SPELLED).hexdigest()
+    wall.open("%s#page=%s" % (address, own[:16]))
+    wall.until(OPEN)
+    assert wall.run(TITLE) == "equal/two.nap" and wall.run("location.hash") == "#page=" + own[:16]
+    wall.run("document.getElementById('before').click()")
+    wall.until(TITLE + " === 'equal/one.nap'")
+    assert wall.run("location.hash") == "#page=" + hashlib.sha256(POINT).hexdigest()[:16]
+    wall.run("document.getElementById('close').click()")
+    wall.until("!" + OPEN)
+    wall.run("document.querySelectorAll('#wall .tile')[0].click()")
+    wall.until(OPEN)
+    wall.run("history.back()")
+    wall.until("!" + OPEN)
+    wall.open("%s#page=%s" % (address, own))
+    wall.until(OPEN + " && %s === 'equal/two.nap'" % TITLE)
+
+
+def test_spellings_stand_side_by_side(wall, address):
+    wall.open("%s#page=%s" % (address, hashlib.sha256(POINT).hexdigest()[:16]))
+    wall.until("document.querySelectorAll('#details .equal img').length === 2")
+    assert wall.run("[...document.querySelectorAll('#details .equal h4')].map((each) => each.textContent)") == [
+        "Spelling A, 5 bytes", "Spelling B, 5 bytes"]
+
+
+def test_two_pages_stand_side_by_side(wall, address):
+    one, other = (hashlib.sha256(each).hexdigest()[:16] for each in (words("PAGE 1"), words("PAGE 2")))
+    wall.open("%s#page=%s" % (address, one))
+    wall.until(OPEN)
+    wall.run("document.getElementById('hold').click()")
+    wall.run("document.getElementById('behind').click()")
+    wall.until(TITLE + " === 'many/page 002.nap'")
+    shown = "[...document.querySelectorAll('.pictures img')].map((each) => each.alt)"
+    both = ["Sketch of many/page 001.nap, with the text: PAGE 1", "Sketch of many/page 002.nap, with the text: PAGE 2"]
+    assert wall.run(shown) == both and wall.run("location.hash") == "#page=%s&beside=%s" % (other, one)
+    wall.open("%s#page=%s&beside=%s" % (address, other, one))
+    wall.until("document.querySelectorAll('.pictures img').length === 2")
+    assert wall.run(shown) == both
+    wall.run("document.getElementById('release').click()")
+    assert wall.run(shown) == both[1:]
+
+
+def test_a_sketch_is_saved(wall, address, tmp_path):
+    wall.call("Browser.setDownloadBehavior", behavior="allow", downloadPath=str(tmp_path))
+    wall.open("%s#page=%s" % (address, hashlib.sha256(words("PAGE 1")).hexdigest()[:16]))
+    wall.until(OPEN)
+    wall.run("document.getElementById('save').click()")
+    path = os.path.join(str(tmp_path), "page 001.nap.svg")
+    wait_until(lambda: os.path.exists(path))
+    with open(path, encoding="utf-8") as saved:
+        text = saved.read()
+    assert text.startswith("<svg ") and text.endswith("</svg>\n") and ">PAGE 1</text>" in text
+
+
+def test_a_page_is_played_beside_its_sketch(wall, address):
+    wall.open("%s#page=%s" % (address, hashlib.sha256(POINT).hexdigest()[:16]))
+    wall.until(OPEN)
+    assert wall.run("document.querySelector('.tabs [aria-pressed=true]').textContent") == "Sketch"
+    wall.run("document.getElementById('as-played').click()")
+    wall.until("document.querySelector('.player canvas')")
+    assert wall.run("document.querySelector('.pictures').hidden && document.querySelector('.player').clientWidth > 0")
+    wall.until("document.querySelector('.told').textContent.startsWith('Byte 5 of 5, entry 1 of 1')")
+    assert wall.run("[...document.querySelectorAll('.code .bytes')].map((each) => each.textContent)") == [
+        "0e", "26 52 40 40"]
+    title = wall.run(TITLE)
+    wall.run("document.querySelector('.player').focus()")
+    wall.press("ArrowLeft")
+    wall.until("document.querySelector('.told').textContent.startsWith('Byte 0 of 5, entry 0 of 1')")
+    assert wall.run(TITLE) == title
+    wall.run("document.getElementById('as-sketch').click()")
+    assert wall.run("document.querySelector('.player').clientWidth") == 0
+    assert not wall.run("document.querySelector('.pictures').hidden")
+
+
+def test_a_sketch_of_another_spelling_isnt_played_in_its_place(wall, address):
+    found = []
+    for name in ("equal/one.nap", "equal/two.nap"):
+        wall.run("(async () => {const source = await SOURCE.open(), found = await source.files({text: %r, answer: '', "
+                 "kind: '', cure: '', folder: '', order: '', pages: false, from: 0, count: 1}); window.answered = "
+                 "await source.played(found.files[0].key)})()" % name)
+        found.append(wall.run("window.answered.page && atob(window.answered.page.bytes).charCodeAt(1)"))
+    assert found == ([0x26, 0x27] if address.startswith("http") else [0x26, None])
+
+
+def test_words_are_found(wall, address):
+    if address.startswith("http"):
+        pytest.skip("a store has no words until they are asked for")
+    for text, told in (("hostile text", "no pages"), ("COPI", "1 to 2 of 2 pages"), ("page 12", "1 to 11 of 11 pages"),
+                       ('"PAGE 12"', "1 to 1 of 1 page"), ("equal/o", "1 to 1 of 1 page")):
+        wall.run("((it) => {it.value = %r; it.oninput()})(document.getElementById('text'))" % text)
+        wall.until("%s.startsWith(%r)" % (WALL_TOLD, told.split(" of ")[0]))
+        wall.until("%s.endsWith(%r)" % (WALL_TOLD, told.split(" of ")[-1]))
+
+
+def choose(page, name, value):
+    """Chooses a value of a field of the form."""
+    page.run("((it) => {it.value = %r; it.onchange()})(document.getElementById(%r))" % (value, name))
+
+
+def test_filters_of_the_wall(wall):
+    choose(wall, "folder", "refused")
+    wall.until(WALL_TOLD + " === '1 to 3 of 3 pages'")
+    wall.until(LEAVES + ".length === 3")
+    assert wall.run(LEAVES) == ["cancelled.nap", "cut.nap", "outside.nap"]
+    choose(wall, "answer", "19 Cut")
+    wall.until(WALL_TOLD + " === '1 to 1 of 1 page'")
+    wall.until("document.querySelector('#wall .badge')?.textContent === '19 Cut'")
+    choose(wall, "folder", "")
+    choose(wall, "answer", "")
+    choose(wall, "order", "group")
+    wall.until("document.querySelector('#wall .badge')?.textContent === 'group 1'")
+    wall.until(LEAVES + ".length > 5")
+    assert set(wall.run(LEAVES)[:3]) == {"copy of one.nap", "one.nap", "two.nap"}
+    assert wall.run(LEAVES)[3:5] == ["a.nap", "b.nap"]
+
+
+@pytest.mark.parametrize("width", [390, 768, 1600])
+@pytest.mark.parametrize("media, dark", [("", False), ("", True), ("print", True)])
+def test_the_wall_is_as_wide_as_the_window(wall, width, media, dark):
+    wall.size(width, 900)
+    wall.look(media, dark)
+    wall.until("document.querySelectorAll('#wall img').length > 3")
+    assert wall.run("document.documentElement.scrollWidth") <= width
+    if not media:
+        assert wall.run(COLUMNS) == {390: 2, 768: 3, 1600: 7}[width]
+    assert wall.run("getComputedStyle(document.querySelector('nav')).display") == ("none" if media else "flex")
 
 
 def test_what_gets_into_the_page_all_the_same_does_nothing(browser, address):

@@ -36,19 +36,21 @@ def scan(run, pages, store, *words, **more):
 def test_what_a_scan_keeps(run, pages, store):
     said = scan(run, pages, store)
     assert (said.stdout.decode(), said.stderr, said.returncode) == (
-        "6 files: 4 accepted, 2 refused; 0 known, 5 pages asked about\n", b"", 0)
+        "6 files: 4 accepted (4 pages), 2 refused; 0 known, 5 pages asked about\n", b"", 0)
     own = {name: hashlib.sha256(data).digest() for name, data in (
         ("point", POINT), ("spelled", SPELLED), ("bad", OUTSIDE), ("cut", b"\x1b"), ("bell", POINT_AND_BELL))}
     point = {"size": 5, "answer": tables.ACCEPTED, "entries": 1, "canon": hashlib.sha256(CANON).digest(),
-             "canon_size": 12}
+             "canon_size": 12, "kind": tables.PAGE, "several": 0}
     bell = {"size": 6, "answer": tables.ACCEPTED, "entries": 2, "canon": hashlib.sha256(CANON + b"\x07").digest(),
-            "canon_size": 13}
+            "canon_size": 13, "kind": tables.PAGE, "several": 0}
     assert table(store, pages) == [
         FileRow(b"", b"a", own=own["point"], **point), FileRow(b"", b"b", own=own["spelled"], **point),
         FileRow(b"", b"c", own=own["point"], **point),
-        FileRow(b"/sub", b"bad", own=own["bad"], size=5, answer=tables.REFUSED, number=10, place=3),
+        FileRow(b"/sub", b"bad", own=own["bad"], size=5, answer=tables.REFUSED, number=10, place=3,
+                looks_like=""),
         FileRow(b"/sub", b"bell", own=own["bell"], **bell),
-        FileRow(b"/sub", b"cut", own=own["cut"], size=1, answer=tables.REFUSED, number=19, place=1)]
+        FileRow(b"/sub", b"cut", own=own["cut"], size=1, answer=tables.REFUSED, number=19, place=1,
+                looks_like="")]
     assert is_sound(store) and sorted(os.listdir(os.path.dirname(store))) == ["pages", "pages.db"]
     assert rows(store, "SELECT number, name FROM faults") == [(10, "Outside"), (19, "Cut")]
 
@@ -58,20 +60,20 @@ def test_what_is_known_is_neither_read_nor_asked(run, pages, store, fake):
     for name in ("a", "sub/bad"):
         os.utime(os.path.join(pages, name), (1, 1))             # (looked at again, but its bytes are known)
     said = scan(run, pages, store)
-    assert said.stdout == b"6 files: 4 accepted, 2 refused; 4 known, 0 pages asked about\n"
-    assert scan(run, pages, store).stdout == b"6 files: 4 accepted, 2 refused; 6 known, 0 pages asked about\n"
+    assert said.stdout == b"6 files: 4 accepted (4 pages), 2 refused; 4 known, 0 pages asked about\n"
+    assert scan(run, pages, store).stdout == b"6 files: 4 accepted (4 pages), 2 refused; 6 known, 0 pages asked about\n"
     said = scan(run, pages, store, "--again")
-    assert said.stdout == b"6 files: 4 accepted, 2 refused; 0 known, 5 pages asked about\n"
+    assert said.stdout == b"6 files: 4 accepted (4 pages), 2 refused; 0 known, 5 pages asked about\n"
 
 
 def test_another_budget_and_another_program_are_asked(run, pages, store, fake):
     tree(pages, {"macro": MACRO})
     scan(run, pages, store)
     said = scan(run, pages, store, "--budget", "3")
-    assert said.stdout == b"7 files: 4 accepted, 3 refused; 0 known, 6 pages asked about\n"
+    assert said.stdout == b"7 files: 4 accepted (4 pages), 3 refused; 0 known, 6 pages asked about\n"
     assert b"7 known" in scan(run, pages, store, "--budget", "3").stdout
     said = scan(run, pages, store, "--budget", "3", program=fake(FAKE))
-    assert said.stdout == b"7 files: 7 accepted, 0 refused; 0 known, 6 pages asked about\n"
+    assert said.stdout == b"7 files: 7 accepted (7 pages), 0 refused; 0 known, 6 pages asked about\n"
     assert [budget for budget, in rows(store, "SELECT budget FROM terms ORDER BY id")] == [1048576, 3, 3]
 
 
@@ -83,12 +85,12 @@ def test_changed_files_new_files_and_gone_files(run, pages, store):
         os.unlink(os.path.join(pages, "sub", name))
     os.rmdir(os.path.join(pages, "sub"))
     said = scan(run, pages, store)
-    assert said.stdout == b"3 files: 2 accepted, 1 refused; 1 known, 1 page asked about; 4 gone\n"
+    assert said.stdout == b"3 files: 2 accepted (2 pages), 1 refused; 1 known, 1 page asked about; 4 gone\n"
     assert statuses(store)["b"] == ("gone", None) and statuses(store)["bell"] == ("gone", None)
     said = scan(run, pages, store)
-    assert said.stdout == b"3 files: 2 accepted, 1 refused; 3 known, 0 pages asked about\n"
+    assert said.stdout == b"3 files: 2 accepted (2 pages), 1 refused; 3 known, 0 pages asked about\n"
     tree(pages, {"b": SPELLED})                                 # (it is back)
-    assert b"4 files: 3 accepted, 1 refused; 3 known, 0 pages" in scan(run, pages, store).stdout
+    assert b"4 files: 3 accepted (3 pages), 1 refused; 3 known, 0 pages" in scan(run, pages, store).stdout
     assert statuses(store)["b"] == ("accepted", None)
 
 
@@ -96,10 +98,10 @@ def test_other_roots_stay(run, tmp_path, store):
     one, two = (tree(os.path.join(str(tmp_path), name), {"a": POINT, "b/c": SPELLED}) for name in ("one", "one more"))
     scan(run, one, store)
     os.unlink(os.path.join(one, "a"))
-    assert scan(run, two, store).stdout == b"2 files: 2 accepted, 0 refused; 0 known, 0 pages asked about\n"
+    assert scan(run, two, store).stdout == b"2 files: 2 accepted (2 pages), 0 refused; 0 known, 0 pages asked about\n"
     assert "gone" not in [status for status, _ in statuses(store).values()]
     said = run(["scan", one, two, os.path.join(one, "b"), "--into", store])
-    assert said.stdout == b"3 files: 3 accepted, 0 refused; 3 known, 0 pages asked about; 1 gone\n"
+    assert said.stdout == b"3 files: 3 accepted (3 pages), 0 refused; 3 known, 0 pages asked about; 1 gone\n"
 
 
 @pytest.mark.parametrize("how", ["missing", "empty", "a file"])
@@ -143,10 +145,11 @@ def test_a_file_by_itself(run, pages, store):
     for _ in range(2):
         said = run(["scan", "one.nap", "--into", store], cwd=pages)
         assert (said.returncode, said.stderr) == (0, b"")
-        assert said.stdout.startswith(b"1 file: 1 accepted, 0 refused; 0 known, ")
+        assert said.stdout.startswith(b"1 file: 1 accepted (1 page), 0 refused; 0 known, ")
         assert statuses(store) == {"one.nap": ("accepted", None)}
         assert rows(store, "SELECT DISTINCT path FROM roots") == [(os.fsencode(name),)]
-    assert run(["scan", pages, "--into", store]).stdout.startswith(b"7 files: 5 accepted, 2 refused; 1 known, ")
+    assert run(["scan", pages, "--into", store]).stdout.startswith((
+        b"7 files: 5 accepted (5 pages), 2 refused; 1 known, "))
     before = table(store)
     tree(pages, {"one.nap": OUTSIDE})
     for each in ("sub", "a"):
@@ -174,13 +177,14 @@ def test_the_store_may_stand_among_the_pages(run, pages):
     store = os.path.join(pages, "pages.db")
     for known in (0, 6):
         said = run(["scan", ".", "--into", "pages.db"], cwd=pages)
-        assert said.stdout.decode().startswith("6 files: 4 accepted, 2 refused; %d known, " % known)
+        assert said.stdout.decode().startswith("6 files: 4 accepted (4 pages), 2 refused; %d known, " % known)
     assert len(table(store)) == 6
 
 
 def test_a_store_by_another_name(run, pages, tmp_path, store):
     os.symlink(store, os.path.join(pages, "store"))
-    assert scan(run, pages, store).stdout.startswith(b"7 files: 4 accepted, 2 refused, 1 not regular files; 0 known")
+    assert scan(run, pages, store).stdout.startswith((
+        b"7 files: 4 accepted (4 pages), 2 refused, 1 not regular files; 0 known"))
     assert b"; 6 known, " in scan(run, pages, os.path.join(pages, "store")).stdout
     with Lock(os.path.join(pages, "store")):
         said = scan(run, pages, store)
@@ -193,7 +197,8 @@ def test_what_is_no_file(run, pages, store):
     os.symlink("loop", os.path.join(pages, "loop"))
     os.mkfifo(os.path.join(pages, "fifo"))
     said = scan(run, pages, store)
-    assert said.stdout == b"13 files: 4 accepted, 2 refused, 7 not regular files; 0 known, 5 pages asked about\n"
+    assert said.stdout == (
+        b"13 files: 4 accepted (4 pages), 2 refused, 7 not regular files; 0 known, 5 pages asked about\n")
     assert said.returncode == 0
     found = statuses(store)
     assert found["link to sub"] == found["loop"] == ("not a file", "a symbolic link")
@@ -212,7 +217,7 @@ def test_a_device(run, pages, store):
 
 def test_a_root_may_be_a_link(run, pages, store):
     os.symlink(pages, pages + " by a link")
-    assert scan(run, pages + " by a link", store).stdout.startswith(b"6 files: 4 accepted, 2 refused;")
+    assert scan(run, pages + " by a link", store).stdout.startswith(b"6 files: 4 accepted (4 pages), 2 refused;")
 
 
 def test_long_files(run, tmp_path, store):
@@ -221,10 +226,11 @@ def test_long_files(run, tmp_path, store):
         with open(os.path.join(pages, name), "wb") as file:
             file.truncate(length)
     said = scan(run, pages, store, "--seconds", "600")
-    assert said.stdout == b"4 files: 2 accepted, 0 refused, 2 too long; 0 known, 2 pages asked about\n"
+    assert said.stdout == (
+        b"4 files: 2 accepted (1 page, 1 blank), 0 refused, 2 too long; 0 known, 2 pages asked about\n")
     assert statuses(store)["hole"] == ("too long", "1099511627776 bytes")
     said = scan(run, pages, store, "--most", str(17 << 20), "--seconds", "600")
-    assert said.stdout == b"4 files: 3 accepted, 0 refused, 1 too long; 2 known, 1 page asked about\n"
+    assert said.stdout == b"4 files: 3 accepted (1 page, 2 blank), 0 refused, 1 too long; 2 known, 1 page asked about\n"
     empty = hashlib.sha256(bytes.fromhex("0E215F")).hexdigest()
     assert rows(store, "SELECT canonical, canonical_size FROM listing WHERE name LIKE '%more'") == [(empty, 3)]
 

@@ -37,7 +37,8 @@ def many(tmp_path, more=()):
 def test_a_page_on_which_the_program_fails(run, fake, tmp_path, store, page, reason, seconds):
     pages = many(tmp_path, {"01/150 fails": page, "02/copy": page}.items())
     said = run(["scan", pages, "--into", store, "--seconds", seconds, "--processes", "1"], program=fake(FAKE))
-    assert said.stdout == b"402 files: 400 accepted, 0 refused, 2 without an answer; 0 known, 401 pages asked about\n"
+    assert said.stdout == (
+        b"402 files: 400 accepted (400 texts), 0 refused, 2 without an answer; 0 known, 401 pages asked about\n")
     assert said.stderr.decode() == "naplps-pages: %s/01/150 fails: %s\n" % (pages, reason)
     assert said.returncode == 1
     found = statuses(store)
@@ -50,7 +51,8 @@ def test_a_page_on_which_the_program_fails(run, fake, tmp_path, store, page, rea
 def test_a_page_that_ends_its_worker(run, fake, tmp_path, store):
     pages = many(tmp_path, {"01/150 kills": b"kill its parent"}.items())
     said = run(["scan", pages, "--into", store, "--processes", "2"], program=fake(FAKE))
-    assert said.stdout == b"401 files: 400 accepted, 0 refused, 1 unreadable; 0 known, 400 pages asked about\n"
+    assert said.stdout == (
+        b"401 files: 400 accepted (400 texts), 0 refused, 1 unreadable; 0 known, 400 pages asked about\n")
     reason = "the worker that looked at it ended by SIGKILL"
     assert said.stderr.decode() == "naplps-pages: %s/01/150 kills: %s\n" % (pages, reason)
     assert said.returncode == 1 and statuses(store)["150 kills"] == ("unreadable", reason)
@@ -157,14 +159,15 @@ def test_unreadable_files_and_folders(run_as_nobody, tmp_path):
     def scan():
         return run_as_nobody("scan", pages, "--into", store, cwd=work)
     os.chown(work, 65534, 65534)
-    assert scan().stdout == b"4 files: 2 accepted, 2 refused; 0 known, 2 pages asked about\n"
+    assert scan().stdout == b"4 files: 2 accepted (2 pages), 2 refused; 0 known, 2 pages asked about\n"
     os.chmod(os.path.join(pages, "secret"), 0)
     os.chmod(os.path.join(pages, "shut"), 0)
     os.unlink(os.path.join(pages, "open", "page"))
     said = scan()
     # (what is in a folder that is shut isn't gone)
-    assert said.stdout == (b"2 files: 1 accepted, 0 refused, 1 unreadable; 1 known, 0 pages asked about; 1 gone; "
-                           b"1 folder unreadable\n")
+    assert said.stdout == (
+        b"2 files: 1 accepted (1 page), 0 refused, 1 unreadable; 1 known, 0 pages asked about; 1 gone; "
+        b"1 folder unreadable\n")
     assert sorted(said.stderr.decode().splitlines()) == [
         "naplps-pages: %s/%s: Permission denied" % (pages, name) for name in ("secret", "shut")]
     assert said.returncode == 1
@@ -242,7 +245,7 @@ def test_a_signal_stops_it_in_order(run, fake, tmp_path, store, number):
 @pytest.mark.parametrize("make", ["other schema", "other database", "no database", "the table of the recipe", "folder"])
 def test_a_file_that_is_no_store(run, tmp_path, store, make):
     foreign = "is a database of something else, and no store of naplps-pages"
-    reason = {"other schema": "is a store of schema 2, and this tool knows schema 1", "folder": "isn't a file",
+    reason = {"other schema": "is a store of schema 3, and this tool knows schemas 1 and 2", "folder": "isn't a file",
               "no database": "file is not a database"}.get(make, foreign)
     if make == "folder":
         os.mkdir(store)
@@ -252,7 +255,7 @@ def test_a_file_that_is_no_store(run, tmp_path, store, make):
         connection = sqlite3.connect(store)
         connection.executescript({
             "other schema": "PRAGMA application_id = %d; CREATE TABLE meta(key, value); "
-                            "INSERT INTO meta VALUES('schema', 2);" % tables.APPLICATION,
+                            "INSERT INTO meta VALUES('schema', 3);" % tables.APPLICATION,
             "other database": "CREATE TABLE other(x);",
             "the table of the recipe": "CREATE TABLE pages (page TEXT PRIMARY KEY, hash TEXT, entries INTEGER);"}[make])
         connection.close()
@@ -304,7 +307,8 @@ def test_a_full_disk(run, fake, tmp_path, small_disk):
     taken = count(store)
     assert is_sound(store) and 2000 <= taken < 20_000
     said = run(["scan", pages, "--into", store], program=program)
-    assert said.stdout.startswith(b"20000 files: 20000 accepted, 0 refused; ") and len(table(store)) == 20_000
+    assert said.stdout.startswith((
+        b"20000 files: 20000 accepted (20000 texts), 0 refused; ")) and len(table(store)) == 20_000
 
 
 def test_a_limit_on_the_size_of_files(naplps, run, fake, tmp_path, store):
@@ -315,7 +319,8 @@ def test_a_limit_on_the_size_of_files(naplps, run, fake, tmp_path, store):
                           capture_output=True, env=dict(os.environ, NAPLPS=program))
     assert said.returncode == 3 and b"Traceback" not in said.stderr and said.stderr.count(b"\n") == 1
     assert is_sound(store)
-    assert run(["scan", pages, "--into", store], program=program).stdout.startswith(b"8000 files: 8000 accepted")
+    assert run(["scan", pages, "--into", store], program=program).stdout.startswith((
+        b"8000 files: 8000 accepted (8000 texts)"))
 
 
 def test_a_file_system_that_can_have_no_log(tmp_path):

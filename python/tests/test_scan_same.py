@@ -11,6 +11,7 @@ from hypothesis import strategies as st
 from naplps.answers import Accepted, Refusal
 from naplps.client import Client
 from naplps_pages.collection import tables
+from naplps_pages.file_kinds import kind, looks_like
 from samples import MACRO, OUTSIDE, POINT, with_parity
 from scans import FAKE, FileRow, children, count, is_sound, rows, start, table, tree, wait_until
 from strategies import pages as made_pages
@@ -71,9 +72,11 @@ def one(path, top, name, data):
     row = FileRow(b"/" + folder if folder else b"", leaf, size=len(data), own=tables.hashed(data))
     if isinstance(answer, Accepted):
         return row._replace(answer=tables.ACCEPTED, entries=answer.entries, canon=tables.hashed(canon.body),
-                            canon_size=len(canon.body))
+                            canon_size=len(canon.body), several=0,
+                            kind=tables.KINDS.index(kind((data,), answer)))
     assert isinstance(answer, Refusal)
-    return row._replace(answer=tables.REFUSED, number=answer.number, left_out=answer.code, place=answer.place)
+    return row._replace(answer=tables.REFUSED, number=answer.number, left_out=answer.code, place=answer.place,
+                        looks_like=looks_like(data, len(data)) or "")
 
 
 def test_killed_five_times_and_resumed(run, naplps, tmp_path, store):

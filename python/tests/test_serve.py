@@ -1,4 +1,5 @@
 """What a served report answers, and that it answers nothing else and nobody else."""
+import hashlib
 import http.client
 import json
 import os
@@ -132,6 +133,33 @@ def test_files_groups_and_details(served):
     assert drawing["lines"] == ["POINT 4194304,4194304 pel=0,0 colour=own-start"]
 
 
+def test_a_page_is_found_by_its_hash(served):
+    own = hashlib.sha256(SPELLED).hexdigest()
+    for digits in (16, 40, 64):
+        found = served.json("/find?order=&pages=1&hash=" + own[:digits].upper())
+        assert found == {"key": key(served, "sub/b.nap"), "position": 2}
+    assert served.json("/find?answer=10+Outside&hash=" + own) == {"key": key(served, "sub/b.nap"), "position": -1}
+    first = served.json("/find?hash=" + hashlib.sha256(POINT).hexdigest())
+    assert first == {"key": key(served, "a.nap"), "position": 0}
+
+
+def test_files_by_folder_and_by_group(served):
+    names = [each["name"] for each in served.json("/files?folder=sub&from=0&count=9")["files"]]
+    assert names == ["sub/b.nap", "sub/c.nap"]
+    assert served.json("/files?folder=su&from=0&count=9")["total"] == 0
+    some = served.json("/files?order=group&from=0&count=9")["files"]
+    assert [each["group"] for each in some] == [1, 1, 1, 0] and some[3]["name"] == "d.nap"
+    of = {"a.nap": POINT, "sub/c.nap": POINT, "sub/b.nap": SPELLED}
+    hashes = [hashlib.sha256(of[each["name"]]).hexdigest() for each in some[:3]]
+    assert hashes == sorted(hashes) == [each["hash"] for each in some[:3]]
+
+
+def test_a_thumbnail(served):
+    drawing = served.json("/drawing?key=" + key(served, "a.nap"))
+    assert served.json("/thumbnail?key=" + key(served, "a.nap")) == {
+        "sketch": drawing["sketch"], "text": "", "why": ""}
+
+
 def test_the_head_of_an_answer(served):
     for path in ("/", FILES):
         status, headers, body = served.ask(path, "HEAD")
@@ -175,7 +203,9 @@ def test_the_key_is_new_each_time_and_nowhere_else(own, served):
 @pytest.mark.parametrize("path", [
     "/drawing", "/drawing?key=", "/drawing?key=1", "/drawing?key=1-2e2e", "/drawing?key=1-2e2e2f612e6e6170",
     "/drawing?key=999-612e6e6170", "/drawing?key=-1-612e6e6170", "/drawing?key=1-", "/drawing?key=/etc/passwd",
-    "/details?key=1-ff", "/details?key=1%20OR%201", "/files?from=-1&count=1", "/files?from=0",
+    "/thumbnail", "/thumbnail?key=1-2e2e", "/find", "/find?hash=", "/find?hash=0123", "/find?hash=" + "0" * 64,
+    "/find?hash=" + "0" * 65, "/find?hash=0123456789abcde'", "/details?key=1-ff", "/details?key=1%20OR%201",
+    "/files?from=-1&count=1", "/files?from=0",
     "/files?from=0&count=100000", "/files?from=0&count=1e3", "/groups?copies=0&from=0&count=5",
     "/files?from=%D9%A1&count=1"])
 def test_what_is_not_in_the_store_is_not_there(served, path):
@@ -188,7 +218,7 @@ def test_a_file_that_is_gone_is_not_there(served):
 
 
 @pytest.mark.parametrize("path", ["/files?from=0&from=1&count=1", "/files?from=0&count=1&text=" + "a" * 2001,
-                                  "/files?" + "&".join("a%d=1" % at for at in range(9))])
+                                  "/files?" + "&".join("a%d=1" % at for at in range(13))])
 def test_words_that_are_too_many(served, path):
     assert served.ask(path)[0] == 400
 
@@ -304,12 +334,12 @@ for command, budget, page in requests():
 
 @pytest.fixture
 def slow(run, naplps, fake, tmp_path):
-    """A server whose program thinks of six of nine pages for ever, once they are to be drawn in three seconds."""
+    """A server whose program thinks of six of nine pages for ever, once they are to be drawn in eight seconds."""
     top = tree(os.path.join(str(tmp_path), "slow"), {
         "%d.nap" % at: b"%d.." % at + (b"hang" if at < 6 else b"good") for at in range(9)})
     store = os.path.join(str(tmp_path), "slow.db")
     assert run(["scan", top, "--into", store], program=fake(SLOW)).returncode == 0
-    with start(["serve", store, "--seconds", "3"], fake(SLOW)) as process:
+    with start(["serve", store, "--seconds", "8"], fake(SLOW)) as process:
         yield Served(process)
         process.terminate()
 
@@ -320,7 +350,7 @@ def test_a_long_drawing_makes_nobody_wait(slow):
         wait_until(lambda: children(slow.process.pid))
         assert slow.drawing("7.nap")["entries"] == 7 and not long.done()
         assert slow.json(FILES)["total"] == 9 and not long.done()
-        assert re.search("(no answer|isn't drawn) in 3 s$", long.result()["why"])
+        assert re.search("(no answer|isn't drawn) in 8 s$", long.result()["why"])
 
 
 def test_many_long_drawings_end(slow):
@@ -328,7 +358,7 @@ def test_many_long_drawings_end(slow):
         long = [others.submit(slow.drawing, "%d.nap" % at) for at in range(6)]
         good = others.submit(slow.drawing, "8.nap")
         assert slow.json(FILES)["total"] == 9 and not any(each.done() for each in long)
-        assert all(re.search("(no answer|isn't drawn) in 3 s$", each.result()["why"]) for each in long)
+        assert all(re.search("(no answer|isn't drawn) in 8 s$", each.result()["why"]) for each in long)
         assert good.result()["entries"] == 7
     assert slow.drawing("6.nap")["entries"] == 7
 

@@ -20,7 +20,7 @@ from naplps.reading import NotALine, read_line
 from strategies import POINTS, pages
 
 SVG = "{http://www.w3.org/2000/svg}"
-MAY_STAND = {"svg", "title", "desc", "defs", "g", "pattern", "rect", "path", "polygon", "text", "use"}
+MAY_STAND = {"svg", "title", "desc", "defs", "g", "pattern", "rect", "path", "polygon", "text", "use", "mask"}
 INK = "pel=0,0 colour=own-start texture=0/none"
 HAND = "colour=own-start text=0,0/normal/----"
 

@@ -7,14 +7,15 @@ import struct
 import pytest
 
 from forked import forked, require_told
-from naplps_pages.collection import kinds, refused, tables
+from naplps_pages.collection import kinds, refused, schemas, tables, word_index
 from naplps_pages.collection.store import StoreFailed, open_to_read, open_to_write, open_unchanged
+from naplps_pages.report.questions import Questions
 from scans import rows, written
-from stores import COMMANDS, archive, clean, copied, words_of
+from stores import COMMANDS, archive, clean, copied, earlier, words_of
 
 
-@pytest.fixture(scope="module")
-def made(tmp_path_factory, naplps):
+@pytest.fixture(scope="module", params=[schemas.SCHEMA, schemas.EARLIER])
+def made(tmp_path_factory, naplps, request):
     """A folder with pages, and a store of these and another; and what runs the commands."""
     folder = str(tmp_path_factory.mktemp("stores"))
     pages = archive(folder)
@@ -25,6 +26,9 @@ def made(tmp_path_factory, naplps):
     connection.execute("UPDATE folders SET path = CAST(replace(CAST(path AS TEXT), ?, '/other') AS BLOB)", (pages,))
     connection.commit()
     connection.close()
+    if request.param == schemas.EARLIER:
+        os.rename(os.path.join(folder, "good.db"), os.path.join(folder, "new.db"))
+        earlier(os.path.join(folder, "new.db"), os.path.join(folder, "good.db"))
     return Made(folder, pages, naplps)
 
 
@@ -146,6 +150,14 @@ WRONG = [
     ("UPDATE pages SET entries = 1.5", ["equal"], "the number 1.5 in place of a number from 0"),
     ("UPDATE pages SET place = NULL", ["refused"], "nothing in place of a number from 0"),
     ("UPDATE files SET state = 1, why = zeroblob(10)", ["status"], "10 bytes in place of a text"),
+    ("UPDATE files SET state = 1, why = printf('%.65537c', 'x')", ["status"],
+     "a text of 65537 characters in place of a text"),
+    ("UPDATE folders SET path = CAST(path || printf('/%.131072c', 'x') AS BLOB)", ["refused"],
+     "bytes in place of a path"),
+    ("UPDATE files SET name = CAST(printf('%.131073c', 'x') AS BLOB) WHERE name = CAST('a.nap' AS BLOB)", ["equal"],
+     "131073 bytes in place of a name"),
+    ("UPDATE pages SET left_out = printf('%.65537c', 'x') WHERE number IS NOT NULL", ["merge"],
+     "a row of its table pages isn't one of a scan"),
     ("UPDATE terms SET budget = 'x'", ["status"], "a text in place of a number from 0"),
     ("UPDATE terms SET budget = -1", ["convert", "--into", "canonical"], "the number -1 in place of a number from 0"),
     ("UPDATE runs SET program = 'x'", ["status"], "a text in place of a name"),
@@ -285,9 +297,57 @@ def test_as_many_reasons_as_pages_take_no_longer_than_one(tmp_path):
 
 def test_every_column_has_a_kind():
     connection = sqlite3.connect(":memory:")
-    connection.executescript(tables.TABLES)
+    connection.executescript(schemas.tables())
     for table, told in kinds.TABLES.items():
         some = [(row[1], bool(row[3] or row[5])) for row in connection.execute("PRAGMA table_info(%s)" % table)]
         assert [(each.name, not each.may_lack) for each in kinds.columns(told)] == some
     assert set(kinds.TABLES) | {"meta"} == {name for name, in connection.execute("SELECT name FROM sqlite_master "
                                                                                  "WHERE type = 'table'")}
+
+
+# What FTS5 keeps of words, made by hand, and whether a search or a write can't do with it.
+INDEXES = [
+    ("UPDATE words_data SET block = x'00000000FFFFFFFF7F01'", True),
+    ("UPDATE words_data SET block = zeroblob(100000) WHERE id > 10", True), ("DELETE FROM words_data", True),
+    ("UPDATE words_data SET block = bad('00000000010101010001018FFFFFFF7F') WHERE id = 10", True),
+    ("UPDATE words_config SET v = 99 WHERE k = 'version'", True), ("DELETE FROM words_idx", False),
+    ("UPDATE words_docsize SET sz = x'FFFFFFFFFFFFFFFFFF'", False), ("UPDATE words_docsize SET id = id + 1000", False),
+    ("INSERT INTO words_config VALUES('rank', 'load_extension(''/x'')'), ('pgsz', -1), ('hashsize', 1 << 62)", False),
+    ("UPDATE words_idx SET pgno = 9223372036854775807", False)]
+
+
+@pytest.fixture(scope="module")
+def indexed(tmp_path_factory, naplps):
+    """A folder with a store that has words."""
+    if not word_index.has_fts5():
+        pytest.skip("SQLite has no FTS5")
+    folder = str(tmp_path_factory.mktemp("words"))
+    made = Made(folder, archive(folder), naplps)
+    for number in range(30):
+        with open(os.path.join(made.pages, "words%d" % number), "w", encoding="ascii") as file:
+            file.write("hello number%d" % number)
+    assert forked(["scan", made.pages, "--into", "good.db", "--words"], folder, naplps).status == 0
+    return made
+
+
+@pytest.mark.parametrize("words, damages", INDEXES)
+def test_an_index_of_words_that_others_made(indexed, words, damages):
+    """Nothing of it ends a command but with a line that names the store, and its texts aren't lost."""
+    told = []
+    for command in (["find"], ["files"], ["scan", "--words"], ["merge"]):
+        indexed.change(words + "; DELETE FROM texts WHERE page % 2 = 0")
+        clean(indexed.folder)
+        given = ["find", "hello", "bad.db"] if command == ["find"] else words_of(command, "bad.db", "", indexed.pages)
+        said = forked(given, indexed.folder, indexed.naplps, 60)
+        require_told(said, command)
+        assert said.status == 0 or said.err.startswith(b"naplps-pages: bad.db: its index of words is damaged ("), said
+        told.append(said.status)
+    assert told[1] == told[3] == 0 and (3 in told) >= damages
+    indexed.change(words)
+    questions = Questions(indexed.bad)
+    try:
+        assert questions.ask("files", {"text": "hello", "from": "0", "count": "9"})
+    except sqlite3.DatabaseError as error:
+        assert str(error).startswith("its index of words is damaged (")
+    questions.close()
+    assert forked(["find", "hello", "merged.db"], indexed.folder, indexed.naplps).out.count(b"words") >= 15

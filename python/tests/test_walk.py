@@ -51,7 +51,8 @@ def test_a_folder_that_is_too_deep_is_a_row(run, tmp_path, monkeypatch):
         said = run(["scan", top, "--into", store])
         longest = max((each for each, in rows(store, "SELECT path FROM folders WHERE state = 0")), key=len)
         assert walk.MOST_PATH - 251 < len(longest) <= walk.MOST_PATH == 65536
-        assert said.stdout == b"1 file: 1 accepted, 0 refused; 0 known, 1 page asked about; 1 folder unreadable\n"
+        assert said.stdout == (
+            b"1 file: 1 accepted (1 page), 0 refused; 0 known, 1 page asked about; 1 folder unreadable\n")
         assert said.stderr.decode() == "naplps-pages: %s: its path is longer than 65536 bytes\n" % os.fsdecode(
             longest + b"/" + NAME) and said.returncode == 1
         assert rows(store, "SELECT path, why FROM folders WHERE state = 1") == [
@@ -67,7 +68,8 @@ def test_a_path_that_is_too_long_for_the_system(run, tmp_path):
     try:
         assert len(path) > os.pathconf(top, "PC_PATH_MAX")
         said = run(["scan", top, "--into", store])
-        assert (said.stdout, said.stderr) == (b"3 files: 3 accepted, 0 refused; 0 known, 2 pages asked about\n", b"")
+        assert (said.stdout, said.stderr) == ((
+            b"3 files: 3 accepted (3 pages), 0 refused; 0 known, 2 pages asked about\n"), b"")
         assert b"; 3 known, 0 pages" in run(["scan", top, "--into", store]).stdout
         assert (path,) in rows(store, "SELECT path FROM folders")
         assert run(["equal", store, "--verify"]).stdout == run(["equal", store]).stdout

@@ -1,4 +1,4 @@
 """Sketches: pictures of pages as SVG, drawn from the lines of `naplps list`. docs/SKETCH.md says what is exact."""
-from .walk import Sketch, draw, empty
+from .walk import Drawn, Guess, Sketch, draw, drawn, empty
 
-__all__ = ["Sketch", "draw", "empty"]
+__all__ = ["Drawn", "Guess", "Sketch", "draw", "drawn", "empty"]

@@ -2,6 +2,7 @@
 import math
 from typing import List, Sequence
 
+from .curves import Cubic, Piece, Round, Straight
 from .measure import WIDTH, Place, num
 from .weight import Extent
 from .weight import extent as straight_extent
@@ -13,11 +14,20 @@ PIECES = 16
 
 def path(points: Sequence[Place], filled: bool) -> str:
     """The path of an arc through these points, three or more; a circle where the first is the third of three."""
-    if len(points) == 3:
-        body = _circle(points) if points[0] == points[2] else _three(points)
-    else:
-        body = _curve(points)
+    body = "".join(piece.path() for piece in pieces(points))
     return f"M{num(points[0][0])} {num(points[0][1])}" + body + ("Z" if filled else "")
+
+
+def pieces(points: Sequence[Place]) -> List[Piece]:
+    """The pieces of an arc."""
+    if len(points) == 3:
+        return _circle(points) if points[0] == points[2] else _three(points)
+    return _curve(points)
+
+
+def is_large(some: Sequence[Piece]) -> bool:
+    """Whether there is an arc of a circle that goes far out of the square."""
+    return any(isinstance(piece, Round) and piece.radius > MOST_RADIUS for piece in some)
 
 
 def extent(points: Sequence[Place]) -> Extent:
@@ -47,31 +57,28 @@ def _cross(points: Sequence[Place]) -> float:
     return (m[0] - a[0]) * (e[1] - a[1]) - (m[1] - a[1]) * (e[0] - a[0])
 
 
-def _circle(points: Sequence[Place]) -> str:
-    radius = math.dist(points[0], points[1]) / 2
-    return _arc(radius, False, True, points[1]) + _arc(radius, False, True, points[0])
+def _circle(points: Sequence[Place]) -> List[Piece]:
+    a, m, _ = points
+    centre, radius = ((a[0] + m[0]) / 2, (a[1] + m[1]) / 2), math.dist(a, m) / 2
+    return [Round(a, m, centre, radius, math.pi), Round(m, a, centre, radius, math.pi)]
 
 
-def _arc(radius: float, large: bool, sweep: bool, to: Place) -> str:
-    return "A%s %s 0 %d %d %s %s" % (num(radius), num(radius), large, sweep, num(to[0]), num(to[1]))
-
-
-def _three(points: Sequence[Place]) -> str:
+def _three(points: Sequence[Place]) -> List[Piece]:
     """From the first to the second and on to the third, each as an arc of the circle through all three."""
     a, m, e = points
     cross = _cross(points)
     if abs(cross) < 1e-9:
-        return _lines([m, e])
+        return [Straight(a, m), Straight(m, e)]
     radius = math.dist(a, m) * math.dist(m, e) * math.dist(a, e) / (2 * abs(cross))
     centre = _centre(points, cross)
-    sweep = cross > 0
-    out = ""
+    out: List[Piece] = []
     for start, to in ((a, m), (m, e)):
-        turn = _turn(centre, start, to, sweep)
+        turn = _turn(centre, start, to, cross > 0)
         if radius > MOST_RADIUS and abs(turn) < math.pi / 2:
-            out += _lines(_on_circle(centre, start, turn)[:-1] + [to])
+            places = [start, *_on_circle(centre, start, turn)[:-1], to]
+            out += map(Straight, places, places[1:])
         else:
-            out += _arc(radius, abs(turn) > math.pi, sweep, to)
+            out.append(Round(start, to, centre, radius, turn))
     return out
 
 
@@ -104,17 +111,12 @@ def _on_circle(centre: Place, start: Place, turn: float) -> List[Place]:
     return out
 
 
-def _lines(places: Sequence[Place]) -> str:
-    return "".join(f"L{num(x)} {num(y)}" for x, y in places)
-
-
-def _curve(points: Sequence[Place]) -> str:
+def _curve(points: Sequence[Place]) -> List[Piece]:
     """A smooth curve through all points: at each the direction is that from the one before to the one behind."""
-    out = []
+    out: List[Piece] = []
     last = len(points) - 1
     for i in range(last):
         before, start, to, behind = points[max(i - 1, 0)], points[i], points[i + 1], points[min(i + 2, last)]
-        out.append("C%s %s %s %s %s %s" % (
-            num(start[0] + (to[0] - before[0]) / 6), num(start[1] + (to[1] - before[1]) / 6),
-            num(to[0] - (behind[0] - start[0]) / 6), num(to[1] - (behind[1] - start[1]) / 6), num(to[0]), num(to[1])))
-    return "".join(out)
+        out.append(Cubic(start, (start[0] + (to[0] - before[0]) / 6, start[1] + (to[1] - before[1]) / 6),
+                         (to[0] - (behind[0] - start[0]) / 6, to[1] - (behind[1] - start[1]) / 6), to))
+    return out

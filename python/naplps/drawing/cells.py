@@ -1,9 +1,9 @@
 """Cells of characters, and where the next one stands."""
 from dataclasses import dataclass
-from typing import Optional, Tuple
+from typing import NamedTuple, Optional, Tuple
 
 from ..entry import ONE, Look, Pen, Position, TextMove
-from .measure import HEIGHT, WIDTH
+from .measure import HEIGHT, THIN, WIDTH
 
 # Width and height of a cell, as parts of the side of the square.
 SIZES = {"small": (1 / 80, 5 / 128), "medium": (1 / 32, 3 / 64), "normal": (1 / 40, 5 / 128),
@@ -11,19 +11,22 @@ SIZES = {"small": (1 / 80, 5 / 128), "medium": (1 / 32, 3 / 64), "normal": (1 / 
 SPACINGS = (1.0, 1.25, 1.5, 1.0)
 RIGHT, LEFT, UP, DOWN = range(4)
 TOP = HEIGHT / WIDTH
+# A cell may go out of its field by so much.
+DOT = THIN / WIDTH
 # Numbers of rows and columns that APS names are offset by this.
 FIRST_OF_APS = 0x20
 
 
 @dataclass(frozen=True)
 class Cell:
-    """A cell: its size, and what the bits of TEXT say of rotation, path and spacing."""
+    """A cell: its size, what the bits of TEXT say of rotation, path and spacing, and whether text scrolls."""
 
     wide: float
     high: float
     rotation: int
     path: int
     spacing: float
+    scroll: bool
 
 
 def cell(look: Look) -> Cell:
@@ -32,34 +35,42 @@ def cell(look: Look) -> Cell:
         wide, high = SIZES[look.size]
     else:
         wide, high = look.size[0] / ONE, look.size[1] / ONE
-    return Cell(wide, high, look.first & 3, look.first >> 2 & 3, SPACINGS[look.first >> 4 & 3])
+    return Cell(wide, high, look.first & 3, look.first >> 2 & 3, SPACINGS[look.first >> 4 & 3], look.scroll)
+
+
+class Saved(NamedTuple):
+    """What a definition puts back at its end: the place, whether it is known and has scrolled, and the field."""
+
+    x: float = 0.0
+    y: float = 0.0
+    known: bool = False
+    scrolled: bool = False
+    field: Tuple[float, float, float, float] = (0.0, 0.0, 1.0, TOP)
 
 
 class TextCursor:
     """The place of the next character: the lower left corner of its cell, in sides of the square."""
 
     def __init__(self) -> None:
-        self.x = self.y = 0.0
-        self.known = False
-        self.field: Tuple[float, float, float, float] = (0.0, 0.0, 1.0, TOP)
+        self.put_back(Saved())
 
-    def saved(self) -> Tuple[float, float, bool]:
+    def saved(self) -> Saved:
         """What a definition puts back at its end."""
-        return self.x, self.y, self.known
+        return Saved(self.x, self.y, self.known, self.scrolled, self.field)
 
-    def put_back(self, saved: Tuple[float, float, bool]) -> None:
+    def put_back(self, saved: Saved) -> None:
         """Goes where it was saved."""
-        self.x, self.y, self.known = saved
+        self.x, self.y, self.known, self.scrolled, self.field = saved
 
     def enter_glyph(self) -> None:
-        """Goes to the corner of a glyph or a mask."""
-        self.x = self.y = 0.0
-        self.known = True
+        """Goes to the corner of a glyph or a mask, whose square is the field."""
+        self.put_back(Saved(known=True, field=(0.0, 0.0, 1.0, 1.0)))
 
     def take(self, pen: Pen, size: Cell) -> None:
         """Goes where the pen is, if that is known."""
         if isinstance(pen, tuple):
             self.x, self.y = pen[0] / ONE, pen[1] / ONE
+            self.scrolled = False
         elif not self.known:
             self.home(size)
         self.known = True
@@ -67,6 +78,7 @@ class TextCursor:
     def home(self, size: Cell) -> None:
         """Goes to the upper left corner of the field."""
         self.x, self.y = self.field[0], self.field[3] - abs(size.high)
+        self.scrolled = False
 
     def lose(self) -> None:
         """Forgets its place: the next text begins at home."""
@@ -81,13 +93,31 @@ class TextCursor:
             self.field = (min(a, c) / ONE, min(b, d) / ONE, max(a, c) / ONE, max(b, d) / ONE)
         self.lose()
 
-    def wrap(self, size: Cell) -> bool:
-        """Goes to the next line where the cell leaves the field; whether it did."""
-        if size.path != RIGHT or self.x + size.wide * 0.5 <= self.field[2] or self.x <= self.field[0]:
+    def fits(self, wide: float) -> bool:
+        """Whether so much still has room in the line."""
+        return self.x + wide <= self.field[2] + DOT
+
+    def wrap(self, size: Cell, wide: float) -> bool:
+        """Goes to the next line where a cell or a word, which is so wide, leaves the field; whether it did.
+
+        What is wider than the field begins where it is, and leaves the line cell by cell.
+        """
+        has_room = wide <= self.field[2] - self.field[0] + DOT
+        if size.path != RIGHT or self.x <= self.field[0] or self.fits(wide if has_room else size.wide):
             return False
         self.x = self.field[0]
-        self.y -= abs(size.high)
+        self.down(size, abs(size.high))
         return True
+
+    def down(self, size: Cell, high: float) -> None:
+        """Goes a line down; from the last line of the field to its first, where text doesn't scroll."""
+        low = self.field[1] - DOT
+        was_within = self.y >= low
+        self.y -= high
+        if was_within and self.y < low:
+            self.scrolled = size.scroll
+            if not size.scroll:
+                self.y = self.field[3] - abs(size.high)
 
     def step(self, size: Cell) -> None:
         """Goes on by a cell along the path."""
@@ -106,13 +136,14 @@ class TextCursor:
         what = entry.move
         if what == "APF":
             self.x += size.wide * size.spacing
-            self.wrap(size)
+            self.wrap(size, size.wide)
         elif what == "APB":
             self.x -= size.wide * size.spacing
         elif what == "APD":
-            self.y -= size.high
+            self.down(size, size.high)
         elif what == "APU":
             self.y += size.high
+            self.scrolled = self.scrolled and self.y < self.field[1] - DOT
         elif what == "APR":
             self.x = self.field[0]
         elif what == "APH":
@@ -121,3 +152,4 @@ class TextCursor:
             row, column = (number - FIRST_OF_APS for number in entry.bytes)
             self.x = self.field[0] + column * size.wide
             self.y = self.field[3] - (row + 1) * size.high
+            self.scrolled = False

@@ -41,6 +41,10 @@ class Palette:
             if isinstance(entry, Map):
                 self.map[entry.address] = direct(entry.value)
 
+    def take_from(self, other: "Palette") -> None:
+        """Takes the colours that another one has."""
+        self.map.update(other.map)
+
     def at(self, address: int) -> str:
         """The colour at an address; what the page doesn't set is the first one, by the upper four bits."""
         return self.map.get(address) or FIRST[address >> 20 & 15]

@@ -1,8 +1,9 @@
 """What a sketch is drawn on: elements in their order, definitions, and notes."""
 from dataclasses import dataclass
-from typing import Dict, List, Optional, Set
+from typing import Dict, List, NamedTuple, Optional, Set, Tuple
 
 from .colours import BLACK
+from .elements import Element
 from .measure import HEIGHT, WIDTH
 from .weight import Weight
 
@@ -33,8 +34,17 @@ class Definition:
 
     number: int
     name: str
-    markup: str
+    elements: Tuple[Element, ...]
+    size: int
     weight: Weight
+
+
+class LetterCells(NamedTuple):
+    """The entries that letters side by side came with, where the first cell begins, and how wide each is."""
+
+    entries: Tuple[int, ...]
+    x: float
+    wide: float
 
 
 class Paper:
@@ -43,8 +53,8 @@ class Paper:
     def __init__(self, prefix: str) -> None:
         self.prefix = prefix
         self.page: List[str] = []
-        self.open: Optional[List[str]] = None
-        self.open_weight = Weight()
+        self.open: Optional[List[Element]] = None
+        self.open_size, self.open_weight = 0, Weight()
         self.definitions: List[str] = []
         self.defined: Set[str] = set()
         self.glyphs: Dict[int, Definition] = {}
@@ -56,6 +66,10 @@ class Paper:
         self.of_page, self.of_definitions = Cost(), Cost()
         self.full = False
         self.top = 0.0
+        # Where in the page what is a guess begins.
+        self.guess_from: Optional[int] = None
+        # Which entry is drawn, counted from 0.
+        self.entry = 0
 
     @property
     def on_page(self) -> bool:
@@ -81,14 +95,38 @@ class Paper:
             self.full = True
             raise Full
 
-    def put(self, element: str, weight: Weight) -> None:
-        """Draws an element over what is there. Raises Full."""
-        self.spend(len(element.encode("utf-8")), weight)
-        self.put_counted(element)
+    def require(self, weight: Weight) -> None:
+        """Looks whether there is room for something that costs so much at least. Raises Full where there isn't."""
+        if not self.full and self.of_page.weight + self.of_definitions.weight + weight.points > MOST_WEIGHT:
+            self.full = True
+            raise Full
 
-    def put_counted(self, element: str) -> None:
-        """Draws an element that was counted before."""
-        (self.page if self.open is None else self.open).append(element)
+    def put(self, element: Element, weight: Weight) -> None:
+        """Draws an element over what is there. Raises Full."""
+        markup = element.markup()
+        size = len(markup.encode("utf-8"))
+        self.spend(size, weight)
+        self._keep(element, markup, size, None)
+
+    def put_counted(self, element: Element, letters: LetterCells) -> None:
+        """Draws an element of some letters, which were counted before."""
+        markup = element.markup()
+        self._keep(element, markup, len(markup.encode("utf-8")), letters)
+
+    def _keep(self, element: Element, markup: str, size: int, letters: Optional[LetterCells]) -> None:
+        if self.open is None:
+            self.keep_on_page(element, markup, letters)
+        else:
+            self.open.append(element)
+            self.open_size += size
+
+    def keep_on_page(self, element: Element, markup: str, letters: Optional[LetterCells]) -> None:
+        """Keeps an element of the page. It came with the entry that is drawn, or with those of the letters."""
+        self.page.append(markup)
+
+    def begin_guess(self) -> None:
+        """What is drawn on the page from here on is a guess."""
+        self.guess_from = len(self.page)
 
     def note(self, text: str) -> None:
         """Keeps a note on the sketch, once."""
@@ -103,6 +141,7 @@ class Paper:
         """Takes away all that is drawn on the page, and fills it with the colour."""
         if self.open is None:
             self.page = []
+            self.guess_from = None if self.guess_from is None else 0
             self.of_page = Cost()
             self.top = 0.0
             if colour != BLACK:
@@ -111,7 +150,7 @@ class Paper:
 
     def begin(self) -> None:
         """Opens a glyph or a mask."""
-        self.open, self.open_weight = [], Weight()
+        self.open, self.open_size, self.open_weight = [], 0, Weight()
 
     def end_glyph(self, code: int) -> None:
         """Closes a glyph, which replaces an older one for the characters behind it."""
@@ -127,7 +166,8 @@ class Paper:
 
     def _ended(self, letter: str, number: int) -> Definition:
         elements, self.open = self.open or [], None
-        return Definition(number, f"{self.prefix}{letter}{number}", "".join(elements), self.open_weight)
+        name = f"{self.prefix}{letter}{number}"
+        return Definition(number, name, tuple(elements), self.open_size, self.open_weight)
 
     def glyph(self, code: int) -> Optional[Definition]:
         """The glyph that may be drawn here; none inside a glyph or a mask."""
@@ -140,20 +180,25 @@ class Paper:
             return glyph
         return None
 
-    def drawing_of(self, mask: Definition) -> str:
+    def drawing_of(self, mask: Definition) -> Tuple[Element, ...]:
         """The elements of a mask for a pattern: a copy, or a reference to them where there are many copies already."""
-        if self.copied + len(mask.markup) <= MOST_COPIED:
-            self.copied += len(mask.markup)
-            return mask.markup
+        if self.copied + mask.size <= MOST_COPIED:
+            self.copied += mask.size
+            return mask.elements
         self._define_group(mask)
-        return '<use href="#%s"/>' % mask.name
+        return (Element("use", {"href": f"#{mask.name}"}),)
 
     def _define_group(self, it: Definition) -> None:
-        self.define(it.name, '<g id="%s">%s</g>' % (it.name, it.markup), counted=len(it.markup.encode("utf-8")))
+        self.define(it.name, Element("g", {"id": it.name}, it.elements), counted=it.size)
 
-    def define(self, key: str, markup: str, counted: int = 0) -> None:
+    def define(self, key: str, element: Element, counted: int = 0) -> None:
         """Adds a definition once. `counted` is how much of its size was counted before. Raises Full."""
         if key not in self.defined:
+            markup = element.markup()
             self._count(self.of_definitions, len(markup.encode("utf-8")) - counted, 0.0)
             self.defined.add(key)
-            self.definitions.append(markup)
+            self.keep_definition(element, markup)
+
+    def keep_definition(self, element: Element, markup: str) -> None:
+        """Keeps a definition that is used."""
+        self.definitions.append(markup)

@@ -1,11 +1,15 @@
 """Points, lines, rectangles, polygons and arcs."""
-from typing import Any, Callable, Dict, List, Tuple
+from typing import Any, Callable, Dict, List, Sequence, Tuple
 
 from ..entry import ONE, Arc, Line, Point, Poly, Position, Rect
 from . import arcs
-from .measure import Place, in_glyph, length, num, on_page
+from .curves import Piece, Straight
+from .elements import Element
+from .measure import Place, in_glyph, num, on_page
 from .paper import Paper
-from .textures import SvgAttributes
+from .pels import pel
+from .sweeps import dashed, least_of_dashes, sweep
+from .textures import Stroked, SvgAttributes, dashes_of
 from .weight import Extent, box, extent
 
 
@@ -25,41 +29,70 @@ class Shapes:
     def point(self, entry: Point) -> None:
         """A point: the pel's rectangle, from its corner."""
         (x, y), = self._places(entry.points)
-        wide, high = (length(side) for side in entry.pel)
-        thin = self.looks.thin()
-        left = x + min(wide, 0.0) - (thin / 2 if not wide else 0.0)
-        top = y - max(high, 0.0) - (thin / 2 if not high else 0.0)
-        wide, high = abs(wide) or thin, abs(high) or thin
-        self.paper.put('<rect x="%s" y="%s" width="%s" height="%s" fill="%s"/>' % (
-            num(left), num(top), num(wide), num(high), self.looks.ink(entry)), box(wide, high))
+        dot = pel(entry.pel, self.looks.thin())
+        self.paper.put(Element("rect", {
+            "x": num(x + dot.left), "y": num(y + dot.top), "width": num(dot.wide), "height": num(dot.high),
+            "fill": self.looks.ink(entry)}), box(dot.wide, dot.high))
 
     def line(self, entry: Line) -> None:
-        """A line, with square ends."""
+        """A line; a thin one has square ends."""
         (a, b), (c, d) = places = self._places(entry.points)
+        if _is_swept(entry):
+            self._sweep(entry, [Straight(*places)])
+            return
         style = self.looks.of(entry, extent(places, False))
-        self.paper.put('<path d="M%s %sL%s %s" stroke-linecap="square"%s/>' % (
-            num(a), num(b), num(c), num(d), style.attributes), style.weight)
+        told = f"M{num(a)} {num(b)}L{num(c)} {num(d)}"
+        self.paper.put(Element("path", {"d": told, "stroke-linecap": "square", **style.attributes}), style.weight)
 
     def rectangle(self, entry: Rect) -> None:
         """A rectangle; a filled one without width or height has the least thickness."""
         (a, b), (c, d) = self._places(entry.points)
+        if _is_swept(entry):
+            self._sweep(entry, _around([(a, b), (c, b), (c, d), (a, d)]))
+            return
         least = self.looks.thin() if entry.filled else 0.01
         wide, high = max(abs(c - a), least), max(abs(d - b), least)
         style = self.looks.of(entry, Extent(4, 2 * (wide + high), wide * high))
-        self.paper.put('<rect x="%s" y="%s" width="%s" height="%s"%s/>' % (
-            num(min(a, c)), num(min(b, d)), num(wide), num(high), style.attributes), style.weight)
+        self.paper.put(Element("rect", {"x": num(min(a, c)), "y": num(min(b, d)), "width": num(wide),
+                                        "height": num(high), **style.attributes}), style.weight)
 
     def polygon(self, entry: Poly) -> None:
         """A polygon, closed; where its edges cross, what lies inside an even number of them isn't filled."""
         places = self._places(entry.points)
+        if _is_swept(entry):
+            self._sweep(entry, _around(places))
+            return
         style = self.looks.of(entry, extent(places, True))
         told = " ".join(f"{num(x)},{num(y)}" for x, y in places)
-        self.paper.put('<polygon points="%s" fill-rule="evenodd"%s/>' % (told, style.attributes), style.weight)
+        self.paper.put(Element("polygon", {"points": told, "fill-rule": "evenodd", **style.attributes}), style.weight)
 
     def arc(self, entry: Arc) -> None:
         """An arc, or a circle."""
         if len(entry.points) > 3:
             self.paper.note("an arc of more than three points is drawn as a smooth curve through them")
         places = self._places(entry.points)
+        if _is_swept(entry):
+            self._sweep(entry, arcs.pieces(places))
+            return
         style = self.looks.of(entry, arcs.extent(places))
-        self.paper.put('<path d="%s"%s/>' % (arcs.path(places, entry.filled), style.attributes), style.weight)
+        self.paper.put(Element("path", {"d": arcs.path(places, entry.filled), **style.attributes}), style.weight)
+
+    def _sweep(self, entry: Stroked, pieces: Sequence[Piece]) -> None:
+        """A line or an outline: what the pel's rectangle sweeps."""
+        dot, dashes = pel(entry.pel, self.looks.thin()), dashes_of(entry)
+        if dashes and not arcs.is_large(pieces):
+            unit = max(dot.wide, dot.high)
+            self.paper.require(least_of_dashes(sum(piece.length() for piece in pieces), unit, dashes))
+            pieces = list(dashed(pieces, unit, dashes))
+        swept = sweep(pieces, dot)
+        self.paper.put(Element("path", {"d": swept.path, "fill": self.looks.ink(entry)}), swept.weight)
+
+
+def _is_swept(entry: Stroked) -> bool:
+    """Whether an entry is a line or an outline that has a pel. (Without one it is as thin as can be.)"""
+    return entry.pel != (0, 0) and (isinstance(entry, Line) or not entry.filled)
+
+
+def _around(places: Sequence[Place]) -> List[Piece]:
+    """The edges of an area with these corners."""
+    return list(map(Straight, places, [*places[1:], places[0]]))

@@ -1,8 +1,9 @@
 """How lines and areas look: thickness, dashes, fills."""
-from typing import NamedTuple, Optional, Tuple, Union
+from typing import Dict, List, NamedTuple, Optional, Tuple, Union
 
 from ..entry import Arc, Line, Point, Poly, Rect, Texture
-from .colours import Palette
+from .colours import BLACK, Palette
+from .elements import Element
 from .measure import THIN, THIN_IN_GLYPH, WIDTH, fine, length, num
 from .paper import Definition, Paper
 from .weight import PATTERNED, TILE, Extent, Weight, filled, outlined
@@ -17,7 +18,7 @@ USUAL_MASK = 24.0
 class Style(NamedTuple):
     """The attributes of a shape, and what it costs to draw it."""
 
-    attributes: str
+    attributes: Dict[str, str]
     weight: Weight
 
 
@@ -42,35 +43,33 @@ class SvgAttributes:
         return self._stroke(entry, shape)
 
     def _stroke(self, entry: Stroked, shape: Extent) -> Style:
-        """Those of an outline."""
-        wide, high = entry.pel
-        thick = max(abs(length(wide)), abs(length(high)), self.thin())
-        kind = entry.texture.word & 3
-        dashes = ""
-        if kind:
-            dashes = ' stroke-dasharray="%s"' % " ".join(num(part * thick) for part in DASHES[kind])
-        attributes = ' fill="none" stroke="%s" stroke-width="%s"%s' % (self.ink(entry), num(thick), dashes)
-        return Style(attributes, outlined(shape, thick, DASHES[kind] if kind else ()))
+        """Those of a line or an outline that has no pel."""
+        thick, dashes = self.thin(), dashes_of(entry)
+        attributes = {"fill": "none", "stroke": self.ink(entry), "stroke-width": num(thick)}
+        if dashes:
+            attributes["stroke-dasharray"] = " ".join(num(part * thick) for part in dashes)
+        return Style(attributes, outlined(shape, thick, dashes))
 
     def _fill(self, entry: Area, shape: Extent) -> Style:
         """Those of a filled area."""
         texture = entry.texture
-        edge, weight = "", filled(shape)
+        edge: Dict[str, str] = {}
+        weight = filled(shape)
         if texture.word & 4:
             thick = self.thin() * 0.75
-            edge = ' stroke="#000000" stroke-width="%s"' % num(thick)
+            edge = {"stroke": BLACK, "stroke-width": num(thick)}
             weight = weight.plus(outlined(shape, thick, ()))
         pattern = texture.word >> 3 & 7
         ink = self.ink(entry)
         if not pattern or not self.paper.on_page:
-            return Style(' fill="%s"%s' % (ink, edge), weight)
+            return Style({"fill": ink, **edge}, weight)
         wide, high = self._tile(texture)
         mask = self.paper.masks.get("ABCD"[pattern - 4]) if pattern >= 4 else None
         if mask is not None:
             weight = weight.plus(mask.weight.scaled(wide / WIDTH, high / WIDTH))
         weight = weight.plus(Weight(TILE, 0.0, shape.area * PATTERNED + wide * high))
         key = self._pattern(pattern, texture, ink, self.palette.back(entry.colour))
-        return Style(' fill="url(#%s)"%s' % (key, edge), weight)
+        return Style({"fill": f"url(#{key})", **edge}, weight)
 
     @staticmethod
     def _tile(texture: Texture) -> Tuple[float, float]:
@@ -89,27 +88,32 @@ class SvgAttributes:
             self.paper.prefix, pattern, ink[1:], back[1:] if back else "none", num(wide), num(high), version)
         key = key.replace(".", "_")
         if key not in self.paper.defined:
-            inside = _rect(wide, high, back) if back else ""
-            inside += _crossed(pattern, wide, high, ink) if pattern < 4 else self._masked(mask, wide, high, ink)
-            self.paper.define(key, '<pattern id="%s" width="%s" height="%s" patternUnits="userSpaceOnUse">%s</pattern>'
-                              % (key, num(wide), num(high), inside))
+            inside = [_rect(wide, high, back)] if back else []
+            inside += _crossed(pattern, wide, high, ink) if pattern < 4 else [self._masked(mask, wide, high, ink)]
+            self.paper.define(key, Element("pattern", {"id": key, "width": num(wide), "height": num(high),
+                                                       "patternUnits": "userSpaceOnUse"}, tuple(inside)))
         return key
 
-    def _masked(self, mask: Optional[Definition], wide: float, high: float, ink: str) -> str:
+    def _masked(self, mask: Optional[Definition], wide: float, high: float, ink: str) -> Element:
         """A mask of the page; a half tone where there is none."""
         if mask is not None:
-            return '<g color="%s" transform="scale(%s %s)">%s</g>' % (
-                ink, fine(wide / WIDTH), fine(high / WIDTH), self.paper.drawing_of(mask))
+            scale = f"scale({fine(wide / WIDTH)} {fine(high / WIDTH)})"
+            return Element("g", {"color": ink, "transform": scale}, self.paper.drawing_of(mask))
         self.paper.note("a texture mask without a definition is drawn as a half tone")
-        return '<rect width="%s" height="%s" fill="%s" fill-opacity="0.5"/>' % (num(wide), num(high), ink)
+        return Element("rect", {"width": num(wide), "height": num(high), "fill": ink, "fill-opacity": "0.5"})
 
 
-def _crossed(pattern: int, wide: float, high: float, ink: str) -> str:
+def dashes_of(entry: Stroked) -> Tuple[int, ...]:
+    """The dashes and gaps of a line or an outline, in thicknesses; none of a solid one."""
+    return DASHES.get(entry.texture.word & 3, ())
+
+
+def _crossed(pattern: int, wide: float, high: float, ink: str) -> List[Element]:
     """Upright lines, level lines, or both."""
     half = min(wide, high) / 4
-    upright = _rect(half, high, ink) if pattern in (1, 3) else ""
-    return upright + (_rect(wide, half, ink) if pattern in (2, 3) else "")
+    upright = [_rect(half, high, ink)] if pattern in (1, 3) else []
+    return upright + ([_rect(wide, half, ink)] if pattern in (2, 3) else [])
 
 
-def _rect(wide: float, high: float, colour: str) -> str:
-    return '<rect width="%s" height="%s" fill="%s"/>' % (num(wide), num(high), colour)
+def _rect(wide: float, high: float, colour: str) -> Element:
+    return Element("rect", {"width": num(wide), "height": num(high), "fill": colour})

@@ -1,28 +1,28 @@
 """The walk over a page's entries that makes a sketch."""
 import hashlib
 from dataclasses import dataclass
-from typing import Dict, List, Optional, Sequence, Tuple, Union
-from xml.sax.saxutils import escape
+from typing import Dict, NamedTuple, Optional, Sequence, Tuple, Union
 
 from ..entry import (
     Blink, BlinkMark, Char, Clear, Colour, Cursor, DefEnd, Entry, Field, GlyphStart, MaskStart, Reset, TextMove,
     ToEol, Wait,
 )
-from ..reading import read, read_line
-from .colours import BLACK, OWN, Palette
-from .measure import HEIGHT, WIDTH
+from ..reading import Entries, read_line
+from .cells import Saved
+from .colours import BLACK, Palette
+from .document import Captions, document
 from .paper import Full, Paper
 from .shapes import Shapes
 from .textures import SvgAttributes
+from .word_widths import WordWidths
 from .writing import Writing
 
+Lines = Union[Sequence[str], Entries]
 # So many entries, and points of them, are drawn.
 MOST_DRAWN = 20_000
 MOST_POINTS = 200_000
 # A line has no more commas than these outside of its points.
 MOST_COMMAS = 16
-# The height of a line below the drawing.
-CAPTION = 28
 ENDS = "The picture ends before entry %d: with what follows it would be more than a picture may be."
 BLINKING = "blinking isn't drawn"
 NOTES: Dict[type, str] = {Blink: BLINKING, Wait: "waits aren't drawn", Cursor: "cursors aren't drawn"}
@@ -39,30 +39,32 @@ class Sketch:
 
 
 class Walk:
-    """Draws the entries of some lines one after another."""
+    """Draws the entries of some lines one after another, on paper."""
 
-    def __init__(self, lines: Sequence[str], prefix: str) -> None:
-        self.lines = lines
-        self.palette = Palette(read(line for line in lines if line.startswith("MAP ")))
-        self.paper = Paper(prefix)
+    def __init__(self, lines: Lines, palette: Palette, paper: Paper) -> None:
+        self.entries, self.palette, self.paper = entries_of(lines), palette, paper
         self.looks = SvgAttributes(self.paper, self.palette)
         self.shapes = Shapes(self.paper, self.looks)
-        self.writing = Writing(self.paper, self.palette)
-        self.colour = OWN
+        self.writing = Writing(self.paper, self.palette, WordWidths(self._character_at))
+        self.colour = Colour("own-start")
         self.definition: Union[GlyphStart, MaskStart, None] = None
-        self.saved: Tuple[float, float, bool] = (0.0, 0.0, False)
+        self.saved = Saved()
+        self.guess_start = len(self.entries)
 
     def draw(self) -> int:
         """Draws what the limits allow; how many entries that were. Raises NotALine."""
         drawn = points = 0
         try:
-            for line in self.lines[:MOST_DRAWN]:
-                if line.count(",") > MOST_POINTS + MOST_COMMAS:
+            for number, line in enumerate(self.entries.lines[:MOST_DRAWN]):
+                self.paper.entry = number
+                if len(line) > MOST_POINTS and line.count(",") > MOST_POINTS + MOST_COMMAS:
                     break
-                entry = read_line(line)
+                entry = self.entries[number]
                 points += len(getattr(entry, "points", ()))
                 if points > MOST_POINTS:
                     break
+                if number == self.guess_start:
+                    self._begin_guess()
                 self.entry(entry)
                 drawn += 1
         except Full:
@@ -70,11 +72,23 @@ class Walk:
         self.writing.flush()
         return drawn
 
+    def _begin_guess(self) -> None:
+        """From here on the page is a guess, which may set colours of the map again."""
+        self.writing.flush()
+        self.writing.style = None
+        self.paper.begin_guess()
+        self.palette.take_from(palette_of(self.entries, len(self.entries)))
+
+    def _character_at(self, number: int) -> Optional[Char]:
+        """The character that an entry is; nothing of another entry, and behind those that may be drawn."""
+        is_one = number < min(len(self.entries), MOST_DRAWN) and self.entries.lines[number].startswith("CHAR ")
+        entry = self.entries[number] if is_one else None
+        return entry if isinstance(entry, Char) else None
+
     def entry(self, entry: Entry) -> None:
         """Draws an entry."""
-        colour: Optional[Colour] = getattr(entry, "colour", None)
-        if colour and self.paper.on_page:
-            self.colour = self.palette.front(colour)
+        if self.paper.on_page:
+            self.colour = getattr(entry, "colour", self.colour)
         if isinstance(entry, Char):
             self.writing.character(entry)
         elif isinstance(entry, ToEol):
@@ -110,7 +124,7 @@ class Walk:
         if screen in TO_BLACK:
             self.paper.clear(BLACK)
         elif screen in TO_COLOUR:
-            self.paper.clear(self.colour)
+            self.paper.clear(self.palette.front(self.colour))
         if entry.second & 1:
             self.writing.cursor.set_field(None)
         self.writing.cursor.lose()
@@ -132,44 +146,62 @@ class Walk:
             self.paper.end_mask(definition.mask)
 
 
-def draw(lines: Sequence[str], said: str = "") -> Sketch:
-    """The sketch of the page with these lines. `said` is what else it has to say of itself."""
-    prefix = "n" + hashlib.sha256("\n".join(lines).encode("ascii")).hexdigest()[:8]
-    walk = Walk(lines, prefix)
-    drawn = walk.draw()
-    end = "" if drawn == len(lines) else ENDS % (drawn + 1)
-    return Sketch(_svg(walk.paper, _caption(drawn, len(lines), said), end), drawn)
+def entries_of(lines: Lines) -> Entries:
+    """The entries that lines have, each of which is read once."""
+    return lines if isinstance(lines, Entries) else Entries(lines)
+
+
+def palette_of(entries: Entries, end: int) -> Palette:
+    """The colour map as the last of the entries before the end leaves it."""
+    return Palette(entries[number] if number < MOST_DRAWN else read_line(line)
+                   for number, line in enumerate(entries.lines[:end]) if line.startswith("MAP "))
+
+
+class Guess(NamedTuple):
+    """From which entry on the entries are a guess, and the lines that tell of it below the picture."""
+
+    start: int
+    said: Tuple[str, ...]
+
+
+@dataclass(frozen=True)
+class Drawn:
+    """A drawing, with what it says of itself, and how many of the entries it has."""
+
+    paper: Paper
+    captions: Captions
+    drawn: int
+
+
+def drawn(lines: Lines, said: str = "", guess: Optional[Guess] = None, prefix: str = "") -> Drawn:
+    """The drawing of the page with these lines or entries. `said` is what else it has to say of itself. Its ids begin
+    with the prefix, or with a hash of the lines."""
+    entries = entries_of(lines)
+    total = len(entries)
+    sure, below = guess or Guess(total, ())
+    prefix = prefix or "n" + hashlib.sha256("\n".join(entries.lines).encode("ascii")).hexdigest()[:8]
+    walk = Walk(entries, palette_of(entries, sure), Paper(prefix))
+    walk.guess_start = sure
+    count = walk.draw()
+    caption = "Sketch of " + "; ".join(filter(None, (_counted(min(count, sure), sure), said)))
+    if guess:
+        caption += "; then a guess of " + _counted(max(0, count - sure), total - sure)
+        walk.paper.note(" ".join(below))
+    if count < total:
+        below += (ENDS % (count + 1),)
+    return Drawn(walk.paper, Captions(caption, below), count)
+
+
+def draw(lines: Lines, said: str = "", guess: Optional[Guess] = None) -> Sketch:
+    """The sketch of the page with these lines or entries. `said` is what else it has to say of itself."""
+    made = drawn(lines, said, guess)
+    return Sketch(document(made.paper, made.captions), made.drawn)
 
 
 def empty(said: str) -> Sketch:
     """A sketch without a drawing, which says why."""
-    return Sketch(_svg(Paper("n"), said, ""), 0)
+    return Sketch(document(Paper("n"), Captions(said)), 0)
 
 
-def _caption(drawn: int, total: int, said: str) -> str:
-    how_many = "%d entries" % total if drawn == total else "the first %d of %d entries" % (drawn, total)
-    return f"Sketch of {how_many}" + ("; " + said if said else "")
-
-
-def _svg(paper: Paper, caption: str, end: str) -> str:
-    tall = paper.top > HEIGHT / WIDTH + 0.001
-    above = WIDTH - HEIGHT if tall else 0
-    foot = CAPTION * 2 if end else CAPTION
-    notes: List[str] = list(paper.notes)
-    if tall:
-        notes.append("the page draws above the part of the square that screens show")
-    described = f"<desc>{escape('; '.join(notes))}</desc>" if notes else ""
-    definitions = f"<defs>{''.join(paper.definitions)}</defs>" if paper.definitions else ""
-    below = '<rect y="%d" width="%d" height="%d" fill="#333333"/>' % (HEIGHT, WIDTH, foot)
-    below += _line(0, "#cccccc", caption) + (_line(1, "#ffcc66", end) if end else "")
-    return ('<svg xmlns="http://www.w3.org/2000/svg" viewBox="0 %d %d %d" width="%d" height="%d" '
-            'font-family="DejaVu Sans Mono,monospace" role="img">'
-            "<title>%s</title>%s%s<rect y=\"%d\" width=\"%d\" height=\"%d\" fill=\"#000000\"/>%s%s</svg>\n") % (
-        -above, WIDTH, HEIGHT + foot + above, WIDTH, HEIGHT + foot + above, escape(caption), described,
-        definitions, -above, WIDTH, HEIGHT + above, "".join(paper.page), below)
-
-
-def _line(number: int, colour: str, text: str) -> str:
-    """A line of text below the drawing."""
-    return '<text x="8" y="%d" font-size="16" fill="%s">%s</text>' % (
-        HEIGHT + number * CAPTION + 20, colour, escape(text))
+def _counted(drawn: int, total: int) -> str:
+    return "%d entries" % total if drawn == total else "the first %d of %d entries" % (drawn, total)

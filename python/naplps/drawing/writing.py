@@ -1,15 +1,16 @@
 """Characters: letters in runs, mosaics, and the page's own glyphs."""
 from dataclasses import dataclass
-from typing import List, Optional, Tuple, Union
-from xml.sax.saxutils import escape
+from typing import List, NamedTuple, Optional, Tuple
 
 from .. import letters
-from ..entry import Char, TextMove, ToEol
+from ..entry import Char, Colour, Look, Pen, TextMove, ToEol
 from . import weight
 from .cells import RIGHT, Cell, TextCursor, cell
 from .colours import BLACK, Palette
+from .elements import Element
 from .measure import HEIGHT, WIDTH, fine, num
-from .paper import Paper
+from .paper import LetterCells, Paper
+from .word_widths import WordWidths, is_blank
 
 # The width of a letter of DejaVu Sans Mono as part of its size; other fonts are stretched to it where viewers can.
 ADVANCE = 0.602
@@ -18,7 +19,7 @@ BASE = 0.22
 # Bits of a mosaic's code, by rows from the upper left block.
 BLOCKS = (1, 2, 4, 8, 16, 64)
 Ink = Tuple[str, Optional[str]]
-Text = Union[Char, TextMove, ToEol]
+SCROLLS = "scrolling isn't drawn: the text that makes room for more is seen, and what comes then isn't"
 # So many characters at most are repeated to the end of a line; cells so small that there are more can't be read.
 MOST_IN_LINE = 1000
 # At most so many bytes for a letter of a run, and for what stands around a run.
@@ -31,6 +32,7 @@ class LetterRun:
 
     look: Tuple[Ink, Cell, bool]
     text: List[str]
+    entries: List[int]
     x: float
     y: float
 
@@ -39,15 +41,32 @@ class LetterRun:
         return self.x + len(self.text) * self.look[1].wide * WIDTH
 
 
+class LetterStyle(NamedTuple):
+    """What characters of one colour and one look share: these two, their cell, colours and cost, and the same of a run.
+
+    The colour and the look are compared as objects: lines that spell them alike have the same.
+    """
+
+    colour: Colour
+    text: Look
+    on_page: bool
+    size: Cell
+    look: Tuple[Ink, Cell, bool]
+    weight: weight.Weight
+
+
 class Writing:
     """Draws the entries that state a character, and moves the cursor."""
 
-    def __init__(self, paper: Paper, palette: Palette) -> None:
-        self.paper, self.palette = paper, palette
+    def __init__(self, paper: Paper, palette: Palette, words: WordWidths) -> None:
+        self.paper, self.palette, self.words = paper, palette, words
         self.cursor = TextCursor()
+        # The entry that was the last character of a word.
+        self.in_word = -1
         self.run: Optional[LetterRun] = None
         self.accent: Optional[int] = None
         self.last: Optional[Char] = None
+        self.style: Optional[LetterStyle] = None
 
     def flush(self) -> None:
         """Draws the letters that wait, before anything is drawn over them."""
@@ -59,8 +78,12 @@ class Writing:
     def character(self, entry: Char) -> None:
         """A character, and the cursor behind it. Raises Full."""
         self.last = entry
-        size = self._take(entry)
-        self.paper.spend(A_LETTER, weight.letter(size.wide * WIDTH, size.high * WIDTH))
+        style = self._style(entry)
+        size = style.size
+        self._take(entry.pen, size)
+        if not self._within(entry, size):
+            return
+        self.paper.spend(A_LETTER, style.weight)
         if letters.is_accent(entry.set, entry.code):
             self._end_accent()
             self.paper.spend(A_RUN, weight.RUN)  # (it may stand alone)
@@ -69,16 +92,34 @@ class Writing:
         if entry.set in ("primary", "supplementary"):
             sign = letters.letter(entry.set, entry.code)
             accent, self.accent = self.accent, None
-            self._letter(entry, size, sign if accent is None else letters.composed(accent, sign))
+            self._letter(style, sign if accent is None else letters.composed(accent, sign))
         else:
             self.flush()
-            self._sign(entry, size)
+            self._sign(entry, style)
         self.cursor.step(size)
+
+    def _within(self, entry: Char, size: Cell) -> bool:
+        """Goes to the next line where the character, or its word, leaves the field; whether it is drawn."""
+        wide = size.wide
+        if entry.text.wrap:
+            if is_blank(entry):
+                if size.path == RIGHT and not self.cursor.fits(wide):
+                    return False
+            else:
+                if self.in_word != self.paper.entry - 1 or entry.pen != "after":
+                    wide = max(wide, self.words.width(self.paper.entry, 1.0))
+                self.in_word = self.paper.entry
+        if self.cursor.wrap(size, wide):
+            self.flush()
+        if self.cursor.scrolled:
+            self.paper.note(SCROLLS)
+        return not self.cursor.scrolled
 
     def move(self, entry: TextMove) -> None:
         """A move of the cursor."""
         self.flush()
-        size = self._take(entry)
+        size = cell(entry.text)
+        self._take(entry.pen, size)
         self.cursor.move(entry, size)
 
     def to_end(self, entry: ToEol) -> None:
@@ -86,39 +127,45 @@ class Writing:
         last = self.last
         if last is None:
             return
-        size = self._take(entry)
+        size = cell(entry.text)
+        self._take(entry.pen, size)
+        if self.cursor.wrap(size, size.wide):
+            self.flush()
         again = Char(last.set, last.code, "after", entry.colour, entry.text)
-        right = self.cursor.field[2] + 1e-9
         for _ in range(MOST_IN_LINE):
-            if size.wide <= 0 or size.path != RIGHT or self.cursor.x + size.wide > right:
+            if size.wide <= 0 or size.path != RIGHT or not self.cursor.fits(size.wide):
                 break
             self.character(again)
 
-    def _take(self, entry: Text) -> Cell:
-        size = cell(entry.text)
-        if entry.pen != "after" or not self.cursor.known:
+    def _take(self, pen: Pen, size: Cell) -> None:
+        if pen != "after" or not self.cursor.known:
             self.flush()
-        self.cursor.take(entry.pen, size)
-        if not isinstance(entry, TextMove) and self.cursor.wrap(size):
-            self.flush()
-        return size
+            self.cursor.take(pen, size)
+
+    def _style(self, entry: Char) -> LetterStyle:
+        """What the character shares with those around it; that of the last one, where it is the same."""
+        style, on_page = self.style, self.paper.on_page
+        if style and style.colour is entry.colour and style.text is entry.text and style.on_page == on_page:
+            return style
+        size, ink = cell(entry.text), ("currentColor", None) if not on_page else self._ink(entry)
+        cost = weight.letter(size.wide * WIDTH, size.high * WIDTH)
+        self.style = LetterStyle(entry.colour, entry.text, on_page, size, (ink, size, entry.text.underline), cost)
+        return self.style
 
     def _ink(self, entry: Char) -> Ink:
-        if not self.paper.on_page:
-            return "currentColor", None
         front, back = self.palette.front(entry.colour), self.palette.back(entry.colour)
         return (back or BLACK, front) if entry.text.reverse else (front, back)
 
-    def _letter(self, entry: Char, size: Cell, sign: str, counted: bool = False) -> None:
-        x, y = self._corner(size)
-        look = (self._ink(entry), size, entry.text.underline)
-        if self.run and self.run.look == look and self._joins(self.run, size, x, y):
+    def _letter(self, style: LetterStyle, sign: str, counted: bool = False) -> None:
+        x, y = self._corner(style.size)
+        if self.run and self.run.look == style.look and self._joins(self.run, style.size, x, y):
             self.run.text.append(sign)
+            self.run.entries.append(self.paper.entry)
             return
         self.flush()
         if not counted:
             self.paper.spend(A_RUN, weight.RUN)
-        self.run = LetterRun(look, [sign], x, y)
+        self.run = LetterRun(style.look, [sign], [self.paper.entry], x, y)
 
     @staticmethod
     def _joins(run: LetterRun, size: Cell, x: float, y: float) -> bool:
@@ -134,29 +181,28 @@ class Writing:
         """An accent with no letter behind it stands alone, where the cursor is."""
         accent, self.accent = self.accent, None
         if accent is not None and self.last is not None:
-            self._letter(self.last, cell(self.last.text), letters.ALONE[accent], counted=True)
+            self._letter(self._style(self.last), letters.ALONE[accent], counted=True)
 
     def _draw_run(self, run: LetterRun) -> None:
         (front, back), size, underline = run.look
         wide, high = size.wide * WIDTH, size.high * WIDTH
         total = wide * len(run.text)
-        turn = f"rotate({-90 * size.rotation} {num(run.x)} {num(run.y)})" if size.rotation else ""
         parts = [_cell(run.x, run.y, total, high, back)] if back else []
         text = "".join(run.text)
         if text.strip(" "):
             parts.append(_text(text, run, wide, high, front))
         if underline:
-            parts.append('<path d="M%s %sh%s" fill="none" stroke="%s" stroke-width="3"/>' % (
-                num(run.x), num(run.y - 3), num(total), front))
+            parts.append(Element("path", {"d": f"M{num(run.x)} {num(run.y - 3)}h{num(total)}", "fill": "none",
+                                          "stroke": front, "stroke-width": "3"}))
+        cells = LetterCells(tuple(run.entries), run.x, wide)
         for part in parts:
-            self.paper.put_counted(part if not turn else '<g transform="%s">%s</g>' % (turn, part))
+            self.paper.put_counted(_turned(part, run) if size.rotation else part, cells)
 
-    def _sign(self, entry: Char, size: Cell) -> None:
-        x, y = self._corner(size)
+    def _sign(self, entry: Char, style: LetterStyle) -> None:
+        ((front, back), size, _), (x, y) = style.look, self._corner(style.size)
         wide, high = size.wide * WIDTH, size.high * WIDTH
         if not wide or not high:
             return
-        front, back = self._ink(entry)
         if back:
             self.paper.put(_cell(x, y, wide, high, back), weight.box(wide, high))
         if entry.set == "mosaic":
@@ -176,33 +222,40 @@ class Writing:
                 path += "M%s %sh%sv%sh%sz" % (num(left), num(top), num(across * (1 - gap)), num(down * (1 - gap)),
                                               num(-across * (1 - gap)))
         if path:
-            blocks = '<path d="%s" fill="%s" shape-rendering="crispEdges"/>' % (path, front)
+            blocks = Element("path", {"d": path, "fill": front, "shape-rendering": "crispEdges"})
             self.paper.put(blocks, weight.box(wide, high))
 
     def _glyph(self, code: int, box: Tuple[float, float, float, float], front: str) -> None:
         x, y, wide, high = box
         glyph = self.paper.glyph(code)
         if glyph is not None:
-            use = '<use href="#%s" color="%s" transform="translate(%s %s) scale(%s %s)"/>' % (
-                glyph.name, front, num(x), num(y - high), fine(wide / WIDTH), fine(high / WIDTH))
+            where = "translate(%s %s) scale(%s %s)" % (num(x), num(y - high), fine(wide / WIDTH), fine(high / WIDTH))
+            use = Element("use", {"href": f"#{glyph.name}", "color": front, "transform": where})
             self.paper.put(use, weight.USE.plus(glyph.weight.scaled(wide / WIDTH, high / WIDTH)))
             return
-        left, top = x + wide * 0.15, y - high * 0.85
-        shape = '<path d="M%s %sh%sv%sh%sz" fill="none" stroke="%s" stroke-width="2"/>' % (
-            num(left), num(top), num(wide * 0.7), num(high * 0.7), num(-wide * 0.7), front)
+        path = "M%s %sh%sv%sh%sz" % (num(x + wide * 0.15), num(y - high * 0.85), num(wide * 0.7), num(high * 0.7),
+                                     num(-wide * 0.7))
+        shape = Element("path", {"d": path, "fill": "none", "stroke": front, "stroke-width": "2"})
         self.paper.put(shape, weight.outlined(weight.Extent(4, 2 * abs(wide) + 2 * abs(high), 0.0), 2.0, ()))
 
 
-def _text(text: str, run: LetterRun, wide: float, high: float, front: str) -> str:
+def _turned(part: Element, run: LetterRun) -> Element:
+    """A part of a run whose cells are turned around their corner."""
+    turn = f"rotate({-90 * run.look[1].rotation} {num(run.x)} {num(run.y)})"
+    return Element("g", {"transform": turn}, (part,))
+
+
+def _text(text: str, run: LetterRun, wide: float, high: float, front: str) -> Element:
     """The letters, stretched by a transform, which all viewers follow."""
     # (Chromium keeps blanks only where the text itself says so)
     size = abs(high) * SIZE
-    return ('<text transform="matrix(%s 0 0 %d %s %s)" font-size="%s" textLength="%s" fill="%s" xml:space="preserve">'
-            "%s</text>") % (
-        fine(wide / (ADVANCE * size)), 1 if high > 0 else -1, num(run.x), num(run.y - high * BASE), num(size),
-        num(ADVANCE * size * len(run.text)), front, escape(text))
+    matrix = "matrix(%s 0 0 %d %s %s)" % (
+        fine(wide / (ADVANCE * size)), 1 if high > 0 else -1, num(run.x), num(run.y - high * BASE))
+    return Element("text", {
+        "transform": matrix, "font-size": num(size), "textLength": num(ADVANCE * size * len(run.text)), "fill": front,
+        "xml:space": "preserve"}, text=text)
 
 
-def _cell(x: float, y: float, wide: float, high: float, colour: str) -> str:
-    return '<rect x="%s" y="%s" width="%s" height="%s" fill="%s"/>' % (
-        num(min(x, x + wide)), num(min(y - high, y)), num(abs(wide)), num(abs(high)), colour)
+def _cell(x: float, y: float, wide: float, high: float, colour: str) -> Element:
+    return Element("rect", {"x": num(min(x, x + wide)), "y": num(min(y - high, y)), "width": num(abs(wide)),
+                            "height": num(abs(high)), "fill": colour})

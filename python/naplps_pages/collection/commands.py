@@ -1,36 +1,48 @@
 """The commands on collections, as they were asked for on the command line."""
 import argparse
+import itertools
 import sqlite3
+import sys
 from dataclasses import replace
-from typing import Iterator, List
+from typing import Callable, Dict, Iterator, List, Optional, Tuple
 
 from naplps.client import Client
 from naplps.limits import Limits
 from naplps.names import shown
 from naplps.program import NoProgram, find
 
-from ..console import tell
+from .. import census, curing, showing
+from ..console import Session, tell
 from ..new_files import NotWritten
+from ..page_words import NoWords, wanted
 from ..refusals import Reason
 from ..unexpected import Unexpected, told
-from . import convert, equal, equal_over, refused, status
+from . import (
+    census_of_store, convert, equal, equal_over, equal_treated, every_file, finding, refused, status,
+)
 from .equal_over import most_budget
 from .merge import merge
-from .printing import Printer
+from .pool import processors
+from .printing import Printer, numbered
+from .progress import Progress
 from .scan import COMPLETE, FAILED, SOME_LACK, ScanOptions, scan
+from .session import ANSWERED, REFUSED_ALONE, Names, StoreSession, files
 from .store import StoreFailed, open_to_read
 from .tables import AskAgain
 from .verify import verified
 from .worker import WorkerOptions
 
 Given = argparse.Namespace
+ONE_STORE = "treated copies are joined in one store: merge makes one of several"
+UNTRIED = "of %s no treatments are known: a scan with --cures tries them"
+UNKNOWN = "of treated copies of %s it isn't known what they draw: a scan with --cures finds out"
 
 
 def run(given: Given, command: str) -> int:
     """Runs a command; the status. `command` is the path of the tool, beside which naplps may stand."""
     try:
         return COMMANDS[given.command](given, command)
-    except (NoProgram, NotWritten, StoreFailed, Unexpected) as error:
+    except (NoProgram, NotWritten, NoWords, StoreFailed, Unexpected) as error:
         tell(str(error))
     except BrokenPipeError:
         raise
@@ -42,8 +54,10 @@ def run(given: Given, command: str) -> int:
 
 
 def _scan(given: Given, command: str) -> int:
-    how = WorkerOptions(find(command), given.budget, given.seconds, given.most, AskAgain(given.again, given.cures))
-    return scan(ScanOptions(given.folders, given.into, given.processes, how, given.part, given.on))
+    how = WorkerOptions(find(command), given.budget, given.seconds, given.most, AskAgain(
+        given.again, given.cures, given.words))
+    processes = given.processes or processors()
+    return scan(ScanOptions(given.folders, given.into, processes, how, given.part, given.on))
 
 
 class ErrorReporter:
@@ -65,11 +79,11 @@ def _program(given: Given, command: str, stores: List[str]) -> Client:
 
 
 def _equal(given: Given, command: str) -> int:
+    with_treated = given.treated or given.guesses
     connection = open_to_read(given.stores[0]) if len(given.stores) == 1 else None
-    printer = Printer(given.form, equal.COLUMNS)
+    printer = Printer(given.form, equal.COLUMNS + (equal.OF_TREATED if with_treated else []))
     telling = ErrorReporter(printer)
-    some = equal.groups(connection, given.copies) if connection else equal_over.groups(
-        given.stores, given.copies, telling)
+    some = _groups(given, connection, telling, with_treated)
     if not given.verify:
         for group in some:
             equal.show(printer, group)
@@ -84,11 +98,27 @@ def _equal(given: Given, command: str) -> int:
     return telling.status
 
 
+def _groups(given: Given, connection: Optional[sqlite3.Connection], telling: ErrorReporter,
+            with_treated: bool) -> Iterator[equal.Group]:
+    """The groups that are asked for. What isn't known of treated copies is told."""
+    if connection is None:
+        if with_treated:
+            raise StoreFailed(given.stores[1], ONE_STORE)
+        return equal_over.groups(given.stores, given.copies, telling)
+    if not with_treated:
+        return equal.groups(connection, given.copies)
+    for number, why in zip(equal_treated.untried(connection), (UNTRIED, UNKNOWN)):
+        if number:
+            tell(f"{shown(given.stores[0])}: {why % numbered(number, 'refused page')}")
+    return itertools.chain(equal_treated.groups(connection, given.copies), (
+        group for _ in range(given.guesses) for group in equal_treated.guesses(connection, given.copies)))
+
+
 def _verified(program: Client, some: Iterator[equal.Group], copies: bool,
               telling: ErrorReporter) -> Iterator[equal.Group]:
     for group in some:
         left = verified(program, group, telling)
-        if len(left.spellings) > 1 or (copies and left.files > 1):
+        if len(left.spellings) > 1 or (left.files > 1 if copies else left.spellings and left.others):
             yield left
 
 
@@ -127,9 +157,61 @@ def _status(given: Given, command: str) -> int:
     return COMPLETE
 
 
+def _files(given: Given, command: str) -> int:
+    connection = open_to_read(given.store)
+    printer = Printer(given.form, every_file.COLUMNS)
+    for file in every_file.load(connection, given.kind, given.refused):
+        every_file.show(printer, file)
+    printer.flush()
+    return COMPLETE
+
+
+def _find(given: Given, command: str) -> int:
+    parts = wanted(" ".join(given.words))
+    connection = open_to_read(given.store)
+    why = finding.why_not(connection)
+    if why:
+        raise StoreFailed(given.store, why)
+    printer = Printer(given.form, finding.COLUMNS)
+    for page in finding.found(connection, parts):
+        finding.show(printer, page)
+    printer.flush()
+    return COMPLETE
+
+
 def _merge(given: Given, command: str) -> int:
     return COMPLETE if merge(given.into, given.parts, given.unfinished) else SOME_LACK
 
 
+def of_store(given: Given, client: Client) -> int:
+    """The commands on pages look, cures and census for the files of a store; the status."""
+    try:
+        connection = open_to_read(given.pages[0])
+        client.budget = most_budget(given.pages)
+        if given.command == "census":
+            return _census(given, connection, client)
+        run, which = OF_STORE[given.command]
+        return run(StoreSession(
+            client, given.pages, getattr(given, "json", False), given.into, past=getattr(given, "past", False),
+            png=getattr(given, "png", False), files=files(connection, which), stored=Names(connection)))
+    except (StoreFailed, sqlite3.Error) as error:
+        tell(str(error) if isinstance(error, StoreFailed) else f"{shown(given.pages[0])}: {error}")
+    return FAILED
+
+
+def _census(given: Given, connection: sqlite3.Connection, client: Client) -> int:
+    session = Session(client, given.pages, given.json)
+    found = census_of_store.exact(connection)
+    progress = Progress(sys.stderr, lambda: min(found.refused, census_of_store.MOST_READ), what="refused pages")
+    for path, why in census_of_store.read_on(connection, found, progress):
+        progress.tell(f"{shown(path)}: {why}")
+        session.fail(SOME_LACK)
+    progress.clear()
+    census.show(session, found)
+    return session.status
+
+
+OF_STORE: Dict[str, Tuple[Callable[[Session], int], str]] = {
+    "look": (showing.look, ANSWERED), "cures": (curing.cures, REFUSED_ALONE)}
 COMMANDS = {"scan": _scan, "merge": _merge, "equal": _equal, "refused": _refused, "convert": _convert,
-            "status": _status}
+            "status": _status, "find": _find, "files": _files}

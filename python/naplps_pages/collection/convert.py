@@ -10,7 +10,7 @@ from naplps.client import Client
 from naplps.entry_json import Members
 from naplps.names import shown
 
-from ..new_files import make_folder, put
+from ..new_files import make_folder, make_folders, put_inside
 from .folders import reason
 from .places import Otherwise, Place, read
 from .printing import NAME, Printer, named, shown_as
@@ -75,8 +75,8 @@ class Conversion:
             return ConvertedRow(canon, NOT_MADE, path, place, why)
         if hashed(answer.body) != canon:
             return ConvertedRow(canon, NOT_MADE, path, place, OTHER_HASH)
-        make_folder(os.path.dirname(path))
-        put(path, answer.body)
+        make_folders(self.into, os.path.join(canon.hex()[:2], ""))
+        put_inside(path, answer.body)
         return ConvertedRow(canon, WRITTEN, path, place)
 
     def path(self, canon: bytes) -> str:

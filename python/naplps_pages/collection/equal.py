@@ -5,12 +5,15 @@ from typing import Any, Iterable, Iterator, List, NamedTuple, Optional, Tuple
 
 from naplps.entry_json import Members
 from naplps.names import shown
+from naplps.treating.treatments import graded
 
 from .places import Place
 from .printing import NAME, Printer, named, numbered, shown_as
 from .store import kept
+from .tables import GRADES, WITHIN
 
 COLUMNS = ["canonical", "spellings", "files", "entries", "spelling", "hash", *NAME]
+OF_TREATED = ["treatments", "grade", "copy", "others"]
 # Canonical hashes that several pages have, and those of pages that several files have.
 SEVERAL = "SELECT canon FROM pages WHERE canon IS NOT NULL GROUP BY canon HAVING count(*) > 1"
 COPIES = """ UNION SELECT p.canon FROM (SELECT page FROM present GROUP BY page HAVING count(*) > 1) AS m
@@ -26,21 +29,36 @@ MEMBERS = """SELECT g.canon, g.form, p.entries, p.canon_size, p.own, d.path, f.n
 MEMBER = "canon form entries canon_size own path name inode?"
 
 
+class TreatedBy(NamedTuple):
+    """By what a copy is treated, and its hash; it is the copy that draws the same, and not its source."""
+
+    treatments: str
+    grade: int
+    copy: bytes
+
+
 class Spelling(NamedTuple):
-    """Bytes of a page, by their hash, and the files that have them."""
+    """Bytes of a page, by their hash, and the files that have them; of a treated copy those of its source."""
 
     own: bytes
     places: List[Place]
+    treated: Optional[TreatedBy] = None
 
 
 class Group(NamedTuple):
-    """Pages of one canonical stream, by its hash."""
+    """Pages of one canonical stream, by its hash; of guesses also how many other files draw the same."""
 
     canon: bytes
     form: str
     entries: int
     length: int
     spellings: List[Spelling]
+    others: int = 0
+
+    @property
+    def is_guess(self) -> bool:
+        """Whether its pages are copies that were treated within."""
+        return any(each.treated and each.treated.grade == WITHIN for each in self.spellings)
 
     @property
     def files(self) -> int:
@@ -56,14 +74,15 @@ def groups(connection: sqlite3.Connection, copies: bool) -> Iterator[Group]:
 
 
 def grouped(members: Iterable[Tuple[Any, ...]]) -> Iterator[Group]:
-    """The groups of rows of members, which stand in their order."""
+    """The groups of rows of members, which stand in their order. A row may have treatments behind its place."""
     for (canon, form), some in groupby(members, key=lambda row: (row[0], row[1])):
         group: Optional[Group] = None
-        for _, _, entries, length, own, *place in some:
-            group = group or Group(canon, form, entries, length, [])
+        for _, _, entries, length, own, path, name, at, *treated in some:
+            group = group or Group(canon, form, entries, length, [], *treated[3:])
             if not group.spellings or group.spellings[-1].own != own:
-                group.spellings.append(Spelling(own, []))
-            group.spellings[-1].places.append(Place(*place))
+                by = TreatedBy(*treated[:3]) if treated and treated[0] is not None else None
+                group.spellings.append(Spelling(own, [], by))
+            group.spellings[-1].places.append(Place(path, name, at))
         if group:
             yield group
 
@@ -74,28 +93,48 @@ def show(printer: Printer, group: Group) -> None:
         printer.object(_object(group))
         return
     if printer.form == "text":
-        printer.line("%s, %s, %s: canonical %s" % (
+        printer.line("%s, %s, %s%s: canonical %s" % (
             numbered(len(group.spellings), "spelling"), numbered(group.files, "file"),
-            numbered(group.entries, "entry", "entries"), group.canon.hex()))
-    for number, own, place in _members(group):
+            numbered(group.entries, "entry", "entries"), _guessed(group), group.canon.hex()))
+    for number, spelling, place in _members(group):
+        by = spelling.treated
         if printer.form == "text":
-            printer.line(f"  {number}: {shown(place.path)}")
+            printer.line(f"  {number}: {shown(place.path)}" + (f": treated by {graded(by.treatments)}" if by else ""))
         elif printer.form == "csv":
-            printer.row({"canonical": group.canon.hex(), "spellings": len(group.spellings), "files": group.files,
-                         "entries": group.entries, "spelling": number, "hash": own.hex(), **shown_as(place)})
+            row: Members = {"canonical": group.canon.hex(), "spellings": len(group.spellings), "files": group.files,
+                            "entries": group.entries, "spelling": number, "hash": spelling.own.hex()}
+            printer.row({**row, **shown_as(place), **_treated(by), "others": group.others or None})
         else:
             printer.name(place)
     if printer.form == "null":
         printer.end()
 
 
-def _members(group: Group) -> Iterator[Tuple[int, bytes, Place]]:
+def _members(group: Group) -> Iterator[Tuple[int, Spelling, Place]]:
     for number, spelling in enumerate(group.spellings, 1):
         for place in spelling.places:
-            yield number, spelling.own, place
+            yield number, spelling, place
+
+
+def _guessed(group: Group) -> str:
+    """What is told of a group of guesses."""
+    if not group.is_guess:
+        return ""
+    return ", by guess" + (f", the same as {numbered(group.others, 'other file')}" if group.others else "")
+
+
+def _treated(by: Optional[TreatedBy]) -> Members:
+    return {"treatments": by.treatments, "grade": GRADES[by.grade], "copy": by.copy.hex()} if by else {}
+
+
+def _spelling(each: Spelling) -> Members:
+    members: Members = {"hash": each.own.hex()}
+    return {**members, **_treated(each.treated), "files": [named(place) for place in each.places]}
 
 
 def _object(group: Group) -> Members:
-    return {"canonical": group.canon.hex(), "canonical_bytes": group.length, "entries": group.entries,
-            "spellings": [{"hash": each.own.hex(), "files": [named(place) for place in each.places]}
-                          for each in group.spellings]}
+    spellings = [_spelling(each) for each in group.spellings]
+    members: Members = {"canonical": group.canon.hex(), "canonical_bytes": group.length, "entries": group.entries}
+    if group.is_guess:
+        members["others"] = group.others
+    return {**members, "spellings": spellings}

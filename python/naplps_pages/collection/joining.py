@@ -2,17 +2,21 @@
 import sqlite3
 from typing import Dict, Iterable, List, NamedTuple, Optional, Sequence
 
-from . import kinds, tables
+from . import kinds, schemas, tables, word_index
 from .counts import Counts, counted
 from .sources import Source
 from .store import StoreFailed, attach
 
-ANSWER = "state, number, left_out, place, entries, canon, canon_size, why, terms, run"
+# What the schema before hasn't is unknown of its pages. What isn't known of a page counts less than what is.
+UNKNOWN = {name: ", ".join(f"NULL AS {column.split()[0]}" for column in columns)
+           for name, columns in schemas.ADDED.items()}
+KNOWN = {name: ", ".join(column.split()[0] for column in columns) for name, columns in schemas.ADDED.items()}
+ANSWER = "state, number, left_out, place, entries, canon, canon_size, why, terms, run, " + KNOWN["pages"]
 # A later answer counts more than an earlier one, and any more than none. Under the same terms all are the same.
 # (By +, SQLite sorts the rows by runs that it writes, and needn't jump in their table.)
 PAGES = """INSERT INTO main.pages(own, %s) SELECT own, state, number, left_out, place, entries, canon, canon_size, why,
-    {terms}, {run} FROM part.pages WHERE true ORDER BY +own ON CONFLICT(own) DO UPDATE SET %s
-    WHERE excluded.state <> %d AND excluded.terms <> terms OR state = %d""" % (
+    {terms}, {run}, {pages} FROM part.pages WHERE true ORDER BY +own ON CONFLICT(own) DO UPDATE SET %s
+    WHERE excluded.state <> %d AND (excluded.terms <> terms OR kind IS NULL AND looks_like IS NULL) OR state = %d""" % (
         ANSWER, ", ".join("{0} = excluded.{0}".format(each) for each in ANSWER.split(", ")), tables.NO_ANSWER,
         tables.NO_ANSWER)
 # The numbers of its pages and of its folders here.
@@ -21,11 +25,17 @@ NUMBERED = ("CREATE TEMP TABLE page(old INTEGER PRIMARY KEY, number INTEGER NOT 
 PAGE = """INSERT INTO temp.page SELECT p.id, m.id FROM (SELECT own, id FROM part.pages ORDER BY own) p
     CROSS JOIN main.pages m ON m.own = p.own ORDER BY p.id"""
 PLACE = "INSERT INTO temp.place SELECT m.id, p.id FROM part.folders p CROSS JOIN main.folders m ON m.path = p.path"
-CURES = """INSERT INTO main.cures(page, terms, treatments, entries, copy, why) SELECT n.number, {terms}, c.treatments,
-    c.entries, c.copy, c.why FROM part.cures c CROSS JOIN temp.page n ON n.old = c.page WHERE true ON CONFLICT(page)
-    DO UPDATE SET terms = excluded.terms, treatments = excluded.treatments, entries = excluded.entries,
-    copy = excluded.copy, why = excluded.why
-    WHERE excluded.terms = (SELECT p.terms FROM main.pages p WHERE p.id = page)"""
+CURES = """INSERT INTO main.cures(page, terms, treatments, entries, copy, why, %s) SELECT n.number, {terms},
+    c.treatments, c.entries, c.copy, c.why, {cures} FROM part.cures c CROSS JOIN temp.page n ON n.old = c.page
+    WHERE true ON CONFLICT(page) DO UPDATE SET terms = excluded.terms, treatments = excluded.treatments,
+    entries = excluded.entries, copy = excluded.copy, why = excluded.why, %s
+    WHERE excluded.terms = (SELECT p.terms FROM main.pages p WHERE p.id = page) AND (excluded.terms <> terms
+    OR grade IS NULL)""" % (KNOWN["cures"], ", ".join("{0} = excluded.{0}".format(each)
+                                                      for each in KNOWN["cures"].split(", ")))
+TEXTS = """INSERT INTO main.texts(page, terms, source, text, first, why) SELECT n.number, {terms}, t.source, t.text,
+    t.first, t.why FROM part.texts t CROSS JOIN temp.page n ON n.old = t.page WHERE true ON CONFLICT(page) DO UPDATE
+    SET terms = excluded.terms, source = excluded.source, text = excluded.text, first = excluded.first,
+    why = excluded.why WHERE excluded.terms = (SELECT p.terms FROM main.pages p WHERE p.id = page)"""
 # What one store says of a folder counts more than what another does, in this order: unreadable, read, vanished, gone.
 FOLDERS = """INSERT INTO main.folders(path, state, why, run) SELECT path, state, why, {{run}} FROM part.folders
     WHERE true ORDER BY id ON CONFLICT(path) DO UPDATE SET state = CASE WHEN {0} THEN excluded.state ELSE state END,
@@ -36,7 +46,8 @@ FILES = """INSERT INTO main.files(folder, name, state, why, size, mtime_ns, ctim
     FROM temp.place d CROSS JOIN part.files f ON f.folder = d.old LEFT JOIN temp.page n ON n.old = f.page
     ORDER BY d.number, f.name"""
 FAULTS = "INSERT OR REPLACE INTO main.faults(number, name) SELECT number, name FROM part.faults"
-STEPS = (*NUMBERED, FAULTS, PAGES, PAGE, CURES, FOLDERS, PLACE, FILES, "DROP TABLE temp.page", "DROP TABLE temp.place")
+STEPS = (*NUMBERED, FAULTS, PAGES, PAGE, CURES, FOLDERS, PLACE, FILES)
+LAST_STEPS = ("DROP TABLE temp.page", "DROP TABLE temp.place")
 ROOT = """INSERT INTO roots(run, path, why) VALUES(?, ?, ?) ON CONFLICT(run, path) DO UPDATE
     SET why = coalesce(why, excluded.why)"""
 
@@ -67,7 +78,9 @@ class Joining:
         self.connection.execute("COMMIT")
         for source, terms, runs in zip(self.sources, self.terms, self.runs):
             self._rows(source, terms, runs)
-        self.connection.executescript(tables.INDICES)
+        if any(source.has_words for source in self.sources):
+            word_index.make(self.connection)
+        self.connection.executescript(schemas.INDICES)
         return self._counts()
 
     def _terms(self, source: Source) -> Dict[int, int]:
@@ -114,8 +127,10 @@ class Joining:
         attach(self.connection, source.path, "part")
         try:
             self.connection.execute("BEGIN")
-            for step in STEPS:
-                self.connection.execute(step.format(terms=_as("terms", terms), run=_as("run", runs)))
+            is_earlier = source.schema == schemas.EARLIER
+            added = UNKNOWN if is_earlier else KNOWN
+            for step in (*STEPS, *(() if is_earlier else (TEXTS,)), *LAST_STEPS):
+                self.connection.execute(step.format(terms=_as("terms", terms), run=_as("run", runs), **added))
             self.connection.execute("COMMIT")
         except sqlite3.DatabaseError as error:
             if type(error) is sqlite3.DatabaseError:  # of what is read; what is written has others

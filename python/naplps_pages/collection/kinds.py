@@ -9,6 +9,8 @@ from .. import TOOL
 
 Row = Tuple[Any, ...]
 MOST_NUMBER, MOST_REFUSAL, HASH = (1 << 63) - 1, 99, 32
+# Characters of a text, and bytes of a name or a path. (One row may be told as often as there are files.)
+MOST_TEXT, MOST_PATH = 1 << 16, 1 << 17
 WRONG = "isn't a store of %s: it has %s in place of %s"
 
 
@@ -32,43 +34,53 @@ def _whole(least: int, most: int, name: str) -> Kind:
 
 NUMBER = _whole(-MOST_NUMBER - 1, MOST_NUMBER, "a number")
 COUNT = _whole(0, MOST_NUMBER, "a number from 0")
-TEXT = Kind("a text", lambda value: type(value) is str, "typeof({0}) = 'text'")
+TEXT = Kind("a text", lambda value: type(value) is str and len(value) <= MOST_TEXT,
+            "typeof({0}) = 'text' AND length({0}) <= %d" % MOST_TEXT)
+# A text of several lines.
+LINES = Kind("a text", TEXT.fits, TEXT.sql)
 BYTES = Kind("bytes", lambda value: type(value) is bytes, "typeof({0}) = 'blob'")
 HASHES = Kind("a hash", lambda value: type(value) is bytes and len(value) == HASH,
               "typeof({0}) = 'blob' AND length({0}) = %d" % HASH)
-NAME = Kind("a name", lambda value: type(value) is bytes and b"\0" not in value,
-            "typeof({0}) = 'blob' AND instr({0}, x'00') = 0")
-PATH = Kind("a path", lambda value: type(value) is bytes and value.startswith(b"/") and b"\0" not in value,
-            "typeof({0}) = 'blob' AND substr({0}, 1, 1) = x'2F' AND instr({0}, x'00') = 0")
+NAME = Kind("a name", lambda value: type(value) is bytes and len(value) <= MOST_PATH and b"\0" not in value,
+            "typeof({0}) = 'blob' AND length({0}) <= %d AND instr({0}, x'00') = 0" % MOST_PATH)
+PATH = Kind("a path", lambda value: NAME.fits(value) and value.startswith(b"/"),
+            NAME.sql + " AND substr({0}, 1, 1) = x'2F'")
 # The columns of the store, and what is reckoned of them, by name.
 KINDS: Dict[str, Kind] = {
     **dict.fromkeys(("mtime_ns", "ctime_ns"), NUMBER),
     **dict.fromkeys(("id", "folder", "page", "run", "terms", "place", "entries", "canon_size", "size", "inode",
                      "budget", "files", "asked", "count"), COUNT),
     **dict.fromkeys(("why", "left_out", "fault", "treatments", "version", "form", "tool", "began", "ended",
-                     "hex"), TEXT),
-    **dict.fromkeys(("own", "canon", "copy", "program_hash"), HASHES),
+                     "hex", "looks_like", "first", "stop"), TEXT),
+    **dict.fromkeys(("own", "canon", "copy", "program_hash"), HASHES), "text": LINES,
     "program": NAME, "name": NAME, "path": PATH, "number": _whole(1, MOST_REFUSAL, "the number of a refusal"),
     "file_state": _whole(0, 6, "the state of a file"), "page_state": _whole(0, 2, "the state of a page"),
-    "flag": _whole(0, 1, "a flag")}
+    "kind": _whole(0, 2, "the kind of a page"), "grade": _whole(0, 1, "the grade of treatments"),
+    "source": _whole(0, 2, "whose text it is"), **dict.fromkeys(("flag", "several"), _whole(0, 1, "a flag"))}
 # The columns of the tables.
 TABLES = {
     "terms": "id version program_hash form budget",
     "runs": "id began ended? tool program terms files? asked?",
     "roots": "run path why?",
     "folders": "id path state:file_state why? run",
-    "pages": "id own state:page_state number? left_out? place? entries? canon? canon_size? why? terms run",
+    "pages": "id own state:page_state number? left_out? place? entries? canon? canon_size? why? terms run "
+             "kind? looks_like? several? stop?",
     "faults": "number name:fault",
-    "cures": "page terms treatments? entries? copy? why?",
+    "cures": "page terms treatments? entries? copy? why? grade? canon? canon_size?",
+    "texts": "page terms source text? first? why?",
     "files": "folder name state:file_state why? size? mtime_ns? ctime_ns? inode? page? run"}
 # What an answer has that is accepted or refused; and which numbers there have to be.
 WHOLE = {"runs": "terms IN (SELECT id FROM terms)", "roots": "run IN (SELECT id FROM runs)",
          "folders": "run IN (SELECT id FROM runs)", "files": "run IN (SELECT id FROM runs)",
-         "cures": "terms IN (SELECT id FROM terms)",
+         "cures": "terms IN (SELECT id FROM terms) AND (grade IS NULL OR treatments IS NOT NULL "
+                  "AND entries IS NOT NULL AND copy IS NOT NULL) AND (canon IS NULL OR grade IS NOT NULL "
+                  "AND canon_size IS NOT NULL)",
+         "texts": "terms IN (SELECT id FROM terms) AND page IN (SELECT id FROM pages)",
          "pages": "terms IN (SELECT id FROM terms) AND run IN (SELECT id FROM runs) AND CASE state "
                   "WHEN 0 THEN entries IS NOT NULL AND canon IS NOT NULL AND canon_size IS NOT NULL AND number IS NULL "
-                  "WHEN 1 THEN number IS NOT NULL AND place IS NOT NULL AND canon IS NULL "
-                  "ELSE canon IS NULL AND number IS NULL END"}
+                  "AND looks_like IS NULL "
+                  "WHEN 1 THEN number IS NOT NULL AND place IS NOT NULL AND canon IS NULL AND kind IS NULL "
+                  "ELSE canon IS NULL AND number IS NULL AND kind IS NULL AND looks_like IS NULL END"}
 
 
 class Column(NamedTuple):
@@ -106,6 +118,8 @@ def _checked(value: Any, column: Column) -> Any:
         return None
     if not column.kind.fits(value):
         raise NotAStore(WRONG % (TOOL, _name_of(value), column.kind.name))
+    if column.kind is LINES:
+        return "\n".join(map(printable, value.split("\n")))
     return printable(value) if column.kind is TEXT else value
 
 
@@ -113,7 +127,9 @@ def _name_of(value: Any) -> str:
     """What a value is, for people."""
     if isinstance(value, (int, float)):
         return f"the number {value}"
-    return "nothing" if value is None else "a text" if isinstance(value, str) else f"{len(value)} bytes"
+    if isinstance(value, str):
+        return "a text" if len(value) <= MOST_TEXT else f"a text of {len(value)} characters"
+    return "nothing" if value is None else f"{len(value)} bytes"
 
 
 def require_right(connection: sqlite3.Connection) -> None:

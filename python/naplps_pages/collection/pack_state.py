@@ -4,16 +4,15 @@ from typing import List, NamedTuple, Optional, Tuple
 
 from .file_reader import Marks
 from .kinds import checked, one
-from .tables import GONE, READ, TOO_LONG, UNREADABLE
+from .tables import GONE, READ, SETTLED, TOO_LONG, UNREADABLE
 
 # A pack as it was read, to its end or as far as it can be.
 PACK = """SELECT size, mtime_ns, ctime_ns, inode, state, coalesce(why, '') FROM files WHERE folder = ? AND name = x''
     AND state IN (%d, %d)""" % (READ, UNREADABLE)
 # How many members it has, how many of these have to be asked about again, and how many couldn't be read.
-MEMBERS = """SELECT count(*), total(NOT CASE f.state WHEN {} THEN coalesce(p.terms = ? AND p.state < 2 AND (p.state = 0
-    OR NOT ? OR EXISTS(SELECT 1 FROM cures c WHERE c.page = p.id AND c.terms = p.terms)), 0) WHEN {} THEN f.size > ?
-    ELSE 1 END), total(f.state = {}) FROM files f LEFT JOIN pages p ON p.id = f.page
-    WHERE f.folder = ? AND f.name <> x'' AND f.state <> {}""".format(READ, TOO_LONG, UNREADABLE, GONE)
+MEMBERS = """SELECT count(*), total(NOT CASE f.state WHEN {} THEN coalesce({}, 0) WHEN {} THEN f.size > ? ELSE 1 END),
+    total(f.state = {}) FROM files f LEFT JOIN pages p ON p.id = f.page
+    WHERE f.folder = ? AND f.name <> x'' AND f.state <> {}""".format(READ, SETTLED, TOO_LONG, UNREADABLE, GONE)
 UNREAD = f"SELECT name, coalesce(why, '') FROM files WHERE folder = ? AND name <> x'' AND state = {UNREADABLE}"
 
 OWN = "size? mtime_ns? ctime_ns? inode? state:file_state why"
@@ -27,11 +26,11 @@ class PackState(NamedTuple):
 
 
 def settled(connection: sqlite3.Connection, folder: int, marks: Optional[Marks],
-            asked: Tuple[int, bool, int]) -> Optional[PackState]:
+            asked: Tuple[int, bool, bool, int]) -> Optional[PackState]:
     """What is known of a pack with these marks; None where it has to be read.
 
-    Its answers have to be on the terms that are asked for, with treatments if these are, and of all members that have
-    no more than so many bytes.
+    Its answers have to be on the terms that are asked for, with treatments and texts if these are, and of all members
+    that have no more than so many bytes.
     """
     row = one(connection.execute(PACK, (folder,)).fetchone(), OWN)
     if row is None or marks is None or row[:4] != marks:

@@ -1,4 +1,5 @@
 """Workers as processes of this machine. One that ends or hangs is replaced, and costs one file its row at most."""
+import os
 import signal
 import socket
 import subprocess
@@ -21,10 +22,21 @@ MOST_OUT, BUFFER = 3, 1 << 18
 TURN, GRACE = 0.25, 2.0
 # So many workers one behind the other that never said anything are a fault of the tool's own.
 MOST_STILLBORN = 3
+# So many workers are there at most.
+MOST_PROCESSES = 512
 
 
 class NoWorkers(Exception):
     """Workers can't be started."""
+
+
+def processors() -> int:
+    """How many processors there are to work on, and no more than there may be workers."""
+    try:
+        number = len(os.sched_getaffinity(0))
+    except AttributeError:  # (not all systems have it)
+        number = os.cpu_count() or 1
+    return min(number, MOST_PROCESSES)
 
 
 class WorkerHandle:

@@ -14,19 +14,20 @@ from .places import Place
 from .printing import NAME, Printer, numbered, shown_as
 from .store import kept
 
-COLUMNS = ["number", "fault", "code", "place", "hash", "tried", "treatments", "grade", *NAME]
+COLUMNS = ["number", "fault", "code", "stops", "place", "hash", "tried", "treatments", "grade", *NAME]
 REASONS = """CREATE TEMP TABLE reasons AS SELECT p.number AS number, coalesce(p.left_out, '') AS left_out,
-    count(DISTINCT p.id) AS pages, count(*) AS files FROM pages p JOIN present f ON f.page = p.id
-    WHERE p.number IS NOT NULL {} GROUP BY 1, 2"""
+    coalesce(p.stop, '') AS stop, count(DISTINCT p.id) AS pages, count(*) AS files FROM pages p
+    JOIN present f ON f.page = p.id WHERE p.number IS NOT NULL {} GROUP BY 1, 2, 3"""
 # (There may be as many reasons as pages, since anybody may have made a store.)
-BY_REASON = "CREATE INDEX temp.reasons_by_number ON reasons(number, left_out)"
-MEMBERS = """SELECT r.number, n.name, r.left_out, r.pages, r.files, p.place, p.own, c.page IS NOT NULL, c.treatments,
-    d.path, f.name FROM pages p CROSS JOIN reasons r ON r.number = p.number AND r.left_out = coalesce(p.left_out, '')
+BY_REASON = "CREATE INDEX temp.reasons_by_number ON reasons(number, left_out, stop)"
+MEMBERS = """SELECT r.number, n.name, r.left_out, r.stop, r.pages, r.files, p.place, p.own, c.page IS NOT NULL,
+    c.treatments, d.path, f.name FROM pages p CROSS JOIN reasons r ON r.number = p.number
+    AND r.left_out = coalesce(p.left_out, '') AND r.stop = coalesce(p.stop, '')
     CROSS JOIN present f ON f.page = p.id CROSS JOIN folders d ON d.id = f.folder
     LEFT JOIN faults n ON n.number = r.number LEFT JOIN cures c ON c.page = p.id AND c.terms = p.terms
     WHERE p.number IS NOT NULL
-    ORDER BY r.files DESC, r.number, r.left_out, d.path, f.name"""
-MEMBER = "number fault left_out pages:count files place own tried:flag treatments? path name"
+    ORDER BY r.files DESC, r.number, r.left_out, r.stop, d.path, f.name"""
+MEMBER = "number fault left_out stop pages:count files place own tried:flag treatments? path name"
 
 
 class ReasonCount(NamedTuple):
@@ -35,6 +36,7 @@ class ReasonCount(NamedTuple):
     number: int
     fault: str
     left_out: str
+    stop: str
     pages: int
     files: int
 
@@ -57,20 +59,25 @@ class RefusedFile(NamedTuple):
 
 def members(connection: sqlite3.Connection, wanted: Optional[Wanted]) -> Iterator[RefusedFile]:
     """The refused files, by the reason, the most frequent first; those of one reason only where it is given."""
-    only = "" if wanted is None else f"AND p.number = {wanted.number}"
-    if wanted is not None and wanted.code:
-        only += f" AND p.left_out = '{wanted.code}'"
-    connection.execute(REASONS.format(only))
+    connection.execute(REASONS.format(_only(wanted)), {"code": wanted.code if wanted else ""})
     connection.execute(BY_REASON)
     for row in kept(connection, MEMBERS, MEMBER):
-        yield RefusedFile(ReasonCount._make(row[:5]), row[5], row[6], bool(row[7]), row[8], Place(row[9], row[10]))
+        yield RefusedFile(ReasonCount._make(row[:6]), row[6], row[7], bool(row[8]), row[9], Place(row[10], row[11]))
+
+
+def _only(wanted: Optional[Wanted]) -> str:
+    """What restricts the pages to those of a reason."""
+    if wanted is None:
+        return ""
+    code = " AND :code IN (p.left_out, substr(p.stop, 1, length(:code)))" if wanted.code else ""
+    return f"AND p.number = {wanted.number}{code}"
 
 
 def show(printer: Printer, some: Iterator[RefusedFile]) -> None:
     """Prints refused files."""
     for reason, each in groupby(some, key=lambda member: member.reason):
         if printer.form == "text":
-            name = " ".join(part for part in (reason.fault, reason.left_out) if part)
+            name = " ".join(part for part in (reason.fault, reason.left_out or reason.stop) if part)
             printer.line(f"{reason.number} {name}: {numbered(reason.pages, 'page')}, {numbered(reason.files, 'file')}")
         for member in each:
             _show(printer, member)
@@ -83,8 +90,8 @@ def _show(printer: Printer, member: RefusedFile) -> None:
         printer.object(_object(member))
     elif printer.form == "csv":
         reason = member.reason
-        printer.row({"number": reason.number, "fault": reason.fault, "code": reason.left_out, "place": member.at,
-                     "hash": member.own.hex(), "tried": "yes" if member.tried else "no",
+        printer.row({"number": reason.number, "fault": reason.fault, "code": reason.left_out, "stops": reason.stop,
+                     "place": member.at, "hash": member.own.hex(), "tried": "yes" if member.tried else "no",
                      "treatments": member.treatments, "grade": _grade(member), **shown_as(member.place)})
     else:
         printer.name(member.place)
@@ -97,7 +104,8 @@ def _cure(member: RefusedFile) -> str:
 
 
 def _object(member: RefusedFile) -> Members:
-    return {**answered(member.place.path, member.refused), "hash": member.own.hex(), "tried": member.tried,
+    return {**answered(member.place.path, member.refused), "stops": member.reason.stop or None,
+            "hash": member.own.hex(), "tried": member.tried,
             "treatments": member.treatments.split("+") if member.treatments else None, "grade": _grade(member)}
 
 

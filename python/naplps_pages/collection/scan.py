@@ -17,7 +17,7 @@ from naplps.program import version
 from ..console import Output, tell
 from ..packs.reading import NO_FILE, SEVERAL
 from ..unexpected import Unexpected
-from . import tables
+from . import tables, word_index
 from .cluster import MOST_FILES, MOST_NAMES, Cluster, ClusterFailed
 from .counts import counted
 from .folders import absolute, is_gone, join, reason
@@ -26,10 +26,11 @@ from .part import Part, keep_part
 from .pool import NoWorkers, Pool
 from .progress import Counting, Progress
 from .remote import alike
+from .schemas import INDICES
 from .search import Scope, Search, apart
 from .stopping import Stopping
 from .store import StoreFailed, fold, keep_log, open_to_write
-from .tables import INDICES, Piece
+from .tables import Piece
 from .walk import hidden
 from .worker import WorkerOptions
 from .writer import Terms, Writer
@@ -135,6 +136,8 @@ def _scan(options: ScanOptions, terms: Terms, stopping: Stopping, roots: List[by
         progress = Progress(sys.stderr, lambda: counting.total)
         if progress.terminal:
             counting.start()
+        if options.how.wanted.words:
+            _keep_words(connection, options.store)
         writer = Writer(connection, os.fsencode(options.how.program), terms)
         run = ScanRun(options, writer, progress, stopping)
         try:
@@ -149,6 +152,15 @@ def _scan(options: ScanOptions, terms: Terms, stopping: Stopping, roots: List[by
             connection.execute("ROLLBACK")
         fold(connection)
         connection.close()
+
+
+def _keep_words(connection: sqlite3.Connection, store: str) -> None:
+    """Makes the index of words, if it isn't there. Raises StoreFailed where it can't be kept as it has to be."""
+    if word_index.make(connection):
+        return
+    if word_index.is_there(connection):
+        raise StoreFailed(store, "has an index of words, and SQLite has no FTS5 here to write it")
+    tell(f"{shown(store)}: SQLite has no FTS5 here: texts are kept without an index, and found more slowly")
 
 
 class ScanRun:

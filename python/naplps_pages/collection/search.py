@@ -11,7 +11,7 @@ from .folders import is_within, join, reason
 from .kinds import checked
 from .pack_state import PackState, settled
 from .part import Part, below
-from .tables import GONE, READ, UNREADABLE, AskAgain, Chunk, Names
+from .tables import GONE, READ, SETTLED, UNREADABLE, AskAgain, Chunk, Names
 from .walk import Hidden, Listing, walk
 from .writer import Writer
 
@@ -22,9 +22,7 @@ ROWS = 1000
 # A chunk of nothing comes behind so many folders or known files that bring no other, so that nobody waits for long.
 QUIET_FOLDERS, QUIET_FILES = 64, 1000
 EMPTY = "it is empty, and had files before: is it mounted? Nothing in it is marked as gone"
-KNOWN = """SELECT f.name, f.state, f.size, f.mtime_ns, f.ctime_ns, f.inode,
-    f.state = ? AND p.terms = ? AND p.state < 2 AND (p.state = 0 OR NOT ?
-        OR EXISTS(SELECT 1 FROM cures c WHERE c.page = p.id AND c.terms = p.terms))
+KNOWN = f"""SELECT f.name, f.state, f.size, f.mtime_ns, f.ctime_ns, f.inode, f.state = ? AND {SETTLED}
     FROM files f LEFT JOIN pages p ON p.id = f.page WHERE f.folder = ? AND f.name > ? ORDER BY f.name LIMIT ?"""
 
 FILE = "name state:file_state size? mtime_ns? ctime_ns? inode? settled:flag?"
@@ -152,13 +150,18 @@ class Search:
         known: Optional[PackState] = None
         if was_known and not self.scope.wanted.again:
             known = settled(self.writer.connection, folder, self._marks(name, descriptor),
-                            (self.writer.terms, self.scope.wanted.cures, self.scope.most))
+                            (*self._asked, self.scope.most))
         if known is None:
             return folder, inside(path), iter((b"",))
         self.known += known.members
         for member, why in known.unread:
             self.tell(join(inside(path), member), why)
         return folder, inside(path), iter(())
+
+    @property
+    def _asked(self) -> Tuple[int, bool, bool]:
+        """What SETTLED is asked with."""
+        return self.writer.terms, self.scope.wanted.cures, self.scope.wanted.words
 
     def _marks(self, name: bytes, descriptor: Optional[int]) -> Optional[Marks]:
         """The marks of a pack by its name in a folder; a link is followed, since one may be named."""
@@ -174,7 +177,7 @@ class Search:
 
     def _unknown(self, folder: int, listing: Listing) -> Iterator[Optional[bytes]]:
         """The names in a folder that has to be looked at, and now and then none. Those that aren't there are noted."""
-        rows = _rows(self.writer.connection, folder, self.writer.terms, self.scope.wanted.cures)
+        rows = _rows(self.writer.connection, folder, self._asked)
         row = next(rows, None)
         for name in listing.names:
             while row and row.name < name:
@@ -205,11 +208,11 @@ class Search:
             return False
 
 
-def _rows(connection: sqlite3.Connection, folder: int, terms: int, cures: bool) -> Iterator[KnownFile]:
+def _rows(connection: sqlite3.Connection, folder: int, asked: Tuple[int, bool, bool]) -> Iterator[KnownFile]:
     """What the store knows of a folder's files, in the order of their names."""
     last = b""
     while True:
-        some = list(checked(connection.execute(KNOWN, (READ, terms, cures, folder, last, ROWS)), FILE))
+        some = list(checked(connection.execute(KNOWN, (READ, *asked, folder, last, ROWS)), FILE))
         for row in some:
             yield KnownFile._make(row)
         if len(some) < ROWS:

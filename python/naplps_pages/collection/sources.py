@@ -7,10 +7,11 @@ from typing import Any, Dict, Iterator, List, Optional, Sequence, Tuple
 
 from naplps.names import shown
 
+from . import word_index
 from .kinds import checked, require_right
 from .lock import is_held
 from .part import Part, kept_part
-from .store import StoreFailed, open_unchanged
+from .store import StoreFailed, open_unchanged, schema_of
 
 # What is held of all their files together, and of each at least, in KiB.
 CACHE, LEAST = 64 << 10, 64
@@ -34,6 +35,8 @@ class Source:
     unread: List[Tuple[bytes, str]] = field(default_factory=list)
     began: str = ""
     ended: Optional[str] = None
+    schema: int = 0
+    has_words: bool = False
 
     def rows(self, words: str, told: str, values: Sequence[object] = ()) -> Iterator[Row]:
         """The rows of a query, checked as `told` says. Raises StoreFailed."""
@@ -96,6 +99,7 @@ def _opened(path: str, cache: int) -> Source:
         source.connection.execute(f"PRAGMA cache_size = {-cache}")
         source.connection.execute("BEGIN")  # (so it stays as it is now, though a scan may be at work)
         source.part = kept_part(source.connection)
+        source.schema, source.has_words = schema_of(source.connection), word_index.is_there(source.connection)
         source.roots = [each for each, in source.rows("SELECT DISTINCT path FROM roots ORDER BY path", "path")]
         for run, source.began, source.ended in source.rows(LAST, "run began ended?"):
             source.unread = [(each, why) for each, why in source.rows(UNREAD, "path why", (run,))]

@@ -1,12 +1,14 @@
 """The command status: what was scanned when, with which program, and what is left."""
 import os
 import sqlite3
-from typing import Dict, List, NamedTuple, Optional, Tuple
+from dataclasses import dataclass, field
+from typing import Dict, List, NamedTuple, Optional, Tuple, TypeVar
 
 from naplps.entry_json import Members
 from naplps.names import as_json, shown
 
 from . import tables
+from .counts import UNKNOWN
 from .kinds import checked, one
 from .lock import is_held
 from .part import Part, kept_part
@@ -17,15 +19,30 @@ RUN = """SELECT r.id, r.began, r.ended, r.tool, r.program, r.terms, t.version, l
     t.budget FROM runs r JOIN terms t ON t.id = r.terms ORDER BY r.id DESC LIMIT 1"""
 ROOTS = """SELECT path, max(run), (SELECT why FROM roots o WHERE o.path = r.path ORDER BY run DESC LIMIT 1)
     FROM roots r GROUP BY path ORDER BY path"""
-FILES = """SELECT f.state, p.state, coalesce(f.why, p.why), f.state = 0 AND p.terms <> ?, count(*) FROM files f
-    LEFT JOIN pages p ON p.id = f.page AND f.state = 0 WHERE %s GROUP BY 1, 2, 3, 4""" % tables.IS_FILE
+FILES = """SELECT f.state, p.state, coalesce(f.why, p.why), f.state = 0 AND p.terms <> ?, p.kind, p.looks_like,
+    p.several, count(*) FROM files f LEFT JOIN pages p ON p.id = f.page AND f.state = 0 WHERE %s
+    GROUP BY 1, 2, 3, 4, 5, 6, 7""" % tables.IS_FILE
 PAGES = """SELECT (SELECT count(DISTINCT page) FROM present), (SELECT count(DISTINCT canon) FROM pages p
     WHERE canon IS NOT NULL AND EXISTS(SELECT 1 FROM present f WHERE f.page = p.id))"""
 LAST = "id began ended? tool program terms version hex form budget"
-COUNTED = "state:file_state of_page:page_state? why? is_old:flag? count"
+COUNTED = "state:file_state answer:page_state? why? is_old:flag? kind? looks_like? several? count"
+PERHAPS_SEVERAL = "perhaps several pages"
 # Reasons that are all alike but for a number.
 NUMBERED = (tables.TOO_LONG,)
 LEFT = (tables.UNREADABLE, tables.VANISHED, tables.CHANGED)
+
+
+class FilesAlike(NamedTuple):
+    """Files that are alike, and how many these are."""
+
+    state: int
+    answer: Optional[int]
+    why: Optional[str]
+    is_old: int
+    kind: Optional[int]
+    looks_like: Optional[str]
+    several: Optional[int]
+    files: int
 
 
 class LastRun(NamedTuple):
@@ -43,6 +60,57 @@ class LastRun(NamedTuple):
     budget: int
 
 
+@dataclass
+class Tally:
+    """Files by what they are."""
+
+    counts: Dict[str, int] = field(default_factory=dict)
+    kinds: Dict[str, int] = field(default_factory=dict)
+    looks: Dict[str, int] = field(default_factory=dict)
+    reasons: Dict[Tuple[str, str], int] = field(default_factory=dict)
+    left: Dict[str, int] = field(default_factory=dict)
+    several: int = 0
+
+    def take(self, row: FilesAlike) -> None:
+        """Counts files that are alike."""
+        name = tables.FILE_STATES[row.state] if row.answer is None else tables.PAGE_STATES[row.answer]
+        _add(self.counts, name, row.files)
+        if row.why is not None:
+            _add(self.reasons, (name, "" if row.state in NUMBERED else row.why), row.files)
+        if row.answer == tables.ACCEPTED:
+            _add(self.kinds, UNKNOWN if row.kind is None else tables.KINDS[row.kind], row.files)
+        if row.looks_like:
+            _add(self.looks, row.looks_like, row.files)
+        self.several += row.files if row.several else 0
+        if row.is_old:
+            _add(self.left, "answered on other terms", row.files)
+        elif row.state in LEFT or row.answer == tables.NO_ANSWER:
+            _add(self.left, name, row.files)
+        elif row.answer is not None and row.kind is None and row.looks_like is None:
+            _add(self.left, UNKNOWN, row.files)
+
+    def told_below(self, name: str) -> List[str]:
+        """What is told of the files of a name, behind how many they are."""
+        some = [f"{many}: {why}" for (of, why), many in sorted(self.reasons.items()) if of == name and why]
+        if name == tables.PAGE_STATES[tables.ACCEPTED]:
+            some += [f"{self.kinds[kind]}: {kind}" for kind in (*tables.KINDS, UNKNOWN) if kind in self.kinds]
+            some += [f"{self.several}: {PERHAPS_SEVERAL}"] if self.several else []
+        if name == tables.PAGE_STATES[tables.REFUSED]:
+            some += ["%d: looks like %s" % (many, look) for look, many in _most_first(self.looks)]
+        return some
+
+
+Key = TypeVar("Key")
+
+
+def _add(counts: Dict[Key, int], key: Key, number: int) -> None:
+    counts[key] = counts.get(key, 0) + number
+
+
+def _most_first(counts: Dict[str, int]) -> List[Tuple[str, int]]:
+    return sorted(counts.items(), key=lambda each: (-each[1], each[0]))
+
+
 class Status(NamedTuple):
     """What a store holds."""
 
@@ -50,39 +118,30 @@ class Status(NamedTuple):
     busy: bool
     run: Optional[LastRun]
     roots: List[Tuple[bytes, Optional[str]]]
-    counts: Dict[str, int]
-    reasons: Dict[Tuple[str, str], int]
-    left: Dict[str, int]
+    tally: Tally
     pages: int
     canonical: int
     part: Optional[Part]
+
+    @property
+    def counts(self) -> Dict[str, int]:
+        """Files by what they are."""
+        return self.tally.counts
 
 
 def status(connection: sqlite3.Connection, path: str) -> Status:
     """What the store holds."""
     row = one(connection.execute(RUN).fetchone(), LAST)
     run = LastRun._make(row) if row else None
-    counts: Dict[str, int] = {}
-    reasons: Dict[Tuple[str, str], int] = {}
-    left: Dict[str, int] = {}
-    for state, of_page, why, is_old, number in checked(
-            connection.execute(FILES, (run.terms if run else 0,)), COUNTED):
-        name = tables.FILE_STATES[state] if of_page is None else tables.PAGE_STATES[of_page]
-        counts[name] = counts.get(name, 0) + number
-        if why is not None:
-            key = name, "" if state in NUMBERED else why
-            reasons[key] = reasons.get(key, 0) + number
-        if is_old:
-            left["answered on other terms"] = left.get("answered on other terms", 0) + number
-        elif state in LEFT or of_page == tables.NO_ANSWER:
-            left[name] = left.get(name, 0) + number
+    tally = Tally()
+    for each in checked(connection.execute(FILES, (run.terms if run else 0,)), COUNTED):
+        tally.take(FilesAlike._make(each))
     shut, = connection.execute("SELECT count(*) FROM folders WHERE state = ?", (tables.UNREADABLE,)).fetchone()
     if shut:
-        left["unreadable folders"] = shut
+        tally.left["unreadable folders"] = shut
     roots = [(each, why) for each, _, why in checked(connection.execute(ROOTS), "path run why?")]
     pages, canonical = connection.execute(PAGES).fetchone()
-    return Status(path, is_held(path), run, roots, counts, reasons, left, pages, canonical,
-                  kept_part(connection))
+    return Status(path, is_held(path), run, roots, tally, pages, canonical, kept_part(connection))
 
 
 def state_of(it: Status) -> str:
@@ -106,9 +165,9 @@ def lines(it: Status) -> List[Tuple[str, str]]:
     some.append(("files", str(files)))
     for name, number in sorted(it.counts.items(), key=lambda each: -each[1]):
         some.append((name, str(number)))
-        some += [("", f"{many}: {why}") for (of, why), many in sorted(it.reasons.items()) if of == name and why]
+        some += [("", told) for told in it.tally.told_below(name)]
     some += [("distinct pages", str(it.pages)), ("canonical pages", str(it.canonical))]
-    left = [f"{number} {name}" for name, number in it.left.items()]
+    left = [f"{number} {name}" for name, number in it.tally.left.items()]
     if it.run and not it.run.ended:
         left.append("what the scan hasn't reached")
     return some + [("left", ", ".join(left) or "nothing")]
@@ -134,6 +193,8 @@ def _object(it: Status) -> Members:
     return {"store": as_json(it.path), "at_work": it.busy, "part": str(it.part) if it.part else None,
             "run": run or None,
             "folders": [dict(as_json(os.fsdecode(path)), reason=why) for path, why in it.roots],
-            "files": it.counts, "pages": it.pages, "canonical": it.canonical, "left": it.left,
+            "files": it.counts, "kinds": it.tally.kinds, "perhaps_several": it.tally.several,
+            "looks_like": dict(_most_first(it.tally.looks)), "pages": it.pages, "canonical": it.canonical,
+            "left": it.tally.left,
             "reasons": [{"status": name, "reason": why, "files": number}
-                        for (name, why), number in sorted(it.reasons.items()) if why]}
+                        for (name, why), number in sorted(it.tally.reasons.items()) if why]}

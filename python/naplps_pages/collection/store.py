@@ -12,7 +12,7 @@ from naplps.names import printable, shown
 from naplps.version import VERSION
 
 from .. import TOOL
-from . import tables
+from . import schemas, tables, word_index
 from .beside import foreign
 from .kinds import checked
 
@@ -22,6 +22,9 @@ FOREIGN, OTHERWISE, LACKS = ("isn't a store of %s: " + each for each in (
     "it has a %s of something else: %s", "its %s %s isn't that of a store", "it has no table %s"))
 # The view of version 0.2.0 before it knew packs, by the hash of its words.
 EARLIER_LISTING = "3730a18386522f778df118d0b500e6f19a7edc91e7d62b4c11ee8131648c87e8"
+IN_THE_WAY = "has a table %s of its own, where schema %d has another: give that a new name"
+# The header of a database of SQLite, up to the number of the application, and where that stands.
+MAGIC, HEADER, AT_APPLICATION = b"SQLite format 3\0", 72, 68
 # What is held of the file, in KiB; and how long its log becomes, in pages.
 CACHE, LOG = 32 << 10, 8000
 
@@ -57,10 +60,24 @@ def open_to_read(path: str) -> sqlite3.Connection:
     connection = _checked(path, "rw")
     connection.execute(f"PRAGMA cache_size = {-CACHE}")
     if not show_present(connection):
-        connection.execute("CREATE TEMP TABLE pages AS SELECT * FROM main.pages")
+        connection.execute("CREATE TEMP TABLE found AS SELECT * FROM pages")
+        connection.execute("DROP VIEW IF EXISTS temp.pages")
+        connection.execute("ALTER TABLE temp.found RENAME TO pages")
         for column in ("id", "canon"):
             connection.execute(f"CREATE INDEX temp.pages_by_{column} ON pages({column})")
     return connection
+
+
+def is_store(path: str) -> bool:
+    """Whether a file is a database of this tool, by its header. (Nothing else is opened: a pipe would be read.)"""
+    try:
+        if not stat.S_ISREG(os.stat(path).st_mode):
+            return False
+        with open(os.open(path, os.O_RDONLY | os.O_NONBLOCK | os.O_CLOEXEC), "rb") as file:
+            header = file.read(HEADER)
+    except (OSError, ValueError):
+        return False
+    return header.startswith(MAGIC) and header[AT_APPLICATION:] == tables.APPLICATION.to_bytes(4, "big")
 
 
 def open_unchanged(path: str) -> sqlite3.Connection:
@@ -94,9 +111,13 @@ def open_to_write(path: str) -> sqlite3.Connection:
         _look(path)
     _look_beside(path)
     connection = _checked(path, "rwc")
-    connection.execute(f"PRAGMA cache_size = {-CACHE}")
-    _renew(connection)
-    return connection
+    try:
+        connection.execute(f"PRAGMA cache_size = {-CACHE}")
+        _renew(path, connection)
+        return connection
+    except BaseException:
+        connection.close()
+        raise
 
 
 def _look(path: str) -> None:
@@ -126,17 +147,25 @@ def _is_empty(connection: sqlite3.Connection) -> bool:
 
 def _make(connection: sqlite3.Connection) -> None:
     """Makes the tables, all or none."""
-    some = (("schema", tables.SCHEMA), ("hash", tables.HASH), ("tool", f"{TOOL} {VERSION}"))
+    some = (("schema", schemas.SCHEMA), ("hash", tables.HASH), ("tool", f"{TOOL} {VERSION}"))
     values = ", ".join("('%s', '%s')" % each for each in some)
     connection.executescript(
         "BEGIN IMMEDIATE; PRAGMA application_id = %d; %s %s; INSERT INTO meta VALUES %s; COMMIT;" % (
-            tables.APPLICATION, tables.TABLES, tables.LISTING, values))
+            tables.APPLICATION, schemas.tables(), schemas.listing(), values))
 
 
-def _renew(connection: sqlite3.Connection) -> None:
-    """Puts the view for people in place of the one that an earlier version made, which didn't know of packs."""
-    if connection.execute("SELECT sql FROM sqlite_master WHERE name = 'listing'").fetchone() != (tables.LISTING,):
-        connection.executescript(f"BEGIN IMMEDIATE; DROP VIEW IF EXISTS listing; {tables.LISTING}; COMMIT;")
+def _renew(path: str, connection: sqlite3.Connection) -> None:
+    """Makes a store of the schema before one of this schema, at once. Raises StoreFailed.
+
+    What that has more of is then unknown of each page, and the next scan asks about them again.
+    """
+    if schema_of(connection) == schemas.SCHEMA:
+        return
+    for name in (schemas.ADDED_TABLE, *word_index.OWN):
+        if connection.execute("SELECT 1 FROM sqlite_master WHERE name = ?", (name,)).fetchone():
+            raise StoreFailed(path, IN_THE_WAY % (name, schemas.SCHEMA))
+    connection.executescript(
+        f"BEGIN IMMEDIATE; DROP VIEW IF EXISTS listing; {schemas.renewal()} {schemas.listing()}; COMMIT;")
 
 
 def _checked(path: str, mode: str) -> sqlite3.Connection:
@@ -145,8 +174,10 @@ def _checked(path: str, mode: str) -> sqlite3.Connection:
     try:
         if mode == "rwc" and _is_empty(connection):
             _make(connection)
-        _check(path, connection)
-        _check_schema(path, connection)
+        schema = _check(path, connection)
+        _check_tables(path, connection, schema)
+        if mode != "rwc" and schema == schemas.EARLIER:
+            _show_as_now(connection)
         return connection
     except UnicodeDecodeError:  # (SQLite says what is wrong with a schema in the schema's own words)
         connection.close()
@@ -156,51 +187,66 @@ def _checked(path: str, mode: str) -> sqlite3.Connection:
         raise
 
 
+def _show_as_now(connection: sqlite3.Connection) -> None:
+    """Lets the tables of the schema before be read as those of this one."""
+    for name in (*schemas.ADDED, schemas.ADDED_TABLE):
+        connection.execute(f"CREATE TEMP VIEW {name} AS {schemas.as_now(name)}")
+
+
 @lru_cache(maxsize=None)
-def _own() -> Dict[Tuple[str, str], str]:
+def _own(schema: int) -> Dict[Tuple[str, str], str]:
     """The tables, the indices and the view of a store, by kind and name, as SQLite keeps their words."""
     with closing(sqlite3.connect(":memory:")) as connection:
-        connection.executescript(f"{tables.TABLES} {tables.LISTING}; {tables.INDICES}")
+        connection.executescript(f"{schemas.tables(schema)} {schemas.listing(schema)}; {schemas.INDICES}")
         return {(kind, name): words for kind, name, words in connection.execute(
             "SELECT type, name, sql FROM sqlite_master WHERE sql IS NOT NULL")}
 
 
-def _check_schema(path: str, connection: sqlite3.Connection) -> None:
+def _check_tables(path: str, connection: sqlite3.Connection, schema: int) -> None:
     """Raises StoreFailed where tables, indices or views aren't those of a store.
 
     Other tables and indices than the store's own are nobody's matter. But other views and triggers would act where it
-    is read or written.
+    is read or written. An index of words is there as a whole, or not at all.
     """
     found: Dict[Tuple[str, str], str] = {}
-    for kind, name, words in connection.execute("SELECT type, name, sql FROM sqlite_master"):
-        own = _own().get((kind, name))
+    for kind, name, words in connection.execute("SELECT type, name, sql FROM main.sqlite_master"):
+        own = _own(schema).get((kind, name)) or (word_index.OWN.get(name) if schema > schemas.EARLIER else None)
         if own is None and kind not in ("table", "index"):
             raise StoreFailed(path, FOREIGN % (TOOL, kind, name))
-        if own is not None and words != own and not _is_earlier(name, words):
+        if own is not None and words != own and not _is_earlier(name, words, schema):
             raise StoreFailed(path, OTHERWISE % (TOOL, kind, name))
         found[kind, name] = words
-    for kind, name in _own():
-        if kind == "table" and (kind, name) not in found:
+    has_words = schema > schemas.EARLIER and any(("table", name) in found for name in word_index.OWN)
+    for name in [*(name for kind, name in _own(schema) if kind == "table"), *(word_index.OWN if has_words else ())]:
+        if ("table", name) not in found:
             raise StoreFailed(path, LACKS % (TOOL, name))
 
 
-def _is_earlier(name: str, words: str) -> bool:
+def _is_earlier(name: str, words: str, schema: int) -> bool:
     """Whether this is the view that an earlier version made."""
-    return name == "listing" and hashlib.sha256(words.encode("utf-8", "replace")).hexdigest() == EARLIER_LISTING
+    return name == "listing" and schema == schemas.EARLIER and (
+        hashlib.sha256(words.encode("utf-8", "replace")).hexdigest() == EARLIER_LISTING)
 
 
-def _check(path: str, connection: sqlite3.Connection) -> None:
-    """Raises StoreFailed where the file isn't a store that this tool knows."""
+def schema_of(connection: sqlite3.Connection) -> int:
+    """The schema of a store that is one."""
+    value, = connection.execute("SELECT value FROM main.meta WHERE key = 'schema'").fetchone()
+    return int(value)
+
+
+def _check(path: str, connection: sqlite3.Connection) -> int:
+    """The schema of the file. Raises StoreFailed where it isn't a store that this tool knows."""
     if connection.execute("PRAGMA application_id").fetchone()[0] != tables.APPLICATION:
         raise StoreFailed(path, f"is a database of something else, and no store of {TOOL}")
     schema = connection.execute("SELECT value FROM meta WHERE key = 'schema'").fetchone()
-    if schema is None or str(schema[0]) != str(tables.SCHEMA):
-        raise StoreFailed(path, "is a store of schema %s, and this tool knows schema %d" % (
-            schema[0] if schema else "unknown", tables.SCHEMA))
+    if schema is None or str(schema[0]) not in map(str, (schemas.EARLIER, schemas.SCHEMA)):
+        raise StoreFailed(path, "is a store of schema %s, and this tool knows schemas %d and %d" % (
+            schema[0] if schema else "unknown", schemas.EARLIER, schemas.SCHEMA))
     made = connection.execute("SELECT value FROM meta WHERE key = 'hash'").fetchone()
     if made != (tables.HASH,):
         raise StoreFailed(path, "is a store of hashes by %s, and this tool knows %s" % (
             made[0] if made else "nothing", tables.HASH))
+    return int(schema[0])
 
 
 def kept(connection: sqlite3.Connection, words: str, told: str) -> Iterator[Tuple[Any, ...]]:

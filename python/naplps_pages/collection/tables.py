@@ -1,10 +1,9 @@
-"""The tables of a store, as docs/COLLECTIONS.md describes them, and the rows that a scan writes."""
+"""The rows that a scan writes into a store, and what their values mean, as docs/COLLECTIONS.md describes them."""
 import hashlib
 from typing import Iterable, List, NamedTuple, Optional, Tuple
 
 # 'NAPL', in the header of the file.
 APPLICATION = 0x4E41504C
-SCHEMA = 1
 HASH = "sha256"
 
 # A whole number that is kept has 64 bits with the sign.
@@ -15,47 +14,25 @@ READ, UNREADABLE, VANISHED, TOO_LONG, NOT_A_FILE, CHANGED, GONE = range(7)
 FILE_STATES = ("read", "unreadable", "vanished", "too long", "not a file", "changed", "gone")
 ACCEPTED, REFUSED, NO_ANSWER = range(3)
 PAGE_STATES = ("accepted", "refused", "no answer")
-
-TABLES = """
-CREATE TABLE meta(key TEXT PRIMARY KEY, value) WITHOUT ROWID;
-CREATE TABLE terms(id INTEGER PRIMARY KEY, version TEXT NOT NULL, program_hash BLOB NOT NULL, form TEXT NOT NULL,
-    budget INTEGER NOT NULL, UNIQUE(program_hash, form, budget));
-CREATE TABLE runs(id INTEGER PRIMARY KEY, began TEXT NOT NULL, ended TEXT, tool TEXT NOT NULL, program BLOB NOT NULL,
-    terms INTEGER NOT NULL REFERENCES terms, files INTEGER, asked INTEGER);
-CREATE TABLE roots(run INTEGER NOT NULL REFERENCES runs, path BLOB NOT NULL, why TEXT, PRIMARY KEY(run, path))
-    WITHOUT ROWID;
-CREATE TABLE folders(id INTEGER PRIMARY KEY, path BLOB NOT NULL UNIQUE, state INTEGER NOT NULL, why TEXT,
-    run INTEGER NOT NULL REFERENCES runs);
-CREATE TABLE pages(id INTEGER PRIMARY KEY, own BLOB NOT NULL UNIQUE, state INTEGER NOT NULL, number INTEGER,
-    left_out TEXT, place INTEGER, entries INTEGER, canon BLOB, canon_size INTEGER, why TEXT,
-    terms INTEGER NOT NULL REFERENCES terms, run INTEGER NOT NULL REFERENCES runs);
-CREATE TABLE faults(number INTEGER PRIMARY KEY, name TEXT NOT NULL);
-CREATE TABLE cures(page INTEGER PRIMARY KEY REFERENCES pages, terms INTEGER NOT NULL REFERENCES terms,
-    treatments TEXT, entries INTEGER, copy BLOB, why TEXT);
-CREATE TABLE files(folder INTEGER NOT NULL REFERENCES folders, name BLOB NOT NULL, state INTEGER NOT NULL, why TEXT,
-    size INTEGER, mtime_ns INTEGER, ctime_ns INTEGER, inode INTEGER, page INTEGER REFERENCES pages,
-    run INTEGER NOT NULL REFERENCES runs, PRIMARY KEY(folder, name)) WITHOUT ROWID;
-"""
+# The kinds of accepted pages, the grades of treatments, and whose text is kept: a page's, that before its refusal, or
+# that of its treated copy.
+PAGE, TEXT, BLANK = range(3)
+KINDS = ("page", "text", "blank")
+AROUND, WITHIN = range(2)
+GRADES = ("around", "within")
+WHOLE, BEFORE, TREATED = range(3)
+SOURCES = ("page", "before the refusal", "treated copy")
+# An answer p with the kind or the look of its page, which the schema before didn't have; and one whose treatments c
+# were tried, with their grade, which it hadn't either.
+DESCRIBED = "(p.kind IS NOT NULL OR p.looks_like IS NOT NULL)"
+TRIED = ("EXISTS(SELECT 1 FROM cures c WHERE c.page = p.id AND c.terms = p.terms "
+         "AND (c.treatments IS NULL OR c.grade IS NOT NULL))")
+# What an answer p needs to count under terms: treatments of a refused page, where these are asked for; and the text.
+HAS_TEXT = "EXISTS(SELECT 1 FROM texts x WHERE x.page = p.id AND x.terms = p.terms)"
+SETTLED = (f"p.terms = ? AND p.state < 2 AND {DESCRIBED} AND (p.state = 0 OR NOT ? OR {TRIED}) "
+           f"AND (NOT ? OR {HAS_TEXT})")
 # A row without a name is that of the pack itself. It tells of a file where the pack can't be read as a whole.
 IS_FILE = "(f.name <> x'' OR f.state NOT IN (0, 6))"
-LISTING = """CREATE VIEW listing AS SELECT CAST(CASE WHEN f.name = x'' THEN substr(d.path, 1, length(d.path) - 2)
-        WHEN substr(d.path, -2) = x'212F' THEN substr(d.path, 1, length(d.path) - 1) || f.name
-        WHEN substr(d.path, -1) = x'2F' THEN d.path || f.name ELSE d.path || x'2F' || f.name END AS TEXT) AS name,
-    CASE f.state WHEN 0 THEN CASE p.state WHEN 0 THEN 'accepted' WHEN 1 THEN 'refused' ELSE 'no answer' END
-        WHEN 1 THEN 'unreadable' WHEN 2 THEN 'vanished' WHEN 3 THEN 'too long' WHEN 4 THEN 'not a file'
-        WHEN 5 THEN 'changed' ELSE 'gone' END AS status,
-    p.number, (SELECT t.name FROM faults t WHERE t.number = p.number) AS fault, p.left_out AS code, p.place, p.entries,
-    coalesce(f.why, p.why) AS reason, f.size, nullif(lower(hex(p.own)), '') AS hash,
-    nullif(lower(hex(p.canon)), '') AS canonical,
-    p.canon_size AS canonical_size
-    FROM files f JOIN folders d ON d.id = f.folder LEFT JOIN pages p ON p.id = f.page AND f.state = 0
-    WHERE %s""" % IS_FILE
-# They are built behind a first scan, which is faster.
-INDICES = """
-CREATE INDEX IF NOT EXISTS pages_by_canon ON pages(canon) WHERE canon IS NOT NULL;
-CREATE INDEX IF NOT EXISTS pages_by_number ON pages(number) WHERE number IS NOT NULL;
-CREATE INDEX IF NOT EXISTS files_by_page ON files(page) WHERE state = 0;
-"""
 
 
 class AskAgain(NamedTuple):
@@ -63,6 +40,7 @@ class AskAgain(NamedTuple):
 
     again: bool = False
     cures: bool = False
+    words: bool = False
 
 
 class File(NamedTuple):
@@ -80,16 +58,35 @@ class File(NamedTuple):
 
 
 class Cured(NamedTuple):
-    """What the treatments of a refused page came to: a row of `cures`; without treatments none helps."""
+    """What the treatments of a refused page came to: a row of `cures`; without treatments none helps.
+
+    Of a treated copy it has the grade, the hash, and the hash and length of its canonical bytes.
+    """
 
     treatments: Optional[str] = None
     entries: Optional[int] = None
     copy: Optional[bytes] = None
     why: Optional[str] = None
+    grade: Optional[int] = None
+    canon: Optional[bytes] = None
+    canon_size: Optional[int] = None
+
+
+class PageText(NamedTuple):
+    """The text of a page: a row of `texts`. Without a text it has the reason."""
+
+    source: int
+    text: Optional[str] = None
+    first: Optional[str] = None
+    why: Optional[str] = None
 
 
 class Answered(NamedTuple):
-    """What the program says of bytes: a row of `pages`, with the name of the fault and the treatments beside it."""
+    """What the program says of bytes: a row of `pages`, with the name of the fault, treatments and text beside it.
+
+    An accepted page has its kind, and whether it is perhaps several pages; a refused one has what it looks like, which
+    is nothing where that isn't known, and the code that stops it, where the fault alone doesn't say which.
+    """
 
     own: bytes
     state: int
@@ -100,8 +97,13 @@ class Answered(NamedTuple):
     canon: Optional[bytes] = None
     canon_size: Optional[int] = None
     why: Optional[str] = None
+    kind: Optional[int] = None
+    looks_like: Optional[str] = None
+    several: Optional[int] = None
+    stop: Optional[str] = None
     fault: Optional[str] = None
     cured: Optional[Cured] = None
+    said: Optional[PageText] = None
 
 
 def hashed(data: bytes) -> bytes:
@@ -134,4 +136,7 @@ def received(sent: PlainPiece) -> Piece:
 
 def _answered(values: Iterable[object]) -> Answered:
     row = Answered._make(values)
-    return row if row.cured is None else row._replace(cured=Cured._make(row.cured))
+    cured, said = row.cured, row.said
+    if cured is None and said is None:
+        return row
+    return row._replace(cured=cured and Cured._make(cured), said=said and PageText._make(said))

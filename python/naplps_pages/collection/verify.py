@@ -1,16 +1,19 @@
 """Compares the canonical bytes of the pages of a group, and not their hashes alone."""
 from typing import Callable, List, Optional, Tuple
 
-from naplps.answers import Accepted, Unanswered
+from naplps.answers import Accepted, Answer, Refusal, Unanswered
 from naplps.client import Client
 from naplps.names import shown
+from naplps.treating.search import find
 
+from ..source import Page
 from .equal import Group, Spelling
 from .places import Otherwise, Place, read
 from .tables import hashed
 
 # Given the path of a file and what is wrong with it.
 Tell = Callable[[str, str], None]
+OTHER_COPY = "the treatments make another copy of it than when it was scanned"
 OTHER_HASH = "its canonical bytes haven't the hash that the store has"
 
 
@@ -46,7 +49,10 @@ def _spelling(program: Client, group: Group, spelling: Spelling,
             continue
         try:
             if canon is None:
-                answer = program.ask("canon", page)
+                answer = _canon(program, page, spelling)
+                if answer is None:
+                    tell(place.path, OTHER_COPY)
+                    return None
                 if not isinstance(answer, Accepted):
                     tell(place.path, answer.reason if isinstance(answer, Unanswered) else answer.line)
                     return None
@@ -59,4 +65,17 @@ def _spelling(program: Client, group: Group, spelling: Spelling,
     if hashed(canon) != group.canon:
         tell(places[0].path, OTHER_HASH)
         return None
-    return canon, Spelling(spelling.own, places)
+    return canon, spelling._replace(places=places)
+
+
+def _canon(program: Client, page: Page, spelling: Spelling) -> Optional[Answer]:
+    """The answer to `canon` on a page, or on its treated copy; None where that is another now."""
+    if spelling.treated is None:
+        return program.ask("canon", page)
+    answer = program.ask("check", page)
+    if not isinstance(answer, Refusal) or page.data is None:
+        return None
+    cure = find(program.ask, page.data, answer.place)
+    if cure is None or hashed(cure.data) != spelling.treated.copy:
+        return None
+    return program.ask("canon", cure.data)

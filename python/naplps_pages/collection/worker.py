@@ -2,27 +2,35 @@
 import dataclasses
 import os
 from collections import OrderedDict
-from typing import Callable, Dict, Iterable, Iterator, List, NamedTuple, Optional, Set
+from typing import Callable, Dict, Iterable, Iterator, List, NamedTuple, Optional, Set, Tuple
 
 from naplps.answers import Accepted, Answer, HashedAnswer, Refusal, Unanswered
 from naplps.client import Client
-from naplps.limits import MOST_PAGE, Limits
-from naplps.treating.search import find
+from naplps.limits import MOST_LISTED, MOST_PAGE, Limits
+from naplps.treating.search import Cure, find
 
+from .. import file_kinds
+from ..census import stop_of
 from ..listing import MODEST
+from ..notes import is_note
 from ..packs.member import PackLimits
 from ..packs.naming import pack_of
-from . import tables
+from ..source import Page
+from . import tables, texts
 from .file_reader import OTHER, Seen, change, look
 from .folders import is_gone, opened, reason
 from .pack_reader import PackScan
-from .tables import CHANGED, UNREADABLE, VANISHED, Answered, AskAgain, Chunk, Cured, File, Names, Piece
+from .tables import CHANGED, UNREADABLE, VANISHED, Answered, AskAgain, Chunk, Cured, File, Names, Piece, PageText
 
 # So many requests are written ahead, of so many bytes.
 MOST_AHEAD, MOST_BYTES = 64, 1 << 20
 # So many answers of late are remembered.
 MOST_REMEMBERED = 4096
 TOO_LONG_TO_CURE = "it is too long for treatments"
+OTHERWISE = "the program answers otherwise when it is asked for its canonical bytes"
+NUMBERS = {name: number for number, name in enumerate(tables.KINDS)}
+# Bytes of codes without which a page is text, or has no macro.
+SHIFT_OUT, ESCAPE = 0x0E, 0x1B
 # Tells which of these hashes need no question.
 Knows = Callable[[List[bytes]], Set[bytes]]
 
@@ -35,6 +43,15 @@ class WorkerOptions(NamedTuple):
     seconds: float
     most: int
     wanted: AskAgain = AskAgain()
+
+
+class Described(NamedTuple):
+    """The kind of an accepted page, and whether it is perhaps several; or the look of a refused one, and its stop."""
+
+    kind: Optional[int] = None
+    looks_like: Optional[str] = None
+    several: Optional[int] = None
+    stop: Optional[str] = None
 
 
 class Worker:
@@ -79,10 +96,12 @@ class Worker:
             self.left = ((names[0], names[1], (scan.left,)),)
 
     def _windows(self, some: Iterable[Seen]) -> Iterator[Piece]:
-        """The rows of files, in windows of which the requests are written ahead."""
+        """The rows of files but the tool's own notes, in windows of which the requests are written ahead."""
         window: List[Seen] = []
         length = 0
         for seen in some:
+            if seen.data and is_note(seen.file.name, seen.data):
+                continue
             if seen.descriptor is not None:
                 yield self._answered(window)
                 yield self._alone(seen)
@@ -98,11 +117,50 @@ class Worker:
     def _answered(self, window: List[Seen]) -> Piece:
         asked = self._unknown(window)
         said = self.ahead.hash_canon(list(asked.values()))
-        rows = [row(own, each) for own, each in zip(asked, said)]
-        if self.how.wanted.cures:
-            rows = [self._cured(each, asked[each.own]) for each in rows]
+        rows = [self._row(own, data, each) for (own, data), each in zip(asked.items(), said)]
+        if self.how.wanted.cures or self.how.wanted.words:
+            rows = [self._more(each, asked[each.own]) for each in rows]
         self._remember(asked)
         return tuple(seen.file for seen in window), tuple(rows)
+
+    def _more(self, answered: Answered, data: bytes) -> Answered:
+        """The row with what the treatments of a page come to, and with its text, where these are asked for."""
+        copy: Optional[bytes] = None
+        if self.how.wanted.cures:
+            answered, copy = self._cured(answered, data)
+        if self.how.wanted.words and answered.state != tables.NO_ANSWER:
+            answered = answered._replace(said=self._said(answered, data, copy))
+        return answered
+
+    def _said(self, answered: Answered, data: bytes, copy: Optional[bytes]) -> PageText:
+        """The text of a page: its own, that before its refusal, or that of its treated copy."""
+        if answered.state == tables.REFUSED and copy is None:
+            return texts.said(tables.BEFORE, self._ask("places", data))
+        source, data = (tables.WHOLE, data) if copy is None else (tables.TREATED, copy)
+        if (answered.entries or 0) > MOST_LISTED:
+            return PageText(source, why=texts.TOO_MANY)
+        return texts.said(source, self._ask("list", data))
+
+    def _row(self, own: bytes, data: bytes, said: HashedAnswer) -> Answered:
+        """The row of an answer to these bytes. (It is made for each page, so the usual one has the shortest way.)"""
+        answer = said.answer
+        if isinstance(answer, Accepted):
+            is_page = answer.entries and SHIFT_OUT in data
+            kind = tables.PAGE if is_page else NUMBERS[file_kinds.kind((data,), answer)]
+            several = int(ESCAPE in data and file_kinds.DEFINITION in data and self._is_several(data))
+            return Answered(own, tables.ACCEPTED, None, None, None, answer.entries, said.canon, said.length, None, kind,
+                            None, several)
+        look = file_kinds.looks_like(data[:file_kinds.MOST_LOOKED_AT], len(data))
+        stop = stop_of(data, answer) if isinstance(answer, Refusal) else None
+        return row(own, said, Described(looks_like=look or "", stop=stop))
+
+    def _is_several(self, data: bytes) -> bool:
+        """Whether an accepted page is perhaps several: whether it has what begins a page behind its first entry."""
+        last = file_kinds.last_beginning(data)
+        if last < 0:
+            return False
+        answer = self._ask("places", data)
+        return not isinstance(answer, Accepted) or last > int(answer.body.partition(b" ")[0] or last)
 
     def _unknown(self, window: List[Seen]) -> Dict[bytes, bytes]:
         """The pages to be asked about, by their hashes."""
@@ -125,23 +183,37 @@ class Worker:
                 return (seen.file,), ()
             before = os.fstat(seen.descriptor)
             said = self.program.hash_canon_of_file(file)
+            described = file_kinds.described(Page("", None, file), said.answer)
             if change(before, os.fstat(seen.descriptor)):
                 return (seen.file._replace(state=CHANGED, why=OTHER, own=None),), ()
-        answered = row(own, said)
+        answered = row(own, said, Described(NUMBERS.get(described.kind or ""), described.looks_like or ""))
         if answered.state == tables.REFUSED and self.how.wanted.cures:
             answered = answered._replace(cured=Cured(why=TOO_LONG_TO_CURE))
+        if self.how.wanted.words and answered.state != tables.NO_ANSWER:
+            source = tables.BEFORE if answered.state == tables.REFUSED else tables.WHOLE
+            answered = answered._replace(said=PageText(source, why=texts.TOO_LONG))
         self._remember([own])
         return (seen.file,), (answered,)
 
-    def _cured(self, answered: Answered, data: bytes) -> Answered:
-        """The row with what the treatments of a refused page come to."""
+    def _cured(self, answered: Answered, data: bytes) -> Tuple[Answered, Optional[bytes]]:
+        """The row with what the treatments of a refused page come to, and the treated copy where it is accepted."""
         if answered.state != tables.REFUSED or answered.place is None:
-            return answered
+            return answered, None
         cure = find(self._ask, data, answered.place, self.beat)
         if cure is None:
-            return answered._replace(cured=Cured())
-        names = "+".join(each.treatment for each in cure.treated.changes)
-        return answered._replace(cured=Cured(names, cure.entries, tables.hashed(cure.treated.data)))
+            return answered._replace(cured=Cured()), None
+        cured = self._treated(cure)
+        return answered._replace(cured=cured), None if cured.why else cure.data
+
+    def _treated(self, cure: Cure) -> Cured:
+        """The row of a treated copy."""
+        names = "+".join(each.treatment for each in cure.changes)
+        copy = cure.data
+        said, = self.ahead.hash_canon([copy])
+        why = None if isinstance(said.answer, Accepted) else OTHERWISE
+        if isinstance(said.answer, Unanswered):
+            why = said.answer.reason
+        return Cured(names, cure.entries, tables.hashed(copy), why, int(cure.treated.is_guess), said.canon, said.length)
 
     def _ask(self, command: str, data: bytes) -> Answer:
         self.beat()
@@ -153,14 +225,15 @@ class Worker:
         self.program.close()
 
 
-def row(own: bytes, said: HashedAnswer) -> Answered:
+def row(own: bytes, said: HashedAnswer, it: Described) -> Answered:
     """The row of an answer."""
     answer = said.answer
     if isinstance(answer, Accepted):
-        return Answered(own, tables.ACCEPTED, entries=answer.entries, canon=said.canon, canon_size=said.length)
+        return Answered(own, tables.ACCEPTED, entries=answer.entries, canon=said.canon, canon_size=said.length,
+                        kind=it.kind, several=it.several)
     if isinstance(answer, Refusal):
         return Answered(own, tables.REFUSED, number=answer.number, left_out=answer.code, place=answer.place,
-                        fault=answer.fault)
+                        looks_like=it.looks_like, stop=it.stop, fault=answer.fault)
     assert isinstance(answer, Unanswered)
     return Answered(own, tables.NO_ANSWER, why=answer.reason)
 

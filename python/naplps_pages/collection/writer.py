@@ -1,6 +1,7 @@
 """Writes a scan into its store, in steps: what a step holds is kept as a whole, or is asked again."""
 import sqlite3
 import time
+from operator import attrgetter
 from typing import Dict, Iterable, Iterator, List, NamedTuple, Optional, Set, Tuple, TypeVar
 
 from naplps.version import VERSION
@@ -8,17 +9,20 @@ from naplps.version import VERSION
 from .. import TOOL
 from ..packs.naming import pack_of
 from ..packs.reading import SEVERAL
+from . import texts, word_index
 from .folders import is_within, join
-from .tables import GONE, READ, UNREADABLE, VANISHED, Answered, File, Piece
+from .tables import ACCEPTED, GONE, READ, UNREADABLE, VANISHED, Answered, File, Piece
 
 # A step is written once it has so many files, or is so old in seconds.
 STEP, SECONDS = 2000, 2.0
 
-PAGE = """INSERT INTO pages(own, state, number, left_out, place, entries, canon, canon_size, why, terms, run)
-    VALUES(?, ?, ?, ?, ?, ?, ?, ?, ?, ?, ?) ON CONFLICT(own) DO UPDATE SET state = excluded.state,
-    number = excluded.number, left_out = excluded.left_out, place = excluded.place, entries = excluded.entries,
-    canon = excluded.canon, canon_size = excluded.canon_size, why = excluded.why, terms = excluded.terms,
-    run = excluded.run WHERE terms <> excluded.terms OR state = 2 OR excluded.state <> 2"""
+ANSWER = ("state", "number", "left_out", "place", "entries", "canon", "canon_size", "why", "kind", "looks_like",
+          "several", "stop", "terms", "run")
+# What an accepted page has of that. To give SQLite a null takes longer than any of these.
+OF_ACCEPTED = ("state", "entries", "canon", "canon_size", "kind", "several", "terms", "run")
+PAGE, ACCEPTED_PAGE = ("INSERT INTO pages(own, %s) VALUES(?%s) ON CONFLICT(own) DO UPDATE SET %s %s" % (
+    ", ".join(some), ", ?" * len(some), ", ".join("{0} = excluded.{0}".format(each) for each in ANSWER),
+    "WHERE terms <> excluded.terms OR state = 2 OR excluded.state <> 2") for some in (ANSWER, OF_ACCEPTED))
 FILE = """INSERT OR REPLACE INTO files(folder, name, state, why, size, mtime_ns, ctime_ns, inode, page, run)
     VALUES(?, ?, ?, ?, ?, ?, ?, ?, (SELECT id FROM pages WHERE own = ?), ?)"""
 # A member that was met before in this run, elsewhere in its pack, is one of several of its name.
@@ -29,11 +33,13 @@ MEMBER = """INSERT INTO files(folder, name, state, why, size, mtime_ns, ctime_ns
     why = CASE WHEN {0} THEN '{2}' ELSE excluded.why END, page = CASE WHEN {0} THEN NULL ELSE excluded.page END,
     size = excluded.size, mtime_ns = NULL, ctime_ns = NULL, inode = excluded.inode, run = excluded.run""".format(
     AGAIN, UNREADABLE, SEVERAL)
-CURE = """INSERT OR REPLACE INTO cures(page, terms, treatments, entries, copy, why)
-    SELECT id, ?, ?, ?, ?, ? FROM pages WHERE own = ?"""
+CURE = """INSERT OR REPLACE INTO cures(page, terms, treatments, entries, copy, why, grade, canon, canon_size)
+    SELECT id, ?, ?, ?, ?, ?, ?, ?, ? FROM pages WHERE own = ?"""
 FOLDER = """INSERT INTO folders(path, state, why, run) VALUES(?, ?, ?, ?)
     ON CONFLICT(path) DO UPDATE SET state = excluded.state, why = excluded.why, run = excluded.run"""
-
+# So many members of an answer are columns of `pages`.
+ANSWERED = 1 + len(ANSWER) - 2
+accepted_values = attrgetter("own", *OF_ACCEPTED[:-2])
 
 Row = TypeVar("Row", File, Answered)
 
@@ -59,6 +65,7 @@ class Writer:
         self.packs: Set[int] = set()
         self.unpacked: List[int] = []
         self.current: Optional[Tuple[object, ...]] = None
+        self.has_words = word_index.is_there(connection)
         self.began = time.monotonic()
         self._begin()
         self.terms = self._terms(terms)
@@ -164,8 +171,14 @@ class Writer:
     def _pages(self) -> None:
         # (by hash, since neighbours in the index are cheaper)
         answers = sorted(self.answers, key=lambda each: each.own)
-        self.connection.executemany(PAGE, ((*each[:9], self.terms, self.run) for each in self._in_turn(answers)))
+        accepted = [each for each in answers if each.state == ACCEPTED]
+        others = [each for each in answers if each.state != ACCEPTED]
+        self.connection.executemany(ACCEPTED_PAGE, (
+            (*accepted_values(each), self.terms, self.run) for each in self._in_turn(accepted)))
+        self.connection.executemany(PAGE, ((*each[:ANSWERED], self.terms, self.run) for each in self._in_turn(others)))
         self.connection.executemany(CURE, ((self.terms, *each.cured, each.own) for each in answers if each.cured))
+        texts.write(self.connection, self.terms, ((each.own, each.said) for each in answers if each.said),
+                    self.has_words)
         names = {each.number: each.fault for each in answers if each.number is not None and each.fault is not None}
         if not names.items() <= self.names.items():
             self.names.update(names)

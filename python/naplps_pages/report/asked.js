@@ -12,13 +12,19 @@ class Asked {
     return answer.json();
   }
 
-  files(words) { return this.ask("files", words); }
+  files({pages, ...words}) { return this.ask("files", {pages: pages ? "1" : "0", ...words}); }
+
+  find({pages, ...words}) { return this.ask("find", {pages: pages ? "1" : "0", ...words}); }
 
   groups({copies, ...words}) { return this.ask("groups", {copies: copies ? "1" : "0", ...words}); }
 
   details(key) { return this.ask("details", {key}); }
 
   drawing(key) { return this.ask("drawing", {key}); }
+
+  thumbnail(key) { return this.ask("thumbnail", {key}); }
+
+  played(key) { return this.ask("played", {key}); }
 }
 
 const SOURCE = Asked;

@@ -12,9 +12,9 @@ from ..collection.store import StoreFailed, open_to_read
 from ..console import Output, tell
 from ..new_files import NotWritten
 from ..unexpected import told
-from . import making, server
+from . import making
 from .drawing import DrawingLimits
-from .limits import SERVED_LINES, SERVED_SKETCH, SERVED_TEXT
+from .limits import SERVED_LINES, SERVED_PLAYER, SERVED_SKETCH, SERVED_TEXT
 from .sketch_workers import DrawingOptions
 
 Given = argparse.Namespace
@@ -24,7 +24,7 @@ def run(given: Given, command: str) -> int:
     """Runs a command; the status. `command` is the path of the tool, beside which naplps may stand."""
     try:
         return COMMANDS[given.command](given, command)
-    except (NoProgram, NotWritten, StoreFailed, making.TooLarge, server.NotServed) as error:
+    except (NoProgram, NotWritten, StoreFailed, making.TooLarge) as error:
         tell(str(error))
     except BrokenPipeError:
         raise
@@ -36,7 +36,7 @@ def run(given: Given, command: str) -> int:
 def _report(given: Given, command: str) -> int:
     made = making.make(open_to_read(given.store), making.ReportOptions(
         given.store, given.into, find(command), given.sketches, given.all, given.processes,
-        given.seconds))
+        given.seconds, given.replace, given.full))
     for path, why in made.missed:
         tell(f"{shown(path)}: no sketch: {why}")
     output = Output(sys.stdout.buffer)
@@ -48,13 +48,19 @@ def _report(given: Given, command: str) -> int:
 
 
 def _serve(given: Given, command: str) -> int:
+    from . import server  # pylint: disable=import-outside-toplevel  # (which takes longer than other commands)
     output = Output(sys.stdout.buffer)
 
     def began(address: str) -> None:
         output.line(address)
         output.flush()
-    how = DrawingOptions(find(command), given.seconds, DrawingLimits(SERVED_SKETCH, SERVED_TEXT, SERVED_LINES))
-    server.serve(given.store, how, given.port, began)
+    most = DrawingLimits(SERVED_SKETCH, SERVED_TEXT, SERVED_LINES, SERVED_PLAYER, given.full)
+    how = DrawingOptions(find(command), given.seconds, most)
+    try:
+        server.serve(given.store, how, given.port, began)
+    except server.NotServed as error:
+        tell(str(error))
+        return FAILED
     return COMPLETE
 
 

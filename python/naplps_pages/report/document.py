@@ -6,7 +6,9 @@ import re
 from html import escape
 from typing import Dict, List, Sequence, Tuple
 
+from ..player.document import component
 from .chart import chart
+from .choices import Choice
 from .facts import Facts
 from .groups import GroupSummary, of_spellings
 
@@ -14,6 +16,7 @@ HERE = os.path.dirname(os.path.abspath(__file__))
 POLICY = ("default-src 'none'; script-src %s; style-src %s; img-src blob:; %sbase-uri 'none'; form-action 'none'")
 # What a page that is served may ask for: its own server.
 ASKING = "connect-src 'self'; "
+SCRIPTS = ("elements.js", "wall.js", "play_tab.js", "page.js", "report.js")
 MARK = re.compile(r"@([A-Z]+)@")
 
 
@@ -22,12 +25,17 @@ class Document:
 
     def __init__(self, facts: Facts, groups: List[GroupSummary], source: str) -> None:
         """`source` names the script of where the files, groups and drawings come from."""
-        style, script = _own("report.css"), _own(source) + _own("elements.js") + _own("report.js")
+        style, script = component()
+        style, script = _own("report.css") + style, _own(source) + script + "".join(map(_own, SCRIPTS))
         self.policy = POLICY % (_hash(script), _hash(style), ASKING if source == "asked.js" else "")
         self.parts: Dict[str, str] = {
             "POLICY": escape(self.policy), "STYLE": style, "SCRIPT": script, "TITLE": escape(_title(facts)),
             "SCAN": _scan(facts), "COUNTS": _counts(facts.counts), "CHART": chart(facts.reasons, facts.files),
-            "ANSWERS": _answers(facts.answers), "GROUPS": _told_groups(groups)}
+            "ANSWERS": _options(facts.choices.answers), "GROUPS": _told_groups(groups),
+            "FIND": "words, or part of a name" if source == "held.js" or facts.has_words else "part of a name",
+            "KINDS": _choice("kind", "Kind", "each kind", facts.choices.kinds),
+            "CURES": _choice("cure", "Treatment", "each", facts.choices.cures),
+            "FOLDERS": _choice("folder", "Folder", "each folder", facts.choices.folders)}
 
     def html(self, held: str, data: str) -> str:
         """The page, with a sentence on what it holds and with its data."""
@@ -35,10 +43,11 @@ class Document:
         return MARK.sub(lambda found: parts[found[1]], _own("report.html"))
 
 
-def data_of(table: str, blocks: Sequence[str]) -> str:
+def data_of(table: str, blocks: Sequence[str], texts: Sequence[str], played: Sequence[str]) -> str:
     """The elements with packed data."""
     return '<script type="text/plain" id="table">%s</script>\n' % table + "".join(
-        '<script type="text/plain" class="block">%s</script>\n' % block for block in blocks)
+        '<script type="text/plain" class="%s">%s</script>\n' % (name, data)
+        for name, some in (("block", blocks), ("texts", texts), ("played-block", played)) for data in some)
 
 
 def _own(name: str) -> str:
@@ -69,9 +78,17 @@ def _counts(counts: List[Tuple[str, int]]) -> str:
                    for name, number in counts)
 
 
-def _answers(answers: List[Tuple[str, int]]) -> str:
+def _options(some: List[Choice]) -> str:
     return "".join('<option value="%s">%s (%s)</option>' % (escape(name), escape(name), "{:,}".format(number))
-                   for name, number in answers)
+                   for name, number in some)
+
+
+def _choice(name: str, label: str, every: str, some: List[Choice]) -> str:
+    """A field of the form, where there is something to choose."""
+    if not some:
+        return ""
+    return ('<span class="field"><label for="%s">%s</label>\n<select id="%s"><option value="">%s</option>%s</select>'
+            "</span>\n" % (name, label, name, every, _options(some)))
 
 
 def _told_groups(groups: List[GroupSummary]) -> str:

@@ -1,54 +1,85 @@
 """What a page shows: its sketch, its text and its list, or why there is none of them."""
-from typing import List, NamedTuple, Optional
+from typing import Dict, List, NamedTuple, Optional
 
 from naplps.answers import Accepted, Refusal, Unanswered
 from naplps.client import Client
-from naplps.page_text import lines_of
 from naplps.reading import NotALine
-from naplps.reading import read as read_lines
+from naplps.screen_text import lines_of
+from naplps.treating.search import find
+from naplps.treating.treatments import graded
 
 from ..collection.places import Otherwise, Place, read
+from ..collection.tables import hashed
+from ..folding import MOST_IN_ROW, FoldedRow, folded
 from ..listing import Listed, listed
+from ..player.played import can_be_played, played
 from ..showing import picture
+from ..source import Page
 from .files import ReportFile
-from .limits import A_LINE
+from .limits import A_LINE, SMALL_SKETCH, SMALL_TEXT
 
+TOO_LARGE = "its sketch is too large to be held here"
+OTHER_COPY = "the treatments make another copy than in the scan"
 OTHER_ANSWER = "the program answers otherwise than in the scan"
 
 
+class TreatedCopy(NamedTuple):
+    """The copy of a refused page that is drawn in its place: its hash, and the treatments for people with the grade."""
+
+    own: bytes
+    by: str
+
+
 class WantedDrawing(NamedTuple):
-    """A page that is to be drawn: where it is, its hash, and what the program said of it under which budget."""
+    """A page that is to be drawn: where it is, its hash, and what the program said of it under which budget; and
+    whether it is to be played too."""
 
     place: Place
     own: bytes
     line: str
     budget: int
+    treated: Optional[TreatedCopy] = None
+    is_played: bool = False
 
 
 class DrawingLimits(NamedTuple):
-    """How much is kept of a page: characters of its sketch and of its text, and lines of its list."""
+    """How much is kept of a page: characters of its sketch and of its text, lines of its list, and characters of what a
+    player has."""
 
     sketch: int
     text: int
     lines: int
+    player: int = 0
+    # (whether each character has a row of its own)
+    full: bool = False
 
 
 class Drawing(NamedTuple):
-    """The sketch of a page, its text, and some of the lines of its list: which is the first, and how many there are.
+    """The sketch of a page, its text, and some rows of its list: which entry is the first, and how many there are.
 
-    A line that is long ends with two dots.
+    Characters that differ in nothing but their letter have one row. A row that is long ends with two dots. What a
+    player has of it is JSON.
     """
 
     sketch: str = ""
     text: str = ""
     lines: List[str] = []
+    # (how many entries each of them tells)
+    counts: List[int] = []
     first: int = 0
     entries: int = 0
     why: str = ""
+    played: str = ""
 
     def characters(self) -> int:
         """How many characters it has."""
-        return len(self.sketch) + len(self.text) + sum(map(len, self.lines))
+        return len(self.sketch) + len(self.text) + sum(map(len, self.lines)) + len(self.played)
+
+    def small(self) -> Dict[str, str]:
+        """What a thumbnail shows of it."""
+        if len(self.sketch) > SMALL_SKETCH:
+            return {"sketch": "", "text": self.text[:SMALL_TEXT], "why": TOO_LARGE}
+        return {"sketch": self.sketch, "text": self.text[:SMALL_TEXT], "why": self.why}
 
 
 def draw(program: Client, it: WantedDrawing, most: DrawingLimits) -> Drawing:
@@ -59,30 +90,63 @@ def draw(program: Client, it: WantedDrawing, most: DrawingLimits) -> Drawing:
     except Otherwise as otherwise:
         return Drawing(why=str(otherwise))
     try:
-        return _drawn(listed(program, page), it, most)
+        return _drawn_treated(program, page, it, most) if it.treated else _drawn(program, page, it, most)
     except NotALine:
         return Drawing(why=OTHER_ANSWER)
     finally:
         page.close()
 
 
-def _drawn(told: Listed, it: WantedDrawing, most: DrawingLimits) -> Drawing:
+def _drawn_treated(program: Client, page: Page, it: WantedDrawing, most: DrawingLimits) -> Drawing:
+    """Draws the treated copy of a page."""
+    answer = program.ask("check", page)
+    if not isinstance(answer, Refusal) or answer.line != it.line or page.data is None:
+        return _shown(page, Listed(answer), it._replace(treated=None), most)
+    cure = find(program.ask, page.data, answer.place)
+    if cure is None or it.treated is None or hashed(cure.data) != it.treated.own:
+        return Drawing(why=OTHER_COPY)
+    return _drawn(program, Page(page.name, cure.data), it._replace(line=Accepted(cure.entries).line), most)
+
+
+def _drawn(program: Client, page: Page, it: WantedDrawing, most: DrawingLimits) -> Drawing:
+    return _shown(page, listed(program, page), it, most)
+
+
+def _shown(page: Page, told: Listed, it: WantedDrawing, most: DrawingLimits) -> Drawing:
     answer = told.answer
     if isinstance(answer, Unanswered):
         return Drawing(why=answer.reason)
     if answer.line != it.line:
         return Drawing(why=OTHER_ANSWER)
-    svg = picture(told).svg
+    svg = picture(told, f"treated by {it.treated.by}" if it.treated else "").svg
     lines = told.lines
     if lines is None:
         return Drawing(svg, entries=answer.entries if isinstance(answer, Accepted) else 0)
-    text = "\n".join(lines_of(read_lines(lines)))[:most.text]
-    # What comes last before a refusal tells of it, and what comes first of the other pages.
-    first = max(0, len(lines) - most.lines) if isinstance(answer, Refusal) else 0
-    some = [_cut(line) for line in lines[first:first + most.lines]]
+    text = "\n".join(lines_of("\n".join(lines) + "\n"))[:most.text]
+    rows = _rows(lines, most, isinstance(answer, Refusal))
+    some, counts = [_cut(row.line) for row in rows], [row.entries for row in rows]
+    first = len(lines) - sum(counts) if isinstance(answer, Refusal) else 0
     if len(svg) > most.sketch:
-        return Drawing("", text, some, first, len(lines), "its sketch is too large to be held here")
-    return Drawing(svg, text, some, first, len(lines))
+        return Drawing("", text, some, counts, first, len(lines), TOO_LARGE)
+    return Drawing(svg, text, some, counts, first, len(lines), "", _played(page, told, it, most))
+
+
+def _rows(lines: List[str], most: DrawingLimits, is_refused: bool) -> List[FoldedRow]:
+    """Rows of a list: what comes last before a refusal, which tells of it, and what comes first of the other pages."""
+    if not most.lines:
+        return []
+    enough = most.lines * (1 if most.full else MOST_IN_ROW)
+    some = lines[-enough:] if is_refused else lines[:enough]
+    rows = [FoldedRow(line, 1) for line in some] if most.full else folded(some)
+    return rows[-most.lines:] if is_refused else rows[:most.lines]
+
+
+def _played(page: Page, told: Listed, it: WantedDrawing, most: DrawingLimits) -> str:
+    """What a player has of the page that the sketch shows, where that isn't too much."""
+    if not it.is_played or page.data is None or not can_be_played(told):
+        return ""
+    text = played(page.data, told, f"This is a copy, treated by {it.treated.by}." if it.treated else "")
+    return text if len(text) <= most.player else ""
 
 
 def _cut(line: str) -> str:
@@ -94,4 +158,5 @@ def wanted(file: ReportFile) -> Optional[WantedDrawing]:
     """The page of a file as it is to be drawn, where there is one with an answer."""
     if file.own is None or file.budget is None or not file.line:
         return None
-    return WantedDrawing(file.place, file.own, file.line, file.budget)
+    copy = TreatedCopy(file.treated, graded(file.treatments)) if file.treated and file.treatments else None
+    return WantedDrawing(file.place, file.own, file.line, file.budget, copy)

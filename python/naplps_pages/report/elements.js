@@ -61,6 +61,21 @@ function picture(drawing, name) {
   return image;
 }
 
+// The same drawing without the strip below the screen, and without what is above it: for thumbnails.
+function cropped(drawing) {
+  if (!drawing.sketch) return {...drawing, why: drawing.why || "No sketch"};
+  const head = 'viewBox="0 0 1024 800" width="1024" height="800"';
+  return {...drawing, sketch: drawing.sketch.replace(/viewBox="[-0-9 ]+" width="[0-9]+" height="[0-9]+"/, head)};
+}
+
+// Gives the sketch to the browser as a file, named after the page.
+function saved(sketch, name) {
+  const url = URL.createObjectURL(new Blob([sketch], {type: "image/svg+xml"}));
+  const leaf = name.slice(name.lastIndexOf("/") + 1).replace(/[^\w .,()+=@-]/g, "_").slice(0, 120) || "page";
+  make("a", {href: url, download: leaf + ".svg"}).click();
+  setTimeout(() => URL.revokeObjectURL(url), 60000);
+}
+
 // What the sketch says of itself: what it leaves out.
 function notes(drawing) {
   if (!drawing.sketch) return "";

@@ -2,29 +2,41 @@
 import sqlite3
 from typing import Dict, List, NamedTuple, Optional, Tuple
 
+from naplps.treating.treatments import graded
+
 from .. import refusals
 from ..collection import refused, tables
+from ..collection.counts import UNKNOWN
 from ..collection.kinds import checked
 from ..collection.status import LastRun, status
 from . import groups as of_groups
-from .files import FROM, THERE, reason, told
-from .files import REASONS as OF_FILES
+from . import store_words
+from .choices import Choices
+from .choices import load as load_choices
+from .files import reason
 from .roots import Roots, load
 
-REASONS = "SELECT r.number, coalesce(n.name, ''), r.left_out, r.pages, r.files FROM reasons r LEFT JOIN faults n " \
-    "ON n.number = r.number ORDER BY r.files DESC, r.number, r.left_out"
+REASONS = "SELECT r.number, coalesce(n.name, ''), r.left_out, sum(r.pages), sum(r.files) FROM reasons r " \
+    "LEFT JOIN faults n ON n.number = r.number GROUP BY 1, 3 ORDER BY 5 DESC, 1, 3"
 
-REASON = "state:file_state why? answer:page_state? number? fault? left_out? why? count"
+
+# The kinds of accepted files, for people.
+KINDS = {"page": "pages", "text": "texts", "blank": "blank", UNKNOWN: UNKNOWN}
+# How many files of a reason are readable by which treatments.
+READABLE = """SELECT p.number, coalesce(p.left_out, ''), c.treatments, count(*) FROM cures c CROSS JOIN pages p
+    ON p.id = c.page AND p.terms = c.terms CROSS JOIN present f ON f.page = p.id
+    WHERE c.treatments IS NOT NULL AND p.number IS NOT NULL GROUP BY 1, 2, 3 ORDER BY 4 DESC, 3"""
 
 
 class ReasonRow(NamedTuple):
-    """A reason of refusals, how many pages and files have it, and what it means."""
+    """A reason of refusals: how many pages and files have it, what it means, how many files are readable by what."""
 
     told: str
     number: int
     pages: int
     files: int
     means: str
+    readable: List[Tuple[str, int]]
 
 
 class Facts(NamedTuple):
@@ -34,8 +46,9 @@ class Facts(NamedTuple):
     roots: Roots
     counts: List[Tuple[str, int]]
     reasons: List[ReasonRow]
-    answers: List[Tuple[str, int]]
+    choices: Choices
     files: int
+    has_words: bool = False
 
 
 def load_facts(connection: sqlite3.Connection, path: str, groups: List[of_groups.GroupSummary]) -> Facts:
@@ -45,32 +58,30 @@ def load_facts(connection: sqlite3.Connection, path: str, groups: List[of_groups
     files = sum(each for name, each in it.counts.items() if name != tables.FILE_STATES[tables.GONE])
     answered = sum(number(name, 0) for name in tables.PAGE_STATES)
     spelled = of_groups.of_spellings(groups)
-    counts = [("files", files), ("accepted", number("accepted", 0)), ("refused", number("refused", 0)),
+    kinds = [(f"accepted: {name}", it.tally.kinds[kind]) for kind, name in KINDS.items() if kind in it.tally.kinds]
+    counts = [("files", files), ("accepted", number("accepted", 0)), *kinds, ("refused", number("refused", 0)),
               ("without an answer", number("no answer", 0)), ("not read", files - answered),
               ("different pages", it.pages), ("different canonical pages", it.canonical),
               ("groups of equal pages that are spelled differently", spelled),
               ("groups of copies alone", len(groups) - spelled)]
-    return Facts(it.run, load(connection), counts, _reasons(connection), _answers(connection), files)
+    roots = load(connection)
+    return Facts(it.run, roots, counts, _reasons(connection), load_choices(connection, roots), files,
+                 store_words.are_found(connection))
 
 
 def _reasons(connection: sqlite3.Connection) -> List[ReasonRow]:
     connection.execute("DROP TABLE IF EXISTS temp.reasons")
     connection.execute(refused.REASONS.format(""))
     known = refusals.load()
+    readable: Dict[Tuple[int, str], List[Tuple[str, int]]] = {}
+    for number, left_out, treatments, files in checked(
+            connection.execute(READABLE), "number left_out treatments count"):
+        readable.setdefault((number, left_out), []).append((graded(treatments), files))
     return [ReasonRow(reason(number, fault, left_out), number, pages, files,
-                   refusals.text_of(number, left_out).means if number in known else "")
+                      refusals.text_of(number, left_out).means if number in known else "",
+                      readable.get((number, left_out), []))
             for number, fault, left_out, pages, files in checked(
                 connection.execute(REASONS), "number fault left_out count files")]
-
-
-def _answers(connection: sqlite3.Connection) -> List[Tuple[str, int]]:
-    """What there is to say of files, and of how many."""
-    counts: Dict[str, int] = {}
-    for *reasons, number in checked(connection.execute(
-            f"SELECT {OF_FILES}, count(*) {FROM} WHERE {THERE} GROUP BY 1, 2, 3, 4, 5, 6, 7"), REASON):
-        name = told(*reasons)
-        counts[name] = counts.get(name, 0) + number
-    return sorted(counts.items(), key=lambda each: (-each[1], each[0]))
 
 
 def told_refusals() -> Dict[str, Dict[str, str]]:

@@ -10,9 +10,10 @@ from ..collection.places import Place
 # A file, its page, and on which terms that was asked about. (Files that are gone aren't shown.)
 COLUMNS = """d.id, d.path, f.name, f.state, f.why, f.size, p.id, p.own, p.state, p.number, n.name, p.left_out, p.place,
     p.entries, p.canon, p.canon_size, p.why, t.form, t.budget, c.page IS NOT NULL, c.treatments,
-    f.inode"""
+    f.inode, p.kind, p.looks_like, p.several, c.grade, c.entries, c.copy, c.canon"""
 COLUMN = "folder path name state:file_state why? size? page? own? answer:page_state? number? fault? left_out? " \
-    "place? entries? canon? canon_size? why? form? budget? tried:flag treatments? inode?"
+    "place? entries? canon? canon_size? why? form? budget? tried:flag treatments? inode? " \
+    "kind? looks_like? several? grade? entries? copy? canon?"
 JOINS = """JOIN folders d ON d.id = f.folder LEFT JOIN pages p ON p.id = f.page AND f.state = 0
     LEFT JOIN terms t ON t.id = p.terms LEFT JOIN faults n ON n.number = p.number
     LEFT JOIN cures c ON c.page = p.id AND c.terms = p.terms"""
@@ -48,6 +49,13 @@ class ReportFile(NamedTuple):
     tried: bool
     treatments: Optional[str]
     begins: Optional[int]
+    kind: Optional[int] = None
+    looks_like: Optional[str] = None
+    several: Optional[int] = None
+    grade: Optional[int] = None
+    treated_entries: Optional[int] = None
+    treated: Optional[bytes] = None
+    treated_canon: Optional[bytes] = None
 
     @property
     def place(self) -> Place:

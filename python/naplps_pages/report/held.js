@@ -14,8 +14,39 @@ function lengthened(text) {
     const words = line.split(" "), before = last.get(words[0]) || [];
     const whole = words.map((word, at) => at && word === "" && at < before.length ? before[at] : word);
     last.set(words[0], whole);
-    return whole.join(" ");
+    return whole.join(" ").replace(/\u00a0/g, " ");
   });
+}
+
+// Elements that are unpacked when they are needed; so many of them are held at a time.
+class Packed {
+  constructor(elements, most) {
+    Object.assign(this, {elements, most, held: new Map()});
+  }
+
+  get(number) {
+    const found = this.held.get(number) || unpack(this.elements[number]);
+    this.held.delete(number);
+    this.held.set(number, found);
+    if (this.held.size > this.most) this.held.delete(this.held.keys().next().value);
+    return found;
+  }
+}
+
+// A text as its words are compared: without accents, in small letters, with a blank before each word.
+function folded(text) {
+  const bare = text.normalize("NFD").replace(/\p{M}/gu, "").toLowerCase();
+  return " " + (bare.match(/[\p{L}\p{N}]+/gu) || []).join(" ") + " ";
+}
+
+// What is looked for: words, each of which begins one of the text, and between quotes those that follow each other.
+function wanted(text) {
+  const parts = [];
+  for (const [, phrase, word] of text.slice(0, 400).matchAll(/"([^"]*)"?|([^\s"]+)/g)) {
+    const words = folded(phrase ?? word);
+    if (words.trim()) parts.push(phrase === undefined ? words.slice(0, -1) : words);
+  }
+  return parts;
 }
 
 class Held {
@@ -27,8 +58,9 @@ class Held {
     this.table = table;
     this.columns = table.columns;
     this.size = this.columns.name.length;
-    this.blocks = [];
-    this.elements = document.querySelectorAll("script.block");
+    this.blocks = new Packed(document.querySelectorAll("script.block"), 64);
+    this.playedBlocks = new Packed(document.querySelectorAll("script.played-block"), 4);
+    this.texts = new Packed(document.querySelectorAll("script.texts"), 8);
     this.members = table.groups.map(() => []);
     this.columns.group.forEach((group, key) => group >= 0 && this.members[group].push(key));
     this.found = {};
@@ -41,29 +73,87 @@ class Held {
   }
 
   file(key) {
-    const at = (column) => this.columns[column][key];
+    const at = (column) => this.columns[column][key], page = at("page");
     return {key, name: this.name(key), size: at("size"), answer: this.table.answers[at("answer")],
-            entries: at("entries"), group: at("group") + 1};
+            entries: at("entries"), group: at("group") + 1, hash: page < 0 ? "" : this.table.hashes[page],
+            says: page < 0 ? "" : this.table.says[page],
+            treated: at("cure") < 0 ? "" : this.table.cures[at("cure")]};
   }
 
-  // The keys of the files whose names have the text, or that are of a group, with the answer.
-  hits(text, answer) {
-    if (this.found.text === text && this.found.answer === answer) return this.found.keys;
-    const number = answer === "" ? -1 : this.table.answers.indexOf(answer);
-    const group = /^group ([0-9]{1,9})$/i.exec(text);
-    this.names ||= this.columns.name.map((_, key) => this.name(key).toLowerCase());
-    const part = text.toLowerCase(), keys = [];
+  // The keys of the files that the words of the form leave, in their order.
+  async hits(words) {
+    const named = JSON.stringify(words);
+    if (this.found.named === named) return this.found.keys;
+    if (words.text) await this.readWords();
+    const takes = this.conditions(words), keys = [];
     for (let key = 0; key < this.size; key++) {
-      if (answer !== "" && this.columns.answer[key] !== number) continue;
-      if (group ? this.columns.group[key] + 1 === Number(group[1]) : this.names[key].includes(part)) keys.push(key);
+      if (takes.every((each) => each(key))) keys.push(key);
     }
-    this.found = {text, answer, keys};
+    if (words.order === "group") this.byGroup(keys);
+    this.found = {named, keys};
     return keys;
   }
 
-  async files({text, answer, from, count}) {
-    const keys = this.hits(text, answer);
+  // Those of a group side by side, by their spellings; behind them those that have no group.
+  byGroup(keys) {
+    const {group, spelling} = this.columns, last = this.table.groups.length;
+    const rank = (key) => group[key] < 0 ? last : group[key];
+    keys.sort((one, other) => rank(one) - rank(other) || spelling[one] - spelling[other] || one - other);
+  }
+
+  conditions({text, kind, answer, cure, folder, pages}) {
+    const {columns, table} = this, some = [], group = /^group ([0-9]{1,9})$/i.exec(text);
+    if (pages) some.push((key) => columns.page[key] >= 0);
+    if (answer) {
+      const number = table.answers.indexOf(answer);
+      const numbers = new Set(table.answers.flatMap((each, at) => each === answer ? [at] : []));
+      some.push(number < 0 ? () => false : (key) => numbers.has(columns.answer[key]));
+    }
+    if (kind) some.push((key) => table.kinds[columns.kind[key]] === kind);
+    if (cure) some.push((key) => this.cure(key) === cure);
+    if (folder) {
+      const inside = table.folders.map((each) => each === folder || each.startsWith(folder + "/"));
+      some.push((key) => inside[columns.folder[key]]);
+    }
+    if (group) some.push((key) => columns.group[key] + 1 === Number(group[1]));
+    else if (text) some.push(this.hasText(text));
+    return some;
+  }
+
+  // Whether a name has the text, or a page all its words.
+  hasText(text) {
+    const part = text.toLowerCase(), parts = wanted(text), of = this.columns.sketch;
+    this.names ||= this.columns.name.map((_, key) => this.name(key).toLowerCase());
+    const has = this.words.map((words) => parts.length > 0 && parts.every((each) => words.includes(each)));
+    return (key) => this.names[key].includes(part) || (of[key] >= 0 && has[of[key]]);
+  }
+
+  // The words of all texts, as they are compared, once they are asked for.
+  async readWords() {
+    if (this.words) return;
+    const words = [];
+    for (const element of this.texts.elements) words.push(...(await unpack(element)).map(folded));
+    this.words = words;
+  }
+
+  // What treatments come to, as the form names it.
+  cure(key) {
+    const cure = this.columns.cure[key];
+    return cure < 0 ? "" : this.table.cures[cure] || "none";
+  }
+
+  async files({from, count, ...words}) {
+    const keys = await this.hits(words);
     return {total: keys.length, files: keys.slice(from, from + count).map((key) => this.file(key))};
+  }
+
+  // The first file with a page of this hash, and its place among those that are found.
+  async find({hash, ...words}) {
+    const page = this.table.hashes.indexOf(hash.slice(0, 16).toLowerCase());
+    const keys = await this.hits(words), of = this.columns.page;
+    if (page < 0) return null;
+    const position = keys.findIndex((key) => of[key] === page);
+    return {key: position < 0 ? of.indexOf(page) : keys[position], position};
   }
 
   async groups({copies, from, count, names}) {
@@ -94,14 +184,32 @@ class Held {
             equal: group < 0 ? null : this.group(group, 12)};
   }
 
-  async drawing(key) {
+  // Of a file's drawing what the blocks hold, or why there is none.
+  async block(key) {
     const number = this.columns.sketch[key], per = this.table.per;
-    if (number < 0) return {sketch: "", text: "", lines: [], first: 0, entries: 0, why: this.without(key)};
-    const block = Math.floor(number / per), at = number % per;
-    this.blocks[block] ||= unpack(this.elements[block]);
-    const held = await this.blocks[block];
-    return {sketch: held.sketch[at], text: held.text[at], lines: lengthened(held.lines[at]), first: held.first[at],
-            entries: held.entries[at], why: held.why[at]};
+    if (number < 0) return {at: -1, why: this.without(key)};
+    return {at: number % per, held: await this.blocks.get(Math.floor(number / per))};
+  }
+
+  async thumbnail(key) {
+    const {at, held, why} = await this.block(key), text = this.file(key).says;
+    return at < 0 ? {sketch: "", text, why} : {sketch: held.sketch[at], text, why: held.why[at]};
+  }
+
+  async drawing(key) {
+    const {at, held, why} = await this.block(key);
+    if (at < 0) return {sketch: "", text: "", lines: [], counts: [], first: 0, entries: 0, why};
+    const number = this.columns.sketch[key], per = this.table.texts;
+    const text = (await this.texts.get(Math.floor(number / per)))[number % per];
+    return {sketch: held.sketch[at], text, lines: lengthened(held.lines[at]), counts: held.counts[at],
+            first: held.first[at], entries: held.entries[at], why: held.why[at]};
+  }
+
+  // What a player has of a page. (The sketch may be that of another spelling.)
+  async played(key) {
+    const number = this.table.played.indexOf(this.columns.page[key]), per = this.table.playedPer;
+    if (number < 0) return {page: null, why: "This report can't play it; `naplps-pages play` can"};
+    return {page: (await this.playedBlocks.get(Math.floor(number / per)))[number % per], why: ""};
   }
 
   without(key) {

@@ -1,7 +1,7 @@
 """How much a report holds."""
 
 # Pages that have a sketch: usually, and at most.
-USUAL_SKETCHES, MOST_SKETCHES = 2000, 50_000
+USUAL_SKETCHES, MOST_SKETCHES = 10_000, 50_000
 # More files than these are for `serve`.
 MOST_FILES = 500_000
 # Lines of a page's list, and characters of its text and of its sketch.
@@ -12,5 +12,13 @@ MOST_HELD = 1 << 30
 A_LINE = 2000
 # The same as of a report where pages are served one by one.
 SERVED_LINES, SERVED_TEXT, SERVED_SKETCH = 20_000, 200_000, 16 << 20
-# Sketches that are packed together.
-A_BLOCK = 50
+# So many pages of a report can be played; and characters of what a player has, in a report and where pages are served.
+MOST_PLAYED, HELD_PLAYER, SERVED_PLAYER = 1000, 300_000, 32 << 20
+# Sketches that are packed together, texts, and pages that can be played.
+A_BLOCK, SOME_TEXTS, A_PLAYED_BLOCK = 50, 500, 20
+# Folders that can be chosen.
+MOST_FOLDERS = 500
+# Characters of a page's text and of its sketch where it is a thumbnail.
+SMALL_TEXT, SMALL_SKETCH = 400, 300_000
+# Digits of a page's hash in its address, and in a report.
+HASH_DIGITS = 16

@@ -1,26 +1,34 @@
 """Makes a report: one HTML file."""
 import os
 import sqlite3
+import sys
 from typing import Iterable, Iterator, List, NamedTuple, Tuple
 
 from ..collection import tables
-from ..new_files import NotWritten, put
+from ..collection.progress import Progress
+from ..new_files import NotWritten, put, replace
 from . import groups, sketch_choice
 from .document import Document, data_of
 from .drawing import Drawing, DrawingLimits, wanted
-from .embedding import alike, block, packed
+from .embedding import block, packed, packed_json
 from .facts import load_facts, told_refusals
-from .limits import A_BLOCK, HELD_LINES, HELD_SKETCH, HELD_TEXT, MOST_FILES, MOST_HELD, MOST_SKETCHES
+from .limits import (
+    A_BLOCK, A_PLAYED_BLOCK, HELD_LINES, HELD_PLAYER, HELD_SKETCH, HELD_TEXT, MOST_FILES, MOST_HELD, MOST_PLAYED,
+    MOST_SKETCHES, SOME_TEXTS,
+)
 from .sketch_workers import DrawingOptions, Task, drawn
 from .table import Table
 
 
 Numbered = Tuple[int, Drawing]
+# So each report begins.
+BEGINNING = b'<!doctype html>\n<html lang="en">\n<head>\n<meta charset="utf-8">\n<meta http-equiv="Content-Security-'
 IS_FULL = "the report has no room for more; `naplps-pages serve` shows it"
 
 
 class ReportOptions(NamedTuple):
-    """What report was asked for: so many sketches, or all; by how many processes, and in how many seconds for each."""
+    """What report was asked for: so many sketches, or all; by how many processes, and in how many seconds for each; in
+    place of one that is there; with a row for each character."""
 
     store: str
     into: str
@@ -29,6 +37,8 @@ class ReportOptions(NamedTuple):
     all: bool
     processes: int
     seconds: float
+    replace: bool = False
+    full: bool = False
 
 
 class ReportTotals(NamedTuple):
@@ -46,18 +56,30 @@ class TooLarge(Exception):
     """The collection is too large for one file."""
 
 
-def require_room(path: str) -> None:
+def require_room(path: str, is_replaced: bool = False) -> None:
     """Raises NotWritten where the file can't be made, before the work that it would cost."""
     if os.path.lexists(path) and (os.path.isfile(path) or not os.path.exists(path)):
-        raise NotWritten(path, "is there already, and isn't written over")
+        if not is_replaced:
+            raise NotWritten(path, "is there already, and isn't written over")
+        if not _is_report(path):
+            raise NotWritten(path, "is there already, and is no report that may be replaced")
     folder = os.path.dirname(path) or "."
     if not os.path.isdir(folder):
         raise NotWritten(path, "there is no such folder")
 
 
+def _is_report(path: str) -> bool:
+    """Whether a file begins as a report does."""
+    try:
+        with open(path, "rb") as file:
+            return file.read(len(BEGINNING)) == BEGINNING
+    except OSError as error:
+        raise NotWritten(path, error.strerror or str(error)) from None
+
+
 def make(connection: sqlite3.Connection, options: ReportOptions) -> ReportTotals:
     """Makes the file. Raises NotWritten or TooLarge."""
-    require_room(options.into)
+    require_room(options.into, options.replace)
     connection.execute("BEGIN")
     try:
         some = groups.load(connection)
@@ -74,21 +96,35 @@ def make(connection: sqlite3.Connection, options: ReportOptions) -> ReportTotals
     drawings, missed = _drawings(table, numbers, options)
     held = "%s of %s sketches are in this file." % ("{:,}".format(len(drawings)), "{:,}".format(pictures))
     page = Document(facts, some, "held.js").html(held, _data(table, drawings)).encode("utf-8")
-    put(options.into, page)
+    if options.replace and os.path.isfile(options.into):
+        replace(options.into, page)
+    else:
+        put(options.into, page)
     return ReportTotals(facts.files, len(some), len(drawings), pictures, missed, len(page))
 
 
 def _drawings(table: Table, numbers: List[int], options: ReportOptions) -> Tuple[List[Numbered], List[Tuple[str, str]]]:
-    """The drawings with the numbers of their files, like ones together; and the files without one, with why."""
+    """The drawings in the order of their files, with the numbers of these; and the files without one, with why."""
     tasks: List[Task] = []
     for number in numbers:
         it = wanted(table.files[number])
         if it:
-            tasks.append((number, it))
-    how = DrawingOptions(options.program, options.seconds, DrawingLimits(HELD_SKETCH, HELD_TEXT, HELD_LINES))
-    made = list(_held(drawn(how, tasks, options.processes)))
-    missed = [(table.files[number].place.path, each.why) for number, each in sorted(made) if each.why]
-    return sorted(made, key=lambda each: (alike(each[1]), each[0])), missed
+            tasks.append((number, it._replace(is_played=len(tasks) < MOST_PLAYED)))
+    most = DrawingLimits(HELD_SKETCH, HELD_TEXT, HELD_LINES, HELD_PLAYER, options.full)
+    how = DrawingOptions(options.program, options.seconds, most)
+    made = sorted(_held(_told(drawn(how, tasks, options.processes), len(tasks))))
+    return made, [(table.files[number].place.path, each.why) for number, each in made if each.why]
+
+
+def _told(drawings: Iterator[Numbered], number: int) -> Iterator[Numbered]:
+    """The drawings, whose number is told as they come."""
+    progress = Progress(sys.stderr, lambda: number, what="sketches")
+    try:
+        for done, each in enumerate(drawings, 1):
+            yield each
+            progress.show(done)
+    finally:
+        progress.clear()
 
 
 def _held(drawings: Iterable[Numbered]) -> Iterator[Numbered]:
@@ -102,10 +138,20 @@ def _held(drawings: Iterable[Numbered]) -> Iterator[Numbered]:
 
 
 def _data(table: Table, drawings: List[Numbered]) -> str:
-    table.place_sketches({number: sketch for sketch, (number, _) in enumerate(drawings)})
+    table.place_sketches(drawings)
     accepted = tables.PAGE_STATES[tables.ACCEPTED]
     names = table.answers.names
-    held = {**table.held(), "per": A_BLOCK, "refusals": told_refusals(),
-            "accepted": names.index(accepted) if accepted in names else -1}
     some = [drawing for _, drawing in drawings]
-    return data_of(packed(held), [block(some[at:at + A_BLOCK]) for at in range(0, len(some), A_BLOCK)])
+    texts = [each.text for each in some]
+    played = [(number, drawing.played) for number, drawing in drawings if drawing.played]
+    held = {**table.held(), "per": A_BLOCK, "texts": SOME_TEXTS, "refusals": told_refusals(),
+            "accepted": names.index(accepted) if accepted in names else -1, "playedPer": A_PLAYED_BLOCK,
+            "played": [table.columns["page"][number] for number, _ in played]}
+    return data_of(packed(held), [block(some[at:at + A_BLOCK]) for at in range(0, len(some), A_BLOCK)],
+                   [packed(texts[at:at + SOME_TEXTS]) for at in range(0, len(texts), SOME_TEXTS)],
+                   list(_played_blocks([each for _, each in played])))
+
+
+def _played_blocks(played: List[str]) -> Iterator[str]:
+    for at in range(0, len(played), A_PLAYED_BLOCK):
+        yield packed_json("[%s]" % ",".join(played[at:at + A_PLAYED_BLOCK]))

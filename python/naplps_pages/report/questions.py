@@ -1,18 +1,22 @@
 """What a served report asks of the store: files, groups, the details of a file and its drawing."""
 import re
-from typing import Dict, List, NamedTuple, Optional, Tuple
+from typing import Dict, List, NamedTuple, Optional, Set, Tuple
 
 from naplps.treating.treatments import graded
 
-from ..collection.kinds import checked
+from ..collection import word_index
+from ..collection.kinds import checked, one
 from ..collection.store import open_to_read
 from ..packs.naming import MOST_NAME
+from . import choices
 from . import files as of_files
 from . import groups as of_groups
+from . import store_words as words_of
 from .document import Document
 from .drawing import WantedDrawing, wanted
 from .facts import Facts, load_facts, told_refusals
 from .files import ReportFile
+from .limits import HASH_DIGITS
 from .roots import joined
 
 Answer = Dict[str, object]
@@ -20,7 +24,12 @@ Words = Dict[str, str]
 GROUP = re.compile(r"group ([0-9]{1,9})", re.IGNORECASE)
 KEY = re.compile(r"([0-9]{1,18})-((?:[0-9a-f]{2}){0,%d})" % MOST_NAME)
 NAMES = 12
-HITS = "CREATE TEMP TABLE hits AS SELECT f.folder AS folder, f.name AS name %s WHERE %s ORDER BY d.path, f.name"
+HITS = "CREATE TEMP TABLE hits AS SELECT f.folder AS folder, f.name AS name %s WHERE %s ORDER BY %sd.path, f.name"
+BY_GROUP = "group_rank(p.canon, t.form), p.own, "
+POSITION = "SELECT rowid FROM hits WHERE folder = ? AND name = ?"
+HASH = re.compile(r"[0-9a-f]{%d,64}" % HASH_DIGITS)
+OF_HASH = "SELECT f.folder, f.name FROM pages p CROSS JOIN files f ON f.page = p.id AND f.state = 0 " \
+    "CROSS JOIN folders d ON d.id = f.folder WHERE p.own >= ? AND p.own <= ? ORDER BY d.path, f.name LIMIT 1"
 PART = "SELECT %s FROM hits h CROSS JOIN files f ON f.folder = h.folder AND f.name = h.name %s WHERE h.rowid > ? " \
     "AND h.rowid <= ? ORDER BY h.rowid" % (of_files.COLUMNS, of_files.JOINS)
 ONE = f"SELECT {of_files.COLUMNS} {of_files.FROM} WHERE f.folder = ? AND f.name = ? AND {of_files.THERE}"
@@ -28,6 +37,12 @@ MEMBERS = "SELECT %s FROM pages p CROSS JOIN terms t ON t.id = p.terms CROSS JOI
     "f.state = 0 CROSS JOIN folders d ON d.id = f.folder LEFT JOIN faults n ON n.number = p.number LEFT JOIN cures c " \
     "ON c.page = p.id AND c.terms = p.terms WHERE p.canon = ? AND t.form = ? ORDER BY p.own, d.path, f.name LIMIT ?" \
     % of_files.COLUMNS
+
+
+# The words by which files are found, and those of them that a value has to be equal to.
+FIELDS = ("text", "folder", "kind", "answer", "cure", "order", "pages")
+EQUALS = {"kind": "kind_of(p.kind, p.looks_like) = ?", "answer": f"told({of_files.REASONS}) = ?",
+          "cure": "c.page IS NOT NULL AND cure_of(c.treatments) = ?"}
 
 
 class Unasked(Exception):
@@ -52,12 +67,17 @@ class Questions:
         self.connection = open_to_read(store)
         self.connection.create_function("told", 7, of_files.told)
         self.connection.create_function("has", 2, self._has)
+        self.connection.create_function("kind_of", 2, choices.kind)
+        self.connection.create_function("cure_of", 1, choices.cure)
+        self.connection.create_function("group_rank", 2, self._rank)
+        self.connection.create_function("is_inside", 1, lambda folder: folder in self.inside)
         self.known: Optional[StoreFacts] = None
         self.folders: Dict[int, str] = {}
         self.part = ""
+        self.inside: Set[int] = set()
         self.found: Tuple[object, ...] = ()
         self.refusals = told_refusals()
-        self.ways = {"files": self._files, "groups": self._groups, "details": self._details}
+        self.ways = {"files": self._files, "find": self._place, "groups": self._groups, "details": self._details}
 
     def close(self) -> None:
         """Ends the connection."""
@@ -88,35 +108,75 @@ class Questions:
     def _has(self, folder: int, name: bytes) -> bool:
         return self.part in joined(self.folders.get(folder, ""), name).lower()
 
+    def _rank(self, canon: Optional[bytes], form: Optional[str]) -> int:
+        """The number of a page's group, and a larger one where it has none."""
+        known = self._now()
+        return known.numbers.get((canon, form), len(known.groups) + 1) if canon and form else len(known.groups) + 1
+
     def _files(self, words: Words) -> Answer:
         first, count = _number(words, "from"), _number(words, "count", 1000)
-        self._find(words.get("text", ""), words.get("answer", ""))
+        self._find(words)
         total = self.connection.execute("SELECT coalesce(max(rowid), 0) FROM hits").fetchone()[0]
-        some = map(of_files.read, self.connection.execute(PART, (first, first + count)))
-        return {"total": total, "files": [self._told(file) for file in some]}
+        some = [of_files.read(row) for row in self.connection.execute(PART, (first, first + count))]
+        says = words_of.first(self.connection, [file.page for file in some])
+        return {"total": total, "files": [self._told(file, says) for file in some]}
 
-    def _find(self, text: str, answer: str) -> None:
-        """Puts the files with this text and answer into the table `hits`, if they aren't there."""
+    def _place(self, words: Words) -> Answer:
+        """The first file with a page of a hash, and its position among the files that are found."""
+        wanted_hash = words.get("hash", "").lower()
+        if not HASH.fullmatch(wanted_hash):
+            raise Unasked(f"a page's hash has {HASH_DIGITS} digits or more")
+        ends = [bytes.fromhex((wanted_hash + digit * 64)[:64]) for digit in "0f"]
+        found = one(self.connection.execute(OF_HASH, ends).fetchone(), "folder name")
+        if found is None:
+            raise Unasked("there is no page of this hash")
+        self._find(words)
+        position = self.connection.execute(POSITION, found).fetchone()
+        return {"key": f"{found[0]}-{found[1].hex()}", "position": position[0] - 1 if position else -1}
+
+    def _find(self, words: Words) -> None:
+        """Puts the files that these words leave into the table `hits`, if they aren't there."""
         known = self._now()
-        if self.found == (text, answer, known.version):
+        named = tuple(words.get(name, "") for name in FIELDS) + (known.version,)
+        if self.found == named:
             return
-        conditions: List[str] = [of_files.THERE]
-        values: List[object] = []
-        group = GROUP.fullmatch(text)
-        if group:
-            number = int(group[1])
-            conditions.append("p.canon = ? AND t.form = ?")
-            values += known.groups[number - 1].key if 0 < number <= len(known.groups) else (b"", "")
-        elif text:
-            self.part = text.lower()
-            conditions.append("has(f.folder, f.name)")
-        if answer:
-            conditions.append(f"told({of_files.REASONS}) = ?")
-            values.append(answer)
+        conditions, values = self._conditions(words)
         self.found = ()
         self.connection.execute("DROP TABLE IF EXISTS temp.hits")
-        self.connection.execute(HITS % (of_files.FROM, " AND ".join(conditions)), values)
-        self.found = text, answer, known.version
+        with word_index.used():
+            self.connection.execute(HITS % (of_files.FROM, " AND ".join(conditions),
+                                            BY_GROUP if words.get("order") == "group" else ""), values)
+        self.found = named
+
+    def _conditions(self, words: Words) -> Tuple[List[str], List[object]]:
+        """What files must fulfil, and the values of that."""
+        conditions: List[str] = [of_files.THERE]
+        values: List[object] = []
+        text, folder = words.get("text", ""), words.get("folder", "")
+        group = GROUP.fullmatch(text)
+        if group:
+            conditions.append("p.canon = ? AND t.form = ?")
+            values += self._key(int(group[1]))
+        elif text:
+            self.part = text.lower()
+            has_words, more = words_of.condition(text) if self._now().facts.has_words else ("0", [])
+            conditions.append(f"(has(f.folder, f.name) OR {has_words})")
+            values += more
+        if folder:
+            self.inside = {number for number, name in self.folders.items() if choices.is_inside(name, folder)}
+            conditions.append("is_inside(f.folder)")
+        for name, condition in EQUALS.items():
+            if words.get(name):
+                conditions.append(condition)
+                values.append(words[name])
+        if words.get("pages") == "1":
+            conditions.append("p.id IS NOT NULL")
+        return conditions, values
+
+    def _key(self, number: int) -> Tuple[bytes, str]:
+        """What the pages of a group are equal by."""
+        groups = self._now().groups
+        return groups[number - 1].key if 0 < number <= len(groups) else (b"", "")
 
     def _groups(self, words: Words) -> Answer:
         first, count, names = _number(words, "from"), _number(words, "count", 100), _number(words, "names", 100)
@@ -144,14 +204,16 @@ class Questions:
     def _name(self, file: ReportFile) -> str:
         return joined(self.folders.get(file.folder, ""), file.name)
 
-    def _told(self, file: ReportFile) -> Answer:
+    def _told(self, file: ReportFile, says: Dict[int, str]) -> Answer:
         return {"key": key_of(file), "name": self._name(file), "size": file.size, "answer": file.told,
+                "hash": file.own.hex() if file.own else "", "says": says.get(file.page or 0, ""),
+                "treated": graded(file.treatments) if file.treatments else "",
                 "entries": file.at if file.entries is None else file.entries,
                 "group": self._now().numbers.get(file.key, 0) if file.key else 0}
 
     def _details(self, words: Words) -> Answer:
         file = self._file(words)
-        told = self._told(file)
+        told = self._told(file, words_of.first(self.connection, [file.page]))
         group = told["group"]
         assert isinstance(group, int)
         return {**told, "refusal": self.refusals.get(file.told) or self.refusals.get(str(file.number or 0)),

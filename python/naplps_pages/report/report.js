@@ -1,43 +1,67 @@
 
-// What is shown, whatever the source: groups, files, and the details of one file.
-const FILES = 100, GROUPS = 12, NAMES = 8;
+// What is shown, whatever the source: the wall, files, groups, and one page.
+const FILES = 100, GROUPS = 12, NAMES = 8, VIEWS = ["pages", "list", "equal", "summary"];
+// (there is no field where there is nothing to choose)
+const FIELDS = ["text", "kind", "answer", "cure", "folder", "order"].filter(byId);
 
 class Report {
   constructor(source) {
     this.source = source;
+    this.view = VIEWS[0];
     this.groups = new Pager("groups", GROUPS, "group",
       (from, count) => source.groups({copies: byId("copies").checked, from, count, names: NAMES}),
       (found) => found.groups.map((group) => this.group(group)));
     this.files = new Pager("files", FILES, "file", (from, count) => this.search(from, count),
       (found, from) => found.files.map((file, at) => this.row(file, from + at)));
+    this.wall = new Wall(byId("wall"), (from, count) => this.search(from, count, true),
+      (key) => source.thumbnail(key), (key, at) => this.page.open(key, at), (file) => this.label(file));
+    this.wall.told = (from, end) => this.told(from, end);
+    this.page = new PageView(source, this.place(), (words) => this.find(words), (position) => this.closed(position));
   }
 
-  search(from, count) {
-    return this.source.files({text: byId("text").value.trim(), answer: byId("answer").value, from, count});
+  // The words of the form.
+  words() {
+    return Object.fromEntries(FIELDS.map((name) => [name, byId(name).value.trim()]));
+  }
+
+  // A part of the files that are found; or of those alone that have a page.
+  search(from, count, pages = this.view === "pages") {
+    return this.source.files({...this.words(), pages, from, count});
+  }
+
+  // How a page finds those beside it.
+  place() {
+    return {total: () => (this.view === "list" ? this.files : this.wall).total,
+            at: async (position) => (await this.search(position, 1)).files[0]};
+  }
+
+  // What stands at the corner of a thumbnail.
+  label(file) {
+    const [name] = file.treated.split(" "), isGuess = file.treated.includes("guess");
+    const some = [name ? (isGuess ? "guess by " : "treated by ") + name : "",
+      file.answer === "accepted" ? "" : file.answer];
+    if (byId("order").value === "group" && file.group) some.push("group " + file.group);
+    return some.filter(Boolean).join(", ");
+  }
+
+  told(from, end) {
+    const total = this.wall.total;
+    byId("wall-told").textContent = total ? `${number(from + 1)} to ${number(end)} of ${counted(total, "page")}`
+      : "no pages";
   }
 
   async group(group) {
-    const title = "Group " + group.number, drawing = await this.source.drawing(group.key);
+    const title = "Group " + group.number, drawing = await this.source.thumbnail(group.key);
     const words = oneLine(drawing.text);
-    const sketch = make("button", {type: "button", className: "sketch", onclick: doing(() => this.open(group.key)),
+    const sketch = make("button", {type: "button", className: "sketch", onclick: doing(() => this.page.open(group.key)),
       "aria-label": `Details of group ${group.number}` + (words ? ", with the text: " + words : "")},
-      picture(drawing, title));
+      picture(cropped(drawing), title));
     const size = [counted(group.files, "file"), counted(group.spellings, "spelling"),
       counted(group.entries, "entry", "entries")];
     return make("li", {}, sketch, make("h3", {}, title), make("div", {}, size.join(", ")),
       make("div", {className: "dim", title: "so the hash of the canonical bytes begins"},
         make("code", {}, group.canonical.slice(0, 16))),
-      ...this.members(group));
-  }
-
-  // The files of a group by their spellings, as many as there are, and a way to the others.
-  members(group) {
-    const parts = group.members.flatMap((each) => [
-      make("h4", {}, `Spelling ${letters(each.spelling)}, ${counted(each.size, "byte")}`),
-      make("ul", {}, ...each.files.map((file) => make("li", {}, link(file.name, () => this.open(file.key)))))]);
-    const left = group.files - group.members.reduce((sum, each) => sum + each.files.length, 0);
-    return left <= 0 ? parts : [...parts, link(`and ${counted(left, "file")} more of group ${group.number}`,
-      () => this.find("group " + group.number, ""))];
+      ...this.page.members(group));
   }
 
   row(file, position) {
@@ -46,103 +70,89 @@ class Report {
       made.dataset.label = label;
       return made;
     };
-    const group = file.group ? link(String(file.group), () => this.find("group " + file.group, ""),
+    const group = file.group ? link(String(file.group), () => this.find({text: "group " + file.group}),
       "files of group " + file.group) : "";
-    return make("tr", {}, make("td", {}, link(file.name, () => this.open(file.key, position))),
-      cell("bytes", "number", number(file.size)), make("td", {}, file.answer),
+    const name = make("td", {}, link(file.name, () => this.page.open(file.key, position)));
+    if (file.says) name.append(make("div", {className: "dim says"}, file.says));
+    return make("tr", {}, name, cell("bytes", "number", number(file.size)), make("td", {}, file.answer),
       cell(file.answer === "accepted" ? "entries" : "place", "number", number(file.entries)), cell("group", "", group));
   }
 
-  // Shows the files with this text and answer, and goes there.
-  async find(text, answer) {
-    byId("details").close();
-    byId("text").value = text;
-    byId("answer").value = answer;
-    await this.files.show(0);
-    byId("files-title").focus();
-    byId("files-title").scrollIntoView();
+  // Shows the files with these words, and goes there.
+  async find(words) {
+    for (const name of FIELDS) byId(name).value = words[name] || "";
+    this.page.close();
+    this.show(this.view === "pages" ? "pages" : "list");
+    history.replaceState(null, "", "#" + this.view);
+    await this.refresh();
+    byId("bar").scrollIntoView();
+    byId(this.view + "-title").focus({preventScroll: true});
   }
 
-  // Shows the details of a file; `position` is its place among the files that are found, if it was taken from there.
-  async open(key, position) {
-    const [file, drawing] = await Promise.all([this.source.details(key), this.source.drawing(key)]);
-    this.position = position;
-    byId("details-title").textContent = file.name;
-    byId("before").disabled = !(position > 0);
-    byId("behind").disabled = position === undefined || position + 1 >= this.files.total;
-    byId("details-body").replaceChildren(...this.parts(file, drawing));
-    if (!byId("details").open) byId("details").showModal();
-    byId("details").scrollTop = 0;
+  refresh() {
+    return Promise.all([this.wall.show(), this.files.show(0)]);
   }
 
-  // Goes on to the next of the files that are found, or back.
-  async step(by) {
-    const position = this.position + by;
-    if (this.position === undefined || position < 0) return;
-    const found = await this.search(position, 1);
-    if (found.files.length) await this.open(found.files[0].key, position);
+  // Shows one of the views; the others are there for print alone.
+  show(view) {
+    this.view = view;
+    for (const each of VIEWS) byId("view-" + each).hidden = each !== view;
+    byId("bar").hidden = view !== "pages" && view !== "list";
+    byId("wall-told").hidden = view !== "pages";
+    byId("files-pager").hidden = view !== "list";
+    for (const link of document.querySelectorAll("nav a")) {
+      if (link.hash !== "#" + view) link.removeAttribute("aria-current");
+      else link.setAttribute("aria-current", "page");
+    }
+    if (view === "pages") this.wall.measure();
   }
 
-  parts(file, drawing) {
-    return [make("figure", {}, picture(drawing, file.name), make("figcaption", {className: "dim"}, notes(drawing))),
-      facts([["Answer", file.answer], ["Bytes", number(file.size)],
-        [file.refusal ? "Place of the refusal" : "Entries", number(file.entries)]]),
-      ...(file.refusal ? this.reasons(file) : []), ...(file.equal ? this.equal(file.equal) : []),
-      ...(drawing.text ? [make("h3", {}, "Text"), longText("text of the page", drawing.text)] : []),
-      ...(drawing.lines.length ? [make("h3", {}, this.extent(drawing)),
-        longText("list of the page", this.list(drawing))] : [])];
+  // What the address asks for: a view, or a page.
+  async go() {
+    const words = new URLSearchParams(location.hash.slice(1)), hash = words.get("page");
+    if (hash) return this.goTo(hash, words.get("beside"));
+    this.page.close();
+    if (VIEWS.includes(location.hash.slice(1))) this.show(location.hash.slice(1));
+    return undefined;
   }
 
-  reasons(file) {
-    const refusal = file.refusal;
-    const treatments = file.cure === null ? "" : file.cure ? "readable by " + file.cure : "none makes it readable";
-    return [make("h3", {}, "Why it is refused"), facts([["It means", refusal.means], ["It may come from", refusal.causes],
-      ["What to do", refusal.do],
-      ["Command", refusal.command.replace("PAGE", () => quoted(file.name))], ["Treatments", treatments]])];
+  async goTo(hash, beside) {
+    const found = await this.source.find({...this.words(), pages: this.view === "pages", hash});
+    const other = beside ? await this.source.find({...this.words(), pages: true, hash: beside}) : null;
+    if (!found) throw new Error("there is no page of the hash " + hash.slice(0, 64));
+    await this.page.open(found.key, found.position < 0 ? undefined : found.position, other && other.key);
   }
 
-  equal(group) {
-    const size = `${counted(group.files, "file")}, ${counted(group.spellings, "spelling")}`;
-    return [make("h3", {}, `Equal pages: group ${group.number}, ${size}`),
-      make("div", {className: "equal"}, ...this.members(group))];
-  }
-
-  extent(drawing) {
-    const end = drawing.first + drawing.lines.length;
-    if (drawing.lines.length === drawing.entries) return "List: " + counted(drawing.entries, "entry", "entries");
-    return `List: entries ${number(drawing.first + 1)} to ${number(end)} of ${number(drawing.entries)}`;
-  }
-
-  list(drawing) {
-    return drawing.lines.map((line, at) => String(drawing.first + at + 1).padStart(5) + "  " + line).join("\n");
+  closed(position) {
+    if (location.hash.startsWith("#page=")) history.replaceState(null, "", "#" + this.view);
+    this.page.beside = null;
+    if (this.view === "pages" && position !== undefined) this.wall.focus(position);
   }
 
   listen() {
     let waiting = 0;
     byId("text").oninput = () => {
       clearTimeout(waiting);
-      waiting = setTimeout(doing(() => this.files.show(0)), 150);
+      waiting = setTimeout(doing(() => this.refresh()), 150);
     };
-    byId("answer").onchange = doing(() => this.files.show(0));
+    for (const name of FIELDS.slice(1)) byId(name).onchange = doing(() => this.refresh());
     byId("copies").onchange = doing(() => this.groups.show(0));
     for (const form of document.forms) form.onsubmit = (event) => event.preventDefault();
     for (const button of document.querySelectorAll("[data-answer]")) {
-      button.onclick = doing(() => this.find("", button.dataset.answer));
+      button.onclick = doing(() => this.find({answer: button.dataset.answer}));
     }
-    byId("close").onclick = () => byId("details").close();
-    byId("before").onclick = doing(() => this.step(-1));
-    byId("behind").onclick = doing(() => this.step(1));
-    byId("details").onclick = (event) => event.target === byId("details") && byId("details").close();
-    byId("details").onkeydown = doing((event) => {
-      const by = {ArrowLeft: -1, ArrowRight: 1}[event.key];
-      return by && event.target.tagName !== "PRE" ? this.step(by) : undefined;
-    });
+    this.page.listen();
+    addEventListener("hashchange", doing(() => this.go()));
   }
 }
 
 (async () => {
   const report = new Report(await SOURCE.open());
   report.listen();
-  await Promise.all([report.groups.show(0), report.files.show(0)]);
+  const view = location.hash.slice(1);
+  report.show(VIEWS.includes(view) ? view : VIEWS[0]);
+  await report.refresh();
+  await report.go();
   document.body.dataset.ready = String(Math.round(performance.now()));
+  await report.groups.show(0);
 })().catch(tell);

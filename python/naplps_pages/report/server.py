@@ -8,22 +8,23 @@ import sqlite3
 from concurrent.futures import ThreadPoolExecutor
 from concurrent.futures import TimeoutError as TookTooLong
 from http.server import BaseHTTPRequestHandler, ThreadingHTTPServer
-from typing import Callable, Dict, Optional, Tuple
+from typing import Callable, Dict, Mapping, Optional, Tuple
 from urllib.parse import parse_qsl
 
 from ..packs.naming import MOST_NAME
 from .desk import Desk
-from .drawing import Drawing
+from .drawing import Drawing, WantedDrawing
 from .questions import Questions, Unasked, Words
 from .sketch_workers import DrawingOptions
 
 HERE = "127.0.0.1"
-MOST_WORDS, MOST_WORD = 8, 2000
+MOST_WORDS, MOST_WORD = 12, 2000
 # Of a file the key has its name in hexadecimal.
 MOST_KEY = 20 + 2 * MOST_NAME
 # How long a client may be silent, and how long is waited for the store at the end, in seconds.
 SILENCE, GRACE = 30, 5
-DRAWING = "drawing"
+DRAWING, THUMBNAIL, PLAYED = "drawing", "thumbnail", "played"
+NO_ANSWER = "There is no answer to draw"
 # Random bytes of the key in the address.
 KEY_BYTES = 24
 NO_KEY = "the address has a key, which was printed when the server began"
@@ -116,14 +117,23 @@ class Handler(BaseHTTPRequestHandler):
             page, policy = one.submit(questions.page).result()
             return "text/html", policy + "; frame-ancestors 'none'", page.encode("utf-8")
         name, _, query = self._name().partition("?")
-        if name == DRAWING:
+        if name in (DRAWING, THUMBNAIL):
             it = one.submit(questions.wanted, words(query)).result()
-            answer = (self.server.desk.drawing(it) if it else Drawing(why="There is no answer to draw"))._asdict()
+            drawing = self.server.desk.drawing(it) if it else Drawing(why=NO_ANSWER)
+            answer: Mapping[str, object] = drawing.small() if name == THUMBNAIL else drawing._asdict()
+        elif name == PLAYED:
+            return "application/json", NOTHING, self._played(one.submit(questions.wanted, words(query)).result())
         elif name in questions.ways:
             answer = one.submit(questions.ask, name, words(query)).result()
         else:
             raise BadRequest(404, "there is nothing of that name")
         return "application/json", NOTHING, json.dumps(answer).encode("ascii")
+
+    def _played(self, it: Optional[WantedDrawing]) -> bytes:
+        """What a player has of a page, or why it has nothing."""
+        drawing = self.server.desk.drawing(it._replace(is_played=True)) if it else Drawing(why=NO_ANSWER)
+        why = "" if drawing.played else drawing.why or "it has too much to be played"
+        return ('{"why":%s,"page":%s}' % (json.dumps(why), drawing.played or "null")).encode("ascii")
 
     def _send(self, status: int, kind: str, policy: str, body: bytes, whole: bool, allow: str = "") -> None:
         self.send_response(status)
@@ -172,6 +182,7 @@ def serve(store: str, how: DrawingOptions, port: int, began: Callable[[str], Non
     except OSError as error:
         raise NotServed("%s:%d: %s" % (HERE, port, os.strerror(error.errno or 0))) from None
     try:
+        one.submit(questions.page).result()  # (the first who opens it needn't wait for what is the same for all)
         began(f"http://{HERE}:{server.server_port}{server.top}")
         server.serve_forever()
     finally:

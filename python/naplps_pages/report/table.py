@@ -6,14 +6,19 @@ from typing import Dict, List, Optional, Set, Tuple
 from naplps.names import shown
 from naplps.treating.treatments import graded
 
+from ..page_words import first_words
+from . import choices
 from . import files as of_files
+from . import store_words
+from .drawing import Drawing
 from .files import ReportFile
 from .groups import GroupSummary
+from .limits import HASH_DIGITS
 from .roots import Roots
 
 NONE = -1
-# Of a file: the number of entries or the place of a refusal; and the number of its spelling in the group.
-COLUMNS = ("folder", "name", "size", "answer", "entries", "group", "spelling", "cure", "sketch")
+# Of a file: the number of entries or the place of a refusal; the number of its spelling in the group, and of its page.
+COLUMNS = ("folder", "name", "size", "answer", "entries", "group", "spelling", "cure", "kind", "page", "sketch")
 
 
 class Numbers:
@@ -37,7 +42,9 @@ class Table:
     def __init__(self, connection: sqlite3.Connection, roots: Roots, groups: List[GroupSummary]) -> None:
         self.files: List[ReportFile] = [of_files.read(row) for row in connection.execute(of_files.ALL)]
         self.groups = groups
-        self.folders, self.answers, self.cures = Numbers(), Numbers(), Numbers()
+        self.folders, self.answers, self.cures, self.kinds, self.hashes = (Numbers() for _ in range(5))
+        self.says: List[str] = []
+        self.first = store_words.first(connection)
         self.columns: Dict[str, List[object]] = {name: [] for name in COLUMNS}
         numbers = {group.key: number for number, group in enumerate(groups)}
         in_group = [numbers.get(file.key, NONE) if file.key else NONE for file in self.files]
@@ -52,9 +59,10 @@ class Table:
         cure = NONE
         if file.tried:
             cure = self.cures.of(graded(file.treatments) if file.treatments else "")
+        page = NONE if file.own is None else self.hashes.of(file.own.hex()[:HASH_DIGITS])
         values = (self.folders.of(folder, file.folder), shown(os.fsdecode(file.name)), file.size,
                   self.answers.of(file.told, file.number), file.at if file.entries is None else file.entries, group,
-                  spelling, cure, NONE)
+                  spelling, cure, self.kinds.of(choices.kind(file.kind, file.looks_like)), page, NONE)
         for name, value in zip(COLUMNS, values):
             self.columns[name].append(value)
 
@@ -64,15 +72,22 @@ class Table:
         assert isinstance(group, int)
         return group
 
-    def place_sketches(self, drawn: Dict[int, int]) -> None:
+    def place_sketches(self, drawn: List[Tuple[int, Drawing]]) -> None:
         """Notes which sketch the files have, given those of some: equal pages and copies share one."""
-        shared = {_picture(self.files[number]): sketch for number, sketch in drawn.items()}
-        self.columns["sketch"] = [shared.get(_picture(file), NONE) for file in self.files]
+        shared = {_picture(self.files[number]): sketch for sketch, (number, _) in enumerate(drawn)}
+        sketches = [shared.get(_picture(file), NONE) for file in self.files]
+        self.columns["sketch"] = list(sketches)
+        says: Dict[object, str] = {}
+        for file, page, sketch in zip(self.files, self.columns["page"], sketches):
+            shows = first_words(drawn[sketch][1].text) if sketch != NONE else ""
+            says[page] = shows or self.first.get(file.page or 0, "")
+        self.says = [says.get(page, "") for page in range(len(self.hashes.names))]
 
     def held(self) -> Dict[str, object]:
         """What the HTML file holds of it."""
         return {"folders": self.folders.names, "answers": self.answers.names, "cures": self.cures.names,
-                "numbers": self._numbers(), "columns": self.columns,
+                "kinds": self.kinds.names, "numbers": self._numbers(), "hashes": self.hashes.names, "says": self.says,
+                "columns": self.columns,
                 "groups": [[group.canon.hex()[:16], group.spellings, group.files, group.entries, group.length]
                            for group in self.groups]}
 

@@ -1,0 +1,20 @@
+"""Elements of a drawing: the one table of what an entry draws. A sketch has them as SVG, and the player as JSON."""
+from dataclasses import dataclass
+from html import escape
+from typing import Dict, Tuple
+
+
+@dataclass(frozen=True)
+class Element:
+    """An element of SVG: its name, its attributes in their order, the elements in it, and its text."""
+
+    name: str
+    attributes: Dict[str, str]
+    inside: Tuple["Element", ...] = ()
+    text: str = ""
+
+    def markup(self) -> str:
+        """It as SVG."""
+        told = "".join(f' {name}="{value}"' for name, value in self.attributes.items())
+        within = escape(self.text, quote=False) + "".join(each.markup() for each in self.inside)
+        return f"<{self.name}{told}>{within}</{self.name}>" if within else f"<{self.name}{told}/>"

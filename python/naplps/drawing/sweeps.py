@@ -1,0 +1,84 @@
+"""What a pel's rectangle sweeps as it goes along lines: a hexagon for a straight one, and the dashes of broken ones."""
+import math
+from typing import Iterator, List, NamedTuple, Sequence, Tuple
+
+from .curves import Piece, Straight
+from .measure import WIDTH, Place, num
+from .pels import Pel
+from .weight import DASH, Extent, Weight, filled
+
+# Corners of what is swept, and those that an arc of it counts as.
+CORNERS, ROUND_CORNERS = 6, 24
+
+
+class Sweep(NamedTuple):
+    """A path, all parts of which go round as the hands of a clock do, so that what they cover is its area; its cost."""
+
+    path: str
+    weight: Weight
+
+
+def sweep(pieces: Sequence[Piece], pel: Pel) -> Sweep:
+    """What the pel sweeps along all the pieces."""
+    parts: List[str] = []
+    corners, length, area = 0, 0.0, 0.0
+    for each in pieces:
+        straight = isinstance(each, Straight)
+        for piece in each.monotone():
+            parts.append(_swept(piece, pel))
+            # (what is outside of the square costs nothing)
+            across, down = (min(abs(piece.end[side] - piece.start[side]), WIDTH) for side in (0, 1))
+            corners += CORNERS if straight else ROUND_CORNERS
+            length += across + down + pel.wide + pel.high
+            area += (across + pel.wide) * (down + pel.high)
+    return Sweep("".join(parts), filled(Extent(corners, length, area)))
+
+
+def _swept(piece: Piece, pel: Pel) -> str:
+    """The area of a piece that doesn't turn back: two of the pel's corners draw its sides, the others its ends."""
+    (a, b), (c, d) = piece.start, piece.end
+    if a == c or b == d:
+        return _box(min(a, c) + pel.left, min(b, d) + pel.top, max(a, c) + pel.right, max(b, d) + pel.bottom)
+    corners = pel.corners()
+    last = {(True, False): 0, (True, True): 1, (False, True): 2, (False, False): 3}[c > a, d > b]
+    behind, one, ahead, other = (corners[(last + number) % 4] for number in range(4))
+    there, back = piece.moved(one), piece.reversed().moved(other)
+    return "M%sL%s%sL%sL%s%sZ" % (_at(piece.start, behind), _at(there.start), there.path(), _at(piece.end, ahead),
+                                  _at(back.start), back.path())
+
+
+def _at(place: Place, by: Place = (0.0, 0.0)) -> str:
+    return f"{num(place[0] + by[0])} {num(place[1] + by[1])}"
+
+
+def _box(left: float, top: float, right: float, bottom: float) -> str:
+    return f"M{num(left)} {num(top)}H{num(right)}V{num(bottom)}H{num(left)}Z"
+
+
+def least_of_dashes(length: float, unit: float, dashes: Tuple[int, ...]) -> Weight:
+    """What the dashes of a line of this length cost at least, without making them."""
+    return Weight(length / (sum(dashes) * unit) * len(dashes) / 2 * DASH)
+
+
+def dashed(pieces: Sequence[Piece], unit: float, dashes: Tuple[int, ...]) -> Iterator[Straight]:
+    """The parts of the pieces on which the pen is down, for dashes and gaps of so many units."""
+    number, left = 0, dashes[0] * unit
+    for piece in pieces:
+        at = piece.start
+        for place in piece.places():
+            far = math.dist(at, place)
+            done = 0.0
+            while far - done > left:
+                begin, done = done, done + left
+                if number % 2 == 0:
+                    yield Straight(_on(at, place, begin / far), _on(at, place, done / far))
+                number = (number + 1) % len(dashes)
+                left = dashes[number] * unit
+            if number % 2 == 0:
+                yield Straight(_on(at, place, done / far) if far else at, place)
+            left -= far - done
+            at = place
+
+
+def _on(start: Place, end: Place, share: float) -> Place:
+    return start[0] + (end[0] - start[0]) * share, start[1] + (end[1] - start[1]) * share

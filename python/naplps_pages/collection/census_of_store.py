@@ -1,0 +1,62 @@
+"""The census of a store: the codes for which its pages are refused, as the store has them, and what else stops them.
+
+How many pages are refused for each code is exact. What stands behind is read again from a file of each refused page.
+"""
+import sqlite3
+from collections import Counter
+from typing import Iterator, Tuple
+
+from naplps.answers import Refusal
+
+from ..census import EIGHTH_BIT, Census, Row, stops
+from .kinds import checked
+from .places import Otherwise, Place, read
+from .progress import Progress
+from .store import kept
+
+# So many refused pages are read on at most.
+MOST_READ = 100_000
+STATES = "SELECT p.state, count(*) FROM pages p WHERE EXISTS(SELECT 1 FROM present f WHERE f.page = p.id) GROUP BY 1"
+# What a census calls the states of pages.
+MEMBERS = ("accepted", "refused", "without")
+# The name of what a page is refused for: an eighth bit, a code by its name, or the fault.
+NAME = f"CASE p.number WHEN 1 THEN '{EIGHTH_BIT}' ELSE coalesce(p.left_out, p.stop, n.name, '') END"
+FIRST = f"""SELECT {NAME}, count(*) FROM pages p LEFT JOIN faults n ON n.number = p.number
+    WHERE p.number IS NOT NULL AND EXISTS(SELECT 1 FROM present f WHERE f.page = p.id) GROUP BY 1"""
+PAGES = f"""SELECT p.own, p.number, coalesce(n.name, ''), p.left_out, p.place, {NAME}, d.path, f.name, f.at FROM pages p
+    CROSS JOIN present f ON f.page = p.id CROSS JOIN folders d ON d.id = f.folder LEFT JOIN faults n
+    ON n.number = p.number WHERE p.number IS NOT NULL GROUP BY p.id ORDER BY d.path, f.name LIMIT {MOST_READ}"""
+PAGE = "own number fault left_out? at:count stop path name inode?"
+
+
+def exact(connection: sqlite3.Connection) -> Census:
+    """What the store has: how many pages are accepted and refused, and for which codes they are refused."""
+    found = Census()
+    for state, number in checked(connection.execute(STATES), "answer:page_state count"):
+        setattr(found, MEMBERS[state], number)
+    for name, number in checked(connection.execute(FIRST), "stop count"):
+        found.rows[name] = Row(first=number)
+    return found
+
+
+def read_on(connection: sqlite3.Connection, found: Census, progress: Progress) -> Iterator[Tuple[str, str]]:
+    """Reads on behind the refusals of pages, bounded; tells of files that aren't as they were, and why."""
+    seen: "Counter[str]" = Counter()
+    some = progress.through(kept(connection, PAGES, PAGE))
+    for own, number, fault, left_out, place, name, *where in some:
+        try:
+            page = read(Place(*where), own)
+        except Otherwise as otherwise:
+            yield Place(*where).path, str(otherwise)
+            continue
+        try:
+            names = stops(page.data, Refusal(number, fault, left_out, place))
+        finally:
+            page.close()
+        seen[name] += 1
+        found.in_part += names[-1:] == [""]
+        found.note([name, *(each for each in names[1:] if each)])
+    for name, row in found.rows.items():
+        unread = row.first - seen[name]  # (each of these has one code at least, at its place)
+        row.pages, row.times = row.pages + unread, row.times + unread
+        found.in_part += unread

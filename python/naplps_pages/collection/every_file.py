@@ -1,0 +1,149 @@
+"""The command files: each file of a store with all that is known of it."""
+import sqlite3
+from typing import Iterator, NamedTuple, Optional
+
+from naplps.answers import Accepted, Answer, Refusal, Unanswered
+from naplps.entry_json import Members
+from naplps.names import shown
+from naplps.treating.treatments import graded
+
+from ..refusals import Reason
+from . import tables
+from .places import Place
+from .printing import NAME, Printer, named, shown_as
+from .store import kept
+
+FACTS = ("status", "number", "fault", "code", "place", "entries", "reason", "size", "mtime_ns", "hash", "canonical",
+         "canonical_size", "form", "budget", "kind", "looks_like", "perhaps_several", "stops", "tried", "treatments",
+         "grade", "treated_entries", "treated_hash", "treated_canonical", "treated_canonical_size", "first_words",
+         "text_source")
+COLUMNS = [*NAME, *FACTS]
+FILES = f"""SELECT d.path, f.name, f.inode, f.state, coalesce(f.why, p.why), f.size, f.mtime_ns, p.state, p.number,
+    n.name, p.left_out, p.place, p.entries, p.own, p.canon, p.canon_size, t.form, t.budget, p.kind,
+    nullif(p.looks_like, ''), p.several, nullif(p.stop, ''), c.page IS NOT NULL, c.treatments, c.grade, c.entries,
+    c.copy, c.canon, c.canon_size, x.first, x.source
+    FROM files f CROSS JOIN folders d ON d.id = f.folder LEFT JOIN pages p ON p.id = f.page AND f.state = {tables.READ}
+    LEFT JOIN terms t ON t.id = p.terms LEFT JOIN faults n ON n.number = p.number
+    LEFT JOIN cures c ON c.page = p.id AND c.terms = p.terms LEFT JOIN texts x ON x.page = p.id AND x.terms = p.terms
+    WHERE {tables.IS_FILE}%s ORDER BY d.path, f.name"""
+FILE = "path name inode? state:file_state why? size? mtime_ns? page_state? number? fault? left_out? place? entries? " \
+    "own? canon? canon_size? form? budget? kind? looks_like? several? stop? tried:flag treatments? grade? entries? " \
+    "copy? canon? canon_size? first? source?"
+ANY = Reason(0)
+
+
+class FileFacts(NamedTuple):
+    """All that a store knows of a file."""
+
+    folder: bytes
+    name: bytes
+    at: Optional[int]
+    state: int
+    why: Optional[str]
+    size: Optional[int]
+    mtime_ns: Optional[int]
+    answer: Optional[int]
+    number: Optional[int]
+    fault: Optional[str]
+    left_out: Optional[str]
+    place: Optional[int]
+    entries: Optional[int]
+    own: Optional[bytes]
+    canon: Optional[bytes]
+    canon_size: Optional[int]
+    form: Optional[str]
+    budget: Optional[int]
+    kind: Optional[int]
+    looks_like: Optional[str]
+    several: Optional[int]
+    stop: Optional[str]
+    tried: int
+    treatments: Optional[str]
+    grade: Optional[int]
+    treated_entries: Optional[int]
+    treated: Optional[bytes]
+    treated_canon: Optional[bytes]
+    treated_canon_size: Optional[int]
+    first: Optional[str]
+    source: Optional[int]
+
+    @property
+    def at_path(self) -> Place:
+        """Where it is."""
+        return Place(self.folder, self.name, self.at)
+
+    @property
+    def status(self) -> str:
+        """Its status, as `listing` has it."""
+        return tables.FILE_STATES[self.state] if self.answer is None else tables.PAGE_STATES[self.answer]
+
+    @property
+    def said(self) -> Answer:
+        """The answer to its page."""
+        if self.answer == tables.ACCEPTED and self.entries is not None:
+            return Accepted(self.entries)
+        if self.answer == tables.REFUSED and self.number is not None and self.place is not None:
+            return Refusal(self.number, self.fault or "", self.left_out, self.place)
+        return Unanswered(self.why or "")
+
+
+def load(connection: sqlite3.Connection, kind: Optional[str], refused: Optional[Reason]) -> Iterator[FileFacts]:
+    """The files in the order of their names; those of one kind alone, or of one reason, where that is given."""
+    only = ""
+    if refused is not None:
+        only = " AND p.number IS NOT NULL" if refused == ANY else f" AND p.number = {refused.number}"
+        only += f" AND p.left_out = '{refused.code}'" if refused.code else ""
+    for row in kept(connection, FILES % only, FILE):
+        file = FileFacts._make(row)
+        if kind is None or kind == kind_of(file):
+            yield file
+
+
+def kind_of(file: FileFacts) -> Optional[str]:
+    """The kind of an accepted page, or what a refused one looks like."""
+    return file.looks_like if file.kind is None else tables.KINDS[file.kind]
+
+
+def members(file: FileFacts) -> Members:
+    """All facts by their names; null where there is nothing to say."""
+    return {"status": file.status, "number": file.number, "fault": file.fault, "code": file.left_out,
+            "place": file.place, "entries": file.entries, "reason": file.why, "size": file.size,
+            "mtime_ns": file.mtime_ns, "hash": _hex(file.own), "canonical": _hex(file.canon),
+            "canonical_size": file.canon_size, "form": file.form, "budget": file.budget,
+            "kind": None if file.kind is None else tables.KINDS[file.kind], "looks_like": file.looks_like,
+            "perhaps_several": None if file.several is None else bool(file.several),
+            "stops": file.stop, "tried": bool(file.tried) if file.answer == tables.REFUSED else None,
+            "treatments": file.treatments,
+            "grade": None if file.grade is None else tables.GRADES[file.grade],
+            "treated_entries": file.treated_entries, "treated_hash": _hex(file.treated),
+            "treated_canonical": _hex(file.treated_canon), "treated_canonical_size": file.treated_canon_size,
+            "first_words": file.first, "text_source": None if file.source is None else tables.SOURCES[file.source]}
+
+
+def _hex(value: Optional[bytes]) -> Optional[str]:
+    return None if value is None else value.hex()
+
+
+def show(printer: Printer, file: FileFacts) -> None:
+    """Prints a file."""
+    if printer.form == "null":
+        printer.name(file.at_path)
+    elif printer.form == "json":
+        printer.object({**named(file.at_path), **members(file)})
+    elif printer.form == "csv":
+        printer.row({**shown_as(file.at_path), **members(file)})
+    else:
+        printer.line(f"{shown(file.at_path.path)}: {_line(file)}")
+
+
+def _line(file: FileFacts) -> str:
+    """What is known of a file, for people."""
+    said = file.said
+    if isinstance(said, Unanswered):
+        return f"{file.status}: {file.why}" if file.why else file.status
+    more = [said.line]
+    if kind_of(file):
+        more.append(f"looks like {file.looks_like}" if file.kind is None else tables.KINDS[file.kind])
+    if file.treatments:
+        more.append(f"readable by {graded(file.treatments)}")
+    return ", ".join(more)

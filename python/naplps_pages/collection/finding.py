@@ -1,0 +1,75 @@
+"""The command find: pages by their words, with the lines that have them."""
+import sqlite3
+from typing import Iterator, List, NamedTuple, Optional
+
+from naplps.entry_json import Members
+from naplps.names import shown
+
+from ..page_words import Phrase, lines_with, match_of
+from . import tables, word_index
+from .kinds import checked
+from .places import Place
+from .printing import NAME, Printer, named, shown_as
+
+COLUMNS = [*NAME, "hash", "source", "line"]
+# Through the index; or, where there is none, all texts one after another.
+BY_INDEX = "CROSS JOIN words w ON w.rowid = x.page"
+FOUND = """SELECT d.path, f.name, p.own, x.source, x.text FROM {} CROSS JOIN pages p ON p.id = x.page AND
+    p.terms = x.terms CROSS JOIN present f ON f.page = p.id CROSS JOIN folders d ON d.id = f.folder
+    WHERE {} ORDER BY d.path, f.name"""
+WITH_INDEX = FOUND.format("words w CROSS JOIN texts x ON x.page = w.rowid", "words MATCH ?")
+WITHOUT = FOUND.format("texts x", "x.text IS NOT NULL AND ? IS NOT NULL")
+FILE = "path name own source text"
+NO_TEXTS = "has no texts: `naplps-pages scan --words` keeps them"
+
+
+class FoundPage(NamedTuple):
+    """A file with what is looked for, and the lines that have it."""
+
+    place: Place
+    own: bytes
+    source: int
+    lines: List[str]
+
+
+def has_texts(connection: sqlite3.Connection) -> bool:
+    """Whether a store has texts of pages."""
+    return connection.execute("SELECT 1 FROM texts LIMIT 1").fetchone() is not None
+
+
+def has_index(connection: sqlite3.Connection) -> bool:
+    """Whether a store has an index of words that can be asked here."""
+    return word_index.is_there(connection) and word_index.has_fts5()
+
+
+def found(connection: sqlite3.Connection, parts: List[Phrase]) -> Iterator[FoundPage]:
+    """The files whose pages have all of what is looked for, in the order of their names."""
+    indexed = has_index(connection)
+    with word_index.used():
+        rows = connection.execute(WITH_INDEX if indexed else WITHOUT, (match_of(parts),))
+        for path, name, own, source, text in checked(rows, FILE):
+            lines = lines_with(text, parts)
+            if lines is not None or indexed:
+                yield FoundPage(Place(path, name, None), own, source, lines or text.split("\n")[:1])
+
+
+def show(printer: Printer, page: FoundPage) -> None:
+    """Prints a page that is found, with its lines."""
+    if printer.form == "null":
+        printer.name(page.place)
+    elif printer.form == "json":
+        members: Members = named(page.place)
+        members.update(hash=page.own.hex(), source=tables.SOURCES[page.source], lines=list(page.lines))
+        printer.object(members)
+    elif printer.form == "csv":
+        for line in page.lines:
+            printer.row({**shown_as(page.place), "hash": page.own.hex(), "source": tables.SOURCES[page.source],
+                         "line": line})
+    else:
+        for line in page.lines:
+            printer.line(f"{shown(page.place.path)}: {line}")
+
+
+def why_not(connection: sqlite3.Connection) -> Optional[str]:
+    """Why nothing can be found in a store, if so."""
+    return None if has_texts(connection) else NO_TEXTS

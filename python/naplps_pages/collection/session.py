@@ -1,0 +1,118 @@
+"""The commands look, cures and census on the files of a store: what they do for single pages, for each that it has."""
+import os
+import sqlite3
+from dataclasses import dataclass, field
+from typing import Callable, Iterator, List, NamedTuple, Optional, Sequence
+
+from naplps.names import shown
+
+from ..console import Session
+from ..new_files import NotWritten, make_folders
+from ..packs.naming import pack_of
+from ..source import Page, Unread
+from .folders import is_within
+from .kinds import checked
+from .places import Otherwise, Place, read
+from .store import kept
+from .tables import REFUSED
+
+ROOTS = "SELECT path, max(run) FROM roots GROUP BY path ORDER BY path"
+# The files with an answer, in the order of their names.
+FILES = """SELECT p.own, d.path, f.name, f.at FROM present f CROSS JOIN pages p ON p.id = f.page
+    CROSS JOIN folders d ON d.id = f.folder WHERE p.state {} ORDER BY d.path, f.name"""
+FILE = "own path name inode?"
+ANSWERED, REFUSED_ALONE = f"<= {REFUSED}", f"= {REFUSED}"
+NO_PATH = "no file can be named after it: its name in the store isn't that of a file"
+NOT_BELOW = "no file can be named after it: it stands in no folder that was scanned"
+
+
+class StoredFile(NamedTuple):
+    """A file of a store, and the hash of its page."""
+
+    place: Place
+    own: bytes
+
+
+def files(connection: sqlite3.Connection, which: str = ANSWERED) -> Iterator[StoredFile]:
+    """The files of which the pages have such an answer."""
+    for own, *place in kept(connection, FILES.format(which), FILE):
+        yield StoredFile(Place(*place), own)
+
+
+class Names:
+    """Names for files that are made of those of a store: relative to the folders that were scanned."""
+
+    def __init__(self, connection: sqlite3.Connection) -> None:
+        paths = [path for path, _ in checked(connection.execute(ROOTS), "path run")]
+        self.roots = [path for path in paths if not any(other != path and is_within(path, other) for other in paths)]
+
+    def of(self, place: Place) -> str:
+        """The path for a file. Raises NotWritten.
+
+        A store may come from anybody, so the name is taken apart: no part of it is nothing, '.' or '..'.
+        """
+        path = os.fsencode(place.path)
+        if pack_of(place.folder) is None and b"/" in place.name:
+            raise NotWritten(place.path, NO_PATH)
+        for number, root in enumerate(self.roots):
+            below = _below(path, root)
+            if below is not None:
+                parts = [part for part in (*self._front(number), *below.split(b"/")) if part not in (b"", b".")]
+                if b".." in parts or not below.strip(b"/."):
+                    raise NotWritten(place.path, NO_PATH)
+                return os.path.join(*map(os.fsdecode, parts))
+        raise NotWritten(place.path, NOT_BELOW)
+
+    def _front(self, number: int) -> List[bytes]:
+        """What stands in front of the files of a root where there are several: its name, with a number if need be."""
+        names = [os.path.basename(root) for root in self.roots]
+        name = names[number]
+        if len(names) == 1 or not name:
+            return []
+        return [name if name not in names[:number] else name + b" (%d)" % (names[:number].count(name) + 1)]
+
+
+def _below(path: bytes, root: bytes) -> Optional[bytes]:
+    """The path of a file below what was scanned: a folder, a pack or the file itself; None where it isn't there."""
+    for end in (b"/", b"!"):
+        if path.startswith(root.rstrip(b"/") + end):
+            return path[len(root.rstrip(b"/") + end):]
+    return os.path.basename(path) if path == root else None
+
+
+@dataclass
+class StoreSession(Session):
+    """One run of a command on the files of a store."""
+
+    files: Iterator[StoredFile] = field(default_factory=lambda: iter(()))
+    stored: Optional[Names] = None
+    current: Optional[StoredFile] = None
+
+    def front(self, name: str) -> str:
+        """What stands in front of the answer to a page: its name."""
+        return f"{shown(name)}: "
+
+    def __post_init__(self) -> None:
+        self.reader = self._read
+
+    def each(self, work: Callable[[Page], None], more: Sequence[str] = ()) -> int:
+        """Does the work for each file; the status of the whole."""
+        for self.current in self.files:
+            self.names = [self.current.place.path]
+            super().each(work, more)
+        return self.status
+
+    def _read(self, _name: str, _seconds: float) -> Page:
+        """The page of the file that is at work. Raises Unread."""
+        assert self.current
+        try:
+            return read(self.current.place, self.current.own)
+        except Otherwise as otherwise:
+            raise Unread(str(otherwise)) from None
+
+    def path_for(self, name: str, ending: str = "") -> str:
+        """The path of the file for a page, in the folder that is given. Raises NotWritten."""
+        assert self.into is not None and self.current and self.stored
+        path = self.stored.of(self.current.place) + ending
+        make_folders(self.into, path)
+        return os.path.join(self.into, path)

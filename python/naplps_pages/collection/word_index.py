@@ -1,0 +1,76 @@
+"""The index of the words of pages, by SQLite's FTS5. Where that isn't compiled in, a store has texts alone.
+
+It stands over the table `texts`, whose texts it doesn't keep once more. So a row of `texts` is taken out of it, by
+`forget`, before it is changed, and put into it, by `note`, behind that.
+"""
+import re
+import sqlite3
+from contextlib import contextmanager
+from typing import Dict, Iterator
+
+NAME = "words"
+WORDS = ("CREATE VIRTUAL TABLE words USING fts5(text, content='texts', content_rowid='page', "
+         "tokenize='unicode61 remove_diacritics 2')")
+# The tables in which FTS5 keeps it, in FTS5's own words.
+SHADOWS = {
+    "words_data": "CREATE TABLE 'words_data'(id INTEGER PRIMARY KEY, block BLOB)",
+    "words_idx": "CREATE TABLE 'words_idx'(segid, term, pgno, PRIMARY KEY(segid, term)) WITHOUT ROWID",
+    "words_docsize": "CREATE TABLE 'words_docsize'(id INTEGER PRIMARY KEY, sz BLOB)",
+    "words_config": "CREATE TABLE 'words_config'(k PRIMARY KEY, v) WITHOUT ROWID"}
+OWN: Dict[str, str] = {NAME: WORDS, **SHADOWS}
+# What SQLite says of it, beside that the file is malformed.
+OF_FTS5 = re.compile(f"fts5|: {NAME}$|^constraint failed$")
+DAMAGED = "its index of words is damaged (%s): a merge of it alone makes a store with a new one"
+
+
+def has_fts5() -> bool:
+    """Whether SQLite has FTS5 here."""
+    connection = sqlite3.connect(":memory:")
+    try:
+        connection.execute("CREATE VIRTUAL TABLE it USING fts5(text)")
+        return True
+    except sqlite3.OperationalError:
+        return False
+    finally:
+        connection.close()
+
+
+@contextmanager
+def used() -> Iterator[None]:
+    """Uses the index inside. Where what FTS5 keeps there isn't its own, as SQLite says in many ways, that is told."""
+    try:
+        yield
+    except sqlite3.DatabaseError as error:
+        if type(error) is sqlite3.DatabaseError or OF_FTS5.search(str(error)):
+            raise sqlite3.DatabaseError(DAMAGED % error) from None
+        raise
+
+
+def is_there(connection: sqlite3.Connection) -> bool:
+    """Whether the store has the index."""
+    return connection.execute("SELECT 1 FROM main.sqlite_master WHERE name = ?", (NAME,)).fetchone() is not None
+
+
+def make(connection: sqlite3.Connection) -> bool:
+    """Makes the index in a store, where it can be made and isn't there; whether it is there then."""
+    if not is_there(connection) and has_fts5():
+        connection.execute(WORDS)
+        rebuild(connection)
+    return is_there(connection) and has_fts5()
+
+
+def rebuild(connection: sqlite3.Connection) -> None:
+    """Makes the index anew from all texts."""
+    connection.execute("INSERT INTO words(words) VALUES('rebuild')")
+
+
+def forget(connection: sqlite3.Connection, page: int) -> None:
+    """Takes the text of a page out of the index, as `texts` has it still."""
+    connection.execute("INSERT INTO words(words, rowid, text) SELECT 'delete', page, text FROM texts "
+                       "WHERE page = ? AND text IS NOT NULL", (page,))
+
+
+def note(connection: sqlite3.Connection, page: int) -> None:
+    """Puts the text of a page into the index, as `texts` has it now."""
+    connection.execute("INSERT INTO words(rowid, text) SELECT page, text FROM texts "
+                       "WHERE page = ? AND text IS NOT NULL", (page,))

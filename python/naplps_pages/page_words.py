@@ -1,0 +1,82 @@
+"""The words of pages: a text's first ones, and what is looked for in texts.
+
+What people type are words, each of which stands for all that begin so, and between quotes words that follow each other.
+Accents, small and large letters make no difference.
+"""
+import re
+import unicodedata
+from typing import List, NamedTuple, Optional, Tuple
+
+# A text of a page that is kept has so many characters at most, and its first words so many.
+MOST_TEXT, FIRST = 1 << 16, 60
+# So many characters are looked at for the first words, and so many of what is looked for.
+LOOKED_AT, MOST_ASKED, MOST_PARTS = 400, 400, 32
+WORD = re.compile(r"[^\W_]+")
+PART = re.compile(r'"([^"]*)"?|([^\s"]+)')
+
+
+class NoWords(ValueError):
+    """What is looked for has no word."""
+
+
+class Phrase(NamedTuple):
+    """Words that follow each other, and whether the last of them may go on."""
+
+    words: Tuple[str, ...]
+    goes_on: bool
+
+
+def first_words(text: str) -> str:
+    """What a text begins with, on one line."""
+    return " ".join(text[:LOOKED_AT].split())[:FIRST]
+
+
+def folded(text: str) -> List[str]:
+    """The words of a text as they are compared: in small letters, without accents."""
+    if not text.isascii():
+        text = "".join(letter for letter in unicodedata.normalize("NFD", text) if not unicodedata.combining(letter))
+    return WORD.findall(text.lower())
+
+
+def wanted(text: str) -> List[Phrase]:
+    """What is looked for. Raises NoWords."""
+    if len(text) > MOST_ASKED:
+        raise NoWords(f"more than {MOST_ASKED} characters are too many to look for")
+    parts: List[Phrase] = []
+    for phrase, word in PART.findall(text):
+        words = folded(word or phrase)
+        if words:
+            parts.append(Phrase(tuple(words), bool(word)))
+    if not parts:
+        raise NoWords("no word to look for: it has letters or digits")
+    if len(parts) > MOST_PARTS:
+        raise NoWords(f"more than {MOST_PARTS} words are too many to look for")
+    return parts
+
+
+def match_of(parts: List[Phrase]) -> str:
+    """The same for FTS5. (Words are letters and digits alone, and stand in quotes, so nothing in them acts.)"""
+    return " AND ".join('"%s"%s' % (" ".join(part.words), " *" if part.goes_on else "") for part in parts)
+
+
+def has(words: List[str], part: Phrase) -> bool:
+    """Whether these words have a part."""
+    *before, last = part.words
+    for at in range(len(words) - len(before)):
+        end = words[at + len(before)]
+        if (end.startswith(last) if part.goes_on else end == last) and words[at:at + len(before)] == before:
+            return True
+    return False
+
+
+def lines_with(text: str, parts: List[Phrase]) -> Optional[List[str]]:
+    """The lines of a text that have a part of what is looked for; none where the text doesn't have all parts.
+
+    Words that follow each other may do so over the end of a line; then the line counts where they begin.
+    """
+    rows = [(line, folded(line)) for line in text.split("\n")]
+    every = [word for _, words in rows for word in words]
+    if not all(has(every, part) for part in parts):
+        return None
+    found = [line for line, words in rows if any(has(words, part) for part in parts)]
+    return found or [line for line, words in rows if any(part.words[0] in words for part in parts)]

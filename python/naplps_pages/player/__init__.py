@@ -1,0 +1,1 @@
+"""The player: a page as it came down the line, in one HTML file."""

@@ -1,0 +1,92 @@
+"""What a player holds of a page, as JSON: its drawing in time, the places of its entries, its codes and bytes."""
+import base64
+import json
+from dataclasses import dataclass, field
+from typing import Dict, List, Sequence, Tuple
+
+from naplps.answers import Accepted, Refusal
+from naplps.drawing.timeline import timeline
+
+from ..explaining import assigned
+from ..listing import Listed, Row
+from . import limits
+
+
+@dataclass
+class CodeColumns:
+    """The codes of a page by columns; and for each entry the number of its code, or -1."""
+
+    start: List[int] = field(default_factory=list)
+    end: List[int] = field(default_factory=list)
+    name: List[int] = field(default_factory=list)
+    names: List[str] = field(default_factory=list)
+    entry: List[int] = field(default_factory=list)
+
+
+def played(data: bytes, told: Listed, said: str = "") -> str:
+    """What a player holds of a page that has these bytes, this answer, and places of its entries.
+
+    Its notes are `said`, and sentences on what is left out.
+    """
+    assert told.rows is not None and told.entries is not None
+    drawn = timeline(told.entries)
+    some = told.rows[:drawn.drawn]
+    length = _length(data, told, some)
+    codes = _codes(data, told, some, length)
+    lines, is_short = _lines(some)
+    shown = min(length, limits.MOST_BYTES)
+    notes = [note for note in (said, drawn.end) if note]
+    if codes.end and codes.end[-1] < length:
+        notes.append(f"Bytes are shown up to byte {codes.end[-1]} of {length}.")
+    if is_short:
+        notes.append("Some lines of the list are shown in part.")
+    members = {"length": length, "places": [place for place, _ in some], "lines": lines, "codes": vars(codes),
+               "bytes": base64.b64encode(data[:shown]).decode("ascii"), "notes": notes}
+    return drawn.json[:-1] + "," + json.dumps(members, separators=(",", ":"))[1:]
+
+
+def _length(data: bytes, told: Listed, some: Sequence[Row]) -> int:
+    """How many bytes come down the line: all, those up to a refusal, or those up to the last entry that is drawn."""
+    assert told.rows is not None
+    if len(some) < len(told.rows):
+        last = some[-1][0] if some else 0
+        return min(len(data), (last or 0) + 1)
+    return min(len(data), told.answer.place + 1) if isinstance(told.answer, Refusal) else len(data)
+
+
+def _codes(data: bytes, told: Listed, some: Sequence[Row], length: int) -> CodeColumns:
+    """The codes as `explain` has them, with the entries that came of each."""
+    stop = told.answer.place if isinstance(told.answer, Refusal) else None
+    numbered: List[Row] = [(place, f"{line.split(' ', 1)[0]} {number}") for number, (place, line) in enumerate(some)]
+    columns = CodeColumns(entry=[-1] * len(some))
+    numbers: Dict[str, int] = {}
+    for row in assigned(data, numbered, stop):
+        if row.start >= length or row.start >= limits.MOST_BYTES or len(columns.start) == limits.MOST_CODES:
+            break
+        for line in row.lines:
+            columns.entry[int(line.split(" ")[1])] = len(columns.start)
+        columns.start.append(row.start)
+        columns.end.append(row.end)
+        columns.name.append(numbers.setdefault(row.name, len(numbers)))
+    columns.names = list(numbers)
+    return columns
+
+
+def _lines(some: Sequence[Row]) -> Tuple[List[str], bool]:
+    """The lines of the entries, and whether some of them are cut."""
+    lines: List[str] = []
+    held, is_short = 0, False
+    for _, line in some:
+        most = limits.A_LINE if held < limits.MOST_LINES else 0
+        if len(line) > most:
+            line = line[:most].rsplit(" ", 1)[0] + " .." if most else line.split(" ", 1)[0]
+            is_short = True
+        held += len(line)
+        lines.append(line)
+    return lines, is_short
+
+
+def can_be_played(told: Listed) -> bool:
+    """Whether there is an answer with entries and their places."""
+    known = isinstance(told.answer, (Accepted, Refusal)) and told.rows is not None
+    return known and all(place is not None for place, _ in told.rows or ())

@@ -1,0 +1,41 @@
+"""The command play: a page as it came down the line, in one HTML file."""
+import os
+from typing import Union
+
+from naplps.answers import Accepted, Refusal
+from naplps.limits import MOST_LISTED
+from naplps.names import shown
+
+from .console import Session, tell
+from .new_files import put
+from .player.document import html
+from .player.played import can_be_played, played
+from .source import Page
+
+TITLE = "%s, as it came down the line"
+UNKNOWN_PLACES = "a page above 16 MiB isn't played, since the places of its entries aren't known"
+TOO_MUCH = f"not played: it has more than {MOST_LISTED} entries, or their lines are too long"
+
+
+def play(session: Session) -> int:
+    """Makes the player of a page."""
+    def work(page: Page) -> None:
+        told = session.heard(page).last
+        answer = told.answer
+        if not session.answered(page, answer):
+            return
+        assert isinstance(answer, (Accepted, Refusal)) and session.into is not None
+        if page.data is None or not can_be_played(told):
+            session.complain(page.name, UNKNOWN_PLACES if page.data is None else TOO_MUCH)
+            return
+        made = played(page.data, told)
+        name = "A page" if page.name == "-" else shown(os.path.basename(page.name))
+        put(session.into, html(TITLE % name, _said(answer), made).encode("utf-8"))
+        if isinstance(answer, Refusal):
+            tell(f"{shown(page.name)}: {answer.line}; the player shows what comes before")
+    return session.each(work)
+
+
+def _said(answer: Union[Accepted, Refusal]) -> str:
+    told = f"The answer to the page: {answer.line}."
+    return f"{told} It is played up to there." if isinstance(answer, Refusal) else told

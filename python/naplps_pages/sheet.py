@@ -1,0 +1,97 @@
+"""A contact sheet: small pictures of many pages, with their names and answers, as one picture."""
+import math
+from typing import List, NamedTuple, Optional
+from xml.sax.saxutils import escape
+
+from naplps.drawing import Drawn
+from naplps.drawing.document import is_tall, picture
+from naplps.drawing.measure import HEIGHT, WIDTH
+from naplps.drawing.paper import AROUND, MOST_BYTES, MOST_WEIGHT
+
+# A sheet has so many pages at most, and as much to draw as one sketch may have.
+MOST_PAGES = 1000
+# The width of a picture, the space around it, and the lines below it.
+WIDE, SPACE, LINE, FONT = 256, 16, 18, 13
+HIGH = WIDE * HEIGHT // WIDTH
+MOST_COLUMNS = 6
+# With more rows it would be higher than librsvg makes a picture, so there are more columns then.
+MOST_ROWS = 120
+# So many characters of a name or an answer stand below a picture.
+MOST_SHOWN = WIDE * 10 // (FONT * 6)
+TOO_MUCH = "too much for a sheet"
+
+
+class Tile(NamedTuple):
+    """A page: its name and its answer as they are shown, and its picture, if there is one."""
+
+    name: str
+    answer: str
+    drawn: Optional[Drawn]
+
+
+class ContactSheet:
+    """Takes pages in their order."""
+
+    def __init__(self) -> None:
+        self.tiles: List[str] = []
+        self.size, self.weight = AROUND, 0.0
+        self.columns = 1
+
+    def prefix(self) -> str:
+        """What ids of the next picture begin with, since several may draw the same."""
+        return f"s{len(self.tiles)}"
+
+    def add(self, tile: Tile) -> None:
+        """Adds a page. Where all would be more to draw than a picture may have, its picture is left out."""
+        drawn = None if tile.drawn is None else self._room_for(tile.drawn)
+        told = '<title>%s</title>%s' % (escape(f"{tile.name}: {tile.answer}"), drawn or _without(
+            tile.answer if tile.drawn is None else TOO_MUCH))
+        above = WIDTH - HEIGHT if tile.drawn and is_tall(tile.drawn.paper) else 0
+        box = f"0 {-above} {WIDTH} {HEIGHT + above}"
+        markup = (f'<svg width="{WIDE}" height="{HIGH}" viewBox="{box}" role="img">{told}</svg>'
+                  + _line(1, "#111111", tile.name) + _line(2, "#555555", tile.answer))
+        self.size += len(markup.encode("utf-8")) + 64
+        self.tiles.append(markup)
+
+    def _room_for(self, drawn: Drawn) -> Optional[str]:
+        paper = drawn.paper
+        weight = paper.of_page.weight + paper.of_definitions.weight
+        made = picture(paper)
+        # (names of all pages that may come have room too)
+        if self.size + len(made.encode("utf-8")) > MOST_BYTES // 2 or self.weight + weight > MOST_WEIGHT:
+            return None
+        self.weight += weight
+        return made
+
+    def svg(self) -> str:
+        """The sheet."""
+        number = len(self.tiles)
+        columns = max(1, min(MOST_COLUMNS, math.ceil(math.sqrt(number))), math.ceil(number / MOST_ROWS))
+        wide, high = WIDE + SPACE, HIGH + SPACE + 2 * LINE + SPACE // 2
+        across, down = columns * wide + SPACE, math.ceil(number / columns) * high + SPACE
+        placed = "".join('<g transform="translate(%d %d)">%s</g>' % (
+            SPACE + at % columns * wide, SPACE + at // columns * high, tile) for at, tile in enumerate(self.tiles))
+        title = "Contact sheet of %d %s" % (number, "page" if number == 1 else "pages")
+        return ('<svg xmlns="http://www.w3.org/2000/svg" viewBox="0 0 %d %d" width="%d" height="%d" '
+                'font-family="DejaVu Sans Mono,monospace" role="img"><title>%s</title>'
+                '<rect width="%d" height="%d" fill="#ffffff"/>%s</svg>\n') % (
+            across, down, across, down, title, across, down, placed)
+
+
+def _without(why: str) -> str:
+    """What stands where there is no picture."""
+    return ('<rect width="%d" height="%d" fill="#2b3238"/><text x="%d" y="%d" font-size="48" fill="#d5dce2" '
+            'text-anchor="middle">%s</text>') % (WIDTH, HEIGHT, WIDTH // 2, HEIGHT // 2, escape(_cut(why)))
+
+
+def _line(number: int, colour: str, text: str) -> str:
+    """A line of text below a picture."""
+    return '<text y="%d" font-size="%d" fill="%s">%s</text>' % (HIGH + number * LINE, FONT, colour, escape(_cut(text)))
+
+
+def _cut(text: str) -> str:
+    """A text that is short enough: of a long one the beginning and the end."""
+    if len(text) <= MOST_SHOWN:
+        return text
+    half = (MOST_SHOWN - 2) // 2
+    return f"{text[:half]}..{text[-half:]}"

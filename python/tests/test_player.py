@@ -1,0 +1,380 @@
+"""Players: that they show what a sketch shows, when it came, and that what is hostile in a page does nothing."""
+import json
+import os
+import re
+
+import pytest
+
+import gallery
+from browser import Browser
+from conftest import TOP, file
+from naplps import drawing
+from naplps.client import Client
+from naplps.drawing.timeline import timeline
+from naplps.drawing.walk import MOST_DRAWN
+from naplps.entry import ONE
+from naplps.reading import placed
+from naplps.writer import PageWriter
+from naplps_pages.listing import listed
+from naplps_pages.player import limits
+from naplps_pages.player.played import played
+from naplps_pages.source import Page
+from players import how_like, like, play, want
+from samples import has
+from test_sketch_bounds import bomb
+
+pytestmark = pytest.mark.skipif(not has("chromium"), reason="there is no chromium")
+FOLDER = os.path.join(TOP, "examples", "gallery")
+PAGES = [name for name in gallery.pages() if "relative" not in name]
+SIZE = (1024, 800)
+# Shapes are told by the entries that they came with; a run of letters is one.
+STEPS = "player.screen.table.steps.map((step, at) => step.draw ? at : -1).filter((at) => at >= 0)"
+# What a picture without one step is to the wanted one, and to that with it.
+WITHOUT = """
+(() => {
+  const table = player.screen.table, whole = table.steps, view = player.screen.views.smooth;
+  const pels = () => player.screen.context.getImageData(0, 0, 1024, 800).data;
+  const before = pels();
+  table.steps = whole.map((step, at) => at === @STEP@ ? {...step, draw: {name: "g", attributes: {}}} : step);
+  view.at = -1;
+  player.showNow(player.line.whole);
+  const after = pels(), told = {isSeen: after.some((each, at) => each !== before[at]), how: @HOW@};
+  table.steps = whole;
+  view.at = -1;
+  player.showNow(player.line.whole);
+  return told;
+})()
+"""
+
+
+@pytest.fixture(scope="module")
+def browser():
+    """The browser with players."""
+    it = Browser()
+    yield it
+    it.close()
+
+
+@pytest.fixture(scope="module")
+def program(naplps):
+    """The program."""
+    it = Client(naplps)
+    yield it
+    it.close()
+
+
+@pytest.fixture
+def shown(browser, naplps, tmp_path):
+    """Shows the player of a page by its bytes or name; behind the test it has told no fault, and asked for nothing."""
+    addresses = []
+
+    def shows(page, bypass=False):
+        browser.call("Page.setBypassCSP", enabled=bypass)
+        path = page if isinstance(page, str) else file(tmp_path, "page.nap", page)
+        said, address = play(naplps, path, os.path.join(str(tmp_path), "player.html"))
+        assert said.returncode in (0, 1), said.stderr
+        browser.size(1240, 900)
+        browser.look()
+        browser.open(address)
+        addresses.append(address)
+        return browser
+    yield shows
+    assert browser.errors == [] and browser.run("document.body.dataset.fault") is None
+    assert [each for each in browser.requests if not each.startswith("data:")] == addresses[-1:]
+    assert browser.run("typeof hacked") == "undefined"
+
+
+def still(browser):
+    """Without blinking."""
+    browser.run("player.blinking.checked = false; player.setBlinks()")
+
+
+@pytest.mark.parametrize("name", PAGES)
+def test_the_end_is_the_sketch_and_without_any_shape_it_is_not(shown, name):
+    page = shown(os.path.join(FOLDER, name), bypass=True)
+    with open(os.path.join(FOLDER, name + ".svg"), encoding="utf-8") as svg:
+        want(page, svg.read(), SIZE)
+    still(page)
+    page.run("player.showNow(player.line.whole)")
+    how = page.run(how_like(SIZE))
+    assert like(how) and how["all"] > 100_000, how
+    without = [page.run(WITHOUT.replace("@STEP@", str(step)).replace("@HOW@", how_like(SIZE)))
+               for step in page.run(STEPS)]
+    seen = [told["how"] for told in without if told["isSeen"]]  # (some lie below others)
+    assert len(seen) >= 5 and not any(map(like, seen)), [how for how in seen if like(how)]
+
+
+@pytest.mark.parametrize("name", PAGES)
+def test_at_each_moment_what_has_come_is_shown(shown, program, name):
+    path = os.path.join(FOLDER, name)
+    with open(path, "rb") as data:
+        rows = placed(program.ask("places", data.read()).body)
+    page = shown(path, bypass=True)
+    still(page)
+    length = page.run("player.line.length")
+    for part in range(10):
+        come = length * part // 10
+        lines = [line for place, line in rows if place < come]
+        page.run("player.showNow(player.line.ofBytes(%d))" % come)
+        assert page.run("player.moment") == {"done": len(lines), "bytes": come}
+        # (an accent appears with its letter)
+        is_accent = bool(lines) and re.match("CHAR supplementary 4[1-9a-f]", lines[-1])
+        want(page, drawing.draw(lines[:-1] if is_accent else lines).svg, SIZE)
+        how = page.run(how_like(SIZE))
+        assert like(how), (come, how)
+
+
+def test_a_wait_is_kept_and_a_byte_takes_its_time(shown):
+    page = shown(PageWriter().clear().domain().rectangle(0.1, 0.1, 0.2, 0.2).code(0x3D, b"\x54")
+                 .rectangle(0.5, 0.5, 0.2, 0.2).made())
+    places, lines = page.run("player.data.places"), page.run("player.data.lines")
+    assert lines[2] == "WAIT 20"
+    times, length = page.run("player.line.times"), page.run("player.line.length")
+    for entry, place in enumerate(places):
+        waited = 2.0 if entry > 2 else 0.0
+        assert times[entry] == pytest.approx(min(place + 1, length) * 10 / 1200 + waited)
+    page.run("player.setSpeed(300)")
+    assert page.run("player.line.end") == pytest.approx(length * 10 / 300 + 2.0)
+    middle = (places[2] + 1) * 10 / 300 + 1.0
+    assert page.run("player.line.at(%f)" % middle) == {"done": 3, "bytes": places[2] + 1}
+
+
+def test_the_map_is_live_and_a_blink_changes_what_stands(shown):
+    writer = PageWriter().clear().domain().select(5).rectangle(0.1, 0.1, 0.5, 0.5)
+    blink = b"\x7c" + bytes((0x45, 0x45, 0x40))
+    page = shown(writer.code(0x3C, writer.colour(0, 1, 0)).code(0x3F, blink).made())
+    lines = page.run("player.data.lines")
+    assert [line.split(" ")[0] for line in lines] == ["CLEAR", "RECT-FILLED", "MAP", "BLINK"], lines
+    pel = "[...player.screen.context.getImageData(300, 500, 1, 1).data].slice(0, 3)"
+    shown_at = {}
+    for view in ("smooth", "raster"):
+        page.run("player.setView('%s'); player.blinking.checked = true; player.setBlinks()" % view)
+        for done, clock in ((2, 0), (3, 0), (4, 0.2), (4, 0.7)):
+            page.run("player.screen.colours.begin(); player.screen.colours.clock = 0; player.showNow(player.line."
+                     "ofEntries(%d)); player.screen.colours.clock = %f; player.showNow(player.moment)" % (done, clock))
+            shown_at[view, done, clock] = page.run(pel)
+        assert shown_at[view, 2, 0] == [0xb6] * 3 and shown_at[view, 3, 0] == [0, 0xff, 0]
+        assert shown_at[view, 4, 0.2] != [0, 0xff, 0] and shown_at[view, 4, 0.7] == [0, 0xff, 0]
+
+
+def flashing(number):
+    """A page of areas as large as the screen, dark and light in turn."""
+    page = PageWriter().clear().domain()
+    for at in range(number):
+        page.rgb(*[at % 2] * 3).rectangle(0, 0, 0.999, 0.78)
+    return page.made()
+
+
+@pytest.mark.parametrize("wanted", [False, True])
+def test_nothing_flashes_above_three_a_second_unless_that_is_wanted(shown, wanted):
+    page = shown(flashing(150))
+    # (the frames of two and a half seconds, whatever time they take here)
+    changes = page.run("""(() => {
+      const found = [];
+      let last = -1;
+      player.flashing.checked = %s;
+      player.setSpeed(2400);
+      player.seek(0);
+      player.setPlaying(true);
+      for (let now = 1000; now < 3500; now += 40) {
+        player.onFrame(now);
+        const level = player.screen.context.getImageData(500, 400, 1, 1).data[0];
+        if (last >= 0 && Math.abs(level - last) > 25) found.push(now);
+        last = level;
+      }
+      player.setPlaying(false);
+      return found;
+    })()""" % json.dumps(wanted))
+    most = max((sum(start <= each < start + 1000 for each in changes) for start in changes), default=0)
+    assert most > 6 if wanted else 1 <= most <= 6, (most, len(changes))
+
+
+def test_a_guard_counts_flashes_of_any_colour(shown):
+    page = shown(PageWriter().clear().made())
+    taken = page.run("""(() => {
+      const of = (levels, number) => {
+        const guard = new FlashGuard(), taken = [];
+        for (let at = 0; at < number; at++) if (guard.takes(levels(at), at * 0.05)) taken.push(String(levels(at)));
+        return taken.filter((each, at) => at && each !== taken[at - 1]).length;
+      };
+      const all = (value) => new Uint8Array(2400).fill(value);
+      const red = (value) => all(100).map((each, at) => at % 3 === 0 ? value : each);
+      const few = (value) => all(0).map((each, at) => at < 30 ? value : each);
+      return [of((at) => all(at % 2 * 255), 20), of((at) => red(at % 2 * 255), 20), of((at) => all(at % 2 * 20), 20),
+        of((at) => few(at % 2 * 255), 20), of((at) => all(at * 12), 20), of((at) => all(at % 2 * 255), 80)];
+    })()""")
+    # (a flash is two changes; a second has twenty pictures, and after it there is room again)
+    assert taken[:5] == [6, 6, 19, 19, 19] and 6 * 3 < taken[5] <= 6 * 4
+
+
+def test_a_click_leads_from_shapes_to_bytes_and_back(shown):
+    page = shown(os.path.join(FOLDER, "weather.nap"))
+    place = page.run("(() => {const box = player.canvas.getBoundingClientRect(); const scale = box.width / 1024;"
+                     "return [box.left + 154 * scale, box.top + 320 * scale]})()")
+    for kind in ("mousePressed", "mouseReleased"):
+        page.call("Input.dispatchMouseEvent", type=kind, x=place[0], y=place[1], button="left", clickCount=1)
+    entry = page.run("[...player.marked][0]")
+    kind, start, end = page.run("player.data.lines[%d]" % entry).split(" ")[:3]
+    assert kind == "ARC-FILLED" and int(start.split(",")[0]) < 154 * ONE // 1024 < int(end.split(",")[0])
+    row = page.run("player.row")
+    assert page.run("player.data.codes.names[player.data.codes.name[%d]]" % row) == "call of macro 53"
+    assert page.run("document.querySelector('[aria-selected=true] .bytes').textContent") == "19 53"
+    page.run("document.querySelector('[data-row=\"%d\"]').click()" % row)
+    assert page.run("player.marked.size") == 9 and page.run("[...player.marked].includes(%d)" % entry)
+    assert page.run("document.querySelectorAll('.about li').length") == 9
+
+
+def test_keys(shown):
+    page = shown(os.path.join(FOLDER, "weather.nap"))
+    moment = "[player.moment.done, player.moment.bytes]"
+    page.run("player.box.focus()")
+    page.press("Home")
+    assert page.run(moment) == [0, 0]
+    page.press("ArrowRight")
+    assert page.run(moment)[0] == 1
+    page.press("ArrowRight", shift=True)
+    one = page.run(moment)
+    page.press("ArrowRight")
+    page.press("ArrowLeft")
+    assert one[1] == 2 and page.run(moment)[0] == 1
+    page.press("End")
+    assert page.run(moment) == [108, 678]
+    for key, speed in (("1", 300), ("5", 9600)):
+        page.press(key)
+        assert page.run("[player.speed.value, player.line.second * 10]") == [str(speed), speed]
+    page.press("v")
+    assert page.run("player.view.value") == "raster" and page.run("player.screen.view.constructor.name") == "RasterView"
+    page.press("b")
+    assert page.run("player.blinking.checked") is False
+    page.press(" ")
+    assert page.run("player.isPlaying") and page.run("player.moment.done") < 108
+    page.press(" ")
+    assert not page.run("player.isPlaying")
+    page.run("player.codes.box.focus()")
+    page.press("ArrowDown")
+    chosen = page.run("player.row")
+    page.press("ArrowDown")
+    assert page.run("player.row") == chosen + 1
+    page.press("Escape")
+    assert page.run("player.row") == -1 and page.run("player.marked.size") == 0
+
+
+def test_a_keyboard_alone_reaches_each_control(shown):
+    page = shown(os.path.join(FOLDER, "logo.nap"))
+    page.run("document.body.focus()")
+    for _ in range(40):
+        page.press("Tab")
+        page.run("document.activeElement.reached = true; undefined")
+    assert page.run("[...document.querySelectorAll('button, input, select, summary, .codes')]"
+                    ".filter((each) => !each.reached).length") == 0
+    assert page.run("[...document.querySelectorAll('button, input, select')].every((each) => each.ariaLabel || "
+                    "each.closest('label'))")
+
+
+def test_it_plays_to_its_end(shown):
+    page = shown(os.path.join(FOLDER, "logo.nap"))
+    came = page.run("""(() => {
+      const came = [];
+      player.setSpeed(9600);
+      player.toggle();
+      for (let now = 1000; player.isPlaying && came.length < 1000; now += 16) {
+        player.onFrame(now);
+        came.push(player.moment.done);
+      }
+      return came;
+    })()""")
+    number = page.run("player.line.number")
+    assert came == sorted(came) and came[0] == 0 and any(0 < done < number for done in came) and came[-1] == number
+    assert page.run("player.moment.bytes === player.line.length") and not page.run("player.isPlaying")
+
+
+def test_reduced_motion_is_followed(browser, shown):
+    browser.call("Emulation.setEmulatedMedia", features=[{"name": "prefers-reduced-motion", "value": "reduce"}])
+    try:
+        page = shown(os.path.join(FOLDER, "palette.nap"))
+        browser.call("Emulation.setEmulatedMedia", features=[{"name": "prefers-reduced-motion", "value": "reduce"}])
+        browser.call("Page.reload")
+        browser.until("document.body.dataset.ready")
+        assert page.run("player.isCalm") and not page.run("player.blinking.checked")
+        assert not page.run("player.isPlaying")
+    finally:
+        browser.look()
+        browser.requests = browser.requests[:1]
+
+
+@pytest.mark.parametrize("width", [390, 1240])
+def test_nothing_is_wider_than_the_window(shown, width):
+    page = shown(os.path.join(FOLDER, "weather.nap"))
+    page.size(width, 800)
+    assert page.run("document.documentElement.scrollWidth") <= width
+
+
+def test_what_a_page_says_is_never_markup(shown):
+    text = "</script><img src=x onerror=hacked=1>"
+    page = shown(PageWriter().clear().at(0.0, 0.5, text).made())
+    assert page.run("document.querySelectorAll('img, iframe, object, link').length") == 0
+    page.run("player.chooseRow(player.codes.starts.length - 1); player.chooseRow(3)")
+    assert page.run("document.scripts.length") == 2
+
+
+def test_the_name_of_a_file_is_never_markup(shown, tmp_path):
+    name = "<img src=x onerror=hacked=1> @DATA@.nap"
+    page = shown(file(tmp_path, name, PageWriter().clear().made()))
+    assert page.run("document.querySelector('h1').textContent").endswith(name + ", as it came down the line")
+
+
+def hostile():
+    """Pages that would cost much, each with a word that says of what."""
+    letters = PageWriter(3).clear().at(0.0, 0.5, "A").raw(*[0x41] * 30_000).made()
+    clears = PageWriter(3).domain().rgb(1, 1, 1)
+    for _ in range(9000):
+        clears.rectangle(0, 0, 0.5, 0.5).raw(0x0F, 0x0C, 0x0E)
+    return {"glyph": bomb("glyph", 400), "mask": bomb("mask", 400), "letters": letters, "clears": clears.made()}
+
+
+@pytest.mark.parametrize("kind", ["glyph", "mask", "letters", "clears"])
+def test_a_hostile_page_is_bounded_as_a_sketch_is(shown, program, kind):
+    data = hostile()[kind]
+    lines = program.ask("list", data).body.decode("ascii").splitlines()
+    sketch = drawing.draw(lines)
+    page = shown(data)
+    assert page.run("player.line.number") == sketch.drawn <= MOST_DRAWN
+    said = page.run("player.box.textContent")
+    assert (sketch.drawn < len(lines)) == ("The picture ends before entry" in said)
+    size = page.run("document.documentElement.outerHTML.length")
+    assert size < 3 << 20, size
+    page.run("player.showNow(player.line.ofEntries(Math.floor(player.line.number / 2)))")
+
+
+@pytest.fixture
+def small(monkeypatch):
+    """Small limits of what a player holds."""
+    for name, value in (("MOST_BYTES", 300), ("MOST_CODES", 40), ("A_LINE", 60), ("MOST_LINES", 400)):
+        monkeypatch.setattr(limits, name, value)
+
+
+def test_what_is_held_is_bounded_and_told(program, small):
+    with open(os.path.join(FOLDER, "weather.nap"), "rb") as data:
+        page = data.read()
+    made = played(page, listed(program, Page("weather", page)))
+    held = json.loads(made)
+    assert len(held["bytes"]) == 400 and len(held["codes"]["start"]) <= 40 and held["length"] == len(page)
+    assert max(map(len, held["lines"])) <= 63 and len(held["lines"]) == 108
+    assert [re.sub("[0-9]+", "N", note) for note in held["notes"]] == [
+        "Bytes are shown up to byte N of N.", "Some lines of the list are shown in part."]
+
+
+def test_what_comes_in_time_counts_though_it_is_cleared(monkeypatch):
+    monkeypatch.setattr(drawing.timeline, "MOST_BYTES", 20_000)
+    ink = "pel=0,0 colour=own-start texture=0/none"
+    lines = ["RECT-FILLED 0,0 4000000,4000000 " + ink, "CLEAR pen=0,0"] * 500
+    made = timeline(lines)
+    assert 20 < made.drawn < len(lines) and "ends before entry %d:" % (made.drawn + 1) in made.end
+    assert len(made.json) < 60_000 and drawing.draw(lines).drawn == len(lines)
+
+
+def test_a_refused_page_is_played_up_to_its_refusal(naplps, tmp_path, shown):
+    page = shown(os.path.join(FOLDER, "signature.nap"))
+    assert "refused 6 LeftOut" in page.run("document.querySelector('header').textContent")
+    said, _ = play(naplps, os.path.join(FOLDER, "signature.nap"), os.path.join(str(tmp_path), "other.html"))
+    assert said.returncode == 1 and b"the player shows what comes before" in said.stderr

@@ -1,0 +1,211 @@
+"""Stores of both schemas: what is kept of kinds, treated copies and words; and that one of the schema before is read,
+and renewed by the next scan."""
+import json
+import os
+import shutil
+import sqlite3
+
+import pytest
+
+from naplps_pages.collection import schemas, tables, word_index
+from naplps_pages.collection.kinds import NotAStore, require_right
+from naplps_pages.collection.store import StoreFailed, open_to_read, open_to_write, open_unchanged
+from samples import OUTSIDE, POINT, SPELLED, with_parity
+from scans import rows, tree
+from stores import COMMANDS, earlier
+
+# A page that is drawn, and then defines a macro in whose body another one seems to begin.
+SEVERAL = POINT + bytes.fromhex("1B40 21 1F 0C") + b"\x0f another\x1b\x45"
+FILES = {"a/point.nap": POINT, "b/point.nap": SPELLED, "text": b"hello\r\n", "several": SEVERAL,
+         "first": SEVERAL[len(POINT):] + POINT, "blank": b"", "nothing": b"\x0f\x0e", "out": OUTSIDE,
+         "parity": with_parity(POINT), "cancel": b"\x0f" + POINT + b"\x18" + POINT,
+         "pic.gif": b"GIF89a\x01\x02\x81", "gif.zip ": b"PK\x03\x04\x99"}
+STOPPED = (["equal"], ["equal", "--copies"], ["refused"], ["refused", "--json"], ["census"], ["status", "--csv"])
+WORDS = "SELECT type, name, sql FROM sqlite_master WHERE sql IS NOT NULL ORDER BY 1, 2"
+
+
+@pytest.fixture
+def pages(tmp_path):
+    return tree(os.path.join(str(tmp_path), "pages"), FILES)
+
+
+@pytest.fixture
+def store(run, tmp_path, pages):
+    store = os.path.join(str(tmp_path), "pages.db")
+    assert run(["scan", pages, "--into", store, "--cures"]).returncode == 0
+    return store
+
+
+@pytest.fixture
+def old(store, tmp_path):
+    return earlier(store, os.path.join(str(tmp_path), "old.db"))
+
+
+def listed(store, *columns):
+    """Some columns of each file, by its name."""
+    found = rows(store, "SELECT name, %s FROM listing" % ", ".join(columns))
+    return {os.path.basename(name): row for name, *row in found}
+
+
+def held(path):
+    """The bytes of a file."""
+    with open(path, "rb") as file:
+        return file.read()
+
+
+def test_each_page_has_its_kind(store):
+    assert listed(store, "kind", "looks_like", "perhaps_several") == {
+        "point.nap": ["page", None, 0], "text": ["text", None, 0], "several": ["page", None, 1],
+        "first": ["page", None, 0], "blank": ["blank", None, 0], "nothing": ["blank", None, 0],
+        "out": [None, None, None], "parity": [None, None, None], "cancel": [None, None, None],
+        "pic.gif": [None, "GIF", None], "gif.zip ": [None, "ZIP", None]}
+
+
+def test_a_treated_page_has_what_its_copy_draws(store, run, tmp_path):
+    said = run(["cures", "--into", os.path.join(str(tmp_path), "to"), *(
+        os.path.join(str(tmp_path), "pages", name) for name in ("parity", "cancel"))])
+    assert said.returncode == 1
+    found = listed(store, "treatments", "grade", "treated_entries", "treated_hash", "treated_canonical",
+                   "treated_canonical_size")
+    for name, treatments, grade in (("parity", "parity", "around"), ("cancel", "can", "within")):
+        copy = held(os.path.join(str(tmp_path), "to", name))
+        it = json.loads(run(["check", "--json", os.path.join(str(tmp_path), "to", name)]).stdout)
+        canon = run(["canon", os.path.join(str(tmp_path), "to", name)]).stdout
+        assert found[name] == [treatments, grade, it["entries"], tables.hashed(copy).hex(), tables.hashed(canon).hex(),
+                               len(canon)]
+    assert found["out"] == found["point.nap"] == [None] * 6
+
+
+def test_a_store_of_the_schema_before_is_read(old, run, tmp_path):
+    before = held(old)
+    for command in COMMANDS:
+        name, *rest = command
+        if name in ("scan", "merge") or "OTHER" in rest:
+            continue
+        said = run([name, old, *[os.path.join(str(tmp_path), word) if word in ("canonical", "report.html") else word
+                                 for word in rest]])
+        assert said.returncode in (0, 1) and b"Error" not in said.stderr, (command, said)
+        for made in ("canonical", "report.html"):
+            path = os.path.join(str(tmp_path), made)
+            if os.path.isdir(path):
+                shutil.rmtree(path)
+            elif os.path.lexists(path):
+                os.unlink(path)
+    assert before == held(old)
+
+
+def test_one_that_was_stopped_is_read_too(old, store, run):
+    wanted = [run([*words[:1], old, *words[1:]]).stdout for words in STOPPED]
+    for path in (old, store):
+        connection = sqlite3.connect(path)
+        for name in ("pages_by_canon", "pages_by_number", "files_by_page"):
+            connection.execute("DROP INDEX " + name)
+        connection.close()
+    assert [run([*words[:1], old, *words[1:]]).stdout for words in STOPPED] == wanted
+    assert run(["equal", store, "--treated"]).returncode == 0
+
+
+def test_a_scan_renews_it(old, store, run, pages):
+    assert run(["scan", os.path.join(pages, "a"), "--into", old, "--cures"]).stdout.startswith((
+        b"1 file: 1 accepted (1 page)"))
+    assert rows(old, WORDS) == rows(store, WORDS) and rows(old, "SELECT value FROM meta WHERE key = 'schema'") == [
+        (str(schemas.SCHEMA),)]
+    assert listed(old, "kind")["text"] == [None]
+    said = run(["scan", pages, "--into", old, "--cures"])
+    assert b"; 1 known, 11 pages asked about" in said.stdout
+    assert listed(old, "*") == listed(store, "*")
+    assert b"; 12 known, 0 pages asked about" in run(["scan", pages, "--into", old, "--cures"]).stdout
+
+
+def test_treatments_of_the_schema_before_are_tried_again_where_they_are_asked_for(old, run, pages):
+    assert b"; 0 known, 12 pages" in run(["scan", pages, "--into", old]).stdout
+    assert b"; 12 known, 0 pages" in run(["scan", pages, "--into", old]).stdout
+    assert listed(old, "grade")["parity"] == [None]
+    assert b"; 10 known, 2 pages" in run(["scan", pages, "--into", old, "--cures"]).stdout
+    assert listed(old, "grade")["parity"] == ["around"]
+
+
+@pytest.mark.parametrize("name", ["texts", "words", "words_data"])
+def test_what_stands_in_the_way_of_a_renewal_is_told(old, run, pages, name):
+    connection = sqlite3.connect(old)
+    connection.execute(f"CREATE TABLE {name}(mine TEXT)")
+    connection.close()
+    said = run(["scan", pages, "--into", old])
+    assert said.returncode == 3 and said.stderr.decode() == (
+        f"naplps-pages: {old}: has a table {name} of its own, where schema 2 has another: give that a new name\n")
+    assert run(["status", old]).returncode == 0
+
+
+def test_a_merge_takes_both_schemas(old, store, run, tmp_path, pages):
+    more = tree(os.path.join(str(tmp_path), "more"), {"text": b"hello\r\n", "parity": with_parity(POINT)})
+    second, merged = (os.path.join(str(tmp_path), name) for name in ("more.db", "all.db"))
+    assert run(["scan", more, "--into", second, "--cures"]).returncode == 0
+    for order in ((old, second), (second, old)):
+        assert run(["merge", merged, *order]).returncode == 0
+        kinds = dict(rows(merged, "SELECT name, kind FROM listing"))
+        assert kinds[more + "/text"] == kinds[pages + "/text"] == "text" and kinds[pages + "/blank"] is None
+        grades = dict(rows(merged, "SELECT name, grade FROM listing"))
+        assert grades[more + "/parity"] == grades[pages + "/parity"] == "around" and grades[pages + "/cancel"] is None
+        assert rows(merged, WORDS) == rows(store, WORDS)
+        os.unlink(merged)
+
+
+def test_the_index_of_words(store, tmp_path, run):
+    connection = open_to_write(store)
+    assert word_index.make(connection) and word_index.make(connection)
+    page, terms = connection.execute("SELECT id, terms FROM pages WHERE kind = ?", (tables.TEXT,)).fetchone()
+    for text in ("h\u00e9llo world", "good day"):
+        word_index.forget(connection, page)
+        connection.execute("INSERT OR REPLACE INTO texts VALUES(?, ?, 0, ?, ?, NULL)", (page, terms, text, text[:4]))
+        word_index.note(connection, page)
+        found = [connection.execute("SELECT rowid FROM words WHERE words MATCH ?", (word,)).fetchall()
+                 for word in ("hello", "WORLD", "day")]
+        assert found == ([[(page,)], [(page,)], []] if "world" in text else [[], [], [(page,)]])
+    connection.execute("INSERT INTO words(words) VALUES('integrity-check')")
+    connection.close()
+    for opened in (open_to_read, open_unchanged, open_to_write):
+        opened(store).close()
+    merged = os.path.join(str(tmp_path), "all.db")
+    assert run(["merge", merged, store]).returncode == 0
+    assert rows(merged, "SELECT t.text, t.source, t.first FROM words w JOIN texts t ON t.page = w.rowid "
+                        "WHERE words MATCH 'good'") == [("good day", tables.WHOLE, "good")]
+
+
+def test_an_index_of_words_that_is_another(store):
+    connection = open_to_write(store)
+    word_index.make(connection)
+    connection.close()
+    for words, why in (("DROP TABLE words_idx", "no table words_idx"),
+                       ("DROP TABLE words_config; CREATE TABLE words_config(k PRIMARY KEY, v, w)",
+                        "its table words_config"),
+                       ("DROP TABLE words", "")):
+        bad = shutil.copy(store, store + ".bad")
+        connection = sqlite3.connect(bad)
+        connection.execute("PRAGMA writable_schema = ON")
+        connection.executescript(words)
+        connection.close()
+        if why:
+            for opened in (open_to_read, open_unchanged, open_to_write):
+                with pytest.raises(StoreFailed, match=why):
+                    opened(bad)
+        else:
+            open_to_read(bad).close()
+
+
+WRONG = ["UPDATE pages SET kind = 3 WHERE state = 0", "UPDATE pages SET kind = 'page' WHERE state = 0",
+         "UPDATE pages SET kind = 0 WHERE state = 1", "UPDATE pages SET looks_like = 'GIF' WHERE state = 0",
+         "UPDATE pages SET looks_like = x'00' WHERE state = 1", "UPDATE pages SET several = 7",
+         "UPDATE cures SET grade = 2 WHERE treatments IS NOT NULL",
+         "UPDATE cures SET grade = 1 WHERE treatments IS NULL",
+         "UPDATE cures SET canon = x'00' WHERE treatments IS NOT NULL", "UPDATE cures SET canon_size = NULL",
+         "INSERT INTO texts VALUES(1, 1, 3, 'x', 'x', NULL)", "INSERT INTO texts VALUES(1, 1, 0, x'00', 'x', NULL)",
+         "INSERT INTO texts VALUES(1, 99, 0, 'x', 'x', NULL)", "INSERT INTO texts VALUES(999, 1, 0, 'x', 'x', NULL)"]
+
+
+@pytest.mark.parametrize("words", WRONG)
+def test_values_that_no_scan_writes(store, words):
+    connection = sqlite3.connect(store)
+    require_right(connection)
+    connection.execute(words)
+    with pytest.raises(NotAStore):
+        require_right(connection)
