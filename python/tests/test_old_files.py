@@ -230,8 +230,9 @@ def test_refused_counts_what_was_put_in(files, checked, naplps, store):
     counts = Counter(stop(each, checked[name]) for name, each in some.items())
     for (number, code), many in counts.items():
         if number in (2, 6) and code:
-            said = asked(naplps, "refused", store, "--null", "--reason", code.split(" (")[0])
-            assert said.count(b"\0") == many
+            for question, by in (("refused", "--reason"), ("files", "--refused")):
+                said = asked(naplps, question, store, "--null", by, code.split(" (")[0])
+                assert said.count(b"\0") == many
     assert {ANNOUNCER, DESIGNATION, SWITCH, *STOPS} < {code for _, code in counts}
     assert asked(naplps, "refused", store, "--null", "--reason", "EighthBit").count(b"\0") == sum(
         row["number"] == 1 for row in checked.values())

@@ -90,8 +90,9 @@ def store(run, tmp_path):
     ("SDC", ["SDC", "SDC again"]), ("sdc", ["SDC", "SDC again"]), ("1A", ["SDC", "SDC again"]), ("0x18", ["CAN"]),
     ("1B 5F", ["UNPROTECT"]), ("3a", ["INCREMENTAL-LINE"]), ("EighthBit", ["eight"]), ("1", ["eight"]),
     ("6", sorted([*LEFT_OUT, "SDC again"])), ("leftout", sorted([*LEFT_OUT, "SDC again"])), ("18", []), ("Cut", [])])
-def test_refused_by_a_reason(run, store, word, names):
-    said = run(["refused", store, "--null", "--reason", word])
+@pytest.mark.parametrize("question", [["refused", "--reason"], ["files", "--refused"]])
+def test_refused_by_a_reason(run, store, question, word, names):
+    said = run([question[0], store, "--null", question[1], word])
     assert sorted(os.path.basename(name.decode()) for name in said.stdout.split(b"\0")[:-1]) == names
 
 

@@ -11,6 +11,7 @@ from ..refusals import Reason
 from . import tables
 from .places import Place
 from .printing import NAME, Printer, named, shown_as
+from .refused import only
 from .store import kept
 
 FACTS = ("status", "number", "fault", "code", "place", "entries", "reason", "size", "mtime_ns", "hash", "canonical",
@@ -25,7 +26,7 @@ FILES = f"""SELECT d.path, f.name, f.inode, f.state, coalesce(f.why, p.why), f.s
     FROM files f CROSS JOIN folders d ON d.id = f.folder LEFT JOIN pages p ON p.id = f.page AND f.state = {tables.READ}
     LEFT JOIN terms t ON t.id = p.terms LEFT JOIN faults n ON n.number = p.number
     LEFT JOIN cures c ON c.page = p.id AND c.terms = p.terms LEFT JOIN texts x ON x.page = p.id AND x.terms = p.terms
-    WHERE {tables.IS_FILE}%s ORDER BY d.path, f.name"""
+    WHERE {tables.IS_FILE} %s ORDER BY d.path, f.name"""
 FILE = "path name inode? state:file_state why? size? mtime_ns? page_state? number? fault? left_out? place? entries? " \
     "own? canon? canon_size? form? budget? kind? looks_like? several? stop? tried:flag treatments? grade? entries? " \
     "copy? canon? canon_size? first? source?"
@@ -89,11 +90,8 @@ class FileFacts(NamedTuple):
 
 def load(connection: sqlite3.Connection, kind: Optional[str], refused: Optional[Reason]) -> Iterator[FileFacts]:
     """The files in the order of their names; those of one kind alone, or of one reason, where that is given."""
-    only = ""
-    if refused is not None:
-        only = " AND p.number IS NOT NULL" if refused == ANY else f" AND p.number = {refused.number}"
-        only += f" AND p.left_out = '{refused.code}'" if refused.code else ""
-    for row in kept(connection, FILES % only, FILE):
+    some = "AND p.number IS NOT NULL" if refused == ANY else only(refused)
+    for row in kept(connection, FILES % some, FILE, code=refused.code if refused else ""):
         file = FileFacts._make(row)
         if kind is None or kind == kind_of(file):
             yield file

@@ -59,14 +59,14 @@ class RefusedFile(NamedTuple):
 
 def members(connection: sqlite3.Connection, wanted: Optional[Wanted]) -> Iterator[RefusedFile]:
     """The refused files, by the reason, the most frequent first; those of one reason only where it is given."""
-    connection.execute(REASONS.format(_only(wanted)), {"code": wanted.code if wanted else ""})
+    connection.execute(REASONS.format(only(wanted)), {"code": wanted.code if wanted else ""})
     connection.execute(BY_REASON)
     for row in kept(connection, MEMBERS, MEMBER):
         yield RefusedFile(ReasonCount._make(row[:6]), row[6], row[7], bool(row[8]), row[9], Place(row[10], row[11]))
 
 
-def _only(wanted: Optional[Wanted]) -> str:
-    """What restricts the pages to those of a reason."""
+def only(wanted: Optional[Wanted]) -> str:
+    """What restricts the pages, `p`, to those of a reason; its code is the parameter `:code`."""
     if wanted is None:
         return ""
     code = " AND :code IN (p.left_out, substr(p.stop, 1, length(:code)))" if wanted.code else ""

@@ -249,9 +249,12 @@ def _check(path: str, connection: sqlite3.Connection) -> int:
     return int(schema[0])
 
 
-def kept(connection: sqlite3.Connection, words: str, told: str) -> Iterator[Tuple[Any, ...]]:
-    """The rows of a query, checked as `told` says, and taken aside first, so that a scan needn't wait until then."""
-    connection.execute("CREATE TEMP TABLE kept AS " + words)
+def kept(connection: sqlite3.Connection, words: str, told: str, **named: str) -> Iterator[Tuple[Any, ...]]:
+    """The rows of a query, checked as `told` says, and taken aside first, so that a scan needn't wait until then.
+
+    Its parameters are known by their names.
+    """
+    connection.execute("CREATE TEMP TABLE kept AS " + words, named)
     return checked(connection.execute("SELECT * FROM kept ORDER BY rowid"), told)
 
 
