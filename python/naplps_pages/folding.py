@@ -1,9 +1,11 @@
 """Characters in a row: entries that differ in nothing but their letter, each behind the last, are told together."""
-from typing import Iterable, List, NamedTuple, Optional
+from typing import Iterable, Iterator, List, NamedTuple, Optional
 
 # So many characters at most are told in a row.
 MOST_IN_ROW = 80
-AFTER = "pen=after"
+PEN, AFTER = " pen=", " pen=after "
+# Digits of a character's code.
+CODE = 2
 # Letters of the primary set that stand for themselves in quotation marks.
 ESCAPES = {0x22: '\\"', 0x5C: "\\\\", 0x7F: "\\x7f"}
 
@@ -33,22 +35,22 @@ def _character(line: str) -> Optional[_Characters]:
 
 def goes_on(last: str, line: str) -> bool:
     """Whether the line is a character that goes on a row behind the last one."""
-    if last[:last.find(" ", 5)] != line[:line.find(" ", 5)] or f" {AFTER} " not in line:
+    at = line.find(AFTER)
+    if at < 0 or not line.startswith("CHAR ") or last.find(PEN) != at or last[:at - CODE] != line[:at - CODE]:
         return False
-    one, other = _character(last), _character(line)
-    return one is not None and other is not None and other.pen == AFTER and one.rest == other.rest
+    return last[last.find(" ", at + 1):] == line[at + len(AFTER) - 1:]
 
 
-def folded(lines: Iterable[str]) -> List[FoldedRow]:
-    """The rows of a list."""
-    rows: List[FoldedRow] = []
+def folded(lines: Iterable[str]) -> Iterator[FoldedRow]:
+    """The rows of a list, one after another."""
     run: List[str] = []
     for line in lines:
         if run and (len(run) == MOST_IN_ROW or not goes_on(run[-1], line)):
-            rows.append(_row(run))
+            yield _row(run)
             run = []
         run.append(line)
-    return rows + ([_row(run)] if run else [])
+    if run:
+        yield _row(run)
 
 
 def _row(run: List[str]) -> FoldedRow:

@@ -1,7 +1,7 @@
 """The entries of a page with their places, where they are few enough to be shown."""
 from dataclasses import dataclass
 from functools import cached_property
-from typing import List, Optional, Tuple
+from typing import List, Optional, Tuple, Union
 
 from naplps.answers import NONSENSE, Accepted, Answer, Refusal, Unanswered
 from naplps.client import Client
@@ -36,7 +36,18 @@ class Listed:
 
 def listed(program: Client, page: Page) -> Listed:
     """Asks `check` first, and then for the entries where that tells of few. A page above 16 MiB has no places."""
-    answer = program.ask("check", page)
+    return _listed(program, page, program.ask("check", page))
+
+
+def listed_of_few(program: Client, page: Page) -> Listed:
+    """The same of a page that was accepted before with few entries: asks for these alone, where they are few still."""
+    told = program.ask(command_of(page), page)
+    if isinstance(told, Unanswered):
+        return listed(program, page) if told.too_much else Listed(told)
+    return _with_rows(page, told, told)
+
+
+def _listed(program: Client, page: Page, answer: Answer) -> Listed:
     if isinstance(answer, Unanswered) or (isinstance(answer, Accepted) and answer.entries > MOST_LISTED):
         return Listed(answer)
     if page.data is None and isinstance(answer, Refusal):
@@ -46,6 +57,10 @@ def listed(program: Client, page: Page) -> Listed:
         return Listed(answer if told.too_much else told)
     if told.line != answer.line:
         return Listed(Unanswered(NONSENSE))
+    return _with_rows(page, answer, told)
+
+
+def _with_rows(page: Page, answer: Answer, told: Union[Accepted, Refusal]) -> Listed:
     rows = rows_of(page, told.body)
     return Listed(answer, rows if len(rows) <= MOST_LISTED else None)
 

@@ -9,7 +9,7 @@ from hypothesis import strategies as st
 
 from conftest import file
 from naplps_pages.folding import MOST_IN_ROW, folded
-from naplps_pages.report.embedding import shortened
+from naplps_pages.report.shortening import shortened
 from reports import held
 
 LOOK = "colour=own-start text=0,0/normal/----"
@@ -40,7 +40,7 @@ def unfolded(row):
 
 @given(LINES)
 def test_rows_tell_all_lines(lines):
-    rows = folded(lines)
+    rows = [*folded(lines)]
     assert [line for row in rows for line in unfolded(row.line)] == lines
     assert [len(unfolded(row.line)) for row in rows] == [row.entries for row in rows]
 
@@ -59,7 +59,7 @@ def test_letters_of_one_look_are_a_row():
     (typed("AB") + ["CHAR mosaic 41 pen=after " + LOOK] * 2, 2), (typed("AB") + typed("CD", "after"), 1),
     (typed("A" * (MOST_IN_ROW + 1)), 2), ([], 0), (["CHAR"] * 3, 3), (["CHAR primary"] * 3, 3)])
 def test_a_row_ends_where_anything_differs(lines, count):
-    assert len(folded(lines)) == count
+    assert len([*folded(lines)]) == count
 
 
 PAGE = bytes.fromhex("0E 24 52 40 40 0F") + b'CITY "HALL"' + bytes.fromhex("07 41 1B 46 43")
@@ -99,5 +99,5 @@ def test_a_report_tells_letters_in_a_row(run, tmp_path):
 
 
 def test_blanks_in_quotation_marks_are_kept_apart():
-    assert shortened(['CHAR "A  B" x4 pen=1,2 look', 'CHAR "A  B" x5 pen=1,2 look']) == (
-        'CHAR "A\u00a0\u00a0B" x4 pen=1,2 look\nCHAR  x5  ')
+    assert shortened(['CHAR "A  B" x4 pen=1,2 look', 'CHAR "A  B" x5 pen=1,2 look']) == [
+        'CHAR "A\u00a0\u00a0B" x4 pen=1,2 look', "CHAR  x5  "]

@@ -1,17 +1,21 @@
 """What a report holds: names, sketches, reasons; how it is made, and why it isn't."""
 import base64
 import hashlib
+import json
 import os
 import re
+import zlib
 
 import pytest
 
 from conftest import file
 from naplps.writer import PageWriter
+from naplps_pages.collection.store import open_to_read
 from naplps_pages.report import choices, making
 from naplps_pages.report.drawing import Drawing
-from naplps_pages.report.embedding import shortened
+from naplps_pages.report.packing import Packing
 from naplps_pages.report.roots import Roots
+from naplps_pages.report.shortening import shortened
 from naplps_pages.report.sketch_choice import choose
 from naplps_pages.report.sketch_workers import ENDED
 from reports import SPELLED, collection, held, words
@@ -51,6 +55,17 @@ def test_all_drawings_together_have_a_limit(monkeypatch):
     kept = list(making._held(iter(drawings)))
     assert kept == [*drawings[:4], (4, Drawing(why=making.IS_FULL)), drawings[5]]
     assert sum(each.characters() for _, each in kept) <= 110
+
+
+@pytest.mark.parametrize("number", [0, 1, 50, 51, 120])
+def test_blocks_have_the_drawings_in_their_order(number):
+    with Packing(number, 2) as packing:
+        for at in sorted(range(number), key=lambda each: (each % 7, each)):
+            packing.put(at, Drawing("sketch %d" % at))
+        blocks = packing.blocks()
+    told = [json.loads(zlib.decompress(base64.b64decode(each)))["sketch"] for each in blocks]
+    assert [len(each) for each in told] == [50] * (number // 50) + [number % 50] * (number % 50 > 0)
+    assert sum(told, []) == ["sketch %d" % at for at in range(number)]
 
 
 def test_names_are_relative_to_the_roots_and_the_rest_of_the_machine_is_not_told(made, tmp_path):
@@ -163,7 +178,7 @@ def test_which_pages_have_a_sketch():
 def test_words_that_stood_there_before_are_left_out():
     lines = ["CHAR primary 41 pen=start", "POINT 1,2", "CHAR primary 42 pen=start", "CHAR primary 42 pen=after",
              "POINT 1,2"]
-    assert shortened(lines) == "CHAR primary 41 pen=start\nPOINT 1,2\nCHAR  42 \nCHAR   pen=after\nPOINT "
+    assert shortened(lines) == ["CHAR primary 41 pen=start", "POINT 1,2", "CHAR  42 ", "CHAR   pen=after", "POINT "]
 
 
 def test_a_page_that_changed_is_told_and_has_no_sketch(run, made, tmp_path):
@@ -182,6 +197,19 @@ def test_a_page_that_ends_the_process_that_draws_it(made, fake, tmp_path):
         os.path.join(str(tmp_path), "pages.db"))))
     html, said = made({"b": b"kill"}, "--processes", "1", program=program)
     assert ENDED in said.stderr.decode() and said.returncode == 1 and os.path.exists(html)
+
+
+def test_pages_beside_those_that_end_processes_have_their_own_answers(made, fake, tmp_path):
+    pages = {"%02d" % at: b"%b %d" % (b"kill" if at in (1, 2, 4, 9) else b"good", at) for at in range(10)}
+    program = fake(FAKE.replace("page == b'kill its parent'", "page[:4] == b'kill' and os.path.exists(%r)" % (
+        os.path.join(str(tmp_path), "end"))).replace("b'canonical ' + page[:1]", "b'canonical ' + page"))
+    made(pages, program=program)
+    file(str(tmp_path), "end", b"")
+    html = os.path.join(str(tmp_path), "again.html")
+    making.make(open_to_read(os.path.join(str(tmp_path), "pages.db")), making.ReportOptions(
+        os.path.join(str(tmp_path), "pages.db"), html, program, 10, False, 1, 20.0))
+    why = held(html)[1][0]["why"]
+    assert [at for at, each in enumerate(why) if each == ENDED] == [1, 2, 4, 9] and len(set(why)) == 2
 
 
 @pytest.mark.parametrize("name, reason", [("there", "is there already, and isn't written over"),

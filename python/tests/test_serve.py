@@ -326,7 +326,7 @@ if sys.argv[1:] == ['--version']:
     print('naplps 9.9, canonical form 2')
     sys.exit()
 for command, budget, page in requests():
-    if command == 'check' and page[3:] == b'hang': time.sleep(600)
+    if command != 'canon' and page[3:] == b'hang': time.sleep(600)
     bodies = {'places': b'0 BELL\\n' * len(page), 'canon': b'canonical ' + page, 'check': b''}
     answer(b'accepted %d entries' % len(page), bodies[command])
 """

@@ -97,6 +97,16 @@ class TextCursor:
         """Whether so much still has room in the line."""
         return self.x + wide <= self.field[2] + DOT
 
+    def go_on(self, wide: float, most: int) -> int:
+        """Goes to the right by cells of this width, the most or as many as the line has room for; how many they are."""
+        x, left, right = self.x, self.field[0], self.field[2] + DOT
+        count = 0
+        while count < most and (x <= left or x + wide <= right):
+            x += wide
+            count += 1
+        self.x = x
+        return count
+
     def wrap(self, size: Cell, wide: float) -> bool:
         """Goes to the next line where a cell or a word, which is so wide, leaves the field; whether it did.
 

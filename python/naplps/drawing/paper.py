@@ -95,6 +95,11 @@ class Paper:
             self.full = True
             raise Full
 
+    def has_room(self, size: int, weight: Weight) -> bool:
+        """Whether what costs so much can be drawn, and the picture goes on."""
+        return (not self.full and self.of_page.size + self.of_definitions.size + size <= MOST_BYTES - AROUND
+                and self.of_page.weight + self.of_definitions.weight + weight.total() <= MOST_WEIGHT)
+
     def require(self, weight: Weight) -> None:
         """Looks whether there is room for something that costs so much at least. Raises Full where there isn't."""
         if not self.full and self.of_page.weight + self.of_definitions.weight + weight.points > MOST_WEIGHT:
@@ -104,14 +109,14 @@ class Paper:
     def put(self, element: Element, weight: Weight) -> None:
         """Draws an element over what is there. Raises Full."""
         markup = element.markup()
-        size = len(markup.encode("utf-8"))
+        size = _size(markup)
         self.spend(size, weight)
         self._keep(element, markup, size, None)
 
     def put_counted(self, element: Element, letters: LetterCells) -> None:
         """Draws an element of some letters, which were counted before."""
         markup = element.markup()
-        self._keep(element, markup, len(markup.encode("utf-8")), letters)
+        self._keep(element, markup, _size(markup), letters)
 
     def _keep(self, element: Element, markup: str, size: int, letters: Optional[LetterCells]) -> None:
         if self.open is None:
@@ -195,10 +200,15 @@ class Paper:
         """Adds a definition once. `counted` is how much of its size was counted before. Raises Full."""
         if key not in self.defined:
             markup = element.markup()
-            self._count(self.of_definitions, len(markup.encode("utf-8")) - counted, 0.0)
+            self._count(self.of_definitions, _size(markup) - counted, 0.0)
             self.defined.add(key)
             self.keep_definition(element, markup)
 
     def keep_definition(self, element: Element, markup: str) -> None:
         """Keeps a definition that is used."""
         self.definitions.append(markup)
+
+
+def _size(markup: str) -> int:
+    """How many bytes it has."""
+    return len(markup) if markup.isascii() else len(markup.encode("utf-8"))

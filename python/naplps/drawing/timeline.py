@@ -10,6 +10,7 @@ from .elements import Element
 from .measure import HEIGHT, WIDTH
 from .paper import AROUND, MOST_BYTES, Cost, Full, LetterCells, Paper
 from .walk import ENDS, Lines, Walk, entries_of
+from .weight import Weight
 
 # What stands in front of an address of the map, where a sketch has the colour.
 ADDRESS = "@n"
@@ -51,6 +52,10 @@ class TimelinePaper(Paper):
         if self.held > MOST_BYTES - AROUND and not self.full:  # (what CLEAR takes away was there before)
             self.full = True
             raise Full
+
+    def has_room(self, size: int, weight: Weight) -> bool:
+        """Whether what costs so much can be drawn, and the drawing goes on."""
+        return super().has_room(size, weight) and self.held + size <= MOST_BYTES - AROUND
 
     def step(self, **members: object) -> None:
         """Adds a step, which came with the entry that is drawn."""

@@ -53,9 +53,11 @@ class Walk:
 
     def draw(self) -> int:
         """Draws what the limits allow; how many entries that were. Raises NotALine."""
-        drawn = points = 0
+        number = points = 0
+        lines = self.entries.lines[:MOST_DRAWN]
         try:
-            for number, line in enumerate(self.entries.lines[:MOST_DRAWN]):
+            while number < len(lines):
+                line = lines[number]
                 self.paper.entry = number
                 if len(line) > MOST_POINTS and line.count(",") > MOST_POINTS + MOST_COMMAS:
                     break
@@ -66,11 +68,18 @@ class Walk:
                 if number == self.guess_start:
                     self._begin_guess()
                 self.entry(entry)
-                drawn += 1
+                number += 1
+                if isinstance(entry, Char):
+                    number += self._letters(lines, number)
         except Full:
             pass
         self.writing.flush()
-        return drawn
+        return number
+
+    def _letters(self, lines: Sequence[str], number: int) -> int:
+        """Draws the letters that go on from the last one at once; how many these are."""
+        end = self.guess_start if number <= self.guess_start else len(lines)
+        return self.writing.go_on(lines, number, min(end, len(lines)))
 
     def _begin_guess(self) -> None:
         """From here on the page is a guess, which may set colours of the map again."""

@@ -29,6 +29,10 @@ class Weight(NamedTuple):
         """Both together."""
         return Weight(self.points + other.points, self.edges + other.edges, self.area + other.area)
 
+    def times(self, number: int) -> "Weight":
+        """So many of it."""
+        return Weight(self.points * number, self.edges * number, self.area * number)
+
     def scaled(self, across: float, down: float) -> "Weight":
         """The same, drawn in another size."""
         across, down = abs(across), abs(down)

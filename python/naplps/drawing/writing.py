@@ -1,6 +1,6 @@
 """Characters: letters in runs, mosaics, and the page's own glyphs."""
 from dataclasses import dataclass
-from typing import List, NamedTuple, Optional, Tuple
+from typing import List, NamedTuple, Optional, Sequence, Tuple
 
 from .. import letters
 from ..entry import Char, Colour, Look, Pen, TextMove, ToEol
@@ -8,6 +8,7 @@ from . import weight
 from .cells import RIGHT, Cell, TextCursor, cell
 from .colours import BLACK, Palette
 from .elements import Element
+from .letter_lines import letters_behind
 from .measure import HEIGHT, WIDTH, fine, num
 from .paper import LetterCells, Paper
 from .word_widths import WordWidths, is_blank
@@ -53,6 +54,8 @@ class LetterStyle(NamedTuple):
     size: Cell
     look: Tuple[Ink, Cell, bool]
     weight: weight.Weight
+    # (whether they stand side by side, and words end where the line does)
+    is_straight: bool
 
 
 class Writing:
@@ -97,6 +100,25 @@ class Writing:
             self.flush()
             self._sign(entry, style)
         self.cursor.step(size)
+
+    def go_on(self, lines: Sequence[str], number: int, end: int) -> int:
+        """Draws the letters that go on from the one that was drawn last, in its look and its line; how many these are.
+
+        They are those in the lines from this number on, up to `end`.
+        """
+        run, style = self.run, self.style
+        if (run is None or style is None or not style.is_straight or run.entries[-1] != number - 1
+                or self.accent is not None or self.cursor.scrolled):
+            return 0
+        signs = letters_behind(lines, number, end)
+        if not signs or not self.paper.has_room(A_LETTER * len(signs), style.weight.times(len(signs))):
+            return 0
+        count = self.cursor.go_on(style.size.wide, len(signs))
+        self.paper.spend(A_LETTER * count, style.weight.times(count))
+        run.text += signs[:count]
+        run.entries += range(number, number + count)
+        self.last = self.words.character_at(number + count - 1)
+        return count
 
     def _within(self, entry: Char, size: Cell) -> bool:
         """Goes to the next line where the character, or its word, leaves the field; whether it is drawn."""
@@ -149,7 +171,8 @@ class Writing:
             return style
         size, ink = cell(entry.text), ("currentColor", None) if not on_page else self._ink(entry)
         cost = weight.letter(size.wide * WIDTH, size.high * WIDTH)
-        self.style = LetterStyle(entry.colour, entry.text, on_page, size, (ink, size, entry.text.underline), cost)
+        self.style = LetterStyle(entry.colour, entry.text, on_page, size, (ink, size, entry.text.underline), cost,
+                                 _is_straight(size) and not entry.text.wrap)
         return self.style
 
     def _ink(self, entry: Char) -> Ink:
@@ -169,8 +192,7 @@ class Writing:
 
     @staticmethod
     def _joins(run: LetterRun, size: Cell, x: float, y: float) -> bool:
-        straight = size.path == RIGHT and size.rotation == 0 and size.spacing == 1.0
-        return straight and abs(run.end() - x) < 0.01 and abs(run.y - y) < 0.01
+        return _is_straight(size) and abs(run.end() - x) < 0.01 and abs(run.y - y) < 0.01
 
     def _corner(self, size: Cell) -> Tuple[float, float]:
         self.paper.reach(self.cursor.y + max(size.high, 0.0))
@@ -237,6 +259,11 @@ class Writing:
                                      num(-wide * 0.7))
         shape = Element("path", {"d": path, "fill": "none", "stroke": front, "stroke-width": "2"})
         self.paper.put(shape, weight.outlined(weight.Extent(4, 2 * abs(wide) + 2 * abs(high), 0.0), 2.0, ()))
+
+
+def _is_straight(size: Cell) -> bool:
+    """Whether letters stand side by side on a level line."""
+    return size.path == RIGHT and size.rotation == 0 and size.spacing == 1.0
 
 
 def _turned(part: Element, run: LetterRun) -> Element:

@@ -1,8 +1,10 @@
 """What a page shows: its sketch, its text and its list, or why there is none of them."""
+from itertools import islice
 from typing import Dict, List, NamedTuple, Optional
 
-from naplps.answers import Accepted, Refusal, Unanswered
+from naplps.answers import Accepted, Refusal, Unanswered, read_line
 from naplps.client import Client
+from naplps.limits import MOST_LISTED
 from naplps.reading import NotALine
 from naplps.screen_text import lines_of
 from naplps.treating.search import find
@@ -11,12 +13,13 @@ from naplps.treating.treatments import graded
 from ..collection.places import Otherwise, Place, read
 from ..collection.tables import hashed
 from ..folding import MOST_IN_ROW, FoldedRow, folded
-from ..listing import Listed, listed
+from ..listing import Listed, listed, listed_of_few
 from ..player.played import can_be_played, played
 from ..showing import picture
 from ..source import Page
 from .files import ReportFile
 from .limits import A_LINE, SMALL_SKETCH, SMALL_TEXT
+from .shortening import shortened
 
 TOO_LARGE = "its sketch is too large to be held here"
 OTHER_COPY = "the treatments make another copy than in the scan"
@@ -52,6 +55,8 @@ class DrawingLimits(NamedTuple):
     player: int = 0
     # (whether each character has a row of its own)
     full: bool = False
+    # (whether words are left out of the rows as a report leaves them out)
+    shortens: bool = False
 
 
 class Drawing(NamedTuple):
@@ -109,7 +114,9 @@ def _drawn_treated(program: Client, page: Page, it: WantedDrawing, most: Drawing
 
 
 def _drawn(program: Client, page: Page, it: WantedDrawing, most: DrawingLimits) -> Drawing:
-    return _shown(page, listed(program, page), it, most)
+    before = read_line(it.line.encode("ascii"), None)
+    has_few = isinstance(before, Accepted) and before.entries <= MOST_LISTED
+    return _shown(page, listed_of_few(program, page) if has_few else listed(program, page), it, most)
 
 
 def _shown(page: Page, told: Listed, it: WantedDrawing, most: DrawingLimits) -> Drawing:
@@ -125,6 +132,7 @@ def _shown(page: Page, told: Listed, it: WantedDrawing, most: DrawingLimits) -> 
     text = "\n".join(lines_of("\n".join(lines) + "\n"))[:most.text]
     rows = _rows(lines, most, isinstance(answer, Refusal))
     some, counts = [_cut(row.line) for row in rows], [row.entries for row in rows]
+    some = shortened(some) if most.shortens else some
     first = len(lines) - sum(counts) if isinstance(answer, Refusal) else 0
     if len(svg) > most.sketch:
         return Drawing("", text, some, counts, first, len(lines), TOO_LARGE)
@@ -137,8 +145,8 @@ def _rows(lines: List[str], most: DrawingLimits, is_refused: bool) -> List[Folde
         return []
     enough = most.lines * (1 if most.full else MOST_IN_ROW)
     some = lines[-enough:] if is_refused else lines[:enough]
-    rows = [FoldedRow(line, 1) for line in some] if most.full else folded(some)
-    return rows[-most.lines:] if is_refused else rows[:most.lines]
+    rows = (FoldedRow(line, 1) for line in some) if most.full else folded(some)
+    return [*rows][-most.lines:] if is_refused else [*islice(rows, most.lines)]
 
 
 def _played(page: Page, told: Listed, it: WantedDrawing, most: DrawingLimits) -> str:

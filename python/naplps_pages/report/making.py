@@ -2,6 +2,7 @@
 import os
 import sqlite3
 import sys
+from operator import itemgetter
 from typing import Iterable, Iterator, List, NamedTuple, Tuple
 
 from ..collection import tables
@@ -10,12 +11,12 @@ from ..new_files import NotWritten, put, replace
 from . import groups, sketch_choice
 from .document import Document, data_of
 from .drawing import Drawing, DrawingLimits, wanted
-from .embedding import block, packed, packed_json
 from .facts import load_facts, told_refusals
 from .limits import (
     A_BLOCK, A_PLAYED_BLOCK, HELD_LINES, HELD_PLAYER, HELD_SKETCH, HELD_TEXT, MOST_FILES, MOST_HELD, MOST_PLAYED,
     MOST_SKETCHES, SOME_TEXTS,
 )
+from .packing import Packing
 from .sketch_workers import DrawingOptions, Task, drawn
 from .table import Table
 
@@ -92,10 +93,13 @@ def make(connection: sqlite3.Connection, options: ReportOptions) -> ReportTotals
     pictures = sketch_choice.pictures(table)
     if options.all and pictures > MOST_SKETCHES:
         raise TooLarge(f"{pictures} sketches are too many for one file; `naplps-pages serve` shows them")
-    numbers = sketch_choice.choose(table, MOST_SKETCHES if options.all else options.sketches)
-    drawings, missed = _drawings(table, numbers, options)
+    tasks = _tasks(table, sketch_choice.choose(table, MOST_SKETCHES if options.all else options.sketches))
+    with Packing(len(tasks), options.processes) as packing:
+        drawings = _drawings(tasks, options, packing)
+        data = _data(table, drawings, packing)
+    missed = [(table.files[number].place.path, each.why) for number, each in drawings if each.why]
     held = "%s of %s sketches are in this file." % ("{:,}".format(len(drawings)), "{:,}".format(pictures))
-    page = Document(facts, some, "held.js").html(held, _data(table, drawings)).encode("utf-8")
+    page = Document(facts, some, "held.js").html(held, data).encode("utf-8")
     if options.replace and os.path.isfile(options.into):
         replace(options.into, page)
     else:
@@ -103,17 +107,26 @@ def make(connection: sqlite3.Connection, options: ReportOptions) -> ReportTotals
     return ReportTotals(facts.files, len(some), len(drawings), pictures, missed, len(page))
 
 
-def _drawings(table: Table, numbers: List[int], options: ReportOptions) -> Tuple[List[Numbered], List[Tuple[str, str]]]:
-    """The drawings in the order of their files, with the numbers of these; and the files without one, with why."""
+def _tasks(table: Table, numbers: List[int]) -> List[Task]:
+    """What is to be drawn of these files, in their order. The first of the numbers can be played."""
     tasks: List[Task] = []
     for number in numbers:
         it = wanted(table.files[number])
         if it:
             tasks.append((number, it._replace(is_played=len(tasks) < MOST_PLAYED)))
-    most = DrawingLimits(HELD_SKETCH, HELD_TEXT, HELD_LINES, HELD_PLAYER, options.full)
+    return sorted(tasks)
+
+
+def _drawings(tasks: List[Task], options: ReportOptions, packing: Packing) -> List[Numbered]:
+    """The drawings in the order of their files, with the numbers of these, without what is packed of them."""
+    most = DrawingLimits(HELD_SKETCH, HELD_TEXT, HELD_LINES, HELD_PLAYER, options.full, shortens=True)
     how = DrawingOptions(options.program, options.seconds, most)
-    made = sorted(_held(_told(drawn(how, tasks, options.processes), len(tasks))))
-    return made, [(table.files[number].place.path, each.why) for number, each in made if each.why]
+    places = {number: at for at, (number, _) in enumerate(tasks)}
+    made: List[Numbered] = []
+    for number, drawing in _held(_told(drawn(how, tasks, options.processes), len(tasks))):
+        packing.put(places[number], drawing)
+        made.append((number, drawing._replace(sketch="", lines=[])))
+    return sorted(made, key=itemgetter(0))
 
 
 def _told(drawings: Iterator[Numbered], number: int) -> Iterator[Numbered]:
@@ -137,21 +150,14 @@ def _held(drawings: Iterable[Numbered]) -> Iterator[Numbered]:
         yield number, drawing
 
 
-def _data(table: Table, drawings: List[Numbered]) -> str:
+def _data(table: Table, drawings: List[Numbered], packing: Packing) -> str:
     table.place_sketches(drawings)
     accepted = tables.PAGE_STATES[tables.ACCEPTED]
     names = table.answers.names
-    some = [drawing for _, drawing in drawings]
-    texts = [each.text for each in some]
     played = [(number, drawing.played) for number, drawing in drawings if drawing.played]
-    held = {**table.held(), "per": A_BLOCK, "texts": SOME_TEXTS, "refusals": told_refusals(),
-            "accepted": names.index(accepted) if accepted in names else -1, "playedPer": A_PLAYED_BLOCK,
-            "played": [table.columns["page"][number] for number, _ in played]}
-    return data_of(packed(held), [block(some[at:at + A_BLOCK]) for at in range(0, len(some), A_BLOCK)],
-                   [packed(texts[at:at + SOME_TEXTS]) for at in range(0, len(texts), SOME_TEXTS)],
-                   list(_played_blocks([each for _, each in played])))
-
-
-def _played_blocks(played: List[str]) -> Iterator[str]:
-    for at in range(0, len(played), A_PLAYED_BLOCK):
-        yield packed_json("[%s]" % ",".join(played[at:at + A_PLAYED_BLOCK]))
+    held = packing.table({**table.held(), "per": A_BLOCK, "texts": SOME_TEXTS, "refusals": told_refusals(),
+                          "accepted": names.index(accepted) if accepted in names else -1, "playedPer": A_PLAYED_BLOCK,
+                          "played": [table.columns["page"][number] for number, _ in played]})
+    texts = packing.texts([drawing.text for _, drawing in drawings])
+    players = packing.played([each for _, each in played])
+    return data_of(held.result(), packing.blocks(), texts, players)

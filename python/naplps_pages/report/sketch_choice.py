@@ -13,7 +13,8 @@ def choose(table: Table, most: int) -> List[int]:
     """The numbers of so many files: one for each page, or for each group of equal pages."""
     groups, refused, others = _groups(table), _refused(table), _others(table)
     first = groups[:most * GROUPS // 10] + refused[:most * REFUSED // 10]
-    left = [number for number in chain(groups, refused) if number not in set(first)] if len(first) < most else []
+    taken = set(first)
+    left = [number for number in chain(groups, refused) if number not in taken] if len(first) < most else []
     rest = chain(others[:most - len(first)], left)
     return _first(chain(first, rest), most)
 

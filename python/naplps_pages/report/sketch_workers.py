@@ -1,8 +1,10 @@
 """Draws many pages by several processes."""
+import gc
 import resource
 import signal
 import subprocess
 import sys
+from collections import deque
 from dataclasses import replace
 from multiprocessing.connection import Connection, Pipe, wait
 from types import FrameType
@@ -19,8 +21,12 @@ MOST_MEMORY = 1 << 30
 ENDED = "the process that drew it ended"
 # So many processes one behind the other that drew nothing are no fault of the pages.
 MOST_STILLBORN = 10
+# So many pages a process is given at a time, so that it needn't wait for the next one.
+AHEAD = 3
 # How long is waited for a process that is told to end, in seconds.
 PATIENCE = 2.0
+# So many new objects are made before Python looks for those that nobody needs; a page has hundreds.
+OBJECTS = 100_000
 Task = Tuple[int, WantedDrawing]
 
 
@@ -82,27 +88,25 @@ class Share:
     """A process, and the pages that it has yet to draw."""
 
     def __init__(self, how: DrawingOptions, tasks: Sequence[Task]) -> None:
-        self.tasks = list(reversed(tasks))
+        self.tasks = deque(tasks)
         self.drawer = SketchWorker(how)
         self.connection = self.drawer.connection
-        self._give()
-
-    def _give(self) -> None:
-        if self.tasks:
-            self.drawer.give(self.tasks[-1][1])
+        for _, it in tasks[:AHEAD]:
+            self.drawer.give(it)
 
     def hear(self) -> Optional[Tuple[int, Drawing]]:
         """The next drawing; nothing where the process has ended, or has nothing to draw."""
         made = self.drawer.drawing() if self.tasks else None
         if made is None:
             return None
-        number, _ = self.tasks.pop()
-        self._give()
+        number, _ = self.tasks.popleft()
+        if len(self.tasks) >= AHEAD:
+            self.drawer.give(self.tasks[AHEAD - 1][1])
         return number, made
 
     def left(self) -> List[Task]:
         """What it has yet to draw."""
-        return list(reversed(self.tasks))
+        return list(self.tasks)
 
     def close(self) -> None:
         """Ends the process."""
@@ -142,6 +146,8 @@ def main(descriptor: int) -> None:
     """Draws what the connection asks for, until that ends."""
     signal.signal(signal.SIGTERM, _end)
     resource.setrlimit(resource.RLIMIT_AS, (MOST_MEMORY, resource.getrlimit(resource.RLIMIT_AS)[1]))
+    gc.freeze()
+    gc.set_threshold(OBJECTS)
     connection = Connection(descriptor)
     how = connection.recv()
     program = Client(how.program, limits=replace(MODEST, seconds=how.seconds))
