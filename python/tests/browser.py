@@ -12,6 +12,8 @@ WORDS = ["--headless", "--no-sandbox", "--disable-gpu", "--hide-scrollbars", "--
          "--disable-background-networking", "--disable-component-update", "--disable-default-apps", "--mute-audio",
          "--host-resolver-rules=MAP * ~NOTFOUND, EXCLUDE 127.0.0.1", "--remote-debugging-pipe"]
 PATIENCE = 300
+# What is said of a page that gives way to another while it is asked.
+GIVES_WAY = ("navigated or closed", "context was destroyed", "Cannot find context", "Cannot find default execution")
 KEYS = {"Enter": (13, "\r"), "Tab": (9, ""), "Escape": (27, ""), " ": (32, " "), "End": (35, ""), "Home": (36, ""),
         "ArrowLeft": (37, ""), "ArrowRight": (39, ""), "ArrowDown": (40, "")}
 
@@ -101,16 +103,41 @@ class Browser:
 
     def until(self, lines):
         """Waits until an expression is true."""
+        self.wait(lambda: self.run("Boolean(document.readyState === 'complete' && (%s))" % lines), lines)
+
+    def wait(self, is_so, what):
+        """Waits until something is so in the page, or of what it told."""
         end = time.monotonic() + PATIENCE
-        while not self.run("Boolean(document.readyState === 'complete' && (%s))" % lines):
-            fault = self.run("document.body && document.body.dataset.fault")
+        while not self._now(is_so):
+            fault = self._now(lambda: self.run("document.body && document.body.dataset.fault"))
             assert not fault, fault
-            assert time.monotonic() < end, "it never was so: %s\n%s" % (lines, self.errors)
+            assert time.monotonic() < end, "it never was so: %s\n%s" % (what, self.errors)
             time.sleep(0.02)
 
+    def _now(self, is_so):
+        """Whether something is so now, which it isn't where another page is on its way."""
+        try:
+            return is_so()
+        except RuntimeError as error:
+            if any(each in str(error) for each in GIVES_WAY):
+                return False
+            raise
+
+    def tells_error(self, part, number):
+        """Waits until so many errors with this part are told."""
+        self.wait(lambda: self.run("true") and sum(part in each for each in self.errors) >= number,
+                  "%d errors: %s" % (number, part))
+
+    def reload(self, ready="document.body && document.body.dataset.ready"):
+        """Opens the page again, and waits until the new one says that it is ready."""
+        self.run("window.isBefore = true")
+        self.call("Page.reload")
+        self.until("!window.isBefore && (%s)" % ready)
+
     def size(self, width, height):
-        """Gives the window a size."""
+        """Gives the window a size, and waits until the page has it."""
         self.call("Emulation.setDeviceMetricsOverride", width=width, height=height, deviceScaleFactor=1, mobile=False)
+        self.until("innerWidth === %d && innerHeight === %d" % (width, height))
 
     def look(self, media="", dark=False):
         """Shows the page as for this medium, in the dark or not."""

@@ -34,6 +34,12 @@ for line in iter(sys.stdin.buffer.readline, b''):
 """
 
 
+def slow(seconds, go=None):
+    """The lines of such a program that takes so long for each page, until there is a file `go`."""
+    waits = "if page and not os.path.exists(%r): time.sleep(%g)" % (str(go), seconds)
+    return FAKE.replace("    fail(page)\n", "    fail(page)\n    %s\n" % waits)
+
+
 def tree(folder, files):
     """Makes files by their paths, as text or bytes."""
     for name, data in files.items():

@@ -287,7 +287,7 @@ def test_a_fifo_is_waited_for_no_longer_than_it_may_take(naplps, tmp_path, how):
 
 
 def test_a_pipe_of_the_shell_is_waited_for(naplps):
-    lines = '"$0" check --seconds 0.5 <(sleep 2; printf "\\016\\046\\122\\100\\100") <(printf "") /dev/stdin'
+    lines = '"$0" check --seconds 8 <(sleep 10; printf "\\016\\046\\122\\100\\100") <(printf "") /dev/stdin'
     said = subprocess.run(["bash", "-c", lines, COMMAND], capture_output=True, input=POINT,
                           env=dict(os.environ, NAPLPS=naplps))
     answers = [line.split(b": ")[1].split(b" (")[0] for line in said.stdout.splitlines()]

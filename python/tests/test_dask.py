@@ -12,7 +12,7 @@ from naplps_pages.collection.tables import hashed
 from naplps_pages.packs.naming import inside
 from packers import pack
 from samples import POINT
-from scans import FAKE, count, is_sound, rows, start, statuses, table, tree, wait_until
+from scans import FAKE, count, is_sound, rows, slow, start, statuses, table, tree, wait_until
 from test_interpreter import hostile_folder
 from test_scan_same import mixed
 
@@ -26,13 +26,23 @@ class LocalCluster:
     def __init__(self, folder):
         self.folder = folder
         self.file = os.path.join(folder, "scheduler.json")
-        self.processes = []
+        self.processes, self.workers = [], 0
         self.scheduler = self._start("distributed.cli.dask_scheduler", "--port", "0", "--scheduler-file", self.file)
         wait_until(lambda: os.path.exists(self.file) and os.path.getsize(self.file), self.scheduler)
 
     def worker(self, cwd=None, **more):
-        """Starts a worker."""
-        return self._start(*WORKER, "--scheduler-file", self.file, "--local-directory", self.folder, cwd=cwd, **more)
+        """Starts a worker, and waits until the scheduler has it."""
+        self.workers += 1
+        made = self._start(*WORKER, "--scheduler-file", self.file, "--local-directory", self.folder, cwd=cwd, **more)
+        self.wait_for_workers()
+        return made
+
+    def wait_for_workers(self):
+        """Waits until the scheduler has all workers."""
+        words = ("import sys, distributed; client = distributed.Client(scheduler_file=sys.argv[1], timeout=300); "
+                 "client.wait_for_workers(int(sys.argv[2]), timeout=300); client.close()")
+        subprocess.run([PYTHON, "-c", words, self.file, str(self.workers)], check=True, capture_output=True,
+                       timeout=900)
 
     def _start(self, module, *words, cwd=None, **more):
         env = dict(os.environ, DASK_DISTRIBUTED__WORKER__PROFILE__INTERVAL="10s",
@@ -90,10 +100,6 @@ def test_no_code_of_the_current_folder_of_a_worker_runs(run, tmp_path, store, cl
     assert said.returncode == 0 and not os.path.exists(ran), (said, open(ran).read())
 
 
-def slow(fake, seconds):
-    return fake(FAKE.replace("    fail(page)\n", "    fail(page)\n    if page: time.sleep(%g)\n" % seconds))
-
-
 def test_two_workers_of_which_one_is_killed_amid(run, naplps, tmp_path, store, cluster):
     top = archive(tmp_path, 4000)
     first = cluster.worker()
@@ -111,8 +117,8 @@ def test_two_workers_of_which_one_is_killed_amid(run, naplps, tmp_path, store, c
 
 
 def test_a_scheduler_that_ends_amid(run, fake, tmp_path, store, cluster):
-    top = archive(tmp_path, 4000)
-    program = slow(fake, 0.0005)
+    top, go = archive(tmp_path, 4000), tmp_path / "go"
+    program = fake(slow(0.002, go))
     cluster.worker()
     address = address_of(cluster.file)
     scan = start(["scan", top, "--into", store, "--on", address], program)
@@ -123,6 +129,7 @@ def test_a_scheduler_that_ends_amid(run, fake, tmp_path, store, cluster):
     assert told.decode() == (
         "naplps-pages: %s: the scheduler isn't there any more; what was taken is kept, and the same command goes on\n"
         % address)
+    go.touch()
     taken = count(store)
     assert is_sound(store) and 0 < taken < 7001
     told = run(["status", store]).stdout.decode()
@@ -150,19 +157,12 @@ def test_a_worker_with_another_program_is_told_before_any_work(run, fake, tmp_pa
          cluster.folder],
         stdout=subprocess.DEVNULL, stderr=subprocess.DEVNULL, stdin=subprocess.DEVNULL)
     cluster.processes.append(process)
-    wait_for_workers(cluster, 2)
+    cluster.workers += 1
+    cluster.wait_for_workers()
     said = run(["scan", top, "--into", store, "--on", cluster.file], program=program)
     assert (said.stdout, said.returncode) == (b"", 3) and not os.path.exists(store)
     assert said.stderr.decode().endswith(": %s is another program there\n" % program)
     assert said.stderr.count(b"is another program there") == 1
-
-
-def wait_for_workers(cluster, number):
-    """Waits until the scheduler has so many workers."""
-    words = ("import sys, distributed; client = distributed.Client(scheduler_file=sys.argv[1]); "
-             "client.wait_for_workers(int(sys.argv[2])); client.close()")
-    subprocess.run([PYTHON, "-c", words, cluster.file, str(number)], check=True, capture_output=True,
-                   timeout=120)
 
 
 def test_what_has_to_be_the_same(tmp_path):

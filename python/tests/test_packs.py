@@ -19,7 +19,7 @@ from naplps_pages.report.roots import Roots, joined
 from packers import add, entry, pack, written, zip_of
 from reports import held
 from samples import OUTSIDE, POINT, SPELLED, with_parity
-from scans import FAKE, children, count, is_sound, rows, start, statuses, table, tree, wait_until
+from scans import FAKE, children, count, is_sound, rows, slow, start, statuses, table, tree, wait_until
 from stores import earlier
 from test_scan_same import mixed
 
@@ -198,15 +198,11 @@ def test_what_is_too_long_is_read_once_that_is_allowed(run, at, store):
     assert statuses(store)["pack.tar!more"] == ("too long", "16777217 bytes")
 
 
-def slow(fake, seconds):
-    return fake(FAKE.replace("    fail(page)\n", "    fail(page)\n    if page: time.sleep(%g)\n" % seconds))
-
-
 @pytest.mark.parametrize("ending", [".tgz"])
 def test_killed_amid_a_pack_and_resumed(run, fake, at, store, ending):
     path = pack(os.path.join(at, "pack" + ending), {"%d" % number: b"page %d" % number for number in range(3000)})
-    program = slow(fake, 0.001)
-    taken = 0
+    go = os.path.join(at, "..", "go")
+    program, taken = fake(slow(0.003, go)), 0
     for least in (1, 1000):
         it = start(["scan", path, "--into", store], program)
         wait_until(lambda: rows_asked(store) >= least, it)
@@ -214,6 +210,7 @@ def test_killed_amid_a_pack_and_resumed(run, fake, at, store, ending):
         it.communicate()
         assert is_sound(store) and taken <= rows_asked(store) < 3000
         taken = rows_asked(store)
+    open(go, "wb").close()
     said = scan(run, path, "--into", store, program=program)
     assert b"3000 files: 3000 accepted" in said.stdout and b" %d pages asked about" % (3000 - taken) in said.stdout
     other = store + ".other"
@@ -231,7 +228,7 @@ def rows_asked(store):
 
 def test_a_signal_amid_a_pack_stops_in_order(run, fake, at, store):
     path = pack(os.path.join(at, "pack.tgz"), {"%d" % number: b"page %d" % number for number in range(3000)})
-    it = start(["scan", path, "--into", store], slow(fake, 0.002))
+    it = start(["scan", path, "--into", store], fake(slow(0.02)))
     wait_until(lambda: rows_asked(store) > 0, it)
     it.send_signal(signal.SIGINT)
     _, told = it.communicate()
@@ -243,9 +240,11 @@ def test_a_signal_amid_a_pack_stops_in_order(run, fake, at, store):
 
 def test_a_worker_that_is_killed_amid_a_pack_costs_nothing(run, fake, at, store):
     path = pack(os.path.join(at, "pack.tgz"), {"%d" % number: b"page %d" % number for number in range(1500)})
-    it = start(["scan", path, "--into", store, "--processes", "2"], slow(fake, 0.002))
+    go = os.path.join(at, "..", "go")
+    it = start(["scan", path, "--into", store, "--processes", "2"], fake(slow(0.02, go)))
     wait_until(lambda: rows_asked(store) > 0 and children(it.pid), it)
     os.kill(children(it.pid)[0], signal.SIGKILL)
+    open(go, "wb").close()
     out, told = it.communicate()
     assert (told, it.returncode) == (b"", 0) and out.startswith(b"1500 files: 1500 accepted (1500 texts)")
     assert b" gone" not in out
@@ -262,11 +261,13 @@ def test_a_page_that_ends_its_worker(run, fake, at, store):
 
 def test_a_pack_that_grows_while_it_is_read(run, fake, at, store):
     path = pack(os.path.join(at, "pack.tar"), {"%d" % number: b"page %d" % number for number in range(600)})
-    it = start(["scan", path, "--into", store], slow(fake, 0.005))
+    go = os.path.join(at, "..", "go")
+    it = start(["scan", path, "--into", store], fake(slow(0.05, go)))
     wait_until(lambda: children(it.pid), it)
     wait_until(lambda: rows_asked(store) > 0, it)
     with open(path, "ab") as file:
         file.write(bytes(10240))
+    open(go, "wb").close()
     _, told = it.communicate()
     assert told.decode() == "naplps-pages: %s: it grew while it was read\n" % path and it.returncode == 1
     said = scan(run, path, "--into", store, program=fake(FAKE))

@@ -1,6 +1,7 @@
 """Reports in a browser, from a file and served: what is shown, which keys reach it, and that nothing else acts."""
 import hashlib
 import os
+import pathlib
 import re
 import subprocess
 
@@ -292,8 +293,8 @@ def test_a_page_of_the_wall_and_those_beside_it(wall):
     wall.until(TITLE + " === 'equal/one.nap'")
     wall.press("Escape")
     wall.until("!" + OPEN)
-    assert wall.run("document.activeElement.closest('li').dataset.at") == "3"
-    assert wall.run("location.hash") == "#pages"
+    wall.until("document.activeElement.closest('li')?.dataset.at === '3'")
+    wall.until("location.hash === '#pages'")
 
 
 def test_each_page_has_an_address(wall, address):
@@ -305,7 +306,7 @@ def test_each_page_has_an_address(wall, address):
     wall.until(TITLE + " === 'equal/one.nap'")
     assert wall.run("location.hash") == "#page=" + hashlib.sha256(POINT).hexdigest()[:16]
     wall.run("document.getElementById('close').click()")
-    wall.until("!" + OPEN)
+    wall.until("!" + OPEN + " && location.hash === '#pages'")
     wall.run("document.querySelectorAll('#wall .tile')[0].click()")
     wall.until(OPEN)
     wall.run("history.back()")
@@ -344,10 +345,9 @@ def test_a_sketch_is_saved(wall, address, tmp_path):
     wall.until(OPEN)
     wall.run("document.getElementById('save').click()")
     path = os.path.join(str(tmp_path), "page 001.nap.svg")
-    wait_until(lambda: os.path.exists(path))
-    with open(path, encoding="utf-8") as saved:
-        text = saved.read()
-    assert text.startswith("<svg ") and text.endswith("</svg>\n") and ">PAGE 1</text>" in text
+    wait_until(lambda: os.path.exists(path) and pathlib.Path(path).read_text("utf-8").endswith("</svg>\n"))
+    text = pathlib.Path(path).read_text("utf-8")
+    assert text.startswith("<svg ") and ">PAGE 1</text>" in text
 
 
 def test_a_page_is_played_beside_its_sketch(wall, address):
@@ -418,9 +418,9 @@ def test_the_wall_is_as_wide_as_the_window(wall, width, media, dark):
     wall.size(width, 900)
     wall.look(media, dark)
     wall.until("document.querySelectorAll('#wall img').length > 3")
-    assert wall.run("document.documentElement.scrollWidth") <= width
     if not media:
-        assert wall.run(COLUMNS) == {390: 2, 768: 3, 1600: 7}[width]
+        wall.until("%s === %d" % (COLUMNS, {390: 2, 768: 3, 1600: 7}[width]))
+    wall.until("document.documentElement.scrollWidth <= %d" % width)
     assert wall.run("getComputedStyle(document.querySelector('nav')).display") == ("none" if media else "flex")
 
 
@@ -432,4 +432,4 @@ def test_what_gets_into_the_page_all_the_same_does_nothing(browser, address):
     browser.run("document.body.append(Object.assign(document.createElement('script'), {textContent: 'hacked=1'}))")
     assert browser.run("fetch('http://127.0.0.1:9/x').then(() => 'asked', () => 'not asked')") == "not asked"
     assert browser.run("new Promise((done) => setTimeout(() => done(typeof hacked), 200))") == "undefined"
-    assert sum("Content Security Policy" in each for each in browser.errors) >= 4
+    browser.tells_error("Content Security Policy", 4)

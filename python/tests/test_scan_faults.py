@@ -15,7 +15,7 @@ from naplps_pages.collection.pool import NoWorkers, Pool
 from naplps_pages.collection.store import keep_log
 from naplps_pages.collection.worker import Worker, WorkerOptions
 from samples import OUTSIDE, POINT
-from scans import FAKE, children, count, is_sound, rows, start, statuses, table, tree, wait_until
+from scans import FAKE, children, count, is_sound, rows, slow, start, statuses, table, tree, wait_until
 
 MANY = {"%02d/%03d" % (number // 100, number): b"page %d" % number for number in range(400)}
 
@@ -205,8 +205,7 @@ def test_a_file_that_grows_while_it_is_read(tmp_path, monkeypatch):
 
 def test_two_scans_at_once(naplps, run, fake, tmp_path, store):
     pages = many(tmp_path)
-    slow = fake(FAKE.replace("    fail(page)\n", "    fail(page)\n    if page: time.sleep(0.05)\n"))
-    first = start(["scan", pages, "--into", store, "--processes", "1"], slow)
+    first = start(["scan", pages, "--into", store, "--processes", "1"], fake(slow(0.1)))
     wait_until(lambda: count(store) > 0, first)
     said = run(["scan", pages, "--into", store], program=naplps)
     assert said.returncode == 3 and said.stdout == b""
@@ -222,8 +221,7 @@ def test_two_scans_at_once(naplps, run, fake, tmp_path, store):
 @pytest.mark.parametrize("number", [signal.SIGINT, signal.SIGTERM, signal.SIGHUP])
 def test_a_signal_stops_it_in_order(run, fake, tmp_path, store, number):
     pages = many(tmp_path)
-    slow = fake(FAKE.replace("    fail(page)\n", "    fail(page)\n    if page: time.sleep(0.02)\n"))
-    scan = start(["scan", pages, "--into", store, "--processes", "2"], slow)
+    scan = start(["scan", pages, "--into", store, "--processes", "2"], fake(slow(0.05)))
     wait_until(lambda: count(store) > 0, scan)
     workers = children(scan.pid)
     assert len(workers) == 2
@@ -337,8 +335,7 @@ def test_the_lock_is_one_at_a_time(store):
 
 def test_a_killed_scan_leaves_no_lock(fake, run, tmp_path, store):
     pages = many(tmp_path)
-    slow = fake(FAKE.replace("    fail(page)\n", "    fail(page)\n    if page: time.sleep(0.05)\n"))
-    scan = start(["scan", pages, "--into", store, "--processes", "2"], slow)
+    scan = start(["scan", pages, "--into", store, "--processes", "2"], fake(slow(0.05)))
     wait_until(lambda: count(store) > 0, scan)
     workers = children(scan.pid)
     scan.kill()

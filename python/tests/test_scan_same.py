@@ -13,7 +13,7 @@ from naplps.client import Client
 from naplps_pages.collection import tables
 from naplps_pages.file_kinds import kind, looks_like
 from samples import MACRO, OUTSIDE, POINT, with_parity
-from scans import FAKE, FileRow, children, count, is_sound, rows, start, table, tree, wait_until
+from scans import FileRow, children, count, is_sound, rows, slow, start, table, tree, wait_until
 from strategies import pages as made_pages
 
 SOME = [POINT, OUTSIDE, MACRO, b"", b"\x18", b"\x1b", with_parity(POINT), b"\x0fhello", b"\x0f\x00hello"]
@@ -99,15 +99,16 @@ def test_killed_five_times_and_resumed(run, naplps, tmp_path, store):
 
 
 def test_workers_that_are_killed_cost_nothing(run, fake, tmp_path, store):
-    pages = tree(os.path.join(str(tmp_path), "pages"), mixed(1000))
-    program = fake(FAKE.replace("    fail(page)\n", "    fail(page)\n    time.sleep(0.005)\n"))
+    pages, go = tree(os.path.join(str(tmp_path), "pages"), mixed(1000)), tmp_path / "go"
+    program = fake(slow(0.05, go))
     scan = start(["scan", pages, "--into", store, "--processes", "2"], program)
     killed = set()
-    for least in (1, 200, 400):
+    for least in (1, 50, 100):                                  # (rows are written every two seconds)
         wait_until(lambda: count(store) >= least and set(children(scan.pid)) - killed, scan)
         victim = min(set(children(scan.pid)) - killed)
         os.kill(victim, signal.SIGKILL)
         killed.add(victim)
+    go.touch()
     out, told = scan.communicate()
     assert (told, scan.returncode) == (b"", 0) and out.startswith(b"1000 files: ")
     other = store + ".other"

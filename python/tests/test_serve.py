@@ -280,7 +280,7 @@ def test_a_scan_meanwhile_is_shown(own, run, tmp_path):
 
 
 def test_clients_that_say_nothing_hold_up_nobody(served):
-    silent = [socket.create_connection((HOST, served.port), 5) for _ in range(20)]
+    silent = [socket.create_connection((HOST, served.port), 300) for _ in range(20)]
     assert served.ask("/")[0] == 200
     for each in silent:
         each.close()
@@ -320,47 +320,73 @@ def test_nothing_is_written(own, tmp_path):
     assert rows(os.path.join(str(tmp_path), "pages.db"), "SELECT count(*) FROM sqlite_master") == before
 
 
-# A program that thinks of some pages for ever.
+# A program that thinks of some pages until a file is there.
 SLOW = BATCH + """
 if sys.argv[1:] == ['--version']:
     print('naplps 9.9, canonical form 2')
     sys.exit()
 for command, budget, page in requests():
-    if command != 'canon' and page[3:] == b'hang': time.sleep(600)
+    while command != 'canon' and page[3:] == b'hang' and not os.path.exists('@GO@'): time.sleep(0.02)
     bodies = {'places': b'0 BELL\\n' * len(page), 'canon': b'canonical ' + page, 'check': b''}
     answer(b'accepted %d entries' % len(page), bodies[command])
 """
 
 
 @pytest.fixture
-def slow(run, naplps, fake, tmp_path):
-    """A server whose program thinks of six of nine pages for ever, once they are to be drawn in eight seconds."""
+def go(tmp_path):
+    """The file that the slow program waits for."""
+    return tmp_path / "go"
+
+
+def slowly(run, fake, tmp_path, go, seconds):
+    """A server whose program thinks of six of nine pages until the file is there, where each may take so long."""
     top = tree(os.path.join(str(tmp_path), "slow"), {
         "%d.nap" % at: b"%d.." % at + (b"hang" if at < 6 else b"good") for at in range(9)})
-    store = os.path.join(str(tmp_path), "slow.db")
-    assert run(["scan", top, "--into", store], program=fake(SLOW)).returncode == 0
-    with start(["serve", store, "--seconds", "8"], fake(SLOW)) as process:
+    store, program = os.path.join(str(tmp_path), "slow.db"), fake(SLOW.replace("@GO@", str(go)))
+    assert run(["scan", top, "--into", store], program=program).returncode == 0
+    with start(["serve", store, "--seconds", seconds], program) as process:
         yield Served(process)
         process.terminate()
 
 
-def test_a_long_drawing_makes_nobody_wait(slow):
+@pytest.fixture
+def slow(run, fake, tmp_path, go):
+    """One where each may take as long as it takes."""
+    yield from slowly(run, fake, tmp_path, go, "900")
+
+
+@pytest.fixture
+def short(run, fake, tmp_path, go):
+    """One where each may take eight seconds."""
+    yield from slowly(run, fake, tmp_path, go, "8")
+
+
+def test_a_long_drawing_makes_nobody_wait(slow, go):
     with ThreadPoolExecutor(1) as other:
         long = other.submit(slow.drawing, "0.nap")
         wait_until(lambda: children(slow.process.pid))
         assert slow.drawing("7.nap")["entries"] == 7 and not long.done()
         assert slow.json(FILES)["total"] == 9 and not long.done()
-        assert re.search("(no answer|isn't drawn) in 8 s$", long.result()["why"])
+        go.touch()
+        assert long.result()["entries"] == 7
 
 
-def test_many_long_drawings_end(slow):
+def test_questions_are_answered_while_all_processes_draw(slow, go):
     with ThreadPoolExecutor(7) as others:
         long = [others.submit(slow.drawing, "%d.nap" % at) for at in range(6)]
         good = others.submit(slow.drawing, "8.nap")
         assert slow.json(FILES)["total"] == 9 and not any(each.done() for each in long)
+        go.touch()
+        assert [each.result()["entries"] for each in (*long, good)] == [7] * 7
+
+
+def test_many_long_drawings_end(short):
+    with ThreadPoolExecutor(7) as others:
+        long = [others.submit(short.drawing, "%d.nap" % at) for at in range(6)]
+        good = others.submit(short.drawing, "8.nap")
         assert all(re.search("(no answer|isn't drawn) in 8 s$", each.result()["why"]) for each in long)
         assert good.result()["entries"] == 7
-    assert slow.drawing("6.nap")["entries"] == 7
+    assert short.drawing("6.nap")["entries"] == 7
 
 
 def test_a_drawer_that_is_killed_is_replaced(own):
@@ -380,5 +406,6 @@ def test_it_ends_amid_a_drawing(slow, number):
         slow.process.send_signal(number)
         assert slow.process.wait(300) == -number
         wait_until(lambda: _is_dead(drawer) and _is_dead(program))
-        with pytest.raises((OSError, http.client.HTTPException, AssertionError)):
-            long.result()
+        # (the server may end before it can tell that nothing is drawn, or behind that)
+        lost = long.exception()
+        assert isinstance(lost, (OSError, http.client.HTTPException, AssertionError)) or long.result()["why"] == ENDED
