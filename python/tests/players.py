@@ -2,7 +2,9 @@
 import base64
 import json
 import os
+import re
 import subprocess
+import zlib
 
 from conftest import COMMAND
 
@@ -41,11 +43,18 @@ COMPARED = """
 """
 
 
-def play(naplps, page, html):
+def play(naplps, page, html, *words):
     """Makes the player of a page; what the command said, and the address."""
-    said = subprocess.run([COMMAND, "play", page, "--into", html], env=dict(os.environ, NAPLPS=naplps),
+    said = subprocess.run([COMMAND, "play", page, "--into", html, *words], env=dict(os.environ, NAPLPS=naplps),
                           capture_output=True)
     return said, "file://" + os.path.abspath(html)
+
+
+def held(html):
+    """What a player holds of its page."""
+    with open(html, encoding="utf-8") as file:
+        packed = re.search('<script type="text/plain" id="page">([A-Za-z0-9+/=]*)</script>', file.read())
+    return json.loads(zlib.decompress(base64.b64decode(packed[1])))
 
 
 def called(lines, *words):

@@ -1,15 +1,20 @@
 """A page after others: their macros, colours and sets stand, and the last page is told alone."""
 import json
+import os
 
 import pytest
 from hypothesis import given
 from hypothesis import strategies as st
 
 from conftest import file
+from naplps.answers import Accepted
 from naplps.client import Client
+from naplps.drawing import timeline
 from naplps_pages.earlier import Earlier, heard
-from naplps_pages.listing import listed
+from naplps_pages.listing import Listed, listed
+from naplps_pages.player.played import played
 from naplps_pages.source import Page
+from players import held
 from samples import OUTSIDE, POINT, POINT_LINE
 
 # A macro of a point, and G2 for macros; a page that calls it; and one that only goes on with a run.
@@ -104,6 +109,31 @@ def test_what_cant_be_read_or_is_too_long(run, folder):
     assert said.returncode == 3 and said.stderr.endswith(b"first: the earlier pages are longer than 16 MiB\n")
     assert run(["check", "-", "--after", "-"], cwd=folder).returncode == 2
     assert run(["check", "second", "--after", "-"], FIRST, cwd=folder).stdout == b"accepted 2 entries\n"
+
+
+def test_a_player_has_the_entries_of_earlier_pages_in_front(run, folder):
+    file(folder, "point", POINT + b"\x0f")
+    file(folder, "text", b"A")
+    html = os.path.join(folder, "player.html")
+    said = run(["play", "text", "--after", "first", "--after", "point", "--into", html], cwd=folder)
+    assert (said.stdout, said.stderr, said.returncode) == (b"", b"", 0)
+    it = held(html)
+    assert (it["before"], it["length"], it["places"], it["codes"]["entry"]) == (1, 1, [-1, 0], [-1, 0])
+    assert it["lines"] == [POINT_LINE, *lines(run, folder, "list", "text", "--after", "first", "--after", "point")]
+    with open(html, encoding="utf-8") as made:
+        assert "It comes after first, point: " in made.read()
+    said = run(["play", "second", "--after", "bad", "--into", html + "2"], cwd=folder)
+    assert said.returncode == 3 and said.stderr.endswith(b"the page before it, bad, is refused 6 LeftOut CAN at 1\n")
+    assert not os.path.exists(html + "2")
+
+
+def test_the_entries_of_earlier_pages_are_bounded_too(monkeypatch):
+    monkeypatch.setattr(timeline, "MOST_BYTES", 20_000)
+    ink = "pel=0,0 colour=own-start texture=0/none"
+    before = ["RECT-FILLED 0,0 4000000,4000000 " + ink, "CLEAR pen=0,0"] * 500
+    it = json.loads(played(b"AB", Listed(Accepted(1), [(0, before[0])]), before=before))
+    assert 20 < it["before"] == len(it["lines"]) == len(it["places"]) < len(before) and set(it["places"]) == {-1}
+    assert it["notes"] and "ends before entry 1:" in it["notes"][0]
 
 
 PIECES = st.lists(st.sampled_from([

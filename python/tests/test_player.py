@@ -68,10 +68,10 @@ def shown(browser, naplps, tmp_path):
     """Shows the player of a page by its bytes or name; behind the test it has told no fault, and asked for nothing."""
     addresses = []
 
-    def shows(page, bypass=False):
+    def shows(page, bypass=False, words=()):
         browser.call("Page.setBypassCSP", enabled=bypass)
         path = page if isinstance(page, str) else file(tmp_path, "page.nap", page)
-        said, address = play(naplps, path, os.path.join(str(tmp_path), "player.html"))
+        said, address = play(naplps, path, os.path.join(str(tmp_path), "player.html"), *words)
         assert said.returncode in (0, 1), said.stderr
         browser.size(1240, 900)
         browser.look()
@@ -273,6 +273,33 @@ def test_a_keyboard_alone_reaches_each_control(shown):
                     ".filter((each) => !each.reached).length") == 0
     assert page.run("[...document.querySelectorAll('button, input, select')].every((each) => each.ariaLabel || "
                     "each.closest('label'))")
+
+
+def test_what_earlier_pages_drew_is_there_at_the_start(shown, program, tmp_path):
+    first = PageWriter().clear().domain().select(5).rectangle(0.1, 0.1, 0.3, 0.3).code(0x3D, b"\x54").made()
+    last = PageWriter().domain().rectangle(0.6, 0.5, 0.3, 0.2).made()
+    path = file(tmp_path, "menu.nap", first)
+    page = shown(last, bypass=True, words=["--after", path])
+    assert "It comes after menu.nap: " in page.run("document.querySelector('header').textContent")
+    whole, before = (program.ask("list", data).body.decode("ascii").splitlines() for data in (first + last, first))
+    still(page)
+    for moment, lines in (("player.line.start", before), ("player.line.ofBytes(0)", before),
+                          ("player.line.whole", whole)):
+        page.run("player.showNow(%s)" % moment)
+        want(page, drawing.draw(lines).svg, SIZE)
+        how = page.run(how_like(SIZE))
+        assert like(how) and how["all"] > 10_000, (moment, how)
+    told = "document.querySelector('.told').textContent"
+    own = len(whole) - len(before)
+    assert page.run(told).startswith("Byte %d of %d, entry %d of %d, " % (len(last), len(last), own, own))
+    # (a wait of an earlier page is over)
+    assert page.run("player.line.end") == pytest.approx(len(last) * 10 / 1200)
+    page.run("player.box.focus()")
+    for key in ("Home", "ArrowLeft"):
+        page.press(key)
+        assert page.run(told).startswith("Byte 0 of %d, entry 0 of %d, " % (len(last), own))
+    page.run("player.chooseEntry(player.screen.entryAt(200, 500, player.moment.done))")
+    assert page.run("document.querySelector('.about li').textContent").endswith(" of a page before it")
 
 
 def test_it_plays_to_its_end(shown):

@@ -263,8 +263,8 @@ def test_the_wall(wall, archive):
     some = wall.run(LEAVES)
     assert some[:5] == ["a.nap", "b.nap", "copy of one.nap", "one.nap", "two.nap"]
     assert wall.run(WALL_TOLD).endswith(" of %d pages" % (archive[1] - 1))
-    wall.until("document.querySelector('#wall img').naturalHeight > 0")
-    assert wall.run("document.querySelector('#wall img').naturalHeight") == 800
+    # (pictures come in any order, so the first one may be another a moment later)
+    wall.until("document.querySelector('#wall img').naturalHeight === 800")
     wall.until("document.querySelectorAll('#wall .says')[0].textContent === 'COPIED'")
 
 

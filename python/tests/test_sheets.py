@@ -138,7 +138,8 @@ def with_program(tmp_path, monkeypatch, text):
 
 @pytest.mark.parametrize("text, told", [
     ("", WANTING), ("#!/bin/sh\necho no luck >&2\nexit 1\n", "rsvg-convert failed: no luck"),
-    ("#!/bin/sh\nexit 0\n", "rsvg-convert failed: "), ("#!/bin/sh\nexec sleep 600\n", "rsvg-convert didn't end in 8 s")])
+    ("#!/bin/sh\nexit 0\n", "rsvg-convert failed: "),
+    ("#!/bin/sh\nexec sleep 600\n", "rsvg-convert didn't end in 8 s")])
 def test_where_librsvg_fails_there_is_a_message(run, tmp_path, monkeypatch, text, told):
     page, sheet = file(tmp_path, "page", POINT), os.path.join(str(tmp_path), "sheet.png")
     with_program(tmp_path, monkeypatch, text)

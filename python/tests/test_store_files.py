@@ -10,10 +10,12 @@ from naplps_pages.collection.places import Place
 from naplps_pages.collection.session import Names
 from naplps_pages.collection.store import is_store, open_to_read
 from naplps_pages.new_files import NotWritten
+from naplps_pages.sheet import MOST_PAGES
 from packers import pack
 from samples import OUTSIDE, POINT, SPELLED, with_parity
 from scans import tree
 from stores import copied, earlier
+from test_sheets import tiles
 
 HELLO = b"\x0fhello"
 FILES = {"a/MENU.NAP": with_parity(POINT), "b/MENU.NAP": HELLO + b"\x1a", "b/c/MENU.NAP": b"\x0fA" + b"\x18" + b"B",
@@ -73,7 +75,42 @@ def test_sketches_stand_under_their_folders(run, store, pages, tmp_path):
         os.fsencode(name) + b".svg" for name in (*FILES, "d.tar!disk 3/MENU.NAP")}
     assert made(to)[b"copy.svg"] == run(["look", os.path.join(pages, "page")]).stdout
     said = run(["look", store])
-    assert (said.stdout, said.returncode) == (b"", 2) and b"a store needs --into FOLDER" in said.stderr
+    assert (said.stdout, said.returncode) == (b"", 2) and b"a store needs --into FOLDER or --sheet FILE" in said.stderr
+
+
+def test_one_sheet_of_a_store(run, store, tmp_path):
+    sheet = os.path.join(str(tmp_path), "sheet.svg")
+    said = run(["look", store, "--sheet", sheet])
+    assert said.returncode == 1 and said.stdout == b""
+    with open(sheet, encoding="utf-8") as made:
+        names = [told[0] for told, _ in tiles(made.read())]
+    assert names == ["copy", "gif", "out", "page", "\\xff", "a/MENU.NAP", "b/MENU.NAP", "b/c/MENU.NAP",
+                     "d.tar!disk 3/MENU.NAP"]
+    said = run(["look", store, "--sheet", sheet])
+    assert said.returncode == 1 and b"isn't written over" not in said.stderr
+    for words in (["--sheet", sheet, "--into", "x"], ["--svg", "x"], []):
+        assert run(["look", store, *words], cwd=str(tmp_path)).returncode == 2
+
+
+def test_a_sheet_of_a_store_has_no_more_pages_than_others(run, tmp_path):
+    top = tree(os.path.join(str(tmp_path), "pages"), {"%04d" % at: b"\x0f%d" % at for at in range(MOST_PAGES + 2)})
+    store, sheet = os.path.join(str(tmp_path), "pages.db"), os.path.join(str(tmp_path), "sheet.svg")
+    assert run(["scan", top, "--into", store]).returncode == 0
+    said = run(["look", store, "--sheet", sheet])
+    assert (said.returncode, said.stderr.decode()) == (
+        3, "naplps-pages: %s: a sheet has 1000 pages at most: 2 files aren't in it\n" % store)
+    with open(sheet, encoding="utf-8") as made:
+        assert [told[0] for told, _ in tiles(made.read())] == ["%04d" % at for at in range(MOST_PAGES)]
+
+
+def test_a_store_after_other_pages(run, tmp_path):
+    top = tree(os.path.join(str(tmp_path), "pages"), {"second": b"\x19\x41A"})
+    first = os.path.join(tree(os.path.join(str(tmp_path), "other"), {
+        "first": bytes.fromhex("1B 40 41 0E 26 52 0F 1B 45 1B 2A 7A")}), "first")
+    store, to = os.path.join(str(tmp_path), "pages.db"), os.path.join(str(tmp_path), "to")
+    assert run(["scan", top, "--into", store]).returncode == 0
+    assert run(["look", store, "--into", to, "--after", first]).returncode == 0
+    assert made(to)[b"second.svg"] == run(["look", os.path.join(top, "second"), "--after", first]).stdout
 
 
 def test_files_of_several_roots(run, tmp_path):
