@@ -26,7 +26,7 @@ _naplps_pages() {
         explain) words='--full --after --budget --seconds --help' ;;
         text) words='--after --budget --seconds --help' ;;
         look) words='--svg --sheet --into --png --past --after --budget --seconds --help' ;;
-        play) words='--into --budget --seconds --help' ;;
+        play) words='--into --after --budget --seconds --help' ;;
         cures | split) words='--json --into --budget --seconds --help' ;;
         scan) words='--into --processes --on --part --most --again --cures --words --budget --seconds --help' ;;
         merge) words='--unfinished --help' ;;

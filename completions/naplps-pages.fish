@@ -27,7 +27,7 @@ complete -c naplps-pages -n '__fish_seen_subcommand_from equal refused files fin
 complete -c naplps-pages -n '__fish_seen_subcommand_from canon look play cures split scan convert report' -l into -r \
     -d 'The folder or file to write into, or the store of a scan'
 complete -c naplps-pages -n '__fish_seen_subcommand_from explain report serve' -l full -d 'A row for each character'
-complete -c naplps-pages -n '__fish_seen_subcommand_from check list explain look text' -l after -r \
+complete -c naplps-pages -n '__fish_seen_subcommand_from check list explain look play text' -l after -r \
     -d 'A page that comes before'
 complete -c naplps-pages -n '__fish_seen_subcommand_from look' -l sheet -r -d 'Write one picture of all pages to this file'
 complete -c naplps-pages -n '__fish_seen_subcommand_from look' -l png -d 'Make PNG instead of SVG'

@@ -34,7 +34,7 @@ LEAST_SECONDS, MOST_SECONDS = 0.01, 1e6
 # Processes of a report.
 MOST_DRAWING = 64
 # The commands on a page after others; canon says why it can't be one of them.
-AFTER = ("check", "list", "canon", "explain", "look", "text")
+AFTER = ("check", "list", "canon", "explain", "look", "play", "text")
 NO_CANON = ("not for canon: a canonical stream begins where nothing stands, so a page after others has none; `cat` "
             "joins pages to one that has")
 # The options that a session has.
@@ -423,14 +423,14 @@ def _done(given: argparse.Namespace, command: str) -> int:
         return FAILED
     after: List[str] = getattr(given, "after", [])
     try:
-        if given.command in OF_STORES and len(given.pages) == 1 and is_store(given.pages[0]):
-            if given.command == "look" and given.into is None:
-                given.parser.error("a store needs --into FOLDER")
-            return collection.of_store(given, client)
+        is_of_store = given.command in OF_STORES and len(given.pages) == 1 and is_store(given.pages[0])
+        if is_of_store and given.command == "look" and given.into is None and given.sheet is None:
+            given.parser.error("a store needs --into FOLDER or --sheet FILE")
+        earlier = read_earlier(after, given.seconds) if after else Earlier()
+        if is_of_store:
+            return collection.of_store(given, client, earlier)
         options = {name: value for name, value in vars(given).items() if name in OPTIONS}
-        session = Session(client, given.pages, **options,
-                          earlier=read_earlier(after, given.seconds) if after else Earlier())
-        return ON_PAGES[given.command](session)
+        return ON_PAGES[given.command](Session(client, given.pages, **options, earlier=earlier))
     except (NotWritten, Unread, NoPng) as error:
         tell(str(error))
         return FAILED

@@ -103,6 +103,10 @@ class Session:
         """What stands in front of the answer to a page: its name, where there are several."""
         return f"{shown(name)}: " if len(self.names) > 1 else ""
 
+    def title(self, page: Page) -> str:
+        """What stands below the picture of a page where there are several."""
+        return shown(page.name)
+
     def path_for(self, name: str, ending: str = "") -> str:
         """The path of the file for a page in the folder that is given, where folders are made. Raises NotWritten."""
         assert self.into is not None

@@ -1,12 +1,13 @@
 """The command play: a page as it came down the line, in one HTML file."""
 import os
-from typing import Union
+from typing import List, Union
 
 from naplps.answers import Accepted, Refusal
 from naplps.limits import MOST_LISTED
 from naplps.names import shown
 
 from .console import Session, tell
+from .earlier import Earlier, Heard
 from .new_files import put
 from .player.document import html
 from .player.played import can_be_played, played
@@ -20,22 +21,33 @@ TOO_MUCH = f"not played: it has more than {MOST_LISTED} entries, or their lines 
 def play(session: Session) -> int:
     """Makes the player of a page."""
     def work(page: Page) -> None:
-        told = session.heard(page).last
-        answer = told.answer
+        heard = session.heard(page)
+        told, answer = heard.last, heard.last.answer
         if not session.answered(page, answer):
             return
         assert isinstance(answer, (Accepted, Refusal)) and session.into is not None
         if page.data is None or not can_be_played(told):
             session.complain(page.name, UNKNOWN_PLACES if page.data is None else TOO_MUCH)
             return
-        made = played(page.data, told)
+        made = played(page.data, told, before=_before(heard))
         name = "A page" if page.name == "-" else shown(os.path.basename(page.name))
-        put(session.into, html(TITLE % name, _said(answer), made).encode("utf-8"))
+        put(session.into, html(TITLE % name, _said(answer, session.earlier), made).encode("utf-8"))
         if isinstance(answer, Refusal):
             tell(f"{shown(page.name)}: {answer.line}; the player shows what comes before")
     return session.each(work)
 
 
-def _said(answer: Union[Accepted, Refusal]) -> str:
-    told = f"The answer to the page: {answer.line}."
-    return f"{told} It is played up to there." if isinstance(answer, Refusal) else told
+def _before(heard: Heard) -> List[str]:
+    """The lines of the entries that earlier pages brought."""
+    every, last = heard.every.lines or [], heard.last.lines or []
+    return every[:len(every) - len(last)]
+
+
+def _said(answer: Union[Accepted, Refusal], earlier: Earlier) -> str:
+    some = [f"The answer to the page: {answer.line}."]
+    if isinstance(answer, Refusal):
+        some.append("It is played up to there.")
+    if earlier.names:
+        names = ", ".join("standard input" if each == "-" else shown(os.path.basename(each)) for each in earlier.names)
+        some.append(f"It comes after {names}: what that drew is there when the first byte comes.")
+    return " ".join(some)

@@ -67,7 +67,8 @@ def _sheet(session: Session, path: str) -> int:
             told = _with_guess(session, page, heard)
             drawn = None if told.entries is None else drawing.drawn(told.entries, "", told.guess, sheet.prefix())
             said += "; then a guess" if told.guess else ""
-            sheet.add(Tile(shown(page.name), said if drawn or isinstance(answer, Refusal) else TOO_MUCH_COMES, drawn))
+            told_below = said if drawn or isinstance(answer, Refusal) else TOO_MUCH_COMES
+            sheet.add(Tile(session.title(page), told_below, drawn))
     status = session.each(work)
     put(path, _made(session, sheet.svg()))
     return status

@@ -13,6 +13,7 @@ from naplps.program import NoProgram, find
 
 from .. import census, curing, showing
 from ..console import Session, tell
+from ..earlier import Earlier
 from ..new_files import NotWritten
 from ..page_words import NoWords, wanted
 from ..refusals import Reason
@@ -183,7 +184,7 @@ def _merge(given: Given, command: str) -> int:
     return COMPLETE if merge(given.into, given.parts, given.unfinished) else SOME_LACK
 
 
-def of_store(given: Given, client: Client) -> int:
+def of_store(given: Given, client: Client, earlier: Earlier) -> int:
     """The commands on pages look, cures and census for the files of a store; the status."""
     try:
         connection = open_to_read(given.pages[0])
@@ -193,7 +194,8 @@ def of_store(given: Given, client: Client) -> int:
         run, which = OF_STORE[given.command]
         return run(StoreSession(
             client, given.pages, getattr(given, "json", False), given.into, past=getattr(given, "past", False),
-            png=getattr(given, "png", False), files=files(connection, which), stored=Names(connection)))
+            png=getattr(given, "png", False), sheet=getattr(given, "sheet", None), earlier=earlier,
+            files=files(connection, which), stored=Names(connection)))
     except (StoreFailed, sqlite3.Error) as error:
         tell(str(error) if isinstance(error, StoreFailed) else f"{shown(given.pages[0])}: {error}")
     return FAILED

@@ -2,6 +2,7 @@
 import os
 import sqlite3
 from dataclasses import dataclass, field
+from itertools import islice
 from typing import Callable, Iterator, List, NamedTuple, Optional, Sequence
 
 from naplps.names import shown
@@ -9,10 +10,12 @@ from naplps.names import shown
 from ..console import Session
 from ..new_files import NotWritten, make_folders
 from ..packs.naming import pack_of
+from ..sheet import MOST_PAGES
 from ..source import Page, Unread
 from .folders import is_within
 from .kinds import checked
 from .places import Otherwise, Place, read
+from .printing import numbered
 from .store import kept
 from .tables import REFUSED
 
@@ -87,19 +90,31 @@ class StoreSession(Session):
     files: Iterator[StoredFile] = field(default_factory=lambda: iter(()))
     stored: Optional[Names] = None
     current: Optional[StoredFile] = None
+    store: str = ""
 
     def front(self, name: str) -> str:
         """What stands in front of the answer to a page: its name."""
         return f"{shown(name)}: "
 
     def __post_init__(self) -> None:
+        self.store = self.names[0]
         self.reader = self._read
 
+    def title(self, page: Page) -> str:
+        """Its name below the folders that were scanned."""
+        assert self.current and self.stored
+        return shown(self.stored.of(self.current.place))
+
     def each(self, work: Callable[[Page], None], more: Sequence[str] = ()) -> int:
-        """Does the work for each file; the status of the whole."""
-        for self.current in self.files:
+        """Does the work for each file, but for those for which a sheet has no room; the status of the whole."""
+        some = self.files if self.sheet is None else islice(self.files, MOST_PAGES)
+        for self.current in some:
             self.names = [self.current.place.path]
             super().each(work, more)
+        left = sum(1 for _ in self.files)
+        if left:
+            self.complain(self.store, "a sheet has %d pages at most: %s in it" % (
+                MOST_PAGES, numbered(left, "file isn't", "files aren't")))
         return self.status
 
     def _read(self, _name: str, _seconds: float) -> Page:

@@ -9,10 +9,13 @@ class Line {
   constructor(data, baud) {
     this.length = data.length;
     this.number = data.places.length;
+    // (those of earlier pages are there from the start)
+    this.before = data.before;
     this.received = data.places.map((place) => Math.min(place + 1, data.length));
     // What was waited for before each entry, and behind the last one, in seconds.
     this.waited = [0];
-    const waits = new Map(data.steps.filter((step) => "wait" in step).map((step) => [step.entry, step.wait / 10]));
+    const waiting = data.steps.filter((step) => "wait" in step && step.entry >= this.before);
+    const waits = new Map(waiting.map((step) => [step.entry, step.wait / 10]));
     for (let at = 0; at < this.number; at++) this.waited.push(this.waited[at] + (waits.get(at) || 0));
     this.set(baud);
   }
@@ -37,7 +40,7 @@ class Line {
   }
 
   get start() {
-    return this.ofEntries(0);
+    return {done: this.before, bytes: 0};
   }
 
   get whole() {
@@ -46,7 +49,7 @@ class Line {
 
   // The moment at which so many entries are there.
   ofEntries(done) {
-    const count = Math.max(0, Math.min(this.number, done));
+    const count = Math.max(this.before, Math.min(this.number, done));
     const whole = count === this.number ? this.length : 0;
     return {done: count, bytes: Math.max(whole, count ? this.received[count - 1] : 0)};
   }

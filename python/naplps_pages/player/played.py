@@ -6,10 +6,15 @@ from typing import Dict, List, Sequence, Tuple
 
 from naplps.answers import Accepted, Refusal
 from naplps.drawing.timeline import timeline
+from naplps.drawing.walk import ENDS
+from naplps.reading import Entries
 
 from ..explaining import assigned
 from ..listing import Listed, Row
 from . import limits
+
+# The place of an entry that came with no byte of the page.
+NOT_HERE = -1
 
 
 @dataclass
@@ -23,24 +28,28 @@ class CodeColumns:
     entry: List[int] = field(default_factory=list)
 
 
-def played(data: bytes, told: Listed, said: str = "") -> str:
+def played(data: bytes, told: Listed, said: str = "", before: Sequence[str] = ()) -> str:
     """What a player holds of a page that has these bytes, this answer, and places of its entries.
 
-    Its notes are `said`, and sentences on what is left out.
+    Its notes are `said`, and sentences on what is left out. `before` are the lines of the entries of earlier pages:
+    what they draw is there when the first byte comes.
     """
     assert told.rows is not None and told.entries is not None
-    drawn = timeline(told.entries)
-    some = told.rows[:drawn.drawn]
+    drawn = timeline(Entries([*before, *(told.lines or ())]) if before else told.entries)
+    earlier: List[Row] = [(NOT_HERE, line) for line in before[:drawn.drawn]]
+    some = told.rows[:drawn.drawn - len(earlier)]
     length = _length(data, told, some)
     codes = _codes(data, told, some, length)
-    lines, is_short = _lines(some)
+    codes.entry[:0] = [-1] * len(earlier)
+    lines, is_short = _lines([*earlier, *some])
     shown = min(length, limits.MOST_BYTES)
-    notes = [note for note in (said, drawn.end) if note]
+    notes = [note for note in (said, drawn.end and ENDS % (len(some) + 1)) if note]
     if codes.end and codes.end[-1] < length:
         notes.append(f"Bytes are shown up to byte {codes.end[-1]} of {length}.")
     if is_short:
         notes.append("Some lines of the list are shown in part.")
-    members = {"length": length, "places": [place for place, _ in some], "lines": lines, "codes": vars(codes),
+    places = [place for place, _ in [*earlier, *some]]
+    members = {"length": length, "before": len(earlier), "places": places, "lines": lines, "codes": vars(codes),
                "bytes": base64.b64encode(data[:shown]).decode("ascii"), "notes": notes}
     return drawn.json[:-1] + "," + json.dumps(members, separators=(",", ":"))[1:]
 

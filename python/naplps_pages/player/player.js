@@ -211,13 +211,13 @@ class Player {
     this.slider.max = Math.ceil(line.end * 1000);
     this.slider.value = Math.round(this.seconds * 1000);
     const waits = this.isPlaying && line.isWaiting(this.moment, this.seconds) ? ", it waits" : "";
-    this.told.textContent = `Byte ${bytes.toLocaleString("en")} of ${line.length.toLocaleString("en")}, entry `
-      + `${done.toLocaleString("en")} of ${line.number.toLocaleString("en")}, ${this.seconds.toFixed(1)} of `
-      + `${line.end.toFixed(1)} s${waits}`;
+    const [entry, entries] = [done, line.number].map((each) => (each - line.before).toLocaleString("en"));
+    this.told.textContent = `Byte ${bytes.toLocaleString("en")} of ${line.length.toLocaleString("en")}, entry ${entry} `
+      + `of ${entries}, ${this.seconds.toFixed(1)} of ${line.end.toFixed(1)} s${waits}`;
     this.slider.setAttribute("aria-valuetext", this.told.textContent);
     const now = bytes ? this.codes.rowOf(Math.min(bytes, data.length) - 1) : -1;
     this.codes.set(now, this.row, this.row >= 0 ? -1 : now);
-    if (this.row < 0) this.tellAbout(done ? [done - 1] : []);
+    if (this.row < 0) this.tellAbout(done > line.before ? [done - 1] : []);
   }
 
   chooseRow(row) {
@@ -240,10 +240,12 @@ class Player {
 
   // The lines of entries, each with its bytes.
   tellAbout(entries) {
-    const {lines, places} = this.data;
+    const {lines, places, before} = this.data;
     const bytes = this.row >= 0 ? [node("p", {}, this.codes.told(this.row))] : [];
-    const some = entries.slice(0, SHOWN_LINES).map((entry) => node("li", {value: entry + 1},
-      node("code", {}, lines[entry]), ` with byte ${places[entry].toLocaleString("en")}`));
+    const some = entries.slice(0, SHOWN_LINES).map((entry) => entry < before
+      ? node("li", {className: "earlier"}, node("code", {}, lines[entry]), " of a page before it")
+      : node("li", {value: entry + 1 - before}, node("code", {}, lines[entry]),
+        ` with byte ${places[entry].toLocaleString("en")}`));
     const more = entries.length - some.length;
     this.about.replaceChildren(...bytes, node("ol", {}, ...some),
       ...(more > 0 ? [node("p", {}, `and ${spelled(more, "entry", "entries")} more`)] : []));
