@@ -68,7 +68,7 @@ def texts(svg):
 def test_a_guess_is_hatched_and_told_as_one(run):
     svg, said = looked(run, POINT + b"\x18" + BEHIND)
     assert parts(svg) == ([FIRST], [SECOND])
-    caption = "Sketch of 1 entries; then refused 6 LeftOut CAN at 5; then a guess of 1 entries"
+    caption = "Sketch of 1 entry; then refused 6 LeftOut CAN at 5; then a guess of 1 entry"
     assert texts(svg) == [caption, HATCHED + "code at 5."]
     assert elements(svg, "title")[0].text == caption
     assert elements(svg, "desc")[0].text == HATCHED + "code at 5."

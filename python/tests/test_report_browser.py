@@ -250,7 +250,8 @@ def test_nothing_is_wider_than_the_page(page, width, media, dark):
     assert page.run("document.documentElement.scrollWidth") <= width
     light = page.run("getComputedStyle(document.body).backgroundColor") in ("rgb(255, 255, 255)", "rgb(245, 247, 249)")
     assert light == (media == "print" or not dark)
-    assert page.run("getComputedStyle(document.getElementById('bar')).display") == ("none" if media else "flex")
+    shown = "none" if media else "grid" if width <= 700 else "flex"
+    assert page.run("getComputedStyle(document.getElementById('bar')).display") == shown
     if not media:
         details(page, "equal/one.nap")
         assert page.run("((it) => it.scrollWidth <= it.clientWidth)(document.getElementById('details'))")

@@ -213,4 +213,5 @@ def empty(said: str) -> Sketch:
 
 
 def _counted(drawn: int, total: int) -> str:
-    return "%d entries" % total if drawn == total else "the first %d of %d entries" % (drawn, total)
+    all_of_them = "1 entry" if total == 1 else "%d entries" % total
+    return all_of_them if drawn == total else "the first %d of %s" % (drawn, all_of_them)

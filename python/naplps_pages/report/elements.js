@@ -48,9 +48,15 @@ function longText(label, text) {
   return make("pre", {tabIndex: 0, role: "region", "aria-label": label}, text);
 }
 
+// What stands in place of a picture: why there is none, and the commands that make one.
+function instead(why, ...commands) {
+  const some = commands.flatMap((each, at) => [at ? " or " : " ", make("code", {}, each)]);
+  return make("div", {className: "none"}, make("p", {}, why, ...some));
+}
+
 // The sketch as an image of its own, in which nothing can act; or why there is none.
 function picture(drawing, name) {
-  if (!drawing.sketch) return make("div", {className: "none"}, drawing.why || "No sketch");
+  if (!drawing.sketch) return instead(drawing.why || "No sketch", ...(drawing.commands || []));
   const url = URL.createObjectURL(new Blob([drawing.sketch], {type: "image/svg+xml"}));
   const words = oneLine(drawing.text);
   const size = /viewBox="0 -?[0-9]+ ([0-9]+) ([0-9]+)"/.exec(drawing.sketch) || ["", 1024, 828];

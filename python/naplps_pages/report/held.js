@@ -1,6 +1,8 @@
 "use strict";
 // The files, groups and drawings that this file holds.
 
+const UNDRAWN = "This report has no sketch of it", SERVE = "naplps-pages serve STORE";
+
 async function unpack(element) {
   const bytes = Uint8Array.from(atob(element.textContent), (letter) => letter.charCodeAt(0));
   const stream = new Blob([bytes]).stream().pipeThrough(new DecompressionStream("deflate"));
@@ -198,7 +200,11 @@ class Held {
 
   async drawing(key) {
     const {at, held, why} = await this.block(key);
-    if (at < 0) return {sketch: "", text: "", lines: [], counts: [], first: 0, entries: 0, why};
+    if (at < 0) {
+      const commands = why === UNDRAWN ? [`naplps-pages look ${quoted(this.name(key))} --svg page.svg`, SERVE] : [];
+      return {sketch: "", text: "", lines: [], counts: [], first: 0, entries: 0, commands,
+              why: commands.length ? why + ". To see it:" : why};
+    }
     const number = this.columns.sketch[key], per = this.table.texts;
     const text = (await this.texts.get(Math.floor(number / per)))[number % per];
     return {sketch: held.sketch[at], text, lines: lengthened(held.lines[at]), counts: held.counts[at],
@@ -208,13 +214,16 @@ class Held {
   // What a player has of a page. (The sketch may be that of another spelling.)
   async played(key) {
     const number = this.table.played.indexOf(this.columns.page[key]), per = this.table.playedPer;
-    if (number < 0) return {page: null, why: "This report can't play it; `naplps-pages play` can"};
+    if (number < 0) {
+      const why = `This report can play ${counted(this.table.played.length, "page")}, and not this one. To play it:`;
+      return {page: null, why, commands: [`naplps-pages play ${quoted(this.name(key))} --into page.html`, SERVE]};
+    }
     return {page: (await this.playedBlocks.get(Math.floor(number / per)))[number % per], why: ""};
   }
 
   without(key) {
     const answered = this.table.numbers[this.columns.answer[key]] || this.columns.answer[key] === this.table.accepted;
-    return answered ? "This report has no sketch of it" : "There is no answer to draw";
+    return answered ? UNDRAWN : "There is no answer to draw";
   }
 }
 

@@ -98,13 +98,19 @@ def make(connection: sqlite3.Connection, options: ReportOptions) -> ReportTotals
         drawings = _drawings(tasks, options, packing)
         data = _data(table, drawings, packing)
     missed = [(table.files[number].place.path, each.why) for number, each in drawings if each.why]
-    held = "%s of %s sketches are in this file." % ("{:,}".format(len(drawings)), "{:,}".format(pictures))
-    page = Document(facts, some, "held.js").html(held, data).encode("utf-8")
+    page = Document(facts, some, "held.js").html(_told_held(drawings, pictures), data).encode("utf-8")
     if options.replace and os.path.isfile(options.into):
         replace(options.into, page)
     else:
         put(options.into, page)
     return ReportTotals(facts.files, len(some), len(drawings), pictures, missed, len(page))
+
+
+def _told_held(drawings: List[Numbered], pictures: int) -> str:
+    """How many sketches there are, and how many of their pages can be played, where that isn't all."""
+    told = f"{len(drawings):,} of {pictures:,} sketches are in this file"
+    played = sum(1 for _, each in drawings if each.played)
+    return f"{told}." if played == len(drawings) else f"{told}; {played:,} of these pages can be played."
 
 
 def _tasks(table: Table, numbers: List[int]) -> List[Task]:

@@ -114,7 +114,7 @@ class PageView {
   // The files of a group that aren't named: how many they are, and a way to them.
   others(group) {
     const left = group.files - group.members.reduce((sum, each) => sum + each.files.length, 0);
-    return left <= 0 ? [] : [link(`and ${counted(left, "file")} more of group ${group.number}`,
+    return left <= 0 ? [] : [link(`and ${counted(left, "more file")} of group ${group.number}`,
       () => this.find({text: "group " + group.number}))];
   }
 

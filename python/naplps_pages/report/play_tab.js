@@ -21,9 +21,9 @@ class PlayTab {
   }
 
   async begin() {
-    const {page, why} = await this.ask();
+    const {page, why, commands} = await this.ask();
     if (this.player) return;
     if (page) this.player = new Player(this.box, page);
-    else this.box.replaceChildren(make("div", {className: "none"}, why));
+    else this.box.replaceChildren(instead(why, ...(commands || [])));
   }
 }

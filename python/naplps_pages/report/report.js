@@ -89,8 +89,17 @@ class Report {
     byId(this.view + "-title").focus({preventScroll: true});
   }
 
-  refresh() {
-    return Promise.all([this.wall.show(), this.files.show(0)]);
+  async refresh() {
+    await Promise.all([this.wall.show(), this.files.show(0)]);
+    this.nothing("wall", this.wall.total, "pages");
+    this.nothing("files", this.files.total, "files");
+  }
+
+  // Says where nothing is found, with a way back to everything.
+  nothing(name, total, what) {
+    const isAll = FIELDS.every((field) => !byId(field).value);
+    const back = make("button", {type: "button", onclick: doing(() => this.find({}))}, "Show all " + what);
+    byId(name + "-none").replaceChildren(...(total ? [] : [`There are no such ${what}.`, ...(isAll ? [] : [" ", back])]));
   }
 
   // Shows one of the views; the others are there for print alone.
@@ -152,7 +161,8 @@ class Report {
   const view = location.hash.slice(1);
   report.show(VIEWS.includes(view) ? view : VIEWS[0]);
   await report.refresh();
-  await report.go();
+  // (an address may lead to a page that isn't there any more; the report is there all the same)
+  await report.go().catch(tell);
   document.body.dataset.ready = String(Math.round(performance.now()));
   await report.groups.show(0);
 })().catch(tell);

@@ -1,0 +1,140 @@
+"""What can be chosen on a wall, and what a report says where it finds, draws or plays nothing; in a browser."""
+import hashlib
+import os
+import subprocess
+
+import pytest
+
+from browser import Browser
+from conftest import COMMAND
+from naplps_pages.report import making
+from naplps_pages.report.drawing import Drawing
+from reports import words
+from samples import OUTSIDE, POINT, SPELLED, has, with_parity
+from scans import start, tree
+from test_report_browser import CLICK, LEAVES, OPEN, TOLD, WALL_TOLD, choose
+
+pytestmark = pytest.mark.skipif(not has("chromium"), reason="there is no chromium")
+FILES = {"a page.nap": words("MENU"), "blank.nap": b"", "gif.nap": b"GIF89a\x81" * 9, "one.nap": POINT,
+         "out.nap": OUTSIDE, "parity.nap": with_parity(words("NEWS")), "two.nap": SPELLED,
+         "long " * 40 + "/text.nap": b"\x0fhello"}
+NONE = "document.getElementById('%s-none').innerText"
+SHOWN = "document.getElementById('details-body').innerText.replace(/\\s+/g, ' ')"
+
+
+@pytest.fixture(scope="module")
+def browser():
+    """The browser that all tests share."""
+    it = Browser()
+    yield it
+    it.close()
+
+
+@pytest.fixture(scope="module")
+def store(naplps, tmp_path_factory):
+    """The store of a few files of all kinds."""
+    folder = str(tmp_path_factory.mktemp("kinds"))
+    tree(os.path.join(folder, "pages"), FILES)
+    made(naplps, folder, "scan", "pages", "--into", "pages.db", "--cures")
+    return os.path.join(folder, "pages.db")
+
+
+def made(naplps, folder, *some):
+    """Runs a command."""
+    subprocess.run([COMMAND, *some], check=True, env=dict(os.environ, NAPLPS=naplps), capture_output=True, cwd=folder)
+
+
+def report(naplps, store, name, *some):
+    """The address of a report of the store."""
+    made(naplps, os.path.dirname(store), "report", "pages.db", "--into", name, "--replace", *some)
+    return "file://" + os.path.join(os.path.dirname(store), name)
+
+
+@pytest.fixture(scope="module", params=["file", "served"])
+def address(request, naplps, store):
+    """The address of the report: of a file, and of a server."""
+    if request.param == "file":
+        yield report(naplps, store, "all.html")
+        return
+    with start(["serve", store], naplps) as server:
+        yield server.stdout.readline().decode().strip()
+        server.terminate()
+
+
+@pytest.fixture
+def wall(browser, address):
+    """The wall, opened anew."""
+    browser.size(1240, 900)
+    browser.open(address)
+    yield browser
+    assert browser.errors == [] and browser.run("document.body.dataset.fault") is None
+
+
+def page_of(name):
+    """The address of a page in the report."""
+    return "#page=" + hashlib.sha256(FILES[name]).hexdigest()[:16]
+
+
+@pytest.mark.parametrize("kind, wanted", [
+    ("page", ["a page.nap", "one.nap", "two.nap"]), ("text", ["text.nap"]), ("blank", ["blank.nap"]),
+    ("looks like GIF", ["gif.nap"])])
+def test_pages_of_a_kind(wall, kind, wanted):
+    assert wall.run("[...document.getElementById('kind').options].map((each) => each.value)") == [
+        "", "page", "blank", "looks like GIF", "text"]
+    choose(wall, "kind", kind)
+    number = len(wanted)
+    wall.until("%s === '1 to %d of %d page%s'" % (WALL_TOLD, number, number, "" if number == 1 else "s"))
+    wall.until("%s.join('/') === %r" % (LEAVES, "/".join(wanted)))
+    choose(wall, "answer", "10 Outside")
+    wall.until(WALL_TOLD + " === 'no pages'")
+
+
+@pytest.mark.parametrize("view, what, name", [("pages", "pages", "wall"), ("list", "files", "files")])
+def test_where_nothing_is_found_there_is_a_way_back(wall, view, what, name):
+    wall.run("location.hash = %r" % ("#" + view))
+    wall.until("!document.getElementById('view-%s').hidden" % view)
+    assert wall.run(NONE % name) == ""
+    choose(wall, "kind", "text")
+    choose(wall, "answer", "10 Outside")
+    wall.until("%s === 'There are no such %s. Show all %s'" % (NONE % name, what, what))
+    wall.run(CLICK % ("#%s-none button" % name, "Show all " + what))
+    wall.until("%s === '' && %s === '1 to 8 of 8 files'" % (NONE % name, TOLD % "files"))
+    assert wall.run("document.getElementById('kind').value + document.getElementById('answer').value") == ""
+
+
+def test_a_page_without_a_sketch_says_how_to_see_it(browser, naplps, store):
+    address = report(naplps, store, "none.html", "--sketches", "0")
+    browser.open(address + page_of("a page.nap"))
+    browser.until(OPEN)
+    said = ("This report has no sketch of it. To see it: naplps-pages look 'a page.nap' --svg page.svg or "
+            "naplps-pages serve STORE")
+    assert said in browser.run(SHOWN)
+
+
+def test_a_page_that_is_not_played_says_how_to_play_it(browser, naplps, store):
+    address = report(naplps, store, "played.html")
+    browser.open(address + page_of("two.nap"))
+    browser.until(OPEN)
+    browser.run("document.getElementById('as-played').click()")
+    said = ("This report can play 7 pages, and not this one. To play it: naplps-pages play two.nap --into page.html or "
+            "naplps-pages serve STORE")
+    browser.until("%s.includes(%r)" % (SHOWN, said))
+
+
+def test_the_top_says_how_many_pages_can_be_played():
+    some = [(0, Drawing(played="{}")), (1, Drawing()), (2, Drawing(played="{}"))]
+    assert making._told_held(some, 5000) == "3 of 5,000 sketches are in this file; 2 of these pages can be played."
+    assert making._told_held(some[:1], 1) == "1 of 1 sketches are in this file."
+
+
+@pytest.mark.parametrize("width", [390, 700, 1240])
+def test_the_fields_of_the_form_are_as_wide_as_there_is_room(wall, width):
+    wall.size(width, 900)
+    boxes = wall.run("[...document.querySelectorAll('#bar input, #bar select')].map((each) => {const box = "
+                     "each.getBoundingClientRect(); return [box.left, box.right, box.top, box.bottom]})")
+    assert all(0 <= left < right <= width for left, right, _, _ in boxes)
+    assert all(one[1] <= two[0] or two[1] <= one[0] or one[3] <= two[2] or two[3] <= one[2]
+               for at, one in enumerate(boxes) for two in boxes[:at])
+    tops = sorted(top for _, _, top, _ in boxes)
+    lines = 1 + sum(below - top > 10 for top, below in zip(tops, tops[1:]))
+    assert lines <= (4 if width <= 700 else 2) and len(boxes) == 6
