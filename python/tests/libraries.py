@@ -31,7 +31,7 @@ struct page { void *at; };
 static int inside;
 static struct answer slowly(uint64_t entries) {
     int others = __atomic_fetch_add(&inside, 1, __ATOMIC_SEQ_CST);
-    usleep(20000);
+    usleep(200000);
     __atomic_fetch_sub(&inside, 1, __ATOMIC_SEQ_CST);
     return (struct answer){others ? 99 : 0, 0, 0, entries};
 }
