@@ -367,7 +367,8 @@ def _check_output(given: argparse.Namespace, pages: List[str]) -> None:
     """Exits where the options don't say where what is made of all pages goes."""
     svg, sheet = getattr(given, "svg", None), getattr(given, "sheet", None)
     if len(pages) > 1 and getattr(given, "into", None) is None and not sheet:
-        given.parser.error(f"several pages need --into FOLDER{' in place of --svg' if svg else ''}")
+        ways = "--into FOLDER or --sheet FILE" if given.command == "look" else "--into FOLDER"
+        given.parser.error(f"several pages need {ways}{' in place of --svg' if svg else ''}")
     if svg and given.png:
         given.parser.error("--png and --svg exclude each other; --png prints, and > FILE keeps that")
     if sheet and len(pages) > MOST_PAGES:

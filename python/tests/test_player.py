@@ -231,8 +231,9 @@ def test_keys(shown):
     page = shown(os.path.join(FOLDER, "weather.nap"))
     moment = "[player.moment.done, player.moment.bytes]"
     page.run("player.box.focus()")
+    assert page.run("player.codes.box.scrollTop") > 0
     page.press("Home")
-    assert page.run(moment) == [0, 0]
+    assert page.run(moment) == [0, 0] and page.run("player.codes.box.scrollTop") == 0
     page.press("ArrowRight")
     assert page.run(moment)[0] == 1
     page.press("ArrowRight", shift=True)

@@ -216,7 +216,7 @@ class Player {
       + `of ${entries}, ${this.seconds.toFixed(1)} of ${line.end.toFixed(1)} s${waits}`;
     this.slider.setAttribute("aria-valuetext", this.told.textContent);
     const now = bytes ? this.codes.rowOf(Math.min(bytes, data.length) - 1) : -1;
-    this.codes.set(now, this.row, this.row >= 0 ? -1 : now);
+    this.codes.set(now, this.row, this.row >= 0 ? -1 : Math.max(0, now));
     if (this.row < 0) this.tellAbout(done > line.before ? [done - 1] : []);
   }
 
