@@ -2,9 +2,9 @@
 import os
 from typing import Optional
 
-from .faults import Unavailable, WrongLibrary
+from .faults import NoProgram, Unavailable, WrongLibrary
 from .library_backend import SONAME, LibraryBackend
-from .program import NoProgram, find
+from .program import find
 from .program_backend import ProgramBackend
 from .protocols import Answerer
 

@@ -4,8 +4,7 @@ from typing import Callable, Dict, Optional
 from .entry import (
     Blink, Char, Colour, Cursor, Entry, GlyphStart, Look, Map, MaskStart, Pen, Reset, TextMove, Texture, Wait,
 )
-
-Members = Dict[str, object]
+from .names import Members
 
 
 def members_of(it: Entry, place: Optional[int]) -> Members:

@@ -39,3 +39,7 @@ class NeedsLibrary(Unavailable):
 
 class WrongLibrary(Unavailable):
     """What was found as the library can't be loaded, or isn't the library of this version."""
+
+
+class NoProgram(Exception):
+    """There is no program to ask, with the reason."""

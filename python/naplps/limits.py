@@ -1,6 +1,6 @@
 """How much a page may cost: its budget, its length as a request, and what the program may take to answer."""
 import operator
-from dataclasses import dataclass
+from typing import NamedTuple
 
 # How many bytes of macro bodies a page may be charged with.
 USUAL_BUDGET = 1048576
@@ -11,8 +11,7 @@ MOST_PAGE = 16 << 20
 MOST_LISTED = 200_000
 
 
-@dataclass(frozen=True)
-class Limits:
+class Limits(NamedTuple):
     """What the program may take for one page: seconds, bytes of memory, bytes of an answer."""
 
     seconds: float = 20.0

@@ -4,6 +4,8 @@ import shlex
 import unicodedata
 from typing import Dict
 
+# The members of a JSON object.
+Members = Dict[str, object]
 SHORT = {"\n": "\\n", "\r": "\\r", "\t": "\\t", "\\": "\\\\"}
 # Controls, marks of format and direction, lone surrogates, private and unknown characters, line and paragraph ends.
 HIDDEN = ("Cc", "Cf", "Cs", "Co", "Cn", "Zl", "Zp")
@@ -39,7 +41,7 @@ def quoted(name: str) -> str:
     return "PAGE" if name == "-" or shown(name) != name else shlex.quote(name)
 
 
-def as_json(name: str) -> Dict[str, object]:
+def as_json(name: str) -> Members:
     """The members of a JSON object that name a file: its bytes in hexadecimal too, where they aren't UTF-8."""
     raw = os.fsencode(name)
     try:

@@ -1,31 +1,22 @@
-"""The program naplps: where it is, which version, and processes of it, each in a group of its own and with limits.
-
-Signals that end the tool end its processes too, those too that have only just begun.
-"""
+"""The program naplps: where it is, which version, and processes of it, each in a group of its own and with limits."""
 import os
 import resource
 import selectors
 import shutil
 import signal
 import subprocess
-import threading
 import time
-from contextlib import contextmanager
-from types import FrameType
-from typing import IO, Callable, Iterator, List, Optional, Sequence, Set, Tuple, Union
+from typing import IO, Callable, List, Optional, Sequence, Tuple, Union
 
 from .answers import NotAnswered
+from .ending import ENDING
+from .faults import NoProgram
 from .limits import Limits
 
 PIECE = 1 << 16
 MOST_COMPLAINT = 2048
 # So many seconds a process may take to end, on a busy machine, that has closed its output.
 GRACE = 5.0
-SIGNALS = (signal.SIGINT, signal.SIGTERM, signal.SIGHUP)
-
-
-class NoProgram(Exception):
-    """There is no program to ask, with the reason."""
 
 
 class ProcessFailure(NotAnswered):
@@ -73,58 +64,6 @@ def _ask_launcher(launcher: str) -> Tuple[str, str]:
 
 def _runs(path: str) -> bool:
     return os.path.isfile(path) and os.access(path, os.X_OK)
-
-
-class Stopped(BaseException):
-    """A signal, by its number, asks the tool to end."""
-
-
-class Ending:
-    """The processes that go on, where signals are watched. A signal that comes while one starts waits for that."""
-
-    def __init__(self) -> None:
-        self.processes: Set["ChildProcess"] = set()
-        self.is_watched = self.is_starting = False
-        self.late: Optional[int] = None
-
-    def watch(self) -> None:
-        """Has signals raise Stopped in the main thread, but for those that are ignored, as under nohup."""
-        self.is_watched = True
-        for number in SIGNALS:
-            if signal.getsignal(number) is not signal.SIG_IGN:
-                signal.signal(number, self._stop)
-
-    def _stop(self, number: int, _: Optional[FrameType]) -> None:
-        if not self.is_starting:
-            raise Stopped(number)
-        self.late = number
-
-    @contextmanager
-    def starting(self, process: "ChildProcess") -> Iterator[None]:
-        """Starts a process inside, and keeps it where signals are watched. Raises Stopped where one came meanwhile."""
-        is_held = self.is_watched and threading.current_thread() is threading.main_thread()
-        if is_held:
-            self.is_starting = True
-        try:
-            yield
-            if self.is_watched:
-                self.processes.add(process)
-        finally:
-            if is_held:
-                self.is_starting = False
-                number, self.late = self.late, None
-                if number is not None:
-                    raise Stopped(number)
-
-    def end_all(self) -> None:
-        """Ends all that go on; no other signal comes between."""
-        for number in SIGNALS:
-            signal.signal(number, signal.SIG_IGN)
-        for process in tuple(self.processes):
-            process.end()
-
-
-ENDING = Ending()
 
 
 class ChildProcess:

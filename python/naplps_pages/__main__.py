@@ -5,7 +5,7 @@ import signal
 import sys
 from typing import NoReturn
 
-from naplps.program import ENDING, Stopped
+from naplps.ending import ENDING, Stopped
 
 from .cli import main
 from .console import FAILED, tell

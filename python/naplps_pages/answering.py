@@ -2,15 +2,17 @@
 from typing import List, Optional
 
 from naplps.answers import Accepted, Answer, Refusal, Unanswered
-from naplps.entry_json import Members, members_of
-from naplps.names import shown
+from naplps.entry_json import members_of
+from naplps.names import Members, shown
 from naplps.reading import read_line
 
 from . import file_kinds
-from .console import Session, tell
+from .console import tell
+from .json_lines import dumps
 from .listing import command_of, rows_of
 from .new_files import make_folder, put_inside
-from .schema import answered, dumps
+from .page_session import Session
+from .schema import answered
 from .source import Page
 
 

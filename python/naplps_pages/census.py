@@ -4,12 +4,11 @@ from dataclasses import dataclass, field
 from typing import Iterator, List, Optional
 
 from naplps.answers import Accepted, Refusal, Unanswered
-from naplps.entry_json import Members
-from naplps.names import printable
+from naplps.names import Members, printable
 
 from .codes import Code, Cutter
-from .console import Session
-from .schema import dumps
+from .json_lines import dumps
+from .page_session import Session
 from .source import Page
 
 # So many bytes of a page are read on behind its refusal, those of macros counted too.

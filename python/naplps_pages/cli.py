@@ -1,33 +1,20 @@
 """The command line: the words that each command takes, what they run, and the status."""
 import argparse
 import contextlib
-import dataclasses
+import importlib
 import os
 import sys
-from typing import Any, Callable, Dict, List, NamedTuple, Optional, Tuple
+from functools import partial
+from typing import Any, Callable, List, NamedTuple, Optional, Tuple
 
-from naplps.client import Client
 from naplps.limits import MOST_BUDGET, MOST_PAGE, USUAL_BUDGET, Limits
 from naplps.names import shown
-from naplps.program import NoProgram, find
 from naplps.version import VERSION
 
-from . import TOOL, answering, census, curing, explaining, playing, refusals, showing, splitting
-from .collection import commands as collection
-from .collection.every_file import ANY
-from .collection.part import MOST_PARTS, Part, read_part
-from .collection.pool import MOST_PROCESSES
+from . import TOOL
 from .collection.printing import FORMS
-from .collection.store import is_store
-from .console import FAILED, WRONG_WORDS, Session, tell
-from .earlier import Earlier, read_earlier
-from .listing import MODEST
-from .new_files import NotWritten
-from .png import NoPng
-from .report import commands as reporting
+from .console import FAILED, WRONG_WORDS, tell
 from .report.limits import MOST_SKETCHES, USUAL_SKETCHES
-from .sheet import MOST_PAGES
-from .source import Unread
 from .unexpected import told
 
 LEAST_SECONDS, MOST_SECONDS = 0.01, 1e6
@@ -41,12 +28,15 @@ NO_CANON = ("not for canon: a canonical stream begins where nothing stands, so a
 OPTIONS = ("json", "into", "svg", "full", "past", "png", "sheet")
 # The commands on pages whose answers may be as long as they are.
 AT_LENGTH = ("list", "canon")
-ON_PAGES: Dict[str, Callable[[Session], int]] = {
-    "check": answering.check, "list": answering.list_entries, "canon": answering.canon, "explain": explaining.explain,
-    "look": showing.look, "play": playing.play, "text": showing.text, "cures": curing.cures,
-    "split": splitting.split, "census": census.census}
+# The functions that are the commands on pages, by their modules.
+ON_PAGES = {
+    "check": "answering.check", "list": "answering.list_entries", "canon": "answering.canon",
+    "explain": "explaining.explain", "look": "showing.look", "play": "playing.play", "text": "showing.text",
+    "cures": "curing.cures", "split": "splitting.split", "census": "census.census"}
 # The commands on pages that take a store too.
 OF_STORES = ("look", "cures", "census")
+# The commands of reports.
+REPORTING = ("report", "serve")
 EPILOG = ("No file is overwritten. Status: 0 all pages are accepted, 1 some are refused, 2 the command line is wrong, "
           "3 something couldn't be read, asked or written. The program that is asked is the one that NAPLPS names, or "
           "naplps next to this command, or on PATH.")
@@ -66,22 +56,11 @@ def name(text: str) -> str:
     return text
 
 
-@dataclasses.dataclass(frozen=True)
-class Number:
-    """Reads a whole number of a range."""
-
-    least: int
-    most: int
-
-    def __call__(self, text: str) -> int:
-        """The number."""
-        if not _is_number(text) or not self.least <= int(text) <= self.most:
-            raise argparse.ArgumentTypeError(f"a number from {self.least} to {self.most}, not {text!r}")
-        return int(text)
-
-
-def _is_number(text: str) -> bool:
-    return text.isascii() and text.isdigit() and len(text) < 20
+def whole_number(text: str, least: int, most: int) -> int:
+    """A whole number of a range."""
+    if not text.isascii() or not text.isdigit() or len(text) >= 20 or not least <= int(text) <= most:
+        raise argparse.ArgumentTypeError(f"a number from {least} to {most}, not {text!r}")
+    return int(text)
 
 
 def seconds(text: str) -> float:
@@ -94,42 +73,6 @@ def seconds(text: str) -> float:
         raise argparse.ArgumentTypeError(
             f"a number of seconds from {LEAST_SECONDS:g} to {MOST_SECONDS:.0f}, not {text!r}")
     return count
-
-
-def refusal(text: str) -> int:
-    """The number of a refusal."""
-    known = refusals.load()
-    if not _is_number(text) or int(text) not in known:
-        raise argparse.ArgumentTypeError(f"the number of a refusal, not {text!r}: {_refusals()}")
-    return int(text)
-
-
-def reason(text: str) -> refusals.Reason:
-    """A refusal by its number or its name, or a code that is left out, by its name or its bytes."""
-    found = refusals.reason_of(text)
-    if found is None:
-        codes = ", ".join(f"{code.upper()} {title}" for code, title in refusals.CODES.items())
-        raise argparse.ArgumentTypeError(
-            f"a refusal or a code, not {text!r}: {_refusals()}; the codes of LeftOut are {codes}")
-    return found
-
-
-def reason_or_any(text: str) -> refusals.Reason:
-    """The same, or any refusal."""
-    return ANY if text == "any" else reason(text)
-
-
-def _refusals() -> str:
-    return ", ".join(f"{each.number} {each.name}" for each in refusals.load().values())
-
-
-def part(text: str) -> Part:
-    """The part of a scan that is named K/N."""
-    try:
-        return read_part(text)
-    except ValueError:
-        raise argparse.ArgumentTypeError(
-            f"a part K/N, where N is from 1 to {MOST_PARTS} and K from 0 to N - 1, not {text!r}") from None
 
 
 class Parser(argparse.ArgumentParser):
@@ -167,13 +110,14 @@ class Command(NamedTuple):
     options: Callable[[Parser], None]
 
 
-def parser() -> Parser:
-    """The words that are understood."""
+def parser(named: str = "") -> Parser:
+    """The words that are understood; of the commands the one that is named alone, if one is. (Each takes its time.)"""
     top = Parser(prog=TOOL, description="Files, pictures and reasons for NAPLPS pages.", allow_abbrev=False,
                  epilog=f"`{TOOL} COMMAND --help` describes one command. {EPILOG}")
     top.add_argument("-V", "--version", action="version", version=f"{TOOL} {VERSION}")
     commands = top.add_subparsers(dest="command", metavar="COMMAND", required=True)
-    for title, command in COMMANDS.items():
+    for title in [named] if named in COMMANDS else COMMANDS:
+        command = COMMANDS[title]
         one = commands.add_parser(title, help=command.help, epilog=command.epilog, allow_abbrev=False,
                                   description=command.help[0].upper() + command.help[1:] + ".")
         one.set_defaults(parser=one)
@@ -196,6 +140,7 @@ def _page_options(one: Parser) -> None:
     if title == "play":
         one.add_argument("--into", metavar="FILE", type=name, required=True, help="the file that is made")
     if title == "look":
+        from .sheet import MOST_PAGES  # (what one command needs, the others don't wait for)
         where.add_argument("--svg", metavar="FILE", type=name, help="write the sketch of one page to this file")
         where.add_argument("--sheet", metavar="FILE", type=name,
                            help=f"write one picture of all pages, of {MOST_PAGES} at most, to this file")
@@ -214,24 +159,26 @@ def _page_options(one: Parser) -> None:
 def _asking_options(one: Parser, budget: bool = True) -> None:
     """The options of a command that asks the program."""
     if budget:
-        one.add_argument("--budget", metavar="N", type=Number(0, MOST_BUDGET), default=USUAL_BUDGET,
-                         help=f"how many bytes of macro bodies a page may be charged, from 0 to {MOST_BUDGET}; the "
-                         f"default is {USUAL_BUDGET}")
+        one.add_argument("--budget", metavar="N", type=partial(whole_number, least=0, most=MOST_BUDGET),
+                         default=USUAL_BUDGET, help="how many bytes of macro bodies a page may be charged, from 0 to "
+                         f"{MOST_BUDGET}; the default is {USUAL_BUDGET}")
     one.add_argument("--seconds", metavar="N", type=seconds, default=20.0,
                      help="how many seconds the program may take for a page; the default is 20")
 
 
 def _scan_options(one: Parser) -> None:
+    from .collection.pool import MOST_PROCESSES
+    from .reason_arguments import part
     one.add_argument("folders", metavar="FOLDER", nargs="+", type=name,
                      help="a folder of pages, a pack of them, which is a tar, tar.gz or zip file, or a page")
     one.add_argument("--into", metavar="STORE", type=name, required=True,
                      help="the store: a file, which is made if there is none")
     where = one.add_mutually_exclusive_group()
-    where.add_argument("--processes", metavar="N", type=Number(1, MOST_PROCESSES),
+    where.add_argument("--processes", metavar="N", type=partial(whole_number, least=1, most=MOST_PROCESSES),
                        help="how many processes work; by default one for each processor")
     where.add_argument("--on", metavar="SCHEDULER", type=name,
                        help="let the workers of Dask work; its scheduler, by its address or by its file")
-    one.add_argument("--most", metavar="BYTES", type=Number(0, 1 << 62), default=MOST_PAGE,
+    one.add_argument("--most", metavar="BYTES", type=partial(whole_number, least=0, most=1 << 62), default=MOST_PAGE,
                      help=f"how many bytes a page may have; the default is {MOST_PAGE}")
     one.add_argument("--part", metavar="K/N", type=part,
                      help="take only one of N parts of the files, the first of which is 0/N")
@@ -263,6 +210,7 @@ def _equal_options(one: Parser) -> None:
 
 
 def _refused_options(one: Parser) -> None:
+    from .reason_arguments import reason, refusal
     _store_option(one)
     which = one.add_mutually_exclusive_group()
     which.add_argument("--number", metavar="N", type=refusal,
@@ -286,6 +234,7 @@ def _status_options(one: Parser) -> None:
 
 
 def _files_options(one: Parser) -> None:
+    from .reason_arguments import reason_or_any
     _store_option(one)
     one.add_argument("--kind", metavar="KIND", type=name,
                      help="only pages of this kind, page, text or blank; or refused files that look so, as GIF")
@@ -308,10 +257,11 @@ def _report_options(one: Parser) -> None:
     one.add_argument("--replace", action="store_true", help="put it in place of a report that is there")
     one.add_argument("--full", action="store_true", help=FULL_HELP)
     some = one.add_mutually_exclusive_group()
-    some.add_argument("--sketches", metavar="N", type=Number(0, MOST_SKETCHES), default=USUAL_SKETCHES,
+    some.add_argument("--sketches", metavar="N", type=partial(whole_number, least=0, most=MOST_SKETCHES),
+                      default=USUAL_SKETCHES,
                       help=f"how many pages have a sketch in it; the default is {USUAL_SKETCHES}")
     some.add_argument("--all", action="store_true", help=f"a sketch of each page, for up to {MOST_SKETCHES}")
-    one.add_argument("--processes", metavar="N", type=Number(1, MOST_DRAWING),
+    one.add_argument("--processes", metavar="N", type=partial(whole_number, least=1, most=MOST_DRAWING),
                      default=min(os.cpu_count() or 1, MOST_DRAWING),
                      help="how many processes draw; by default one for each processor")
 
@@ -319,7 +269,7 @@ def _report_options(one: Parser) -> None:
 def _serve_options(one: Parser) -> None:
     _store_option(one)
     _asking_options(one, budget=False)
-    one.add_argument("--port", metavar="N", type=Number(0, 65535), default=0,
+    one.add_argument("--port", metavar="N", type=partial(whole_number, least=0, most=65535), default=0,
                      help="the port of 127.0.0.1; by default a free one")
     one.add_argument("--full", action="store_true", help=FULL_HELP)
 
@@ -371,13 +321,15 @@ def _check_output(given: argparse.Namespace, pages: List[str]) -> None:
         given.parser.error(f"several pages need {ways}{' in place of --svg' if svg else ''}")
     if svg and given.png:
         given.parser.error("--png and --svg exclude each other; --png prints, and > FILE keeps that")
-    if sheet and len(pages) > MOST_PAGES:
-        given.parser.error(f"a sheet has {MOST_PAGES} pages at most")
+    if sheet:
+        from .sheet import MOST_PAGES
+        if len(pages) > MOST_PAGES:
+            given.parser.error(f"a sheet has {MOST_PAGES} pages at most")
 
 
 def _given(words: List[str]) -> argparse.Namespace:
     """What the words say. Exits where they are wrong, or ask for help."""
-    given = parser().parse_args(words)
+    given = parser(words[0] if words else "").parse_args(words)
     if given.command in ON_PAGES:
         pages: List[str] = given.pages
         if given.command in ("canon", "look"):
@@ -402,7 +354,7 @@ def main(words: List[str], command: str) -> int:
         tell(f"standard output: {error.strerror}")
         return FAILED
     try:
-        return _done(given, command)
+        return _on_pages(given, command) if given.command in ON_PAGES else _on_stores(given, command)
     except BrokenPipeError:
         raise
     except Exception as error:  # pylint: disable=broad-except
@@ -410,30 +362,52 @@ def main(words: List[str], command: str) -> int:
         return FAILED
 
 
-def _done(given: argparse.Namespace, command: str) -> int:
-    """Does what was asked for; the status."""
-    if given.command in collection.COMMANDS:
-        return collection.run(given, command)
-    if given.command in reporting.COMMANDS:
+def _on_stores(given: argparse.Namespace, command: str) -> int:
+    """Runs a command on a store; the status. What one command needs, the others don't wait for."""
+    if given.command in REPORTING:
+        from .report import commands as reporting
         return reporting.run(given, command)
-    limits = dataclasses.replace(Limits() if given.command in AT_LENGTH else MODEST, seconds=given.seconds)
+    from .collection import commands as collection
+    return collection.run(given, command)
+
+
+def _is_store(given: argparse.Namespace) -> bool:
+    """Whether the one name is that of a store."""
+    from .collection.store import is_store
+    is_one = is_store(given.pages[0])
+    if is_one and given.command == "look" and given.into is None and given.sheet is None:
+        given.parser.error("a store needs --into FOLDER or --sheet FILE")
+    return is_one
+
+
+def _on_pages(given: argparse.Namespace, command: str) -> int:
+    """Runs a command on pages; the status."""
+    from naplps.client import Client
+    from naplps.faults import NoProgram
+    from naplps.program import find
+    from .earlier import Earlier, read_earlier
+    from .listing import MODEST
+    from .new_files import NotWritten
+    from .page_session import Session
+    from .png import NoPng
+    from .source import Unread
+    limits = Limits() if given.command in AT_LENGTH else MODEST
+    client = None
     try:
-        client = Client(find(command), given.budget, limits)
-    except NoProgram as error:
-        tell(str(error))
-        return FAILED
-    after: List[str] = getattr(given, "after", [])
-    try:
-        is_of_store = given.command in OF_STORES and len(given.pages) == 1 and is_store(given.pages[0])
-        if is_of_store and given.command == "look" and given.into is None and given.sheet is None:
-            given.parser.error("a store needs --into FOLDER or --sheet FILE")
+        client = Client(find(command), given.budget, limits._replace(seconds=given.seconds))
+        after: List[str] = getattr(given, "after", [])
+        is_of_store = given.command in OF_STORES and len(given.pages) == 1 and _is_store(given)
         earlier = read_earlier(after, given.seconds) if after else Earlier()
         if is_of_store:
-            return collection.of_store(given, client, earlier)
+            from .collection import tasks
+            return tasks.of_store(given, client, earlier)
         options = {name: value for name, value in vars(given).items() if name in OPTIONS}
-        return ON_PAGES[given.command](Session(client, given.pages, **options, earlier=earlier))
-    except (NotWritten, Unread, NoPng) as error:
+        module, _, function = ON_PAGES[given.command].partition(".")
+        work: Callable[[Session], int] = getattr(importlib.import_module(f".{module}", __package__), function)
+        return work(Session(client, given.pages, **options, earlier=earlier))
+    except (NoProgram, NotWritten, Unread, NoPng) as error:
         tell(str(error))
         return FAILED
     finally:
-        client.close()
+        if client:
+            client.close()

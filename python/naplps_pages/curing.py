@@ -6,8 +6,7 @@ import os
 from typing import Dict, List, Optional
 
 from naplps.answers import Accepted, Answer, Refusal, Unanswered
-from naplps.entry_json import Members
-from naplps.names import as_json, quoted, shown
+from naplps.names import Members, as_json, quoted, shown
 from naplps.program import version
 from naplps.treating.captures import seems_a_capture
 from naplps.treating.changes import AROUND, WITHIN, Change
@@ -15,9 +14,10 @@ from naplps.treating.search import Cure, TreatmentSearch
 from naplps.version import VERSION
 
 from . import TOOL
-from .console import Session
+from .json_lines import dumps
 from .new_files import make_folder, put_inside, require_free
-from .schema import answered, dumps
+from .page_session import Session
+from .schema import answered
 from .source import Page
 
 WARNING = ("The copy is another page. That it is equal to the original, or draws what was meant there, isn't claimed; "

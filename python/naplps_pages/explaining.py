@@ -11,9 +11,9 @@ from naplps.names import quoted, shown
 
 from .cases import case_of
 from .codes import Code, cut
-from .console import Session
 from .folding import MOST_IN_ROW, folded, goes_on
 from .listing import Row as Placed
+from .page_session import Session
 from .refusals import PAGE, text_of
 from .source import Page
 

@@ -1,7 +1,6 @@
 """Files that a command makes: each whole or not at all, and none over another."""
 import errno
 import os
-import tempfile
 from typing import Dict, Iterable
 
 from naplps.names import leaf, shown
@@ -68,6 +67,7 @@ def _claim(path: str, data: bytes) -> None:
 
 def _part(path: str, data: bytes) -> str:
     """A new file with these bytes, which are on the disk, in the folder of the path."""
+    import tempfile  # (which takes long to be imported, and is needed here alone)
     number, part = tempfile.mkstemp(prefix=".naplps-", dir=os.path.dirname(path) or ".")
     try:
         with open(number, "wb") as file:

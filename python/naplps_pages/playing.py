@@ -6,9 +6,10 @@ from naplps.answers import Accepted, Refusal
 from naplps.limits import MOST_LISTED
 from naplps.names import shown
 
-from .console import Session, tell
+from .console import tell
 from .earlier import Earlier, Heard
 from .new_files import put
+from .page_session import Session
 from .player.document import html
 from .player.played import can_be_played, played
 from .source import Page

@@ -1,14 +1,6 @@
 """JSON of answers. The section JSON of man/naplps-pages.1 describes it."""
-import json
-
 from naplps.answers import Accepted, Answer, Refusal, Unanswered
-from naplps.entry_json import Members
-from naplps.names import as_json
-
-
-def dumps(members: Members) -> str:
-    """The object on one line, in ASCII."""
-    return json.dumps(members, ensure_ascii=True, separators=(", ", ": "))
+from naplps.names import Members, as_json
 
 
 def answered(name: str, answer: Answer) -> Members:

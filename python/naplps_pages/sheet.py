@@ -1,10 +1,10 @@
 """A contact sheet: small pictures of many pages, with their names and answers, as one picture."""
 import math
 from typing import List, NamedTuple, Optional
-from xml.sax.saxutils import escape
 
 from naplps.drawing import Drawn
 from naplps.drawing.document import is_tall, picture
+from naplps.drawing.elements import escaped
 from naplps.drawing.measure import HEIGHT, WIDTH
 from naplps.drawing.paper import AROUND, MOST_BYTES, MOST_WEIGHT
 
@@ -44,7 +44,7 @@ class ContactSheet:
     def add(self, tile: Tile) -> None:
         """Adds a page. Where all would be more to draw than a picture may have, its picture is left out."""
         drawn = None if tile.drawn is None else self._room_for(tile.drawn)
-        told = '<title>%s</title>%s' % (escape(f"{tile.name}: {tile.answer}"), drawn or _without(
+        told = '<title>%s</title>%s' % (escaped(f"{tile.name}: {tile.answer}"), drawn or _without(
             tile.answer if tile.drawn is None else TOO_MUCH))
         above = WIDTH - HEIGHT if tile.drawn and is_tall(tile.drawn.paper) else 0
         box = f"0 {-above} {WIDTH} {HEIGHT + above}"
@@ -81,12 +81,12 @@ class ContactSheet:
 def _without(why: str) -> str:
     """What stands where there is no picture."""
     return ('<rect width="%d" height="%d" fill="#2b3238"/><text x="%d" y="%d" font-size="48" fill="#d5dce2" '
-            'text-anchor="middle">%s</text>') % (WIDTH, HEIGHT, WIDTH // 2, HEIGHT // 2, escape(_cut(why)))
+            'text-anchor="middle">%s</text>') % (WIDTH, HEIGHT, WIDTH // 2, HEIGHT // 2, escaped(_cut(why)))
 
 
 def _line(number: int, colour: str, text: str) -> str:
     """A line of text below a picture."""
-    return '<text y="%d" font-size="%d" fill="%s">%s</text>' % (HIGH + number * LINE, FONT, colour, escape(_cut(text)))
+    return '<text y="%d" font-size="%d" fill="%s">%s</text>' % (HIGH + number * LINE, FONT, colour, escaped(_cut(text)))
 
 
 def _cut(text: str) -> str:

@@ -9,11 +9,12 @@ from naplps.page_text import lines_of
 from naplps.reading import Entries
 
 from . import png
-from .console import Session, tell
+from .console import tell
 from .earlier import Heard
 from .guessing import Guesser
 from .listing import Listed
 from .new_files import make_folder, put, put_inside
+from .page_session import Session
 from .sheet import ContactSheet, Tile
 from .source import Page
 

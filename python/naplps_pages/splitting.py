@@ -5,16 +5,17 @@ import os
 from typing import List
 
 from naplps.answers import Accepted, Answer, Refusal, Unanswered
-from naplps.entry_json import Members
-from naplps.names import as_json, leaf, shown
+from naplps.names import Members, as_json, leaf, shown
 from naplps.program import version
 from naplps.treating.captures import Piece, pieces
 from naplps.version import VERSION
 
 from . import TOOL
-from .console import FAILED, REFUSED, Session
+from .console import FAILED, REFUSED
+from .json_lines import dumps
 from .new_files import make_folder, put_inside, require_free
-from .schema import answered, dumps
+from .page_session import Session
+from .schema import answered
 from .source import Page
 
 # A capture of more pages isn't cut.

@@ -1,6 +1,5 @@
 """What is told of an exception that nobody expected: one line, and no traceback."""
 import os
-import traceback
 
 from naplps.names import shown
 
@@ -30,6 +29,7 @@ def told(error: Exception) -> str:
 
 def _place(error: Exception) -> str:
     """The last line of the tool or the module that it came through."""
+    import traceback  # (which takes long to be imported, and is needed here alone)
     place = "outside of it"
     for frame in traceback.extract_tb(error.__traceback__):
         for folder, start in ((PACKAGE, PACKAGE), (MODULE, os.path.dirname(MODULE))):

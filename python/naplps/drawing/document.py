@@ -1,7 +1,7 @@
 """The document of a sketch: what is drawn, and the words in it and below it."""
 from typing import List, NamedTuple, Tuple
-from xml.sax.saxutils import escape, quoteattr
 
+from .elements import escaped
 from .measure import HEIGHT, WIDTH
 from .paper import Paper
 
@@ -28,13 +28,13 @@ def document(paper: Paper, words: Captions) -> str:
     notes: List[str] = list(paper.notes)
     if above:
         notes.append("the page draws above the part of the square that screens show")
-    described = f"<desc>{escape('; '.join(notes))}</desc>" if notes else ""
+    described = f"<desc>{escaped('; '.join(notes))}</desc>" if notes else ""
     below = '<rect y="%d" width="%d" height="%d" fill="#333333"/>' % (HEIGHT, WIDTH, foot)
     below += "".join(_line(number, LOUD if number else QUIET, line) for number, line in enumerate(lines))
     return ('<svg xmlns="http://www.w3.org/2000/svg" viewBox="0 %d %d %d" width="%d" height="%d" '
             'font-family="DejaVu Sans Mono,monospace" role="img">'
             "<title>%s</title>%s%s%s</svg>\n") % (
-        -above, WIDTH, HEIGHT + foot + above, WIDTH, HEIGHT + foot + above, escape(words.caption), described,
+        -above, WIDTH, HEIGHT + foot + above, WIDTH, HEIGHT + foot + above, escaped(words.caption), described,
         picture(paper), below)
 
 
@@ -70,10 +70,10 @@ def _hatching(prefix: str) -> str:
 def _hatched(paper: Paper) -> str:
     """What is a guess, in stripes."""
     guessed = "".join(paper.page[paper.guess_from or 0:])
-    return f'<g mask="url(#{paper.prefix}guess)" role="group" aria-label={quoteattr(GUESS)}>{guessed}</g>'
+    return f'<g mask="url(#{paper.prefix}guess)" role="group" aria-label="{GUESS}">{guessed}</g>'
 
 
 def _line(number: int, colour: str, text: str) -> str:
     """A line of text below the drawing."""
     return '<text x="8" y="%d" font-size="16" fill="%s">%s</text>' % (
-        HEIGHT + number * CAPTION + 20, colour, escape(text))
+        HEIGHT + number * CAPTION + 20, colour, escaped(text))

@@ -1,7 +1,11 @@
 """Elements of a drawing: the one table of what an entry draws. A sketch has them as SVG, and the player as JSON."""
 from dataclasses import dataclass
-from html import escape
 from typing import Dict, Tuple
+
+
+def escaped(text: str) -> str:
+    """Text as it stands between elements."""
+    return text.replace("&", "&amp;").replace("<", "&lt;").replace(">", "&gt;")
 
 
 @dataclass(frozen=True)
@@ -16,5 +20,5 @@ class Element:
     def markup(self) -> str:
         """It as SVG."""
         told = "".join(f' {name}="{value}"' for name, value in self.attributes.items())
-        within = escape(self.text, quote=False) + "".join(each.markup() for each in self.inside)
+        within = escaped(self.text) + "".join(each.markup() for each in self.inside)
         return f"<{self.name}{told}>{within}</{self.name}>" if within else f"<{self.name}{told}/>"

@@ -10,7 +10,8 @@ from naplps.answers import Refusal
 
 from ..census import EIGHTH_BIT, Census, Row, stops
 from .kinds import checked
-from .places import Otherwise, Place, read
+from .page_reader import Otherwise, read
+from .places import Place
 from .progress import Progress
 from .store import kept
 

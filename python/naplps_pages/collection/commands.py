@@ -1,48 +1,28 @@
-"""The commands on collections, as they were asked for on the command line."""
+"""The commands on collections, as they were asked for on the command line. What one needs is imported for it alone."""
 import argparse
-import itertools
+import importlib
 import sqlite3
-import sys
-from dataclasses import replace
-from typing import Callable, Dict, Iterator, List, Optional, Tuple
 
-from naplps.client import Client
-from naplps.limits import Limits
+from naplps.faults import NoProgram
 from naplps.names import shown
-from naplps.program import NoProgram, find
 
-from .. import census, curing, showing
-from ..console import Session, tell
-from ..earlier import Earlier
+from ..console import FAILED, tell
 from ..new_files import NotWritten
-from ..page_words import NoWords, wanted
-from ..refusals import Reason
+from ..page_words import NoWords
 from ..unexpected import Unexpected, told
-from . import (
-    census_of_store, convert, equal, equal_over, equal_treated, every_file, finding, refused, status,
-)
-from .equal_over import most_budget
-from .merge import merge
-from .pool import processors
-from .printing import Printer, numbered
-from .progress import Progress
-from .scan import COMPLETE, FAILED, SOME_LACK, ScanOptions, scan
-from .session import ANSWERED, REFUSED_ALONE, Names, StoreSession, files
-from .store import StoreFailed, open_to_read
-from .tables import AskAgain
-from .verify import verified
-from .worker import WorkerOptions
+from .store import StoreFailed
 
 Given = argparse.Namespace
-ONE_STORE = "treated copies are joined in one store: merge makes one of several"
-UNTRIED = "of %s no treatments are known: a scan with --cures tries them"
-UNKNOWN = "of treated copies of %s it isn't known what they draw: a scan with --cures finds out"
+# The commands that only look into a store, and the module that has them; and that of the others.
+LOOKS, LOOKUPS, OTHERS = ("status", "files", "find"), ".lookups", ".tasks"
 
 
 def run(given: Given, command: str) -> int:
     """Runs a command; the status. `command` is the path of the tool, beside which naplps may stand."""
     try:
-        return COMMANDS[given.command](given, command)
+        module = importlib.import_module(LOOKUPS if given.command in LOOKS else OTHERS, __package__)
+        status: int = module.COMMANDS[given.command](given, command)
+        return status
     except (NoProgram, NotWritten, NoWords, StoreFailed, Unexpected) as error:
         tell(str(error))
     except BrokenPipeError:
@@ -52,168 +32,3 @@ def run(given: Given, command: str) -> int:
         why = str(error) if isinstance(error, sqlite3.Error) else told(error)
         tell("%s: %s" % (shown(named if isinstance(named, str) else named[0]), why))
     return FAILED
-
-
-def _scan(given: Given, command: str) -> int:
-    how = WorkerOptions(find(command), given.budget, given.seconds, given.most, AskAgain(
-        given.again, given.cures, given.words))
-    processes = given.processes or processors()
-    return scan(ScanOptions(given.folders, given.into, processes, how, given.part, given.on))
-
-
-class ErrorReporter:
-    """Tells what is wrong with files, and keeps the status."""
-
-    def __init__(self, printer: Printer) -> None:
-        self.printer, self.status = printer, COMPLETE
-
-    def __call__(self, name: str, why: str) -> None:
-        """Tells what is wrong with a file."""
-        self.printer.flush()
-        tell(f"{shown(name)}: {why}")
-        self.status = SOME_LACK
-
-
-def _program(given: Given, command: str, stores: List[str]) -> Client:
-    """The program, under the largest budget of the stores: a budget only refuses."""
-    return Client(find(command), most_budget(stores), replace(Limits(), seconds=given.seconds))
-
-
-def _equal(given: Given, command: str) -> int:
-    with_treated = given.treated or given.guesses
-    connection = open_to_read(given.stores[0]) if len(given.stores) == 1 else None
-    printer = Printer(given.form, equal.COLUMNS + (equal.OF_TREATED if with_treated else []))
-    telling = ErrorReporter(printer)
-    some = _groups(given, connection, telling, with_treated)
-    if not given.verify:
-        for group in some:
-            equal.show(printer, group)
-    else:
-        program = _program(given, command, given.stores)
-        try:
-            for group in _verified(program, some, given.copies, telling):
-                equal.show(printer, group)
-        finally:
-            program.close()
-    printer.flush()
-    return telling.status
-
-
-def _groups(given: Given, connection: Optional[sqlite3.Connection], telling: ErrorReporter,
-            with_treated: bool) -> Iterator[equal.Group]:
-    """The groups that are asked for. What isn't known of treated copies is told."""
-    if connection is None:
-        if with_treated:
-            raise StoreFailed(given.stores[1], ONE_STORE)
-        return equal_over.groups(given.stores, given.copies, telling)
-    if not with_treated:
-        return equal.groups(connection, given.copies)
-    for number, why in zip(equal_treated.untried(connection), (UNTRIED, UNKNOWN)):
-        if number:
-            tell(f"{shown(given.stores[0])}: {why % numbered(number, 'refused page')}")
-    return itertools.chain(equal_treated.groups(connection, given.copies), (
-        group for _ in range(given.guesses) for group in equal_treated.guesses(connection, given.copies)))
-
-
-def _verified(program: Client, some: Iterator[equal.Group], copies: bool,
-              telling: ErrorReporter) -> Iterator[equal.Group]:
-    for group in some:
-        left = verified(program, group, telling)
-        if len(left.spellings) > 1 or (left.files > 1 if copies else left.spellings and left.others):
-            yield left
-
-
-def _refused(given: Given, command: str) -> int:
-    connection = open_to_read(given.store)
-    printer = Printer(given.form, refused.COLUMNS)
-    refused.show(printer, refused.members(connection, given.reason or (given.number and Reason(given.number))))
-    printer.flush()
-    return COMPLETE
-
-
-def _convert(given: Given, command: str) -> int:
-    connection = open_to_read(given.store)
-    printer = Printer(given.form, convert.COLUMNS)
-    telling = ErrorReporter(printer)
-    program = _program(given, command, [given.store])
-    conversion = convert.Conversion(program, given.into)
-    try:
-        for row in conversion.rows(connection):
-            if row.reason:
-                telling(row.path if row.status == convert.NOT_MADE else row.place.path, row.reason)
-            convert.show(printer, row)
-    finally:
-        program.close()
-    if given.form == "text":
-        printer.line(conversion.line())
-    printer.flush()
-    return telling.status
-
-
-def _status(given: Given, command: str) -> int:
-    told = status.status(open_to_read(given.store), given.store)
-    printer = Printer(given.form, status.COLUMNS)
-    status.show(printer, told)
-    printer.flush()
-    return COMPLETE
-
-
-def _files(given: Given, command: str) -> int:
-    connection = open_to_read(given.store)
-    printer = Printer(given.form, every_file.COLUMNS)
-    for file in every_file.load(connection, given.kind, given.refused):
-        every_file.show(printer, file)
-    printer.flush()
-    return COMPLETE
-
-
-def _find(given: Given, command: str) -> int:
-    parts = wanted(" ".join(given.words))
-    connection = open_to_read(given.store)
-    why = finding.why_not(connection)
-    if why:
-        raise StoreFailed(given.store, why)
-    printer = Printer(given.form, finding.COLUMNS)
-    for page in finding.found(connection, parts):
-        finding.show(printer, page)
-    printer.flush()
-    return COMPLETE
-
-
-def _merge(given: Given, command: str) -> int:
-    return COMPLETE if merge(given.into, given.parts, given.unfinished) else SOME_LACK
-
-
-def of_store(given: Given, client: Client, earlier: Earlier) -> int:
-    """The commands on pages look, cures and census for the files of a store; the status."""
-    try:
-        connection = open_to_read(given.pages[0])
-        client.budget = most_budget(given.pages)
-        if given.command == "census":
-            return _census(given, connection, client)
-        run, which = OF_STORE[given.command]
-        return run(StoreSession(
-            client, given.pages, getattr(given, "json", False), given.into, past=getattr(given, "past", False),
-            png=getattr(given, "png", False), sheet=getattr(given, "sheet", None), earlier=earlier,
-            files=files(connection, which), stored=Names(connection)))
-    except (StoreFailed, sqlite3.Error) as error:
-        tell(str(error) if isinstance(error, StoreFailed) else f"{shown(given.pages[0])}: {error}")
-    return FAILED
-
-
-def _census(given: Given, connection: sqlite3.Connection, client: Client) -> int:
-    session = Session(client, given.pages, given.json)
-    found = census_of_store.exact(connection)
-    progress = Progress(sys.stderr, lambda: min(found.refused, census_of_store.MOST_READ), what="refused pages")
-    for path, why in census_of_store.read_on(connection, found, progress):
-        progress.tell(f"{shown(path)}: {why}")
-        session.fail(SOME_LACK)
-    progress.clear()
-    census.show(session, found)
-    return session.status
-
-
-OF_STORE: Dict[str, Tuple[Callable[[Session], int], str]] = {
-    "look": (showing.look, ANSWERED), "cures": (curing.cures, REFUSED_ALONE)}
-COMMANDS = {"scan": _scan, "merge": _merge, "equal": _equal, "refused": _refused, "convert": _convert,
-            "status": _status, "find": _find, "files": _files}

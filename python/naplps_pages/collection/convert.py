@@ -7,12 +7,12 @@ from typing import Dict, Iterator, NamedTuple, Optional
 
 from naplps.answers import Accepted, Answer, Unanswered
 from naplps.client import Client
-from naplps.entry_json import Members
-from naplps.names import shown
+from naplps.names import Members, shown
 
 from ..new_files import make_folder, make_folders, put_inside
 from .folders import reason
-from .places import Otherwise, Place, read
+from .page_reader import Otherwise, read
+from .places import Place
 from .printing import NAME, Printer, named, shown_as
 from .store import kept
 from .tables import hashed

@@ -3,8 +3,7 @@ import sqlite3
 from itertools import groupby
 from typing import Any, Iterable, Iterator, List, NamedTuple, Optional, Tuple
 
-from naplps.entry_json import Members
-from naplps.names import shown
+from naplps.names import Members, shown
 from naplps.treating.treatments import graded
 
 from .places import Place

@@ -3,8 +3,7 @@ import sqlite3
 from typing import Iterator, NamedTuple, Optional
 
 from naplps.answers import Accepted, Answer, Refusal, Unanswered
-from naplps.entry_json import Members
-from naplps.names import shown
+from naplps.names import Members, shown
 from naplps.treating.treatments import graded
 
 from ..refusals import Reason

@@ -2,8 +2,7 @@
 import sqlite3
 from typing import Iterator, List, NamedTuple, Optional
 
-from naplps.entry_json import Members
-from naplps.names import shown
+from naplps.names import Members, shown
 
 from ..page_words import Phrase, lines_with, match_of
 from . import tables, word_index

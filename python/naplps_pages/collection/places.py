@@ -1,17 +1,8 @@
-"""Where pages are, and their bytes as they are there now."""
+"""Where pages are."""
 import os
-from typing import IO, NamedTuple, Optional
+from typing import NamedTuple, Optional
 
-from naplps.limits import MOST_PAGE
-
-from ..packs.naming import pack_of
-from ..packs.reading import NoMember
-from ..source import PACKS, Page
-from .file_reader import look
-from .folders import join, opened, reason
-from .tables import READ, hashed
-
-CHANGED = "it isn't as it was when it was scanned"
+from .folders import join
 
 
 class Place(NamedTuple):
@@ -25,41 +16,3 @@ class Place(NamedTuple):
     def path(self) -> str:
         """Its path."""
         return os.fsdecode(join(self.folder, self.name))
-
-
-class Otherwise(Exception):
-    """The file can't be read, or isn't the page any more, with the reason."""
-
-
-def read(place: Place, own: bytes) -> Page:
-    """The page at the place, whose bytes have this hash. Raises Otherwise."""
-    pack = pack_of(place.folder)
-    if pack is not None:
-        return _member(pack, place, own)
-    try:
-        at = opened(place.folder, follow=True)
-    except OSError as error:
-        raise Otherwise(reason(error)) from None
-    try:
-        seen = look(0, at, place.name, 1 << 62, MOST_PAGE)
-    finally:
-        os.close(at)
-    file: Optional[IO[bytes]] = None
-    if seen.descriptor is not None:
-        file = open(seen.descriptor, "rb", buffering=0)
-    if seen.file.state != READ or seen.file.own != own:
-        if file:
-            file.close()
-        raise Otherwise(CHANGED if seen.file.state == READ else seen.file.why or CHANGED)
-    return Page(place.path, seen.data, file)
-
-
-def _member(pack: bytes, place: Place, own: bytes) -> Page:
-    """The page in a pack, whose bytes have this hash. Raises Otherwise."""
-    try:
-        data = PACKS.read(pack, place.name, place.at)
-    except NoMember as error:
-        raise Otherwise(str(error)) from None
-    if hashed(data) != own:
-        raise Otherwise(CHANGED)
-    return Page(place.path, data)

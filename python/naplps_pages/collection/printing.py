@@ -1,15 +1,11 @@
 """The forms in which a table of a store is printed: text, JSON, CSV, and names alone, each ended by NUL."""
-import csv
-import io
 import os
 import sys
 from typing import List, Sequence
 
-from naplps.entry_json import Members
-from naplps.names import as_json, printable, shown
+from naplps.names import Members, as_json, printable, shown
 
 from ..console import Output
-from ..schema import dumps
 from .places import Place
 
 FORMS = ("text", "json", "csv", "null")
@@ -31,6 +27,7 @@ class Printer:
 
     def object(self, members: Members) -> None:
         """An object of JSON, on a line."""
+        from ..json_lines import dumps  # (which is imported where it's needed alone, as csv is)
         self.output.line(dumps(members))
 
     def row(self, members: Members) -> None:
@@ -46,6 +43,8 @@ class Printer:
         self.output.bytes(END)
 
     def _csv(self, fields: Sequence[str]) -> None:
+        import csv
+        import io
         made = io.StringIO()
         csv.writer(made, lineterminator="\n").writerow(fields)
         self.output.text(made.getvalue())

@@ -4,8 +4,7 @@ from itertools import groupby
 from typing import Iterator, NamedTuple, Optional
 
 from naplps.answers import Refusal
-from naplps.entry_json import Members
-from naplps.names import shown
+from naplps.names import Members, shown
 from naplps.treating.treatments import grade_of, graded
 
 from ..refusals import Reason as Wanted

@@ -14,7 +14,7 @@ from naplps.limits import MOST_PAGE, Limits
 from naplps.names import shown
 from naplps.program import version
 
-from ..console import Output, tell
+from ..console import COMPLETE, FAILED, SOME_LACK, Output, tell
 from ..packs.reading import NO_FILE, SEVERAL
 from ..unexpected import Unexpected
 from . import tables, word_index
@@ -35,7 +35,6 @@ from .walk import hidden
 from .worker import WorkerOptions
 from .writer import Terms, Writer
 
-COMPLETE, SOME_LACK, FAILED = 0, 1, 3
 # A worker that is silent for so long, beside the time of two answers, hangs.
 PATIENCE = 60.0
 FORM = re.compile(r"canonical form ([0-9A-Za-z. ]+)")

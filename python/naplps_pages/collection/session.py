@@ -7,14 +7,15 @@ from typing import Callable, Iterator, List, NamedTuple, Optional, Sequence
 
 from naplps.names import shown
 
-from ..console import Session
 from ..new_files import NotWritten, make_folders
 from ..packs.naming import pack_of
+from ..page_session import Session
 from ..sheet import MOST_PAGES
 from ..source import Page, Unread
 from .folders import is_within
 from .kinds import checked
-from .places import Otherwise, Place, read
+from .page_reader import Otherwise, read
+from .places import Place
 from .printing import numbered
 from .store import kept
 from .tables import REFUSED

@@ -4,8 +4,7 @@ import sqlite3
 from dataclasses import dataclass, field
 from typing import Dict, List, NamedTuple, Optional, Tuple, TypeVar
 
-from naplps.entry_json import Members
-from naplps.names import as_json, shown
+from naplps.names import Members, as_json, shown
 
 from . import tables
 from .counts import UNKNOWN

@@ -3,7 +3,6 @@ import hashlib
 import os
 import sqlite3
 import stat
-import urllib.parse
 from contextlib import closing
 from functools import lru_cache
 from typing import Any, Dict, Iterator, Tuple
@@ -25,6 +24,7 @@ EARLIER_LISTING = "3730a18386522f778df118d0b500e6f19a7edc91e7d62b4c11ee8131648c8
 IN_THE_WAY = "has a table %s of its own, where schema %d has another: give that a new name"
 # The header of a database of SQLite, up to the number of the application, and where that stands.
 MAGIC, HEADER, AT_APPLICATION = b"SQLite format 3\0", 72, 68
+PLAIN = frozenset(b"/-._~0123456789ABCDEFGHIJKLMNOPQRSTUVWXYZabcdefghijklmnopqrstuvwxyz")
 # What is held of the file, in KiB; and how long its log becomes, in pages.
 CACHE, LOG = 32 << 10, 8000
 
@@ -43,7 +43,9 @@ def _connected(path: str, mode: str) -> sqlite3.Connection:
 
 
 def _named(path: str, mode: str) -> str:
-    return f"file:{urllib.parse.quote(os.fsencode(os.path.abspath(path)))}?mode={mode}"
+    """The address of a file for SQLite, where a byte that could say something there stands by its number."""
+    name = "".join(chr(byte) if byte in PLAIN else f"%{byte:02X}" for byte in os.fsencode(os.path.abspath(path)))
+    return f"file:{name}?mode={mode}"
 
 
 def reader(path: str) -> sqlite3.Connection:

@@ -8,7 +8,8 @@ from naplps.treating.search import find
 
 from ..source import Page
 from .equal import Group, Spelling
-from .places import Otherwise, Place, read
+from .page_reader import Otherwise, read
+from .places import Place
 from .tables import hashed
 
 # Given the path of a file and what is wrong with it.

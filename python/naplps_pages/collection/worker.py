@@ -61,7 +61,7 @@ class Worker:
                  members: Optional[int] = None) -> None:
         self.how, self.knows, self.beat, self.members = how, knows, beat, members
         self.ahead = Client(how.program, how.budget, Limits(seconds=how.seconds), beat)
-        self.program = Client(how.program, how.budget, dataclasses.replace(MODEST, seconds=how.seconds), beat)
+        self.program = Client(how.program, how.budget, MODEST._replace(seconds=how.seconds), beat)
         self.asked: "OrderedDict[bytes, None]" = OrderedDict()
         self.left: Chunk = ()
 

@@ -3,13 +3,13 @@ import argparse
 import sqlite3
 import sys
 
+from naplps.faults import NoProgram
 from naplps.names import shown
-from naplps.program import NoProgram, find
+from naplps.program import find
 
 from ..collection.printing import numbered
-from ..collection.scan import COMPLETE, FAILED, SOME_LACK
 from ..collection.store import StoreFailed, open_to_read
-from ..console import Output, tell
+from ..console import COMPLETE, FAILED, SOME_LACK, Output, tell
 from ..new_files import NotWritten
 from ..unexpected import told
 from . import making

@@ -5,7 +5,6 @@ import signal
 import subprocess
 import sys
 from collections import deque
-from dataclasses import replace
 from multiprocessing.connection import Connection, Pipe, wait
 from types import FrameType
 from typing import Iterator, List, NamedTuple, Optional, Sequence, Tuple
@@ -150,7 +149,7 @@ def main(descriptor: int) -> None:
     gc.set_threshold(OBJECTS)
     connection = Connection(descriptor)
     how = connection.recv()
-    program = Client(how.program, limits=replace(MODEST, seconds=how.seconds))
+    program = Client(how.program, limits=MODEST._replace(seconds=how.seconds))
     try:
         while True:
             connection.send(draw(program, connection.recv(), how.most))

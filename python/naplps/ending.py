@@ -1,0 +1,67 @@
+"""Signals that end the tool: they end its processes too, those too that have only just begun."""
+import signal
+import threading
+from contextlib import contextmanager
+from types import FrameType
+from typing import Iterator, Optional, Protocol, Set
+
+SIGNALS = (signal.SIGINT, signal.SIGTERM, signal.SIGHUP)
+
+
+class Ends(Protocol):
+    """A process that goes on."""
+
+    def end(self) -> None:
+        """Ends it."""
+
+
+class Stopped(BaseException):
+    """A signal, by its number, asks the tool to end."""
+
+
+class Ending:
+    """The processes that go on, where signals are watched. A signal that comes while one starts waits for that."""
+
+    def __init__(self) -> None:
+        self.processes: Set[Ends] = set()
+        self.is_watched = self.is_starting = False
+        self.late: Optional[int] = None
+
+    def watch(self) -> None:
+        """Has signals raise Stopped in the main thread, but for those that are ignored, as under nohup."""
+        self.is_watched = True
+        for number in SIGNALS:
+            if signal.getsignal(number) is not signal.SIG_IGN:
+                signal.signal(number, self._stop)
+
+    def _stop(self, number: int, _: Optional[FrameType]) -> None:
+        if not self.is_starting:
+            raise Stopped(number)
+        self.late = number
+
+    @contextmanager
+    def starting(self, process: Ends) -> Iterator[None]:
+        """Starts a process inside, and keeps it where signals are watched. Raises Stopped where one came meanwhile."""
+        is_held = self.is_watched and threading.current_thread() is threading.main_thread()
+        if is_held:
+            self.is_starting = True
+        try:
+            yield
+            if self.is_watched:
+                self.processes.add(process)
+        finally:
+            if is_held:
+                self.is_starting = False
+                number, self.late = self.late, None
+                if number is not None:
+                    raise Stopped(number)
+
+    def end_all(self) -> None:
+        """Ends all that go on; no other signal comes between."""
+        for number in SIGNALS:
+            signal.signal(number, signal.SIG_IGN)
+        for process in tuple(self.processes):
+            process.end()
+
+
+ENDING = Ending()

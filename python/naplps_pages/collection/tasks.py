@@ -1,0 +1,168 @@
+"""The commands that make stores, or compare and convert what they have."""
+import argparse
+import itertools
+import sqlite3
+import sys
+from typing import Callable, Dict, Iterator, List, Optional, Tuple
+
+from naplps.client import Client
+from naplps.limits import Limits
+from naplps.names import shown
+from naplps.program import find
+
+from .. import census, curing, showing
+from ..console import COMPLETE, FAILED, SOME_LACK, tell
+from ..earlier import Earlier
+from ..page_session import Session
+from ..refusals import Reason
+from . import census_of_store, convert, equal, equal_over, equal_treated, refused
+from .equal_over import most_budget
+from .merge import merge
+from .pool import processors
+from .printing import Printer, numbered
+from .progress import Progress
+from .scan import ScanOptions, scan
+from .session import ANSWERED, REFUSED_ALONE, Names, StoreSession, files
+from .store import StoreFailed, open_to_read
+from .tables import AskAgain
+from .verify import verified
+from .worker import WorkerOptions
+
+Given = argparse.Namespace
+ONE_STORE = "treated copies are joined in one store: merge makes one of several"
+UNTRIED = "of %s no treatments are known: a scan with --cures tries them"
+UNKNOWN = "of treated copies of %s it isn't known what they draw: a scan with --cures finds out"
+
+
+def _scan(given: Given, command: str) -> int:
+    how = WorkerOptions(find(command), given.budget, given.seconds, given.most, AskAgain(
+        given.again, given.cures, given.words))
+    processes = given.processes or processors()
+    return scan(ScanOptions(given.folders, given.into, processes, how, given.part, given.on))
+
+
+class ErrorReporter:
+    """Tells what is wrong with files, and keeps the status."""
+
+    def __init__(self, printer: Printer) -> None:
+        self.printer, self.status = printer, COMPLETE
+
+    def __call__(self, name: str, why: str) -> None:
+        """Tells what is wrong with a file."""
+        self.printer.flush()
+        tell(f"{shown(name)}: {why}")
+        self.status = SOME_LACK
+
+
+def _program(given: Given, command: str, stores: List[str]) -> Client:
+    """The program, under the largest budget of the stores: a budget only refuses."""
+    return Client(find(command), most_budget(stores), Limits(seconds=given.seconds))
+
+
+def _equal(given: Given, command: str) -> int:
+    with_treated = given.treated or given.guesses
+    connection = open_to_read(given.stores[0]) if len(given.stores) == 1 else None
+    printer = Printer(given.form, equal.COLUMNS + (equal.OF_TREATED if with_treated else []))
+    telling = ErrorReporter(printer)
+    some = _groups(given, connection, telling, with_treated)
+    if not given.verify:
+        for group in some:
+            equal.show(printer, group)
+    else:
+        program = _program(given, command, given.stores)
+        try:
+            for group in _verified(program, some, given.copies, telling):
+                equal.show(printer, group)
+        finally:
+            program.close()
+    printer.flush()
+    return telling.status
+
+
+def _groups(given: Given, connection: Optional[sqlite3.Connection], telling: ErrorReporter,
+            with_treated: bool) -> Iterator[equal.Group]:
+    """The groups that are asked for. What isn't known of treated copies is told."""
+    if connection is None:
+        if with_treated:
+            raise StoreFailed(given.stores[1], ONE_STORE)
+        return equal_over.groups(given.stores, given.copies, telling)
+    if not with_treated:
+        return equal.groups(connection, given.copies)
+    for number, why in zip(equal_treated.untried(connection), (UNTRIED, UNKNOWN)):
+        if number:
+            tell(f"{shown(given.stores[0])}: {why % numbered(number, 'refused page')}")
+    return itertools.chain(equal_treated.groups(connection, given.copies), (
+        group for _ in range(given.guesses) for group in equal_treated.guesses(connection, given.copies)))
+
+
+def _verified(program: Client, some: Iterator[equal.Group], copies: bool,
+              telling: ErrorReporter) -> Iterator[equal.Group]:
+    for group in some:
+        left = verified(program, group, telling)
+        if len(left.spellings) > 1 or (left.files > 1 if copies else left.spellings and left.others):
+            yield left
+
+
+def _refused(given: Given, command: str) -> int:
+    connection = open_to_read(given.store)
+    printer = Printer(given.form, refused.COLUMNS)
+    refused.show(printer, refused.members(connection, given.reason or (given.number and Reason(given.number))))
+    printer.flush()
+    return COMPLETE
+
+
+def _convert(given: Given, command: str) -> int:
+    connection = open_to_read(given.store)
+    printer = Printer(given.form, convert.COLUMNS)
+    telling = ErrorReporter(printer)
+    program = _program(given, command, [given.store])
+    conversion = convert.Conversion(program, given.into)
+    try:
+        for row in conversion.rows(connection):
+            if row.reason:
+                telling(row.path if row.status == convert.NOT_MADE else row.place.path, row.reason)
+            convert.show(printer, row)
+    finally:
+        program.close()
+    if given.form == "text":
+        printer.line(conversion.line())
+    printer.flush()
+    return telling.status
+
+
+def _merge(given: Given, command: str) -> int:
+    return COMPLETE if merge(given.into, given.parts, given.unfinished) else SOME_LACK
+
+
+def of_store(given: Given, client: Client, earlier: Earlier) -> int:
+    """The commands on pages look, cures and census for the files of a store; the status."""
+    try:
+        connection = open_to_read(given.pages[0])
+        client.budget = most_budget(given.pages)
+        if given.command == "census":
+            return _census(given, connection, client)
+        run, which = OF_STORE[given.command]
+        return run(StoreSession(
+            client, given.pages, getattr(given, "json", False), given.into, past=getattr(given, "past", False),
+            png=getattr(given, "png", False), sheet=getattr(given, "sheet", None), earlier=earlier,
+            files=files(connection, which), stored=Names(connection)))
+    except (StoreFailed, sqlite3.Error) as error:
+        tell(str(error) if isinstance(error, StoreFailed) else f"{shown(given.pages[0])}: {error}")
+    return FAILED
+
+
+def _census(given: Given, connection: sqlite3.Connection, client: Client) -> int:
+    session = Session(client, given.pages, given.json)
+    found = census_of_store.exact(connection)
+    progress = Progress(sys.stderr, lambda: min(found.refused, census_of_store.MOST_READ), what="refused pages")
+    for path, why in census_of_store.read_on(connection, found, progress):
+        progress.tell(f"{shown(path)}: {why}")
+        session.fail(SOME_LACK)
+    progress.clear()
+    census.show(session, found)
+    return session.status
+
+
+OF_STORE: Dict[str, Tuple[Callable[[Session], int], str]] = {
+    "look": (showing.look, ANSWERED), "cures": (curing.cures, REFUSED_ALONE)}
+COMMANDS = {"scan": _scan, "merge": _merge, "equal": _equal, "refused": _refused, "convert": _convert}
