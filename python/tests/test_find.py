@@ -4,9 +4,12 @@ import io
 import json
 import os
 import sqlite3
+import subprocess
+import sys
 
 import pytest
 
+from conftest import PACKAGES
 from naplps.writer import PageWriter
 from naplps_pages.collection import scan, word_index
 from naplps_pages.collection.store import StoreFailed, open_to_write
@@ -175,3 +178,21 @@ def test_a_store_of_the_schema_before_has_no_texts(run, store, tmp_path):
     old = earlier(store, os.path.join(str(tmp_path), "old.db"))
     said = run(["find", "hockey", old])
     assert said.returncode == 3 and b"has no texts" in said.stderr
+
+
+# Modules that take long, of which a command needs none that only looks into a store.
+HEAVY = ("asyncio", "concurrent", "ctypes", "dataclasses", "email", "http", "inspect", "multiprocessing", "naplps.entry",
+         "naplps.drawing", "pathlib", "ssl", "subprocess", "tarfile", "tempfile", "urllib", "xml", "zipfile")
+IMPORTED = """import sys
+sys.path.insert(0, sys.argv[1])
+from naplps_pages import cli
+status = cli.main(sys.argv[2:], "naplps-pages")
+print(status, *sorted(sys.modules), file=sys.stderr)"""
+
+
+def test_find_imports_little(store):
+    said = subprocess.run([sys.executable, "-I", "-S", "-c", IMPORTED, PACKAGES, "find", "hockey", store],
+                          stdout=subprocess.PIPE, stderr=subprocess.PIPE, check=True)
+    status, *names = said.stderr.decode().split()
+    assert status == "0" and b"ICE HOCKEY TODAY" in said.stdout and "naplps_pages.collection.finding" in names
+    assert [name for name in names if any(name == each or name.startswith(each + ".") for each in HEAVY)] == []

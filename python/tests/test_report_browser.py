@@ -269,6 +269,34 @@ def test_the_wall(wall, archive):
     wall.until("document.querySelectorAll('#wall .says')[0].textContent === 'COPIED'")
 
 
+WORDS = "{text: '', kind: '', answer: '', cure: '', folder: '', order: '', pages: true, from: 0, count: 60}"
+KEYS = "(async () => (await (await SOURCE.open()).files(%s)).files.map((each) => each.key))()" % WORDS
+SEEN = """[...document.querySelectorAll('#wall > li')].filter((each) => each.getBoundingClientRect().top < innerHeight)"""
+DRAWN = "%s.every((each) => each.querySelector('img, .none'))" % SEEN
+
+
+def asked_for(wall):
+    """The keys of the thumbnails that were asked for, in their order."""
+    return [each.split("key=")[1] for each in wall.requests if "/thumbnail?" in each]
+
+
+def test_what_is_seen_of_the_wall_is_drawn_first_and_held(wall, address):
+    if not address.startswith("http"):
+        pytest.skip("a file asks nobody")
+    wall.until(DRAWN)
+    count, keys = wall.run(SEEN + ".length"), wall.run(KEYS)
+    wall.until("document.querySelectorAll('#wall > li img, #wall > li .none').length > %d" % count)
+    assert set(asked_for(wall)[:count]) == set(keys[:count])
+    before, asked = wall.run("scrollY"), len(asked_for(wall))
+    wall.run("scrollTo(0, document.documentElement.scrollHeight)")
+    wall.until("!document.querySelector('#wall > li[data-at=\"0\"]')")
+    wall.until(DRAWN)
+    wall.run("scrollTo(0, %d)" % before)
+    wall.until("document.querySelector('#wall > li[data-at=\"0\"]')")
+    wall.until(DRAWN)
+    assert len(asked_for(wall)) > asked and not set(asked_for(wall)[asked:]) & set(keys[:count])
+
+
 def test_the_wall_has_elements_only_where_it_is_seen(wall, archive):
     number = archive[1] - 1
     few = wall.run("document.querySelectorAll('#wall > li').length")

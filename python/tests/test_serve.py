@@ -12,6 +12,7 @@ from concurrent.futures import ThreadPoolExecutor
 import pytest
 
 from conftest import COMMAND, file
+from naplps_pages.report.server import MOST_DRAWERS
 from naplps_pages.report.sketch_workers import ENDED
 from reports import SPELLED
 from samples import OUTSIDE, POINT
@@ -391,9 +392,33 @@ def test_many_long_drawings_end(short):
 
 def test_a_drawer_that_is_killed_is_replaced(own):
     assert own.drawing("a.nap")["sketch"]
-    (drawer,) = children(own.process.pid)
-    os.kill(drawer, signal.SIGKILL)
-    assert own.drawing("a.nap")["why"] == ENDED and own.drawing("a.nap")["sketch"]
+    drawers = children(own.process.pid)
+    for drawer in drawers:
+        os.kill(drawer, signal.SIGKILL)
+    said = [own.drawing("a.nap")["why"] for _ in range(len(drawers) + 1)]
+    assert said == [ENDED] * len(drawers) + [""] and own.drawing("a.nap")["sketch"]
+
+
+def test_drawers_are_there_before_pages_are_asked_for(own):
+    wait_until(lambda: len(children(own.process.pid)) == MOST_DRAWERS)
+
+
+def test_a_connection_is_kept_for_more(served):
+    connection = http.client.HTTPConnection(HOST, served.port, timeout=300)
+    connection.connect()
+    kept = connection.sock
+    for _ in range(3):
+        connection.request("GET", served.key + FILES)
+        assert json.loads(connection.getresponse().read())["total"] == 4 and connection.sock is kept
+    connection.close()
+
+
+@pytest.mark.parametrize("key, headers", [("/nothing", ""), ("", "Content-Length: 3\r\n"),
+                                          ("", "Transfer-Encoding: chunked\r\n")])
+def test_nothing_more_is_read_behind_a_request_that_is_refused_or_has_a_body(served, key, headers):
+    request = "GET %s%s HTTP/1.1\r\nHost: 127.0.0.1:%d\r\n" % (key or served.key, FILES, served.port)
+    said = served.raw((request + headers + "\r\n" + request + "\r\n").encode())
+    assert said.count(b"HTTP/1.1 ") == 1 and b"\r\nConnection: close\r\n" in said
 
 
 @pytest.mark.parametrize("number", [signal.SIGTERM, signal.SIGINT])
@@ -401,8 +426,7 @@ def test_it_ends_amid_a_drawing(slow, number):
     with ThreadPoolExecutor(1) as other:
         long = other.submit(slow.drawing, "0.nap")
         wait_until(lambda: [each for drawer in children(slow.process.pid) for each in children(drawer)])
-        (drawer,) = children(slow.process.pid)
-        (program,) = children(drawer)
+        ((drawer, program),) = [(drawer, each) for drawer in children(slow.process.pid) for each in children(drawer)]
         slow.process.send_signal(number)
         assert slow.process.wait(300) == -number
         wait_until(lambda: _is_dead(drawer) and _is_dead(program))

@@ -13,13 +13,19 @@ class Desk:
     """Takes pages from many threads at the same time. One that takes long keeps one process alone."""
 
     def __init__(self, how: DrawingOptions, most: int) -> None:
-        """Of the processes there are so many at most; they start when they are needed."""
-        self.how = how
+        """Of the processes there are so many at most; those that there aren't start when they are needed."""
+        self.how, self.most = how, most
         self._turns = threading.Semaphore(most)
         self._lock = threading.Lock()
         self._idle: List[SketchWorker] = []
         self._all: List[SketchWorker] = []
         self._closed = False
+
+    def begin(self) -> None:
+        """Starts the processes, so that the first pages needn't wait for that."""
+        for drawer in [self._taken() for _ in range(self.most)]:
+            if drawer:
+                self._put_back(drawer, True)
 
     def drawing(self, it: WantedDrawing) -> Drawing:
         """The drawing of a page, or why there is none. Its time begins when a process has it."""

@@ -44,6 +44,8 @@ class WantedDrawing(NamedTuple):
     budget: int
     treated: Optional[TreatedCopy] = None
     is_played: bool = False
+    # (whether only a thumbnail shows it)
+    is_small: bool = False
 
 
 class DrawingLimits(NamedTuple):
@@ -131,7 +133,7 @@ def _shown(page: Page, told: Listed, it: WantedDrawing, most: DrawingLimits) -> 
     if lines is None:
         return Drawing(svg, entries=answer.entries if isinstance(answer, Accepted) else 0)
     text = "\n".join(lines_of("\n".join(lines) + "\n"))[:most.text]
-    rows = _rows(lines, most, isinstance(answer, Refusal))
+    rows = [] if it.is_small else _rows(lines, most, isinstance(answer, Refusal))
     some, counts = [_cut(row.line) for row in rows], [row.entries for row in rows]
     some = shortened(some) if most.shortens else some
     first = len(lines) - sum(counts) if isinstance(answer, Refusal) else 0

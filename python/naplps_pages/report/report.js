@@ -164,5 +164,6 @@ class Report {
   // (an address may lead to a page that isn't there any more; the report is there all the same)
   await report.go().catch(tell);
   document.body.dataset.ready = String(Math.round(performance.now()));
+  await report.wall.rest();  // (what is seen first comes first)
   await report.groups.show(0);
 })().catch(tell);

@@ -75,6 +75,7 @@ class Handler(BaseHTTPRequestHandler):
 
     server: Server
     timeout = SILENCE
+    protocol_version = "HTTP/1.1"  # (a browser asks for many pictures one after another)
 
     def do_GET(self) -> None:
         """Answers."""
@@ -85,10 +86,13 @@ class Handler(BaseHTTPRequestHandler):
         self._answer(False)
 
     def _answer(self, whole: bool) -> None:
+        # (a body isn't read, so what follows it would be taken for a request)
+        self.close_connection |= any(name in self.headers for name in ("Content-Length", "Transfer-Encoding"))
         try:
             self._check()
             kind, policy, body = self._asked()
         except BadRequest as refused:
+            self.close_connection = True
             self._send(refused.status, "text/plain", NOTHING, str(refused).encode("utf-8"), whole)
         except (Unasked, sqlite3.Error) as error:
             status = 404 if isinstance(error, Unasked) else 500
@@ -119,8 +123,9 @@ class Handler(BaseHTTPRequestHandler):
         name, _, query = self._name().partition("?")
         if name in (DRAWING, THUMBNAIL):
             it = one.submit(questions.wanted, words(query)).result()
-            drawing = self.server.desk.drawing(it) if it else Drawing(why=NO_ANSWER)
-            answer: Mapping[str, object] = drawing.small() if name == THUMBNAIL else drawing._asdict()
+            is_small = name == THUMBNAIL
+            drawing = self.server.desk.drawing(it._replace(is_small=is_small)) if it else Drawing(why=NO_ANSWER)
+            answer: Mapping[str, object] = drawing.small() if is_small else drawing._asdict()
         elif name == PLAYED:
             return "application/json", NOTHING, self._played(one.submit(questions.wanted, words(query)).result())
         elif name in questions.ways:
@@ -138,7 +143,8 @@ class Handler(BaseHTTPRequestHandler):
     def _send(self, status: int, kind: str, policy: str, body: bytes, whole: bool, allow: str = "") -> None:
         self.send_response(status)
         more = {"Content-Type": kind + "; charset=utf-8", "Content-Length": str(len(body)),
-                "Content-Security-Policy": policy, **HEADERS, **({"Allow": allow} if allow else {})}
+                "Content-Security-Policy": policy, **HEADERS, **({"Allow": allow} if allow else {}),
+                **({"Connection": "close"} if self.close_connection else {})}
         for name, value in more.items():
             self.send_header(name, value)
         self.end_headers()
@@ -183,6 +189,7 @@ def serve(store: str, how: DrawingOptions, port: int, began: Callable[[str], Non
         raise NotServed("%s:%d: %s" % (HERE, port, os.strerror(error.errno or 0))) from None
     try:
         one.submit(questions.page).result()  # (the first who opens it needn't wait for what is the same for all)
+        desk.begin()
         began(f"http://{HERE}:{server.server_port}{server.top}")
         server.serve_forever()
     finally:

@@ -1,6 +1,9 @@
 
 // The wall: thumbnails of all pages that are found. Only those that can be seen have elements.
 const PART = 120, HELD_PARTS = 40, BUSY = 6, NARROW = 150, WIDE = 200, GAP = 10, CAPTION = 46, ROWS_AHEAD = 2;
+// Drawings that are held; for how many ms the wall counts as scrolled behind the last of it, and how many lie between
+// two pictures meanwhile.
+const HELD_DRAWINGS = 150, STILL = 120, BETWEEN = 30;
 
 // Files in their order, asked for in parts; those that were looked at last are held.
 class Parts {
@@ -30,8 +33,9 @@ class Wall {
   // `thumbnail` draws a file, `open` shows its page, `label` says what stands at its corner.
   constructor(box, ask, thumbnail, open, label) {
     Object.assign(this, {box, thumbnail, open, label, parts: new Parts(ask), tiles: new Map(), waiting: [], busy: 0,
-      at: 0, columns: 1, row: 1, turn: 0, told: () => undefined});
-    addEventListener("scroll", () => this.soon(), {passive: true});
+      drawings: new Map(), ready: [], resting: [], scrolled: -STILL, was: 0, at: 0, columns: 1, row: 1, turn: 0,
+      told: () => undefined});
+    addEventListener("scroll", () => { this.scrolled = performance.now(); this.soon(); }, {passive: true});
     new ResizeObserver(() => this.measure()).observe(box);
     box.onkeydown = doing((event) => this.key(event));
     box.onfocusin = (event) => { this.at = Number(event.target.closest("li")?.dataset.at ?? this.at); };
@@ -52,7 +56,7 @@ class Wall {
   empty() {
     this.box.replaceChildren();
     this.tiles.clear();
-    this.waiting = [];
+    Object.assign(this, {waiting: [], ready: []});
   }
 
   // Columns and rows, as wide as the window lets them be.
@@ -72,8 +76,8 @@ class Wall {
   top() { return this.box.getBoundingClientRect().top + scrollY; }
 
   // The first that can be seen.
-  first() {
-    return Math.max(0, Math.floor((scrollY - this.top()) / this.row)) * this.columns;
+  first(top = this.top()) {
+    return Math.max(0, Math.floor((scrollY - top) / this.row)) * this.columns;
   }
 
   soon() {
@@ -83,7 +87,9 @@ class Wall {
   // Makes the elements that can be seen now, and takes away the others, but the one that has the focus.
   render() {
     if (!this.box.clientWidth) return;
-    const from = Math.max(0, this.first() - ROWS_AHEAD * this.columns);
+    // (all is measured before anything is changed, so that the page is laid out once)
+    const top = this.top(), first = this.first(top), last = this.last(top);
+    const from = Math.max(0, first - ROWS_AHEAD * this.columns);
     const rows = Math.ceil(innerHeight / this.row) + 2 * ROWS_AHEAD + 1;
     const end = Math.min(this.total, from + rows * this.columns);
     for (const [at, tile] of this.tiles) {
@@ -92,18 +98,18 @@ class Wall {
         this.tiles.delete(at);
       }
     }
-    if (!this.tiles.has(this.at)) this.at = Math.min(this.first(), Math.max(0, this.total - 1));
+    if (!this.tiles.has(this.at)) this.at = Math.min(first, Math.max(0, this.total - 1));
     let behind = null;
     for (let at = end - 1; at >= from; at--) {
       if (!this.tiles.has(at)) this.box.insertBefore(this.tile(at), behind);
       behind = this.tiles.get(at);
       behind.firstChild.tabIndex = at === this.at ? 0 : -1;
     }
-    this.told(this.first(), Math.min(this.total, this.last() + 1));
+    this.told(first, Math.min(this.total, last + 1));
   }
 
-  last() {
-    const rows = Math.ceil((scrollY + innerHeight - this.top()) / this.row);
+  last(top = this.top()) {
+    const rows = Math.ceil((scrollY + innerHeight - top) / this.row);
     return Math.min(this.total, Math.max(1, rows) * this.columns) - 1;
   }
 
@@ -137,25 +143,51 @@ class Wall {
     button.title = file.name;
     button.setAttribute("aria-label", [file.name, label, file.says].filter(Boolean).join(", "));
     button.onclick = doing(() => this.open(file.key, at));
-    this.waiting.push({file, tile, thumb: button.firstChild, says});
-    this.draw();
+    this.waiting.push({at, file, tile, thumb: button.firstChild, says});
+    this.soonDrawn ||= requestAnimationFrame(() => { this.soonDrawn = 0; this.draw(); });
   }
 
-  // Draws a few at a time. What was scrolled away meanwhile isn't drawn.
+  // Draws a few at a time, those first that can be seen. What was scrolled away meanwhile isn't drawn.
   draw() {
-    while (this.busy < BUSY && this.waiting.length) {
-      const next = this.waiting.shift();
-      if (!next.tile.isConnected) continue;
+    const top = this.top(), first = this.first(top), last = this.last(top);
+    const away = ({at}) => at < first ? first - at : Math.max(0, at - last);
+    this.waiting = this.waiting.filter(({tile}) => tile.isConnected)
+      .sort((one, other) => away(one) - away(other) || one.at - other.at);
+    for (const next of this.waiting.splice(0, BUSY - this.busy)) {
       this.busy++;
       this.drawn(next).catch(tell).finally(() => { this.busy--; this.draw(); });
     }
+    if (!this.busy) this.resting.splice(0).forEach((rests) => rests());
   }
 
-  async drawn({file, tile, thumb, says}) {
-    const drawing = await this.thumbnail(file.key);
-    if (!tile.isConnected) return;
-    thumb.replaceChildren(picture(cropped(drawing), file.name));
-    if (!says.textContent) says.textContent = oneLine(drawing.text || "").slice(0, 60);
+  // Waits until all that stands on the wall is drawn.
+  rest() {
+    return this.busy || this.waiting.length ? new Promise((rests) => this.resting.push(rests)) : Promise.resolve();
+  }
+
+  async drawn(next) {
+    const key = next.file.key, drawing = this.drawings.get(key) || await this.thumbnail(key);
+    this.drawings.delete(key);
+    this.drawings.set(key, drawing);
+    if (this.drawings.size > HELD_DRAWINGS) this.drawings.delete(this.drawings.keys().next().value);
+    this.ready.push({...next, drawing});
+    this.put();
+  }
+
+  // Puts pictures in: now and then one while the wall is scrolled, so that no frame is late, and else all.
+  put() {
+    this.putting ||= requestAnimationFrame((now) => {
+      this.putting = 0;
+      this.ready = this.ready.filter(({tile}) => tile.isConnected);
+      const few = now - this.was < BETWEEN ? 0 : 1;
+      const some = this.ready.splice(0, now - this.scrolled < STILL ? few : this.ready.length);
+      if (some.length) this.was = now;
+      for (const {file, thumb, says, drawing} of some) {
+        thumb.replaceChildren(picture(cropped(drawing), file.name));
+        if (!says.textContent) says.textContent = oneLine(drawing.text || "").slice(0, 60);
+      }
+      if (this.ready.length) this.put();
+    });
   }
 
   // The keys that go from tile to tile.
