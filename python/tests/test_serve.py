@@ -290,11 +290,11 @@ def test_clients_that_say_nothing_hold_up_nobody(served):
 @pytest.mark.parametrize("number", [signal.SIGINT, signal.SIGTERM])
 def test_a_signal_ends_it_and_the_program(own, number):
     own.drawing("a.nap")
-    (drawer,) = children(own.process.pid)
-    (program,) = children(drawer)
+    drawers = children(own.process.pid)
+    (program,) = [each for drawer in drawers for each in children(drawer)]
     own.process.send_signal(number)
     assert own.process.wait(300) == -number
-    wait_until(lambda: _is_dead(drawer) and _is_dead(program))
+    wait_until(lambda: all(map(_is_dead, [*drawers, program])))
     assert own.process.stderr.read() == b""
 
 
