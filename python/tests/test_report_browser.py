@@ -271,7 +271,8 @@ def test_the_wall(wall, archive):
 
 WORDS = "{text: '', kind: '', answer: '', cure: '', folder: '', order: '', pages: true, from: 0, count: 60}"
 KEYS = "(async () => (await (await SOURCE.open()).files(%s)).files.map((each) => each.key))()" % WORDS
-SEEN = """[...document.querySelectorAll('#wall > li')].filter((each) => each.getBoundingClientRect().top < innerHeight)"""
+SEEN = ("[...document.querySelectorAll('#wall > li')].filter("
+        "(each) => each.getBoundingClientRect().top < innerHeight)")
 DRAWN = "%s.every((each) => each.querySelector('img, .none'))" % SEEN
 
 
