@@ -8,13 +8,13 @@ import signal
 import socket
 import subprocess
 import sys
-import time
 
 import pytest
 
 from conftest import COMMAND, PACKAGES, TOP, file
 from naplps_pages import new_files
 from samples import BOMB, OUTSIDE, POINT, POINT_LINE
+from scans import wait_until
 
 COMMANDS = ["check", "list", "canon", "explain", "look", "text", "cures"]
 # (a busy machine may take long, and no test asserts a time)
@@ -456,8 +456,7 @@ def started(fake, tmp_path, seconds, **more):
     path = fake("open(%r, 'w').write(str(os.getpid()))\ntime.sleep(6000)" % note)
     words = [COMMAND, "check", file(tmp_path, "page", POINT), "--seconds", str(seconds)]
     said = subprocess.Popen(words, stderr=subprocess.PIPE, env=dict(os.environ, NAPLPS=path), **more)
-    while not (os.path.exists(note) and os.path.getsize(note)):
-        time.sleep(0.05)
+    wait_until(lambda: os.path.exists(note) and os.path.getsize(note), said)
     with open(note, encoding="ascii") as made:
         return said, made.read()
 
