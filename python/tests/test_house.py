@@ -20,7 +20,7 @@ OF_THE_MODULE, OF_THE_TOOL = (sorted(glob.glob(os.path.join(folder, "**", "*.py"
 SOURCES = [*OF_THE_MODULE, *OF_THE_TOOL, os.path.join(TOP, "pages", "naplps-pages")]
 SCRIPTS = [os.path.join(TOP, "scripts", name)
            for name in ("manual-refusals", "speed-module", "speed-pages", "measure-scale", "measuring.py",
-                        "worst-pictures")]
+                        "speed-wall", "worst-pictures")]
 ALL = SOURCES + SCRIPTS + sorted(glob.glob(os.path.join(PACKAGES, "tests", "*.py")))
 
 
