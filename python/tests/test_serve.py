@@ -362,10 +362,15 @@ def short(run, fake, tmp_path, go):
     yield from slowly(run, fake, tmp_path, go, "8")
 
 
+def programs(served):
+    """The programs that its processes have started."""
+    return [each for drawer in children(served.process.pid) for each in children(drawer)]
+
+
 def test_a_long_drawing_makes_nobody_wait(slow, go):
     with ThreadPoolExecutor(1) as other:
         long = other.submit(slow.drawing, "0.nap")
-        wait_until(lambda: children(slow.process.pid))
+        wait_until(lambda: programs(slow))
         assert slow.drawing("7.nap")["entries"] == 7 and not long.done()
         assert slow.json(FILES)["total"] == 9 and not long.done()
         go.touch()
@@ -425,7 +430,7 @@ def test_nothing_more_is_read_behind_a_request_that_is_refused_or_has_a_body(ser
 def test_it_ends_amid_a_drawing(slow, number):
     with ThreadPoolExecutor(1) as other:
         long = other.submit(slow.drawing, "0.nap")
-        wait_until(lambda: [each for drawer in children(slow.process.pid) for each in children(drawer)])
+        wait_until(lambda: programs(slow))
         ((drawer, program),) = [(drawer, each) for drawer in children(slow.process.pid) for each in children(drawer)]
         slow.process.send_signal(number)
         assert slow.process.wait(300) == -number
