@@ -1,19 +1,16 @@
-use Rattle.std.proofs.Common.{ℕ, suc, ◌+◌, ◌-◌, ◌≡◌, ◌<◌, ◌≤◌, List, [], ◌∷◌, ◌++◌, length, take, Bool, true, false, cond, eqb, Some, refl, ap, arith}
+use Rattle.std.proofs.Common.{ℕ, suc, ◌+◌, ◌-◌, ◌≡◌, ◌<◌, ◌≤◌, List, [], ◌∷◌, ◌++◌, length, take, Bool, true, false, cond, eqb, Some, refl, arith}
 use Rattle.std.proofs.lemmas.List.{length-take-le}
-use Rattle.nap_codes.specs.declared.code.Code.{Code}
+use Rattle.nap_reader.specs.Below.{Code, CodeSets, Whole, Spells}
+use Rattle.nap_reader.proofs.Common.{Fault, BodyFront, ends_body}
 use Rattle.nap_codes.specs.declared.code.Code.TheVariants as code
 use Rattle.nap_codes.specs.declared.code_set.CodeSet.{CodeSet}
 use Rattle.nap_codes.specs.declared.code_set.CodeSet.TheVariants as code_sets
-use Rattle.nap_codes.specs.declared.code_set.CodeSets.{CodeSets}
-use Rattle.nap_codes.specs.declared.control.Row.{Row}
-use Rattle.nap_codes.specs.declared.control.Row.TheVariants.{Whole, More, Out}
-use Rattle.nap_codes.specs.Tables.{row_of, control0_rows}
+use Rattle.nap_codes.specs.Tables.{control0_rows}
 use Rattle.nap_codes.specs.Front as codes
-use Rattle.nap_codes.specs.Spelling.{Spells}
 use Rattle.nap_codes.specs.Spelling as spelling
 use Rattle.nap_codes.proofs.PublicLaws.{whole_is_spelled}
-use Rattle.nap_reader.specs.declared.fault.Fault.{Fault}
-use Rattle.nap_reader.specs.Bodies.{BodyFront, unfinished, refused, ended, one_further, stores, ends_body, at_escape, body_front}
+use Rattle.nap_reader.proofs.SpelledLemmas.{none_is, row_none}
+use Rattle.nap_reader.specs.Bodies.{unfinished, refused, ended, one_further, stores, at_escape, body_front}
 
 -- A definition of a macro has more than one byte.
 
@@ -21,44 +18,19 @@ abbrev defines : Code → Bool
 defines (code.DefMacro name show) = true
 defines _ = false
 
-abbrev defines_row : Row → Bool
-defines_row (Whole c) = defines c
-defines_row More = false
-defines_row (Out name) = false
-
-abbrev none_defines : List (ℕ × Row) → Bool
-none_defines [] = true
-none_defines (row ∷ rows) = cond (defines_row row.1) false (none_defines rows)
-
-row_defines : (rows : List (ℕ × Row)) (byte : ℕ) (row : Row) → none_defines rows ≡ true → row_of rows byte ≡ Some row → defines_row row ≡ false
-unfolding row_of
-row_defines [] byte row none found = let bad : ⊥ = cc in absurd bad
-row_defines (first ∷ rows) byte row none found = at (eqb byte first.0) (defines_row first.1) refl none found (row_defines rows byte row)
-  where
-    at : (here defining : Bool) → defines_row first.1 ≡ defining → cond defining false (none_defines rows) ≡ true →
-        cond here (Some first.1) (row_of rows byte) ≡ Some row →
-        (none_defines rows ≡ true → row_of rows byte ≡ Some row → defines_row row ≡ false) → defines_row row ≡ false
-    at here true e none found ih = let bad : ⊥ = cc in absurd bad
-    at true false e none found ih = let same : first.1 ≡ row = cc in cc (ap defines_row same)
-    at false false e none found ih = ih none found
-
-controls_define : none_defines control0_rows ≡ true
+controls_define : none_is defines control0_rows ≡ true
 unfolding control0_rows
 controls_define = refl
 
 graphic_defines : (set : CodeSet) (byte : ℕ) (c : Code) → codes.plain_code set byte ≡ Some c → defines c ≡ false
 unfolding codes.plain_code
 graphic_defines code_sets.Primary byte (code.DefMacro name show) e = let bad : ⊥ = cc in absurd bad
-graphic_defines code_sets.Supplementary byte (code.DefMacro name show) e = let bad : ⊥ = cc in absurd bad
-graphic_defines code_sets.Mosaic byte (code.DefMacro name show) e = let bad : ⊥ = cc in absurd bad
-graphic_defines code_sets.Drcs byte (code.DefMacro name show) e = let bad : ⊥ = cc in absurd bad
-graphic_defines code_sets.Macros byte (code.DefMacro name show) e = let bad : ⊥ = cc in absurd bad
-graphic_defines code_sets.Pdi byte (code.DefMacro name show) e = let bad : ⊥ = cc in absurd bad
+graphic_defines _ byte (code.DefMacro name show) e = let bad : ⊥ = cc in absurd bad
 graphic_defines set byte _ e = refl
 
 spelled_long : (sets : CodeSets) (bytes : List ℕ) (c : Code) (after : CodeSets) → Spells sets bytes c after → defines c ≡ true → 2 ≤ length bytes
 spelled_long sets _ _ _ (spelling.control0 {byte = byte} {code = c} row differs) is =
-    let none = row_defines control0_rows byte (Whole c) controls_define row in
+    let none = row_none defines control0_rows byte (Whole c) controls_define row in
     let bad : ⊥ = cc in absurd bad
 spelled_long sets _ _ _ spelling.shift_out is = let bad : ⊥ = cc in absurd bad
 spelled_long sets _ _ _ spelling.shift_in is = let bad : ⊥ = cc in absurd bad

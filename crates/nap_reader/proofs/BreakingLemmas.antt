@@ -1,18 +1,10 @@
 use Rattle.std.proofs.Common.{ℕ, ◌≡◌, ◌≢◌, ◌<◌, ◌≤◌, ◌⊎◌, List, [], ◌∷◌, ◌++◌, length, Bool, true, false, cond, Option, Some, None, Result, Ok, Err, refl, ap, sym, ◌∙◌, subst, inl, inr, arith, append-nil, length-append}
-use Rattle.nap_list.specs.declared.sink.Sink.{Ghosts}
-use Rattle.nap_list.specs.declared.entry.Entry.{Entry}
-use Rattle.nap_draw.specs.declared.fault.DrawFault.{DrawFault}
-use Rattle.nap_draw.specs.Draws.{Cause, stream, memory, device}
-use Rattle.nap_draw.specs.Rule.{Drawn, rule}
+use Rattle.nap_reader.specs.Below.{Ghosts, Entry, DrawFault, Cause, stream, memory, device, Drawn, rule, run_limit}
+use Rattle.nap_reader.proofs.Common.{Refusal, OpenBody, OpenRun, Machine, Outcome, Unfinished, is_operand_byte, refusal, placed_from, begun, with_run, cause_of, closed_by, TookPart, BreaksAt, BreaksFrom, BreaksInRun, Holding, Continues, ContinuesPast, BreaksInBody, BreaksSome}
 use Rattle.nap_reader.specs.declared.fault.Fault.TheVariants as faults
-use Rattle.nap_reader.specs.declared.fault.Refusal.{Refusal}
-use Rattle.nap_reader.specs.declared.body.OpenBody.{OpenBody}
-use Rattle.nap_reader.specs.declared.reader.OpenRun.{OpenRun}
 use Rattle.nap_reader.specs.Stream as model
-use Rattle.nap_draw.specs.Limits.{run_limit}
-use Rattle.nap_reader.specs.Stream.{Machine, Outcome, Unfinished, is_operand_byte, refusal, placed_from, begun, with_run}
-use Rattle.nap_reader.specs.Breaking.{cause_of, closed_by, TookPart, IsCharged, WantsMemory, CanBreakAt, CanLackAt, BreaksAt, BreaksFrom, BreaksWith, BreaksInRun}
-use Rattle.nap_reader.specs.Holding.{Holding, Continues, ContinuesPast, BreaksPast, BreaksInBody, BreaksSome, ClosesInto}
+use Rattle.nap_reader.specs.Breaking.{IsCharged, WantsMemory, CanBreakAt, CanLackAt, BreaksWith}
+use Rattle.nap_reader.specs.Holding.{BreaksPast, ClosesInto}
 use Rattle.nap_reader.proofs.EndLemmas.{open_place_is, run_still, body_open}
 use Rattle.nap_reader.proofs.LeadsLemmas.{leads_entries, leads_taken, leads_unrefused, leads_machine, leads_more}
 use Rattle.nap_reader.proofs.ReadingLemmas.{word_joins}
@@ -23,11 +15,11 @@ closed_by_operand : (o : Outcome) (b : ℕ) → is_operand_byte b ≡ true → c
 closed_by_operand o b word = rw word refl
 
 -- the run that a byte joins could not grow
-pub growth_breaks : {S : Type 0} (g : Ghosts S) (s : S) (budget : ℕ) (p : List ℕ) (b : ℕ) (t : S) (h : Holding) (open_run : OpenRun) →
+pub growth_breaks : {S : Type 0} {g : Ghosts S} {s t : S} {h : Holding} {open_run : OpenRun} (budget : ℕ) (p : List ℕ) (b : ℕ) →
     h.open_body ≡ None → h.open_run ≡ Some open_run → is_operand_byte b ≡ true → length h.run < run_limit → Continues g s (begun budget p) t h [] →
     BreaksAt g s budget p b t (refusal faults.Memory (length p))
 unfolding placed_from
-growth_breaks g s budget p b t h open_run no_body is word few k =
+growth_breaks {g = g} {s = s} {t = t} {h = h} {open_run = open_run} budget p b no_body is word few k =
     let joined = word_joins g s (begun budget (p ++ b ∷ [])) t h open_run no_body is (record { byte = b; place = length p }) [] (leads_more g s budget p (b ∷ []) t h k) word few in
     let more = more_bytes_keep_entries budget p (b ∷ []) in
     let same = ap (λ (o : Outcome). o.entries) (closed_by_operand (begun budget p) b word) in
@@ -64,10 +56,10 @@ nothing_more xs [] e = refl
 nothing_more xs (y ∷ ys) e = let same = ap length e in absurd (omega (arith, same, length-append xs (y ∷ ys)))
 
 -- a byte breaks that brings entries itself
-pub brings_breaks : {S : Type 0} (g : Ghosts S) (s : S) (budget : ℕ) (p : List ℕ) (b : ℕ) (t : S) (r : Refusal) (known : List Entry) →
+pub brings_breaks : {S : Type 0} (g : Ghosts S) (s : S) (budget : ℕ) (p : List ℕ) (b : ℕ) (t : S) (r : Refusal) {known : List Entry} →
     known ≡ (closed_by (begun budget p) b).entries → r.place ≡ length p → BreaksPast g s known (begun budget (p ++ b ∷ [])) t (cause_of r.fault) →
     BreaksAt g s budget p b t r
-brings_breaks g s budget p b t r known same place h =
+brings_breaks g s budget p b t r {known} same place h =
     inr (record {
       place = place;
       brings = inr (inl (λ none. h.some (nothing_more known h.more (sym h.adds ∙ none ∙ sym same))));
@@ -86,38 +78,38 @@ pub uses_breaks : {S : Type 0} (g : Ghosts S) (s : S) (budget : ℕ) (p : List �
     BreaksAt g s budget p b t r
 uses_breaks g s budget p b t r place charged h = inr (record { place = place; brings = inr (inr (inr charged)); wants = λ _. inl (inr (inr charged)); part = inr (charged, h) })
 
--- the entries of an open run come behind those before it
-run_more : (o : Outcome) → (es : List Entry) × ((with_run o).entries ≡ o.entries ++ es)
-run_more o = at o.unfinished
+-- the entries of an outcome come first of those of another
+abbrev pub First : Outcome → Outcome → Type 0
+First o whole = (more : List Entry) × (whole.entries ≡ o.entries ++ more)
+
+pub same_first : (o : Outcome) → First o o
+same_first o = ([], sym (append-nil o.entries))
+
+pub run_first : (o : Outcome) (u : Option Unfinished) → First o (model.with_run_by o u)
+run_first o None = same_first o
+run_first o (Some model.nothing) = same_first o
+run_first o (Some (model.half_code bytes)) = same_first o
+run_first o (Some model.open_body) = same_first o
+run_first o (Some (model.open_run op place run)) = drawn (rule o.machine.work op run)
   where
-    still : (es : List Entry) × (o.entries ≡ o.entries ++ es)
-    still = ([], sym (append-nil o.entries))
-
-    drew : (place : ℕ) (by : Result Drawn DrawFault) → (es : List Entry) × ((model.with_drawn o place by).entries ≡ o.entries ++ es)
-    drew place (Ok drawn) = (drawn.entries, refl)
-    drew place (Err fault) = still
-
-    at : (u : Option Unfinished) → (es : List Entry) × ((model.with_run_by o u).entries ≡ o.entries ++ es)
-    at (Some (model.open_run op place run)) = drew place (rule o.machine.work op run)
-    at (Some model.nothing) = still
-    at (Some (model.half_code bytes)) = still
-    at (Some model.open_body) = still
-    at None = still
+    drawn : (by : Result Drawn DrawFault) → First o (model.with_drawn o place by)
+    drawn (Ok d) = (d.entries, refl)
+    drawn (Err fault) = same_first o
 
 -- a byte breaks by what it brings, or by what it calls or shows
 some_breaks : {S : Type 0} (g : Ghosts S) (s : S) (budget : ℕ) (p : List ℕ) (b : ℕ) (t : S) (h : Holding) (r : Refusal) (known es : List Entry) →
     known ≡ (closed_by (begun budget p) b).entries → known ≡ (begun budget p).entries ++ es → r.place ≡ length p → h.machine.left ≤ (begun budget p).machine.left →
     BreaksSome g s known (begun budget (p ++ b ∷ [])) t h (cause_of r.fault) → BreaksAt g s budget p b t r
-some_breaks g s budget p b t h r known es same more place left (inl past) = brings_breaks g s budget p b t r known same place past
+some_breaks g s budget p b t h r known es same more place left (inl past) = brings_breaks g s budget p b t r same place past
 some_breaks g s budget p b t h r known es same more place left (inr (less, from)) =
     uses_breaks g s budget p b t r place (omega arith)
     (breaks_longer g s (begun budget p).entries es (begun budget (p ++ b ∷ [])) t (cause_of r.fault)
     (subst (λ (es : List Entry). BreaksFrom g s es (begun budget (p ++ b ∷ [])) t (cause_of r.fault)) more from))
 
 -- where no run is open
-pub still_breaks : {S : Type 0} (g : Ghosts S) (s : S) (budget : ℕ) (p : List ℕ) (b : ℕ) (t : S) (h : Holding) (u : S) (r : Refusal) → Continues g s (begun budget p) t h [] →
+pub still_breaks : {S : Type 0} {g : Ghosts S} {s t : S} {h : Holding} (budget : ℕ) (p : List ℕ) (b : ℕ) (u : S) (r : Refusal) → Continues g s (begun budget p) t h [] →
     h.open_run ≡ None → r.place ≡ length p → BreaksSome g s (begun budget p).entries (begun budget (p ++ b ∷ [])) u h (cause_of r.fault) → BreaksAt g s budget p b u r
-still_breaks g s budget p b t h u r k is place broke =
+still_breaks {g = g} {s = s} {t = t} {h = h} budget p b u r k is place broke =
     some_breaks g s budget p b u h r (begun budget p).entries [] (ap (λ (o : Outcome). o.entries) (sym (closed_by_still g s (begun budget p) t h b k is))) (sym (append-nil (begun budget p).entries)) place
     (let same = ap (λ (m : Machine). m.left) (leads_machine g s (begun budget p) t h k) in omega arith) broke
 
@@ -126,7 +118,7 @@ pub past_breaks : {S : Type 0} (g : Ghosts S) (s : S) (budget : ℕ) (p : List �
     r.place ≡ length p → h.machine.left ≤ (begun budget p).machine.left →
     BreaksSome g s (with_run (begun budget p)).entries (begun budget (p ++ b ∷ [])) u h (cause_of r.fault) → BreaksAt g s budget p b u r
 past_breaks g s budget p b u h r other place left broke =
-    let more = run_more (begun budget p) in
+    let more = run_first (begun budget p) (begun budget p).unfinished in
     some_breaks g s budget p b u h r (with_run (begun budget p)).entries more.0 (rw other refl) more.1 place left broke
 
 -- the opcode breaks whose run a byte ends
@@ -165,10 +157,10 @@ lacks_there g s budget p b t r (inr h) is = at (h.wants is)
     at (inr sink) = inr sink
 
 -- a byte breaks that is read in a body, or behind its end
-pub in_body_breaks : {S : Type 0} (g : Ghosts S) (s : S) (budget : ℕ) (p : List ℕ) (b : ℕ) (t : S) (h : Holding) (body : OpenBody) (u : S) (r : Refusal) →
+pub in_body_breaks : {S : Type 0} {g : Ghosts S} {s t : S} {h : Holding} {body : OpenBody} (budget : ℕ) (p : List ℕ) (b : ℕ) (u : S) (r : Refusal) →
     h.open_body ≡ Some body → h.open_run ≡ None → Continues g s (begun budget p) t h [] → r.place ≡ length p →
     BreaksInBody g s (begun budget p).entries (begun budget (p ++ b ∷ [])) u h (cause_of r.fault) → BreaksAt g s budget p b u r
-in_body_breaks g s budget p b t h body u r in_body none k place (inl next) =
+in_body_breaks {g = g} {s = s} {t = t} {h = h} {body = body} budget p b u r in_body none k place (inl next) =
     let same = ap (λ (o : Outcome). o.entries) (sym (closed_by_still g s (begun budget p) t h b k none)) in
     inr (record {
       place = place;
@@ -181,6 +173,6 @@ in_body_breaks g s budget p b t h body u r in_body none k place (inl next) =
         part = subst (λ (es : List Entry). TookPart g s es next.more u (cause_of r.fault)) same next.part;
       });
     })
-in_body_breaks g s budget p b t h body u r in_body none k place (inr (less, from)) =
+in_body_breaks {g = g} {s = s} {t = t} {h = h} budget p b u r in_body none k place (inr (less, from)) =
     let same = ap (λ (m : Machine). m.left) (leads_machine g s (begun budget p) t h k) in
     uses_breaks g s budget p b u r place (omega (arith, less, same)) from

@@ -1,40 +1,17 @@
-use Rattle.std.proofs.Common.{ℕ, ◌+◌, ◌<◌, ◌≡◌, ◌⊎◌, ◌≢◌, List, [], ◌∷◌, ◌++◌, length, Option, Some, None, Result, Ok, Err, take, drop, get_or, refl, ap, sym, ◌∙◌, subst, inl, inr, append-nil, length-append, arith, Bool, true, false, if◌then◌else◌}
+use Rattle.std.proofs.Common.{ℕ, ◌+◌, ◌<◌, ◌≡◌, ◌⊎◌, ◌≢◌, List, [], ◌∷◌, ◌++◌, length, Option, Some, None, take, drop, get_or, refl, ap, sym, ◌∙◌, subst, inl, inr, append-nil, length-append, arith, Bool, true, false, if◌then◌else◌}
 use Rattle.std.proofs.Math.Seq.{take-append-add}
 use Rattle.std.proofs.lemmas.List.{get_or-append-add}
-use Rattle.nap_list.specs.declared.entry.Entry.{Entry}
-use Rattle.nap_list.specs.declared.state.Opened.{Opened}
-use Rattle.nap_list.specs.declared.sink.Sink.{Ghosts}
-use Rattle.nap_draw.specs.declared.fault.DrawFault.{DrawFault}
-use Rattle.nap_draw.specs.Draws.{Cause, stream, memory, device}
-use Rattle.nap_draw.specs.Rule.{Drawn, rule}
-use Rattle.nap_reader.specs.declared.fault.Refusal.{Refusal}
-use Rattle.nap_reader.specs.Breaking.{cause_of, closed_by, CanLackAt, LacksWithin, BreaksAt, BreaksWith, BreaksBetween, BreaksFrom, TookPart, TookFront}
+use Rattle.nap_reader.specs.Below.{Entry, Opened, Ghosts, Cause, stream, memory, device}
+use Rattle.nap_reader.proofs.Common.{Refusal, cause_of, closed_by, BreaksAt, BreaksBetween, BreaksFrom, TookPart, TookFront, IsBroken, StopsBy, Outcome, Unfinished, nothing, open_run, open_body, is_operand_byte, begun, means, with_code, with_definition, with_end, with_run, ended_by}
+use Rattle.nap_reader.specs.Breaking.{CanLackAt, LacksWithin, BreaksWith}
 use Rattle.nap_reader.specs.Laws.{BegunComesFirst, WantsSome, BreaksAmong, FedBreaksAmong, EndBreaksAmong}
-use Rattle.nap_reader.specs.Standing.{IsBroken, StopsBy}
-use Rattle.nap_reader.specs.Stream.{Outcome, Unfinished, nothing, half_code, open_run, open_body, is_operand_byte, begun, means, with_code, with_definition, with_drawn, with_end, with_run, with_run_by, ended_by}
-use Rattle.nap_reader.proofs.BreakingLemmas.{breaks_there, lacks_there}
+use Rattle.nap_reader.specs.Stream.{half_code}
+use Rattle.nap_reader.proofs.BreakingLemmas.{First, breaks_there, lacks_there, run_first, same_first}
 use Rattle.nap_reader.proofs.LawLemmas.{more_bytes_keep_entries}
 use Rattle.nap_reader.proofs.PartLemmas.{breaks_longer, breaks_more}
 use Rattle.nap_reader.proofs.StandingLemmas.{taken_all}
 
 -- The end of a stream keeps what it has.
-
-abbrev First : Outcome → Outcome → Type 0
-First o whole = (more : List Entry) × (whole.entries ≡ o.entries ++ more)
-
-same_first : (o : Outcome) → First o o
-same_first o = ([], sym (append-nil o.entries))
-
-run_first : (o : Outcome) (u : Option Unfinished) → First o (with_run_by o u)
-run_first o None = same_first o
-run_first o (Some nothing) = same_first o
-run_first o (Some (half_code bytes)) = same_first o
-run_first o (Some open_body) = same_first o
-run_first o (Some (open_run op place run)) = drawn (rule o.machine.work op run)
-  where
-    drawn : (by : Result Drawn DrawFault) → First o (with_drawn o place by)
-    drawn (Ok d) = (d.entries, refl)
-    drawn (Err fault) = same_first o
 
 definition_keeps : (o : Outcome) (n : ℕ) (opened : Option Opened) → (with_definition o n opened).entries ≡ o.entries
 definition_keeps o n None = refl

@@ -1,392 +1,574 @@
-use Rattle.std.proofs.Common.{ℕ, suc, zero, ◌≡◌, ◌<◌, ◌≤◌, ◌+◌, ◌≢◌, List, [], ◌∷◌, ◌++◌, All, Bool, true, false, length, take, drop, get_or, Option, Some, Ok, refl, ap, ap₂, sym, ◌∙◌, subst, arith, append_assoc, length-append}
-use Rattle.std.proofs.lemmas.List.Elements.{All-drop, All-head}
-use Rattle.std.proofs.Math.Seq.{get_or-append_seam}
-use Rattle.std.proofs.lemmas.List.{drop-append-le, drop-map, drop-take, get_or-drop, get_or-take, take-append-le, take_all, take_more, length-drop, length-map, length-take-le, nil_from_length, take-append-drop, take-map, take-take}
-use Rattle.nap_codes.specs.declared.code.Code.{Code}
+use Rattle.std.proofs.Common.{ℕ, ◌≡◌, ◌<◌, List, [], ◌∷◌, ◌++◌, All, Bool, false, length, take, drop, Option, Some, None, Result, inl, refl, ap, sym, ◌∙◌, subst, arith, ◌≢◌, ◌⊎◌, inr, true, ap₂, length-append, ◌≤◌, get_or}
+use Rattle.std.proofs.lemmas.List.{length-map, take-append-le, take-map, drop_more}
+use Rattle.std.proofs.lemmas.List.Elements.{All-head}
 use Rattle.nap_codes.specs.declared.code.Code.TheVariants as code
-use Rattle.nap_codes.specs.declared.code_set.CharSet.{CharSet}
-use Rattle.nap_codes.specs.declared.code_set.CodeSets.{CodeSets}
-use Rattle.nap_codes.specs.declared.opcode.Opcode.{Opcode}
 use Rattle.nap_codes.specs.Front as codes
-use Rattle.nap_codes.specs.Laws.{IsGraphic}
-use Rattle.nap_codes.specs.Lexer.{LexerState}
-use Rattle.nap_list.specs.declared.entry.Entry.{Entry}
-use Rattle.nap_list.specs.declared.sink.Sink.{Ghosts}
-use Rattle.nap_list.specs.declared.sink.SinkFault.{SinkFault}
-use Rattle.nap_list.specs.Batches.{IsTyped}
-use Rattle.nap_list.specs.Putting.{HaltsAfter}
-use Rattle.nap_list.specs.Shown.{shows_of}
-use Rattle.nap_draw.specs.declared.fault.DrawFault.{DrawFault}
 use Rattle.nap_draw.specs.declared.fault.DrawFault.TheVariants as draw_faults
-use Rattle.nap_draw.specs.declared.work.Work.{Work}
 use Rattle.nap_draw.specs.Acts.{GivesSome, WantsBy}
 use Rattle.nap_draw.specs.Codes as draws_codes
-use Rattle.nap_draw.specs.Codes.{code_rule}
+use Rattle.nap_draw.specs.Codes.{text}
 use Rattle.nap_draw.specs.Draws as draws
-use Rattle.nap_draw.specs.Draws.{DrawsBy, fault_of}
-use Rattle.nap_draw.specs.Limits.{run_limit}
-use Rattle.nap_draw.specs.Rule.{Drawn, drawn, rule}
-use Rattle.nap_reader.specs.declared.fault.Fault.{Fault}
+use Rattle.nap_draw.specs.Rule.{drawn}
+use Rattle.nap_reader.specs.declared.fault.Fault.TheVariants as faults
 use Rattle.nap_reader.specs.declared.kind.Kind.TheVariants as kinds
-use Rattle.nap_reader.specs.declared.reader.OpenRun.{OpenRun}
-use Rattle.nap_reader.specs.Faults.{draw_fault}
-use Rattle.nap_reader.specs.Holding.{Continues, Holding}
-use Rattle.nap_reader.specs.Kinds.{kind_of}
-use Rattle.nap_reader.specs.Steps.{CodesStop, Conveys, IsRested, LeadsOn, Passes, StopsByte, StopsText, WholeCodes, ahead, as_it_was, in_characters, with_byte, with_codes}
-use Rattle.nap_reader.specs.Stream.{Outcome, Placed, bytes_of, drawn_front, is_operand_byte, place_at, refusal}
-use Rattle.nap_reader.proofs.LeadsLemmas.{TookBroke, TookMore, WantsMore, leads_on}
-use Rattle.nap_reader.proofs.PieceLemmas.{IsAt, passes_acted, stops_acted}
-use Rattle.nap_reader.proofs.ReadingLemmas.{acts, code_acts, run_opens, still_between}
-use Rattle.nap_reader.proofs.StepLemmas.{stops_code, stops_run}
-use Rattle.nap_reader.proofs.StreamLemmas.{bytes_of-append}
-use Rattle.nap_reader.proofs.StretchLemmas.{words, words_join}
-use Rattle.nap_reader.proofs.TextLemmas.{text_passes, with_text}
+use Rattle.nap_reader.specs.declared.machine.Request.TheVariants as requests
+use Rattle.nap_reader.specs.Steps.{AreCharacters, CallsBy}
+use Rattle.nap_reader.specs.Stream as model
+use Rattle.nap_reader.specs.Stream.{front}
+use Rattle.nap_reader.proofs.PartLemmas.{code_breaks}
+use Rattle.nap_reader.proofs.MachineLemmas.{Drew, LeftBy, left_is, leaves_from, one_takes, own_takes, stop_takes}
+use Rattle.nap_reader.proofs.KindLemmas.{KindMade, acts_itself, binds_code, front_kind_made}
+use Rattle.nap_reader.proofs.LeadsLemmas.{TookBroke, TookMore, WantsMore, is_between, leads_on, leads_to_fault}
+use Rattle.nap_reader.proofs.OpenBodyLemmas.{body_begins}
+use Rattle.nap_reader.proofs.ReadingLemmas as reading
+use Rattle.nap_reader.proofs.ReadingLemmas.{byte_refused, calls, code_acts, code_goes_on, code_strays, defines, run_opens, still_between, nothing_half, opcode_of_kind, opens_drawn, nothing_yet}
+use Rattle.nap_reader.proofs.StepLemmas.{IsAt, code_fault_own, conveys_nothing, leads_nowhere}
+use Rattle.nap_reader.proofs.TextLemmas.{text_passes, with_text, halts_less}
+use Rattle.std.proofs.lemmas.Bool.{false≢true}
+use Rattle.nap_reader.specs.Below.{Code, CodeFault, CharSet, CodeSets, Opcode, Entry, Ghosts, IsTyped, DrawFault, Work, code_rule, DrawsBy, fault_of, Drawn, LexerState, SinkFault, HaltsAfter, shows_of, set_at, IsGraphic}
+use Rattle.nap_reader.proofs.Common.{Refusal, Request, in_body, AllCharacters, code_fault, draw_fault, Continues, Holding, RunAt, kind_of, Calls, IsOpcodeByte, LeadsOn, Passes, StopsByte, TakesBy, as_it_was, asked, in_code, IsLive, Leaves, Takes, Works, at_byte, with_machine, Codes, Stops, in_text, Outcome, Placed, bytes_of, drawn_front, refusal, place_at}
+use Rattle.nap_codes.specs.declared.code.CodeFault.TheVariants as code_faults
+use Rattle.nap_codes.proofs.PublicLaws.{one_byte_opcode}
+use Rattle.nap_list.specs.declared.sink.SinkFault.TheVariants as sink_faults
+use Rattle.nap_list.specs.Putting.{Tells}
+use Rattle.nap_reader.specs.declared.machine.Machine.{Machine}
+use Rattle.nap_reader.specs.declared.machine.codes.CodeOutcome.TheVariants as outcomes
+use Rattle.nap_reader.proofs.SpelledLemmas.{opcode_alone, byte_calls, name_calls}
+use Rattle.nap_reader.proofs.SliceLemmas.{first_of}
+use Rattle.nap_codes.specs.declared.code_set.CodeSet.TheVariants.{Macros}
+use Rattle.nap_codes.specs.Tables as tables
 
--- Whole codes, one after another.
+-- One code, where nothing is open.
 
--- what is held of what codes act on is what was
-with_codes_is : (h : Holding) (work : Work) (lexer : LexerState) → IsRested h work lexer → lexer.half ≡ [] → with_codes h work lexer false ≡ h
-with_codes_is h work lexer rested none =
-    rw (sym rested.work, sym rested.sets, none, sym rested.half) refl
+-- A rule is refused, or not all of its entries could be put.
+pub record Fails {S : Type 0} (g : Ghosts S) (by : Result Drawn DrawFault) (t u : S) (fault : DrawFault) : Type 0 where
+  pub drew : DrawsBy g.took g.broke g.failed by t u fault (draws.cause_of fault)
+  pub wants : fault ≡ draw_faults.Memory → WantsBy g by t u
+  pub gives : fault ≡ draw_faults.Sink → GivesSome by
 
--- so is what is held once codes have acted that clear nothing
-rests_on : {S : Type 0} (g : Ghosts S) (s : S) (o : Outcome) (t : S) (h : Holding) (work : Work) (lexer : LexerState) (pending : List Placed) → IsRested h work lexer → lexer.half ≡ [] →
-    Continues g s o t h pending → Continues g s o t (with_codes h work lexer false) pending
-rests_on g s o t h work lexer pending rested none k =
-    subst (λ (h : Holding). Continues g s o t h pending) (sym (with_codes_is h work lexer rested none)) k
+-- what every sink keeps
+pub record SinkKeeps {S : Type 0} (g : Ghosts S) : Type 0 where
+  pub more : TookMore g
+  pub broken : TookBroke g
+  pub wants : WantsMore g
 
--- bytes at places, in two parts
-parts_of : (xs : List Placed) (bytes : List ℕ) (at n : ℕ) → bytes_of xs ≡ take (at + n) bytes →
-    (xs ≡ take at xs ++ drop at xs) × (bytes_of (take at xs) ≡ take at bytes) × (bytes_of (drop at xs) ≡ take n (drop at bytes))
-parts_of xs bytes at n is = (
-  sym (take-append-drop at xs),
-  sym (take-map (λ (x : Placed). x.byte) at xs) ∙ ap (take at) is ∙ take-take at (at + n) bytes (omega arith),
-  sym (drop-map (λ (x : Placed). x.byte) at xs) ∙ ap (drop at) is ∙ drop-take at n bytes,
-)
-
--- some bytes have a first one
-first_of : (ys : List Placed) (bs : List ℕ) → bytes_of ys ≡ bs → 0 < length bs → (x : Placed) × (zs : List Placed) × (ys ≡ x ∷ zs)
-first_of [] bs is some = absurd (omega (arith, some, ap length is))
-first_of (x ∷ zs) bs is some = (x, zs, refl)
-
--- Nothing was taken.
-pub no_codes : {S : Type 0} (g : Ghosts S) (t : S) (work : Work) (lexer : LexerState) (bytes behind : List ℕ) → lexer.half ≡ [] → WholeCodes g t work lexer t work lexer false bytes behind 0
-no_codes g t work lexer bytes behind none = record {
-  within = omega arith;
-  rested = none;
-  clear = λ works. works;
-  leads = λ h xs rested is.
-      let h' = with_codes h work lexer false in
-      let same = with_codes_is h work lexer rested none in
-      let empty : xs ≡ [] = nil_from_length xs (omega (arith, ap length is, length-map xs (λ (x : Placed). x.byte))) in
-      record {
-        conveys = record {
-          sink = t;
-          holding = h';
-          left = refl;
-          run = λ n all before. before;
-          passes = λ s o pending k.
-              subst (λ (h : Holding). Continues g s o t h pending) (sym same) (subst (λ (ys : List Placed). Continues g s o t h (ys ++ pending)) empty k);
-          none = λ _. (refl, same);
-        };
-        acted = as_it_was refl refl;
-        typed = λ set chars. (refl, refl);
-        none = λ _. (refl, same);
-      };
+-- some bytes act, and leave no run open
+leads_by : {S : Type 0} {g : Ghosts S} {t : S} {h : Holding} {u : S} {h' : Holding} {xs : List Placed} (next : List ℕ) → 0 < length xs → h'.machine.left ≡ h.machine.left → h'.open_run ≡ None → Passes g t h xs u h' [] → LeadsOn g t h u h' xs next
+leads_by {u = u} {h' = h'} next some left closed passes = record {
+  conveys = record {
+    sink = u;
+    holding = h';
+    left = left;
+    run = λ n all before. subst (RunAt n) (sym closed) tt;
+    passes = passes;
+    none = λ none. absurd (omega (arith, some, ap length none));
+  };
+  acted = as_it_was refl refl;
+  typed = λ set rested chars. (refl, refl);
 }
 
--- the last of bytes at places
-last_of : (xs : List Placed) (x : Placed) (bytes : List ℕ) (at b : ℕ) (bs : List ℕ) → bytes_of (xs ++ x ∷ []) ≡ take (at + 1) bytes → drop at bytes ≡ b ∷ bs →
-    (bytes_of xs ≡ take at bytes) × (x.byte ≡ b)
-last_of xs x bytes at b bs is next =
-    let within : at < length bytes = omega (arith, ap length next, length-drop at bytes) in
-    let all : bytes_of xs ++ x.byte ∷ [] ≡ take at bytes ++ b ∷ [] =
-    sym (bytes_of-append xs (x ∷ [])) ∙ is ∙ take_more bytes at 0 within ∙ ap (λ (c : ℕ). take at bytes ++ c ∷ []) (sym (get_or-drop at bytes 0 0 ∙ ap (λ (i : ℕ). get_or bytes i 0) (omega arith)) ∙ ap (λ (ys : List ℕ). get_or ys 0 0) next) in
-    let counted : length (bytes_of xs) ≡ length (take at bytes) =
-    omega (arith, ap length all, length-append (bytes_of xs) (x.byte ∷ []), length-append (take at bytes) (b ∷ [])) in (
-      sym (take_all (length (bytes_of xs)) (bytes_of xs) (omega arith)) ∙ sym (take-append-le (length (bytes_of xs)) (bytes_of xs) (x.byte ∷ []) (omega arith)) ∙ ap (take (length (bytes_of xs))) all
-          ∙ take-append-le (length (bytes_of xs)) (take at bytes) (b ∷ []) (omega (arith, counted)) ∙ take_all (length (bytes_of xs)) (take at bytes) (omega (arith, counted)),
-      sym (get_or-append_seam (bytes_of xs) x.byte [] 0) ∙ ap (λ (ys : List ℕ). get_or ys (length (bytes_of xs)) 0) all ∙ ap (λ (i : ℕ). get_or (take at bytes ++ b ∷ []) i 0) counted ∙ get_or-append_seam (take at bytes) b [] 0,
-    )
+-- An opcode, where no code is half read.
+pub record StartsRun (h : Holding) (x : Placed) (op : Opcode) : Type 0 where
+  pub between : h.open_body ≡ None
+  pub closed : h.open_run ≡ None
+  pub is : IsOpcodeByte h.half h.machine.sets x.byte op
 
--- the place of the first of some bytes
-place_first : (xs more : List Placed) (at : ℕ) (x : Placed) (zs : List Placed) → drop at xs ≡ x ∷ zs → place_at (xs ++ more) at ≡ x.place
-place_first [] more zero x zs is = let bad : x ∷ zs ≡ [] = sym is in cc
-place_first [] more (suc at) x zs is = let bad : x ∷ zs ≡ [] = sym is in cc
-place_first (y ∷ ys) more zero x zs is = ap (λ (ws : List Placed). (get_or ws 0 y).place) is
-place_first (y ∷ ys) more (suc at) x zs is = place_first ys more at x zs is
+-- what is held once its run is open
+abbrev pub open_at : {h : Holding} {x : Placed} {op : Opcode} → StartsRun h x op → Holding
+open_at {h} {x} {op} k = record h { half = []; open_run = Some (record { op = op; place = x.place }); run = [] }
 
-pub place_last : (xs : List Placed) (x : Placed) (at : ℕ) → length xs ≡ at → place_at (xs ++ x ∷ []) at ≡ x.place
-place_last [] x at is = rw (sym is) refl
-place_last (y ∷ ys) x at is = rw (sym is) (place_last ys x (length ys) refl)
+pub run_opened : {S : Type 0} (g : Ghosts S) (t : S) {h : Holding} {x : Placed} {op : Opcode} (k : StartsRun h x op) (next : List ℕ) → LeadsOn g t h t (open_at k) (x ∷ []) next
+run_opened g t {h} {x} {op} k next = record {
+  conveys = record {
+    sink = t;
+    holding = open_at k;
+    left = refl;
+    run = λ n all before. All-head (IsAt n) x [] all;
+    passes = λ s o pending c.
+        run_opens g s o t h k.between k.closed x pending c op 1 h.machine.sets (ap (λ (half : List ℕ). codes.front h.machine.sets (half ++ x.byte ∷ [])) k.is.rested ∙ k.is.names)
+        (sym (ap (λ (half : List ℕ). length (half ++ x.byte ∷ [])) k.is.rested));
+    none = λ none. absurd (omega (arith, ap length none));
+  };
+  acted = as_it_was refl refl;
+  typed = λ set rested chars. (refl, refl);
+}
 
--- Where codes stop is in the bytes.
-pub codes_stop_within : {S : Type 0} (g : Ghosts S) (t : S) (work : Work) (lexer : LexerState) (u : S) (bytes behind : List ℕ) (count index : ℕ) (fault : Fault) → CodesStop g t work lexer u bytes behind count index fault →
-    (count ≤ length bytes + 1) × (count ≤ length (bytes ++ behind)) × (index < count) × (index < length bytes)
-codes_stop_within g t work lexer u bytes behind count index fault (with_byte before is within few least there stops) = (omega (arith, is, within), few, omega (arith, is, least), there)
-codes_stop_within g t work lexer u bytes behind count index fault (in_characters before taken text there is front within stops) =
-    (omega (arith, within), omega (arith, within, length-append bytes behind), omega (arith, is), omega (arith, is, within))
+-- It draws by a rule, and asks this.
+pub data IsRuled (c : Code) (request : Request) : Type 0 where
+  acts : (acting : Code) → kind_of c ≡ kinds.Acts acting → request ≡ requests.Nothing → IsRuled c request
+  binds : (name : ℕ) (show : Bool) → kind_of c ≡ kinds.Binds name show → request ≡ requests.Define name show → IsRuled c request
 
--- Whole codes were taken, and then one more, of so many bytes.
-module _ {S : Type 0} (g : Ghosts S) (t : S) (work : Work) (lexer : LexerState) (u : S) (work' : Work) (lexer' : LexerState) (bytes behind : List ℕ) (at n : ℕ) (more : TookMore g) (some : 0 < n)
-    (few : n ≤ length (drop at bytes)) (before : WholeCodes g t work lexer u work' lexer' false bytes behind at) where
-  -- with those behind them
-  abbrev all : List ℕ
-  all = bytes ++ behind
+-- what it draws
+abbrev pub drawn_by : List Entry → Work → Drawn
+drawn_by entries work = record { entries = entries; work = work; clears = false }
 
-  -- the code's bytes are none of those
-  in_bytes : take n (drop at all) ≡ take n (drop at bytes)
-  in_bytes = ap (take n) (drop-append-le at bytes behind before.within) ∙ take-append-le n (drop at bytes) behind few
+-- A byte ends a code.
+pub record EndsCode (h : Holding) (x : Placed) (c : Code) (after : CodeSets) : Type 0 where
+  pub between : h.open_body ≡ None
+  pub closed : h.open_run ≡ None
+  pub count : ℕ
+  pub whole : codes.front h.machine.sets (h.half ++ x.byte ∷ []) ≡ codes.whole c count after
+  pub length_is : count ≡ length (h.half ++ x.byte ∷ [])
 
-  within : at + n ≤ length bytes
-  within = omega (arith, few, before.within, length-drop at bytes)
+module _ {S : Type 0} (g : Ghosts S) (t : S) {h : Holding} {x : Placed} {c : Code} {after : CodeSets} (k : EndsCode h x c after) where
+  -- what is held once it was read
+  abbrev pub read_at : Holding
+  read_at = record h { machine = record h.machine { sets = after }; half = [] }
 
-  -- they are some
-  not_none : (xs : List Placed) → bytes_of xs ≡ take (at + n) all → xs ≢ []
-  not_none xs is none = absurd (omega (arith, some, ap length (sym is), ap (λ (xs : List Placed). length (bytes_of xs)) none, length-take-le (at + n) all (omega (arith, within, length-append bytes behind))))
+  -- and once it has drawn
+  abbrev pub drawn_at : List Entry → Work → Holding
+  drawn_at entries work = record h { machine = record h.machine { work = work; sets = after }; half = [] }
 
-  -- what the code's bytes come to, by its first one
-  module _ (h : Holding) (xs : List Placed) (rested : IsRested h work lexer) (is : bytes_of xs ≡ take (at + n) all) where
-    abbrev h' : Holding
-    h' = with_codes h work' lexer' false
+  -- It adds nothing.
+  pub nothing_leads : (next : List ℕ) → kind_of c ≡ kinds.AddsNothing → LeadsOn g t h t read_at (x ∷ []) next
+  nothing_leads next kind = leads_by next (omega arith) refl k.closed (λ s o pending c'. code_acts g s o t h k.between k.closed x pending c' c k.count after k.whole k.length_is kind)
 
-    parts : (xs ≡ take at xs ++ drop at xs) × (bytes_of (take at xs) ≡ take at all) × (bytes_of (drop at xs) ≡ take n (drop at bytes))
-    parts = let p = parts_of xs all at n is in (p.0, p.1, p.2 ∙ in_bytes)
+  -- It acts, or defines a macro, whose body comes next.
+  pub code_takes : {u : S} {request : Request} {entries : List Entry} {work : Work} → IsRuled c request → Drew g (code_rule h.machine.work c) t (drawn_by entries work) u → TookMore g → (behind : List Placed) (many : ℕ) (r : Option Refusal) →
+      TakesBy g t h u (drawn_at entries work) (x ∷ behind) many 1 r request
+  code_takes {u} {request} {entries} {work} (acts acting kind is) drew more behind many r =
+      let h' = drawn_at entries work in
+      subst (TakesBy g t h u h' (x ∷ behind) many 1 r) (sym is)
+      (leads_by (bytes_of behind) (omega arith) refl k.closed
+      (λ s o pending c'.
+      leads_on g s o t h (x ∷ pending) c' u entries h' pending more
+      (still_between g s o t h k.between k.closed x pending c' c k.count after k.whole k.length_is h' k.between refl refl k.closed refl)
+      (reading.acts g s o t h k.between k.closed x pending c' c k.count after k.whole k.length_is c (acts_itself c acting kind) ∙ ap (drawn_front (record h.machine { sets = after }) x.place pending) drew.is) drew.took drew.clear))
+  code_takes {u} {request} {entries} {work} (binds name show kind is) drew more behind many r =
+      let h' = asked (drawn_at entries work) (requests.Define name show) in
+      let graphic : KindMade (kinds.Binds name show) = subst KindMade kind (front_kind_made h.machine.sets (h.half ++ x.byte ∷ []) c k.count after k.whole) in
+      let rule = ap (code_rule h.machine.work) (sym (binds_code c name show kind)) ∙ drew.is in
+      subst (TakesBy g t h u (drawn_at entries work) (x ∷ behind) many 1 r) (sym is) (
+        omega arith,
+        graphic,
+        leads_by (bytes_of behind) (omega arith) refl k.closed
+            (λ s o pending c'.
+            leads_on g s o t h (x ∷ pending) c' u entries h' pending more
+            (body_begins (record { name = name; show = show; escape = None }) h' refl refl (is_between h c'.rest k.between c'.held).body k.closed refl)
+            (defines g s o t h k.between k.closed x pending c' c k.count after k.whole k.length_is name show kind ∙ ap (drawn_front (record h.machine { sets = after; mode = in_body name show }) x.place pending) rule) drew.took drew.clear),
+      )
 
-    pub led : LeadsOn g t h u h' (take at xs) (drop at all)
-    led = before.leads h (take at xs) rested parts.1
-
-    pub code_first : (x : Placed) × (zs : List Placed) × (drop at xs ≡ x ∷ zs)
-    code_first = first_of (drop at xs) (take n (drop at bytes)) parts.2 (omega (arith, some, few, length-take-le n (drop at bytes) few))
-
-    first_is : (b : ℕ) (bs : List ℕ) → drop at all ≡ b ∷ bs → code_first.0.byte ≡ b
-    first_is b bs next =
-        sym (ap (λ (ys : List Placed). get_or (bytes_of ys) 0 0) code_first.2)
-        ∙ ap (λ (ys : List ℕ). get_or ys 0 0) (parts.2 ∙ sym in_bytes)
-        ∙ get_or-take n (drop at all) 0 0 (omega (arith, some))
-        ∙ ap (λ (ys : List ℕ). get_or ys 0 0) next
-
-    -- what was taken before leads on to them
-    pub leads_to_code : (s : S) (o : Outcome) (pending : List Placed) → Continues g s o t h (xs ++ pending) → Continues g s o u h' (drop at xs ++ pending)
-    leads_to_code s o pending k =
-        let conveyed = led.conveys.passes s o (drop at xs ++ pending) (subst (Continues g s o t h) (ap (λ (ys : List Placed). ys ++ pending) parts.0 ∙ append_assoc (take at xs) (drop at xs) pending) k) in
-        subst (λ (ys : List Placed). Continues g s o u h' (ys ++ pending)) (sym code_first.2)
-        (passes_acted g led.conveys.sink led.conveys.holding u h' (drop at all) code_first.0 more first_is led.acted s o (code_first.1 ++ pending)
-        (subst (λ (ys : List Placed). Continues g s o led.conveys.sink led.conveys.holding (ys ++ pending)) code_first.2 conveyed))
-
-  -- It acts at once.
-  pub codes_more : (v : S) (work'' : Work) (lexer'' : LexerState) (clears : Bool) → lexer''.half ≡ [] → (g.failed u ≡ false → g.failed v ≡ false) →
-      ((h : Holding) (ys : List Placed) → IsRested h work' lexer' → bytes_of ys ≡ take n (drop at bytes) → Passes g u h ys v (with_codes h work'' lexer'' clears) []) →
-      WholeCodes g t work lexer v work'' lexer'' clears bytes behind (at + n)
-  codes_more v work'' lexer'' clears none clear acts = record {
-    within = within;
-    rested = none;
-    clear = λ works. clear (before.clear works);
-    leads = λ h xs rested is. record {
-      conveys = record {
-        sink = v;
-        holding = with_codes h work'' lexer'' clears;
-        left = refl;
-        run = λ m all before. before;
-        passes = λ s o pending k.
-            acts (with_codes h work' lexer' false) (drop at xs) (record { between = rested.between; closed = rested.closed; work = refl; sets = refl; half = before.rested; run = rested.run }) ((parts_of xs all at n is).2 ∙ in_bytes) s o pending
-            (leads_to_code h xs rested is s o pending k);
-        none = λ empty. absurd (not_none xs is empty);
-      };
-      acted = as_it_was refl refl;
-      typed = λ set chars. (refl, refl);
-      none = λ empty. absurd (not_none xs is empty);
-    };
+  -- Its rule is refused, or breaks.
+  stops_by : {u : S} {fault : DrawFault} (m : model.Machine) {by : Result Drawn DrawFault} → ((s : S) (o : Outcome) (pending : List Placed) (c' : Continues g s o t h (x ∷ pending)) → front h.machine (c'.rest ++ x ∷ pending) ≡ drawn_front m x.place pending by) →
+      Fails g by t u fault → SinkKeeps g → StopsByte g t h x u (refusal (draw_fault fault) x.place)
+  stops_by {u} {fault} m {by} acting fails keeps = record {
+    own = λ own s o pending c'. leads_to_fault g s o t h (x ∷ pending) c' u m x.place pending by (acting s o pending c') fault fails.drew own;
+    broke = λ broke.
+        in_code k.closed (record {
+          place = refl;
+          part = λ s known o c'. inl (code_breaks g s known o t h x c' m by (acting s o [] c'.continues) u keeps.more keeps.broken keeps.wants fault fails.drew fails.wants fails.gives broke);
+        });
   }
 
-  -- Characters act.
-  pub codes_text : (set : CharSet) (text : List ℕ) (v : S) (work'' : Work) → take n (drop at bytes) ≡ text → All IsTyped text →
-      ((b : ℕ) → IsGraphic b → codes.front lexer'.sets (b ∷ []) ≡ codes.whole (code.Char set b) 1 lexer'.sets) → work'' ≡ (drawn work' (draws_codes.text work'.state set text)).work →
-      g.took u (draws_codes.text work'.state set text) v → (g.failed u ≡ false → g.failed v ≡ false) → WholeCodes g t work lexer v work'' lexer' false bytes behind (at + n)
-  codes_text set text v work'' unit typed chars same took clear =
-      codes_more v work'' lexer' false before.rested clear
-      (λ h ys rested is s o pending k.
-      let all : bytes_of ys ≡ text = is ∙ unit in
-      let after = ap₂ (λ (w : Work) (bs : List ℕ). drawn w (draws_codes.text w.state set bs)) rested.work all in
-      rests_on g s o v (record h { machine = with_text h.machine set (bytes_of ys) }) work'' lexer' pending
-      (record { between = rested.between; closed = rested.closed; work = ap (λ (d : Drawn). d.work) after ∙ sym same; sets = rested.sets; half = rested.half; run = rested.run }) before.rested
-      (text_passes g s o u h ys pending k rested.between rested.closed rested.half set
-      (λ b graphic. ap (λ (sets : CodeSets). codes.front sets (b ∷ [])) rested.sets ∙ chars b graphic ∙ ap (codes.whole (code.Char set b) 1) (sym rested.sets))
-      (subst (All IsTyped) (sym all) typed) v more (subst (λ (es : List Entry). g.took u es v) (sym (ap (λ (d : Drawn). d.entries) after)) took) clear))
+  pub code_stops : {u : S} {fault : DrawFault} {request : Request} → IsRuled c request → Fails g (code_rule h.machine.work c) t u fault → SinkKeeps g → StopsByte g t h x u (refusal (draw_fault fault) x.place)
+  code_stops {u} {fault} (acts acting kind is) fails keeps =
+      stops_by (record h.machine { sets = after }) (λ s o pending c'. reading.acts g s o t h k.between k.closed x pending c' c k.count after k.whole k.length_is c (acts_itself c acting kind)) fails keeps
+  code_stops {u} {fault} (binds name show kind is) fails keeps =
+      stops_by (record h.machine { sets = after; mode = in_body name show }) (λ s o pending c'. defines g s o t h k.between k.closed x pending c' c k.count after k.whole k.length_is name show kind) (subst (λ (c : Code). Fails g (code_rule h.machine.work c) t u fault) (binds_code c name show kind) fails) keeps
 
-  -- A code of one byte acts, or changes only the sets.
-  module _ (c : Code) (byte : ℕ) (sets : CodeSets) (one : n ≡ 1) (unit : take 1 (drop at bytes) ≡ byte ∷ []) (front : codes.front lexer'.sets (byte ∷ []) ≡ codes.whole c 1 sets) where
-    -- its byte
-    one_byte : (ys : List Placed) → bytes_of ys ≡ take n (drop at bytes) → (x : Placed) × (ys ≡ x ∷ []) × (x.byte ≡ byte)
-    one_byte [] is = absurd (omega (arith, ap length (is ∙ ap (λ (k : ℕ). take k (drop at bytes)) one ∙ unit)))
-    one_byte (x ∷ []) is = (x, refl, ap (λ (bs : List ℕ). get_or bs 0 0) (is ∙ ap (λ (k : ℕ). take k (drop at bytes)) one ∙ unit))
-    one_byte (x ∷ y ∷ ys) is = absurd (omega (arith, ap length (is ∙ ap (λ (k : ℕ). take k (drop at bytes)) one ∙ unit)))
+  -- It is an operand outside a run.
+  pub strays_stops : kind_of c ≡ kinds.Strays → StopsByte g t h x t (refusal faults.Stray x.place)
+  strays_stops kind = record {
+    own = λ own s o pending c'. code_strays g s o t h k.between k.closed x pending c' c k.count after k.whole k.length_is kind;
+    broke = λ broke. absurd (broke refl);
+  }
 
-    whole_at : (h : Holding) (x : Placed) → IsRested h work' lexer' → x.byte ≡ byte →
-        (codes.front h.machine.sets (h.half ++ x.byte ∷ []) ≡ codes.whole c 1 sets) × (1 ≡ length (h.half ++ x.byte ∷ []))
-    whole_at h x rested is = (
-      ap₂ (λ (sets : CodeSets) (half : List ℕ). codes.front sets (half ++ x.byte ∷ [])) rested.sets rested.half ∙ ap (λ (b : ℕ). codes.front lexer'.sets (b ∷ [])) is ∙ front,
-      sym (ap (λ (half : List ℕ). length (half ++ x.byte ∷ [])) rested.half),
-    )
+  -- It calls a macro.
+  pub call_calls : {t₀ : S} {h₀ : Holding} {all : List Placed} {index name : ℕ} (behind : List Placed) → drop index all ≡ x ∷ behind → LeadsOn g t₀ h₀ t h (take index all) (bytes_of (drop index all)) → kind_of c ≡ kinds.Calls name →
+      Calls g t₀ h₀ t read_at all index name
+  call_calls {name = name} behind is leads kind =
+      let made : KindMade (kinds.Calls name) = subst KindMade kind (front_kind_made h.machine.sets (h.half ++ x.byte ∷ []) c k.count after k.whole) in
+      record {
+        byte = x;
+        behind = behind;
+        is = is;
+        holding = h;
+        leads = leads;
+        between = k.between;
+        closed = k.closed;
+        left = refl;
+        front_is = λ s o pending c'. calls g s o t h k.between k.closed x pending c' c k.count after k.whole k.length_is name kind;
+        rested = k.closed;
+        still = λ s o pending c'. still_between g s o t h k.between k.closed x pending c' c k.count after k.whole k.length_is read_at k.between refl refl k.closed refl;
+        named = made.1;
+      }
 
-    pub codes_step : (v : S) (entries : List Entry) (work'' : Work) → kind_of c ≡ kinds.Acts c → sets ≡ lexer'.sets → code_rule work' c ≡ Ok (record { entries = entries; work = work''; clears = false }) → g.took u entries v →
-        (g.failed u ≡ false → g.failed v ≡ false) → WholeCodes g t work lexer v work'' lexer' false bytes behind (at + n)
-    codes_step v entries work'' kind same by took clear =
-        codes_more v work'' lexer' false before.rested clear
-        (λ h ys rested is s o pending k.
-        let first = one_byte ys is in
-        let x = first.0 in
-        let k' : Continues g s o u h (x ∷ pending) = subst (λ (zs : List Placed). Continues g s o u h (zs ++ pending)) first.1 k in
-        let whole = whole_at h x rested first.2 in
-        let h1 : Holding = record h { machine = record h.machine { work = work''; sets = sets } } in
-        rests_on g s o v h1 work'' lexer' pending (record { between = rested.between; closed = rested.closed; work = refl; sets = same; half = rested.half; run = rested.run }) before.rested
-        (leads_on g s o u h (x ∷ pending) k' v entries h1 pending more
-        (still_between g s o u h rested.between rested.closed x pending k' c 1 sets whole.0 whole.1 h1 rested.between refl refl rested.closed rested.half)
-        (acts g s o u h rested.between rested.closed x pending k' c 1 sets whole.0 whole.1 c kind
-        ∙ ap (drawn_front (record h.machine { sets = sets }) x.place pending) (ap (λ (w : Work). code_rule w c) rested.work ∙ by)) took clear))
+-- A byte of a code that isn't whole.
+pub half_leads : {S : Type 0} (g : Ghosts S) (t : S) {h : Holding} (x : Placed) (next : List ℕ) → h.open_body ≡ None → h.open_run ≡ None → codes.front h.machine.sets (h.half ++ x.byte ∷ []) ≡ codes.unfinished →
+    LeadsOn g t h t (record h { half = h.half ++ x.byte ∷ [] }) (x ∷ []) next
+half_leads g t {h} x next between closed unfinished = leads_by next (omega arith) refl closed (λ s o pending c. code_goes_on g s o t h between closed x pending c unfinished)
 
-    pub codes_shift : (lexer'' : LexerState) → kind_of c ≡ kinds.AddsNothing → lexer'' ≡ record { sets = sets; half = [] } → WholeCodes g t work lexer u work' lexer'' false bytes behind (at + n)
-    codes_shift lexer'' kind same =
-        codes_more u work' lexer'' false (ap (λ (l : LexerState). l.half) same) (λ works. works)
-        (λ h ys rested is s o pending k.
-        let first = one_byte ys is in
-        let x = first.0 in
-        let k' : Continues g s o u h (x ∷ pending) = subst (λ (zs : List Placed). Continues g s o u h (zs ++ pending)) first.1 k in
-        let whole = whole_at h x rested first.2 in
-        let h1 : Holding = record h { machine = record h.machine { sets = sets }; half = [] } in
-        rests_on g s o u h1 work' lexer'' pending
-        (record { between = rested.between; closed = rested.closed; work = rested.work; sets = ap (λ (l : LexerState). l.sets) (sym same); half = refl; run = rested.run }) (ap (λ (l : LexerState). l.half) same)
-        (code_acts g s o u h rested.between rested.closed x pending k' c 1 sets whole.0 whole.1 kind))
+-- A byte that is refused.
+pub fault_stops : {S : Type 0} (g : Ghosts S) (t : S) {h : Holding} (x : Placed) {fault : CodeFault} {index : ℕ} → h.open_body ≡ None → h.open_run ≡ None → codes.front h.machine.sets (h.half ++ x.byte ∷ []) ≡ codes.refused fault index →
+    index ≡ length h.half → StopsByte g t h x t (refusal (code_fault fault) x.place)
+fault_stops g t {h} x {fault} {index} between closed refused there = record {
+  own = λ own s o pending c. byte_refused g s o t h between closed x pending c fault index refused there;
+  broke = λ broke. absurd (broke (code_fault_own fault));
+}
 
-  -- It is an opcode with its run, behind which another byte comes; the opcode acts on the run ahead of that byte.
-  module _ (op : Opcode) (byte : ℕ) (ws : List ℕ) (unit : take n (drop at bytes) ≡ byte ∷ ws) (front : codes.front lexer'.sets (byte ∷ []) ≡ codes.whole (code.Op op) 1 lexer'.sets)
-      (operands : All (λ b. is_operand_byte b ≡ true) ws) (short : length ws ≤ run_limit) where
-    -- what is held while the run is open
-    abbrev pub open_at : Holding → Placed → Holding
-    open_at h x = record (with_codes h work' lexer' false) { open_run = Some (record { op = op; place = x.place }); run = words ws }
+-- Characters, and the moves among them, where no code is half read.
+pub record AreText (h : Holding) (set : CharSet) (text : List ℕ) : Type 0 where
+  pub between : h.open_body ≡ None
+  pub closed : h.open_run ≡ None
+  pub rested : h.half ≡ []
+  pub chars : AllCharacters h.machine.sets set
+  pub some : 0 < length text
+  pub typed : All IsTyped text
 
-    opcode_and_run : (h : Holding) (xs : List Placed) (rested : IsRested h work lexer) (is : bytes_of xs ≡ take (at + n) all) →
-        ((code_first h xs rested is).0.byte ≡ byte) × (bytes_of (code_first h xs rested is).1 ≡ ws)
-    opcode_and_run h xs rested is =
-        let first = code_first h xs rested is in
-        let all : first.0.byte ∷ bytes_of first.1 ≡ byte ∷ ws = sym (ap bytes_of first.2) ∙ (parts_of xs all at n is).2 ∙ in_bytes ∙ unit in
-        (ap (λ (ys : List ℕ). get_or ys 0 0) all, ap (drop 1) all)
+pub text_leads : {S : Type 0} (g : Ghosts S) (t : S) {h : Holding} {set : CharSet} {u : S} (xs : List Placed) (next : List ℕ) → AreText h set (bytes_of xs) → TookMore g → g.took t (draws_codes.text h.machine.work.state set (bytes_of xs)) u →
+    (g.failed t ≡ false → g.failed u ≡ false) → LeadsOn g t h u (record h { machine = with_text h.machine set (bytes_of xs) }) xs next
+text_leads g t {h} {set} {u} xs next k more took clear =
+    leads_by next (omega (arith, k.some, length-map xs (λ (x : Placed). x.byte))) refl k.closed
+    (λ s o pending c. text_passes {set = set} xs pending c (record { between = k.between; closed = k.closed; rested = k.rested; chars = k.chars }) k.typed u more took clear)
 
-    pub opens : (h : Holding) (xs : List Placed) (rested : IsRested h work lexer) (is : bytes_of xs ≡ take (at + n) all) → Conveys g t h xs
-    opens h xs rested is =
-        let x = (code_first h xs rested is).0 in
-        let ys = (code_first h xs rested is).1 in
-        let parts = opcode_and_run h xs rested is in
-        let h' = with_codes h work' lexer' false in
+-- What a machine makes of a byte, where no run is open.
+
+-- a fault of the lexer isn't the sink's
+lexer_is_own : (fault : CodeFault) → code_fault fault ≢ faults.Sink
+lexer_is_own code_faults.EighthBit is = cc
+lexer_is_own _ is = cc
+
+-- what is still held, where the sink is as it was
+works_on : {S : Type 0} {g : Ghosts S} {old new : Machine S g} → new.sink ≡ old.sink → IsLive new → Works old new
+works_on {g = g} same live = record { live = live; clear = λ clear. ap g.failed same ∙ clear }
+
+-- It is of a code that isn't whole.
+pub half_takes : {S : Type 0} {g : Ghosts S} {old new : Machine S g} {x : Placed} {zs : List Placed} {ended : Bool} → codes.front old.lexer.sets (old.lexer.half ++ x.byte ∷ []) ≡ codes.unfinished →
+    LeftBy old new old.work (record { sets = old.lexer.sets; half = old.lexer.half ++ x.byte ∷ [] }) → new.sink ≡ old.sink → IsLive new → Takes old new (x ∷ zs) ended 1 requests.Nothing
+half_takes {S} {g} {old} {new} {x} {zs} unfinished left same live =
+    one_takes (works_on same live) left.closed
+    (λ h behind between.
+    let next = bytes_of (zs ++ behind) in
+    subst (λ (v : S). LeadsOn g old.sink (with_machine h old) v (with_machine h new) (x ∷ []) next) (sym same)
+    (subst (λ (h' : Holding). LeadsOn g old.sink (with_machine h old) old.sink h' (x ∷ []) next) (sym (left_is left h)) (half_leads g old.sink x next between left.before unfinished)))
+
+-- It is refused.
+pub fault_takes : {S : Type 0} {g : Ghosts S} {old new : Machine S g} {x : Placed} {zs : List Placed} {ended : Bool} (fault : CodeFault) (index : ℕ) → codes.front old.lexer.sets (old.lexer.half ++ x.byte ∷ []) ≡ codes.refused fault index → index ≡ length old.lexer.half →
+    old.open_run ≡ None → new.refusal ≡ Some (refusal (code_fault fault) x.place) → new.sink ≡ old.sink → Takes old new (x ∷ zs) ended 0 requests.Stop
+fault_takes {g = g} {old = old} {x = x} {zs = zs} fault index refused there closed is same =
+    own_takes is same (lexer_is_own fault) (omega arith)
+    (λ h behind between over. at_byte x (zs ++ behind) refl (conveys_nothing g old.sink (with_machine h old)) (fault_stops g old.sink x between closed refused there))
+
+-- It ends a code.
+pub record Lexes {S : Type 0} {g : Ghosts S} (old : Machine S g) (x : Placed) (c : Code) (after : CodeSets) : Type 0 where
+  pub closed : old.open_run ≡ None
+  pub count : ℕ
+  pub whole : codes.front old.lexer.sets (old.lexer.half ++ x.byte ∷ []) ≡ codes.whole c count after
+  pub length_is : count ≡ length (old.lexer.half ++ x.byte ∷ [])
+
+-- the lexer then
+abbrev pub rested : CodeSets → LexerState
+rested after = record { sets = after; half = [] }
+
+module _ {S : Type 0} {g : Ghosts S} {old : Machine S g} {x : Placed} {c : Code} {after : CodeSets} (k : Lexes old x c after) where
+  ends : (h : Holding) → h.open_body ≡ None → EndsCode (with_machine h old) x c after
+  ends h between = record { between = between; closed = k.closed; count = k.count; whole = k.whole; length_is = k.length_is }
+
+  -- The code adds nothing.
+  pub nothing_takes : {new : Machine S g} {zs : List Placed} {ended : Bool} → kind_of c ≡ kinds.AddsNothing → LeftBy old new old.work (rested after) → new.sink ≡ old.sink → IsLive new → Takes old new (x ∷ zs) ended 1 requests.Nothing
+  nothing_takes {new} {zs} kind left same live =
+      one_takes (works_on same live) left.closed
+      (λ h behind between.
+      let next = bytes_of (zs ++ behind) in
+      subst (λ (v : S). LeadsOn g old.sink (with_machine h old) v (with_machine h new) (x ∷ []) next) (sym same)
+      (subst (λ (h' : Holding). LeadsOn g old.sink (with_machine h old) old.sink h' (x ∷ []) next) (sym (left_is left h)) (nothing_leads g old.sink (ends h between) next kind)))
+
+  -- It calls a macro.
+  pub macro_takes : {new : Machine S g} {zs : List Placed} {ended : Bool} {name : ℕ} → kind_of c ≡ kinds.Calls name → LeftBy old new old.work (rested after) → new.sink ≡ old.sink → IsLive new → Takes old new (x ∷ zs) ended 1 (requests.Call name)
+  macro_takes {new} {zs} {ended} {name} kind left same live =
+      one_takes (works_on same live) left.closed
+      (λ h behind between. (
+        0,
+        refl,
+        subst (λ (v : S). Calls g old.sink (with_machine h old) v (with_machine h new) (x ∷ (zs ++ behind)) 0 name) (sym same)
+            (subst (λ (h' : Holding). Calls g old.sink (with_machine h old) old.sink h' (x ∷ (zs ++ behind)) 0 name) (sym (left_is left h))
+            (call_calls g old.sink (ends h between) (zs ++ behind) refl (leads_nowhere g old.sink (with_machine h old) (bytes_of (x ∷ (zs ++ behind)))) kind)),
+      ))
+
+  -- It draws.
+  pub ruled_takes : {new : Machine S g} {zs : List Placed} {ended : Bool} {request : Request} {entries : List Entry} → IsRuled c request → Drew g (code_rule old.work c) old.sink (drawn_by entries new.work) new.sink → LeftBy old new new.work (rested after) → IsLive new →
+      TookMore g → Takes old new (x ∷ zs) ended 1 request
+  ruled_takes {new} {zs} {ended} {request} {entries} ruled drew left live more =
+      one_takes (leaves ruled) left.closed
+      (λ h behind between.
+      subst (λ (h' : Holding). TakesBy g old.sink (with_machine h old) new.sink h' (x ∷ (zs ++ behind)) (length (x ∷ zs)) 1 new.refusal request) (sym (left_is left h))
+      (code_takes g old.sink (ends h between) ruled drew more (zs ++ behind) (length (x ∷ zs)) new.refusal))
+    where
+      works : Works old new
+      works = record { live = live; clear = drew.clear }
+
+      leaves : IsRuled c request → Leaves old new request
+      leaves (acts acting kind is) = subst (Leaves old new) (sym is) works
+      leaves (binds name show kind is) = subst (Leaves old new) (sym is) works
+
+  -- It is refused by its rule, or breaks.
+  pub ruled_stops : {new : Machine S g} {zs : List Placed} {ended : Bool} {request : Request} {u : S} {fault : DrawFault} → IsRuled c request → Fails g (code_rule old.work c) old.sink u fault →
+      (draw_fault fault ≡ faults.Sink → g.failed u ≡ true) × (g.failed old.sink ≡ false → g.failed u ≡ true → draw_fault fault ≡ faults.Sink) → new.refusal ≡ Some (refusal (draw_fault fault) x.place) → new.sink ≡ u → SinkKeeps g →
+      Takes old new (x ∷ zs) ended 0 requests.Stop
+  ruled_stops {new} {zs} {ended} {request} {u} {fault} ruled fails told is same keeps =
+      stop_takes is (omega arith) (λ is. ap g.failed same ∙ told.0 is) (λ works fails. told.1 works (sym (ap g.failed same) ∙ fails))
+      (λ h behind between over.
+      at_byte x (zs ++ behind) refl (conveys_nothing g old.sink (with_machine h old))
+      (subst (λ (v : S). StopsByte g old.sink (with_machine h old) x v (refusal (draw_fault fault) x.place)) (sym same) (code_stops g old.sink (ends h between) ruled fails keeps)))
+
+  -- It is an operand outside a run.
+  pub strays_takes : {new : Machine S g} {zs : List Placed} {ended : Bool} → kind_of c ≡ kinds.Strays → new.refusal ≡ Some (refusal faults.Stray x.place) → new.sink ≡ old.sink → Takes old new (x ∷ zs) ended 0 requests.Stop
+  strays_takes {new} {zs} kind is same =
+      own_takes is same (λ own. cc) (omega arith)
+      (λ h behind between over. at_byte x (zs ++ behind) refl (conveys_nothing g old.sink (with_machine h old)) (strays_stops g old.sink (ends h between) kind))
+
+  -- It is an opcode: nothing was half read, and the lexer is as it was.
+  pub opcode_read : {op : Opcode} → kind_of c ≡ kinds.Opens op → (rested after ≡ old.lexer) × IsOpcodeByte [] after x.byte op
+  opcode_read {op} kind =
+      let sets = old.lexer.sets in
+      let half = old.lexer.half in
+      let front : codes.front sets (half ++ x.byte ∷ []) ≡ codes.whole (code.Op op) k.count after = k.whole ∙ ap (λ (c : Code). codes.whole c k.count after) (opcode_of_kind c op kind) in
+      let one = one_byte_opcode sets (half ++ x.byte ∷ []) op k.count after front in
+      let none : half ≡ [] = nothing_half half (omega (arith, k.length_is, one.0, length-append half (x.byte ∷ []))) in
+      let names : codes.front after (x.byte ∷ []) ≡ codes.whole (code.Op op) 1 after =
+      sym (ap (λ (bs : List ℕ). codes.front after (bs ++ x.byte ∷ [])) none) ∙ ap (λ (sets : CodeSets). codes.front sets (half ++ x.byte ∷ [])) one.1 ∙ front ∙ ap (λ (n : ℕ). codes.whole (code.Op op) n after) one.0 in (
+        ap₂ (λ (sets : CodeSets) (half : List ℕ). record { sets = sets; half = half }) one.1 (sym none),
+        record { rested = refl; drawn = opens_drawn after (x.byte ∷ []) (code.Op op) 1 after op names refl; alone = opcode_alone after x.byte op names; names = names },
+      )
+
+-- What a machine takes is what one takes that was the same.
+pub takes_same : {S : Type 0} {g : Ghosts S} {old mid new : Machine S g} {xs : List Placed} {ended : Bool} {count : ℕ} {request : Request} → Takes mid new xs ended count request → LeftBy old mid old.work old.lexer → mid.sink ≡ old.sink → Takes old new xs ended count request
+takes_same {S} {g} {old} {mid} {new} {xs} {ended} {count} {request} takes left same = record {
+  within = takes.within;
+  leaves = leaves_from old mid new request (λ clear. ap g.failed same ∙ clear) takes.leaves;
+  goes = λ some. by_goes (takes.goes some);
+  closed = takes.closed;
+  by = λ h behind between over.
+      subst (λ (t : S). TakesBy g t (with_machine h old) new.sink (with_machine h new) (xs ++ behind) (length xs) count new.refusal request) same
+      (subst (λ (h' : Holding). TakesBy g mid.sink h' new.sink (with_machine h new) (xs ++ behind) (length xs) count new.refusal request) (left_is left h) (takes.by h behind between over));
+}
+  where
+    by_goes : (0 < count) ⊎ (request ≡ requests.Stop) ⊎ ((new.open_run ≡ None) × (mid.open_run ≢ None)) → (0 < count) ⊎ (request ≡ requests.Stop) ⊎ ((new.open_run ≡ None) × (old.open_run ≢ None))
+    by_goes (inl some) = inl some
+    by_goes (inr (inl stops)) = inr (inl stops)
+    by_goes (inr (inr (closed, opened))) = absurd (opened left.closed)
+
+-- Codes that stand whole at the front of bytes, where no code is half read.
+
+-- The first byte is a code.
+pub record IsAlone {S : Type 0} {g : Ghosts S} (old : Machine S g) (c : Code) (after : CodeSets) (bytes : List ℕ) : Type 0 where
+  pub byte : ℕ
+  pub rest : List ℕ
+  pub is : bytes ≡ byte ∷ rest
+  pub closed : old.open_run ≡ None
+  pub half : old.lexer.half ≡ []
+  pub front : codes.front old.lexer.sets (byte ∷ []) ≡ codes.whole c 1 after
+
+module _ {S : Type 0} {g : Ghosts S} {old : Machine S g} {c : Code} {after : CodeSets} {bytes : List ℕ} (k : IsAlone old c after bytes) where
+  alone_within : 0 < length bytes
+  alone_within = omega (arith, ap length k.is)
+
+  alone_ends : (h : Holding) → h.open_body ≡ None → (xs : List Placed) → bytes_of xs ≡ bytes → (x : Placed) × (ys : List Placed) × (xs ≡ x ∷ ys) × EndsCode (with_machine h old) x c after
+  alone_ends h between xs is =
+      let (x, ys, all, first, others) = first_of xs k.byte k.rest (is ∙ k.is) in (
+        x,
+        ys,
+        all,
         record {
-          sink = u;
-          holding = open_at h x;
-          left = refl;
-          run = λ m all before. All-head (IsAt m) x ys (subst (All (IsAt m)) (code_first h xs rested is).2 (all_drop m at xs all));
-          passes = λ s o pending k.
-              let there = subst (λ (zs : List Placed). Continues g s o u h' (zs ++ pending)) (code_first h xs rested is).2 (leads_to_code h xs rested is s o pending k) in
-              let opened = run_opens g s o u h' rested.between rested.closed x (ys ++ pending) there (code.Op op) op 1 lexer'.sets refl
-              (ap (λ (half : List ℕ). codes.front lexer'.sets (half ++ x.byte ∷ [])) before.rested ∙ ap (λ (b : ℕ). codes.front lexer'.sets (b ∷ [])) parts.0 ∙ front)
-              (sym (ap (λ (half : List ℕ). length (half ++ x.byte ∷ [])) before.rested)) in
-              subst (λ (bs : List ℕ). Continues g s o u (record h' { open_run = Some (record { op = op; place = x.place }); half = lexer'.half; run = words bs }) pending) parts.1
-              (subst (λ (half : List ℕ). Continues g s o u (record h' { open_run = Some (record { op = op; place = x.place }); half = half; run = words (bytes_of ys) }) pending) (sym before.rested)
-              (words_join g s o u (record { op = op; place = x.place }) ys pending (record h' { half = []; open_run = Some (record { op = op; place = x.place }); run = [] }) rested.between refl opened
-              (subst (All (λ b. is_operand_byte b ≡ true)) (sym parts.1) operands) (omega (arith, short, ap length parts.1, length-map ys (λ (x : Placed). x.byte)))));
-          none = λ empty. absurd (not_none xs is empty);
-        }
-      where
-        all_drop : (m i : ℕ) (xs : List Placed) → All (IsAt m) xs → All (IsAt m) (drop i xs)
-        all_drop m i xs all = All-drop (IsAt m) i xs all
+          between = between;
+          closed = k.closed;
+          count = 1;
+          whole = ap (λ (half : List ℕ). codes.front old.lexer.sets (half ++ x.byte ∷ [])) k.half ∙ ap (λ (b : ℕ). codes.front old.lexer.sets (b ∷ [])) first ∙ k.front;
+          length_is = sym (ap (λ (half : List ℕ). length (half ++ x.byte ∷ [])) k.half);
+        },
+      )
 
-    pub codes_run : (v : S) (drawn : Drawn) (b : ℕ) (bs : List ℕ) → IsGraphic byte → drop (at + n) all ≡ b ∷ bs → is_operand_byte b ≡ false → rule work' op (words ws) ≡ Ok drawn → g.took u drawn.entries v →
-        (g.failed u ≡ false → g.failed v ≡ false) → WholeCodes g t work lexer v drawn.work lexer' drawn.clears bytes behind (at + n)
-    unfolding opens
-    codes_run v drawn b bs graphic next other by took clear = record {
-      within = within;
-      rested = before.rested;
-      clear = λ works. clear (before.clear works);
-      leads = λ h xs rested is.
-          let x = (code_first h xs rested is).0 in
-          record {
-            conveys = opens h xs rested is;
-            acted = ahead b bs next other (record {
-              open_run = record { op = op; place = x.place };
-              between = rested.between;
-              is = refl;
-              drawn = drawn;
-              by = by;
-              took = took;
-              clear = clear;
-              holds = ap₂ (λ (open_run : Option OpenRun) (run : List ℕ). record (with_codes h drawn.work lexer' drawn.clears) { open_run = open_run; run = run }) rested.closed rested.run;
-            });
-            typed = λ set chars. let bad : codes.whole (code.Op op) 1 lexer'.sets ≡ codes.whole (code.Char set byte) 1 lexer'.sets = sym front ∙ chars byte graphic in cc;
-            none = λ empty. absurd (not_none xs is empty);
-          };
+  -- It is taken.
+  alone_leads : {new : Machine S g} {ended : Bool} → Works old new → new.open_run ≡ None →
+      ((h : Holding) (x : Placed) (zs : List Placed) → EndsCode (with_machine h old) x c after → LeadsOn g old.sink (with_machine h old) new.sink (with_machine h new) (x ∷ []) (bytes_of zs)) → Codes old new bytes ended (outcomes.Acted 1 false)
+  alone_leads {new} works closed leads = record {
+    within = (omega arith, alone_within);
+    leaves = works;
+    closed = closed ∙ sym k.closed;
+    by = λ h xs behind between is over.
+        let (x, ys, all, code) = alone_ends h between xs is in
+        subst (λ (xs : List Placed). LeadsOn g old.sink (with_machine h old) new.sink (with_machine h new) (take 1 (xs ++ behind)) (bytes_of (drop 1 (xs ++ behind)))) (sym all) (leads h x (ys ++ behind) code);
+  }
+
+  -- It adds nothing.
+  pub alone_nothing : {new : Machine S g} {ended : Bool} → LeftBy old new old.work (record { sets = after; half = [] }) → new.sink ≡ old.sink → kind_of c ≡ kinds.AddsNothing → IsLive new → Codes old new bytes ended (outcomes.Acted 1 false)
+  alone_nothing {new} left same kind live =
+      alone_leads (works_on same live) left.closed
+      (λ h x zs code.
+      subst (λ (v : S). LeadsOn g old.sink (with_machine h old) v (with_machine h new) (x ∷ []) (bytes_of zs)) (sym same)
+      (subst (λ (h' : Holding). LeadsOn g old.sink (with_machine h old) old.sink h' (x ∷ []) (bytes_of zs)) (sym (left_is left h)) (nothing_leads g old.sink code (bytes_of zs) kind)))
+
+  -- It acts.
+  pub alone_acts : {new : Machine S g} {ended : Bool} → LeftBy old new new.work (record { sets = after; half = [] }) → kind_of c ≡ kinds.Acts c → {entries : List Entry} → Drew g (code_rule old.work c) old.sink (drawn_by entries new.work) new.sink → IsLive new → TookMore g →
+      Codes old new bytes ended (outcomes.Acted 1 false)
+  alone_acts {new} left kind drew live more =
+      alone_leads (record { live = live; clear = drew.clear }) left.closed
+      (λ h x zs code.
+      subst (λ (h' : Holding). LeadsOn g old.sink (with_machine h old) new.sink h' (x ∷ []) (bytes_of zs)) (sym (left_is left h)) (code_takes g old.sink code (acts c kind refl) drew more zs 0 None))
+
+  -- It is refused, or breaks.
+  pub alone_stops : {new : Machine S g} {ended : Bool} {fault : DrawFault} → new.open_run ≡ old.open_run → kind_of c ≡ kinds.Acts c → Fails g (code_rule old.work c) old.sink new.sink fault →
+      (draw_fault fault ≡ faults.Sink → g.failed new.sink ≡ true) × (g.failed old.sink ≡ false → g.failed new.sink ≡ true → draw_fault fault ≡ faults.Sink) → SinkKeeps g → Codes old new bytes ended (outcomes.Stopped 0 (draw_fault fault) 0)
+  alone_stops {new} {ended} {fault} closed kind fails told keeps = record {
+    within = (omega arith, alone_within);
+    leaves = told;
+    closed = closed;
+    by = λ h xs behind between is over.
+        let (x, ys, all, code) = alone_ends h between xs is in
+        let ruled : IsRuled c requests.Nothing = acts c kind refl in
+        subst (λ (xs : List Placed). Stops g old.sink (with_machine h old) (xs ++ behind) (length xs) 0 new.sink (refusal (draw_fault fault) (place_at (xs ++ behind) 0))) (sym all)
+        (at_byte x (ys ++ behind) refl (conveys_nothing g old.sink (with_machine h old)) (code_stops g old.sink code ruled fails keeps));
+  }
+
+-- what a fault of a sink tells of it
+tells_sink : {S : Type 0} {g : Ghosts S} {s t : S} {n : ℕ} (fault : SinkFault) → Tells (shows_of g) s t n fault →
+    (draw_fault (fault_of fault) ≡ faults.Sink → g.failed t ≡ true) × (g.failed s ≡ false → g.failed t ≡ true → draw_fault (fault_of fault) ≡ faults.Sink)
+tells_sink sink_faults.Memory tells = (λ is. cc, λ works fails. absurd (false≢true (sym (tells.memory refl) ∙ fails)))
+tells_sink sink_faults.Write tells = (λ is. tells.write refl, λ works fails. refl)
+
+-- The first bytes are characters, and the moves among them.
+pub record IsTextOf {S : Type 0} {g : Ghosts S} (old : Machine S g) (set : CharSet) (bytes chars : List ℕ) : Type 0 where
+  pub front : chars ≡ take (length chars) bytes
+  pub few : length chars ≤ length bytes
+  pub some : 0 < length chars
+  pub typed : All IsTyped chars
+  pub closed : old.open_run ≡ None
+  pub are : AreCharacters old.lexer set
+
+module _ {S : Type 0} {g : Ghosts S} {old : Machine S g} {set : CharSet} {bytes chars : List ℕ} (k : IsTextOf old set bytes chars) where
+  module _ (h : Holding) (between : h.open_body ≡ None) (xs behind : List Placed) (is : bytes_of xs ≡ bytes) where
+    few : length chars ≤ length xs
+    few = omega (arith, k.few, ap length is, length-map xs (λ (x : Placed). x.byte))
+
+    same : bytes_of (take (length chars) (xs ++ behind)) ≡ chars
+    same = ap bytes_of (take-append-le (length chars) xs behind few) ∙ sym (take-map (λ (x : Placed). x.byte) (length chars) xs) ∙ ap (take (length chars)) is ∙ sym k.front
+
+    are_text : AreText (with_machine h old) set (bytes_of (take (length chars) (xs ++ behind)))
+    are_text = record {
+      between = between;
+      closed = k.closed;
+      rested = k.are.rested;
+      chars = k.are.chars;
+      some = omega (arith, k.some, ap length same);
+      typed = subst (All IsTyped) (sym same) k.typed;
     }
 
-    -- The opcode is refused, or breaks, with the byte behind its run.
-    pub codes_stop_run : (v : S) (fault : DrawFault) (b : ℕ) (bs : List ℕ) → drop (at + n) all ≡ b ∷ bs → is_operand_byte b ≡ false →
-        DrawsBy g.took g.broke g.failed (rule work' op (words ws)) u v fault (draws.cause_of fault) → CodesStop g t work lexer v bytes behind (at + n + 1) at (draw_fault fault)
-    unfolding opens
-    codes_stop_run v fault b bs next other drew =
-        with_byte (at + n) refl within (omega (arith, ap length next, length-drop (at + n) all)) (omega arith) (omega (arith, some, within))
-        (λ h xs x rested is.
-        let split = last_of xs x all (at + n) b bs is next in
-        let first = code_first h xs rested split.0 in (
-          opens h xs rested split.0,
-          stops_run g u (open_at h first.0) x v _ (ap is_operand_byte split.1 ∙ other) (record {
-            open_run = record { op = op; place = first.0.place };
-            between = rested.between;
-            is = refl;
-            fault = fault;
-            why = ap (refusal (draw_fault fault)) (place_first xs (x ∷ []) at first.0 first.1 first.2);
-            drew = drew;
-          }),
-        ))
+  -- They are taken.
+  pub text_taken : {new : Machine S g} {ended : Bool} → LeftBy old new (drawn old.work (text old.work.state set chars)).work old.lexer → g.took old.sink (text old.work.state set chars) new.sink → (g.failed old.sink ≡ false → g.failed new.sink ≡ false) → IsLive new →
+      TookMore g → Codes old new bytes ended (outcomes.Acted (length chars) false)
+  text_taken {new} left took clear live more = record {
+    within = (k.some, k.few);
+    leaves = record { live = live; clear = clear };
+    closed = left.closed ∙ sym left.before;
+    by = λ h xs behind between is over.
+        let ys = take (length chars) (xs ++ behind) in
+        let next = bytes_of (drop (length chars) (xs ++ behind)) in
+        let here = same h between xs behind is in
+        subst (λ (h' : Holding). LeadsOn g old.sink (with_machine h old) new.sink h' ys next)
+        (ap (λ (bs : List ℕ). record (with_machine h old) { machine = with_text (with_machine h old).machine set bs }) here ∙ sym (left_is left h))
+        (text_leads g old.sink ys next (are_text h between xs behind is) more (subst (λ (bs : List ℕ). g.took old.sink (text old.work.state set bs) new.sink) (sym here) took) clear);
+  }
 
-  -- A control is refused, or breaks.
-  pub codes_stop_step : (c : Code) (byte : ℕ) (v : S) (fault : DrawFault) → n ≡ 1 → take 1 (drop at bytes) ≡ byte ∷ [] →
-      codes.front lexer'.sets (byte ∷ []) ≡ codes.whole c 1 lexer'.sets → kind_of c ≡ kinds.Acts c → TookBroke g → WantsMore g →
-      DrawsBy g.took g.broke g.failed (code_rule work' c) u v fault (draws.cause_of fault) → (fault ≡ draw_faults.Memory → WantsBy g (code_rule work' c) u v) → (fault ≡ draw_faults.Sink → GivesSome (code_rule work' c)) →
-      CodesStop g t work lexer v bytes behind (at + 1) at (draw_fault fault)
-  codes_stop_step c byte v fault one unit front kind broken law drew wants gives =
-      with_byte at refl before.within (omega (arith, some, within, length-append bytes behind)) (omega arith) (omega (arith, some, within))
-      (λ h xs x rested is.
-      let unit : take 1 (drop at all) ≡ byte ∷ [] = ap (λ (k : ℕ). take k (drop at all)) (sym one) ∙ in_bytes ∙ ap (λ (k : ℕ). take k (drop at bytes)) one ∙ unit in
-      let split = last_of xs x all at byte (drop 1 (drop at all)) is (sym (take-append-drop 1 (drop at all)) ∙ ap (λ (ys : List ℕ). ys ++ drop 1 (drop at all)) unit) in
-      let h' = with_codes h work' lexer' false in
-      let there = before.leads h xs rested split.0 in
-      let whole : codes.front lexer'.sets (lexer'.half ++ x.byte ∷ []) ≡ codes.whole c 1 lexer'.sets =
-      ap (λ (half : List ℕ). codes.front lexer'.sets (half ++ x.byte ∷ [])) before.rested ∙ ap (λ (b : ℕ). codes.front lexer'.sets (b ∷ [])) split.1 ∙ front in
-      let len : 1 ≡ length (lexer'.half ++ x.byte ∷ []) = sym (ap (λ (half : List ℕ). length (half ++ x.byte ∷ [])) before.rested) in (
-        there.conveys,
-        subst (λ (place : ℕ). StopsByte g there.conveys.sink there.conveys.holding x v (refusal (draw_fault fault) place)) (sym (place_last xs x at (omega (arith, ap length split.0, length-map xs (λ (x : Placed). x.byte), length-take-le at all (omega (arith, before.within, length-append bytes behind))))))
-            (stops_acted g there.conveys.sink there.conveys.holding u h' (drop at all) x more
-            (λ b bs next. split.1 ∙ ap (λ (ys : List ℕ). get_or ys 0 0) (sym unit) ∙ get_or-take 1 (drop at all) 0 0 (omega arith) ∙ ap (λ (ys : List ℕ). get_or ys 0 0) next) there.acted v (refusal (draw_fault fault) x.place)
-            (stops_code g u h' x v h'.machine (code_rule work' c) rested.closed (λ s o pending k. acts g s o u h' rested.between rested.closed x pending k c 1 lexer'.sets whole len c kind) more broken law fault drew wants gives)),
-      ))
-
-  -- One of the characters that come isn't taken, or breaks.
-  pub codes_stop_text : (set : CharSet) (text : List ℕ) (taken : ℕ) (v : S) (fault : SinkFault) → take (length text) (drop at bytes) ≡ text → 0 < length text → All IsTyped text →
-      ((b : ℕ) → IsGraphic b → codes.front lexer'.sets (b ∷ []) ≡ codes.whole (code.Char set b) 1 lexer'.sets) → HaltsAfter (shows_of g) (draws_codes.text work'.state set text) u v taken fault →
-      taken < length text → length text ≤ length (drop at bytes) → CodesStop g t work lexer v bytes behind (at + taken + 1) (at + taken) (draw_fault (fault_of fault))
-  codes_stop_text set text taken v fault unit some typed chars halts less long =
-      in_characters at taken text refl refl unit (omega (arith, less, long, before.within, length-drop at bytes))
-      (λ h xs place rested is.
-      let there = before.leads h xs rested (is ∙ sym (take-append-le at bytes behind before.within)) in
-      let same = there.typed set chars in (
-        there.conveys,
-        subst (λ (t : S). StopsText g t there.conveys.holding text taken v (refusal (draw_fault (fault_of fault)) place)) same.0
-            (subst (λ (h : Holding). StopsText g u h text taken v (refusal (draw_fault (fault_of fault)) place)) same.1 (record {
-              between = rested.between;
-              closed = rested.closed;
-              rested = before.rested;
+  -- Or one isn't, or breaks.
+  pub text_halts : {new : Machine S g} {ended : Bool} (fault : SinkFault) {index : ℕ} → new.open_run ≡ old.open_run → HaltsAfter (shows_of g) (text old.work.state set chars) old.sink new.sink index fault → Tells (shows_of g) old.sink new.sink index fault →
+      Codes old new bytes ended (outcomes.Stopped index (draw_fault (fault_of fault)) index)
+  text_halts {new} {ended} fault {index} closed halts tells =
+      let less = halts_less g old.work.state set chars index old.sink new.sink fault k.some halts in
+      record {
+        within = (omega (arith, less, k.few), omega (arith, less, k.few));
+        leaves = tells_sink fault tells;
+        closed = closed;
+        by = λ h xs behind between is over.
+            let t = are_text h between xs behind is in
+            in_text 0 index (length chars) (omega arith) less (omega (arith, few h between xs behind is)) refl (conveys_nothing g old.sink (with_machine h old)) (record {
+              between = t.between;
+              closed = t.closed;
+              rested = t.rested;
               set = set;
-              chars = chars;
-              some = some;
-              typed = typed;
+              chars = t.chars;
+              some = t.some;
+              typed = t.typed;
               fault = fault;
-              halts = halts;
+              halts = subst (λ (bs : List ℕ). HaltsAfter (shows_of g) (text old.work.state set bs) old.sink new.sink index fault) (sym (same h between xs behind is)) halts;
               why = refl;
-            })),
-      ))
+            });
+      }
+
+-- Calls of macros whose name is at hand.
+
+-- SS3 by itself isn't a whole code
+shift_begins : (sets : CodeSets) → codes.front sets (0x1D ∷ []) ≡ codes.unfinished
+unfolding codes.front codes.control0_front codes.more_front codes.single_shift_front codes.one_further tables.row_of tables.control0_rows
+shift_begins sets = refl
+
+pub calls_by_name : (lexer : LexerState) (bytes : List ℕ) → lexer.half ≡ [] → 0 < length bytes → IsGraphic (get_or bytes 0 0) → set_at lexer.sets lexer.sets.gl ≡ Macros → CallsBy lexer bytes 1
+calls_by_name lexer bytes rested some graphic macros = record {
+  before = [];
+  name = get_or bytes 0 0;
+  behind = drop 1 bytes;
+  is = drop_more bytes 0 0 some;
+  counted = refl;
+  rested = rested;
+  named = graphic;
+  waits = nothing_yet lexer.sets;
+  few = omega arith;
+  whole = byte_calls lexer.sets (get_or bytes 0 0) macros graphic;
+}
+
+pub calls_by_shift : (lexer : LexerState) (bytes : List ℕ) → lexer.half ≡ [] → get_or bytes 0 0 ≡ 0x1D → 1 < length bytes → IsGraphic (get_or bytes 1 0) → lexer.sets.g3 ≡ Macros → CallsBy lexer bytes 2
+calls_by_shift lexer bytes rested first more graphic macros = record {
+  before = 0x1D ∷ [];
+  name = get_or bytes 1 0;
+  behind = drop 2 bytes;
+  is = drop_more bytes 0 0 (omega (arith, more)) ∙ ap (λ (b : ℕ). b ∷ drop 1 bytes) first ∙ ap (λ (bs : List ℕ). 0x1D ∷ bs) (drop_more bytes 1 0 more);
+  counted = refl;
+  rested = rested;
+  named = graphic;
+  waits = shift_begins lexer.sets;
+  few = omega arith;
+  whole = name_calls lexer.sets (get_or bytes 1 0) macros graphic;
+}
+
+-- What a machine takes then.
+module _ {S : Type 0} {g : Ghosts S} (old : Machine S g) {bytes : List ℕ} {count : ℕ} (k : CallsBy old.lexer bytes count) (closed : old.open_run ≡ None) (xs : List Placed) (is : bytes_of xs ≡ bytes) where
+  all : bytes_of xs ≡ k.before ++ k.name ∷ k.behind
+  all = is ∙ k.is
+
+  call_by : (h : Holding) (behind : List Placed) → h.open_body ≡ None → Calls g old.sink (with_machine h old) old.sink (with_machine h old) (xs ++ behind) (length k.before) k.name
+  call_by h behind between =
+      subst (λ (half : List ℕ). Calls g old.sink (with_machine h old) old.sink (record (with_machine h old) { half = half }) (xs ++ behind) (length k.before) k.name) (sym k.rested) (by k.before refl)
+    where
+      -- before the name, which is the byte behind these
+      named : (y : Placed) (half : List ℕ) → y.byte ≡ k.name → half ≡ k.before → EndsCode (record (with_machine h old) { half = half }) y (code.Call k.name) old.lexer.sets
+      named y half byte is =
+          let bytes : half ++ y.byte ∷ [] ≡ k.before ++ k.name ∷ [] = ap₂ (λ (bs : List ℕ) (b : ℕ). bs ++ b ∷ []) is byte in
+          record {
+            between = between;
+            closed = closed;
+            count = count;
+            whole = ap (codes.front old.lexer.sets) bytes ∙ k.whole;
+            length_is = k.counted ∙ sym (ap length bytes ∙ length-append k.before (k.name ∷ []));
+          }
+
+      by : (before : List ℕ) → k.before ≡ before → Calls g old.sink (with_machine h old) old.sink (record (with_machine h old) { half = [] }) (xs ++ behind) (length before) k.name
+      by [] none =
+          let (x, ys, xs_is, byte, others) = first_of xs k.name k.behind (all ∙ ap (λ (bs : List ℕ). bs ++ k.name ∷ k.behind) none) in
+          subst (λ (xs : List Placed). Calls g old.sink (with_machine h old) old.sink (record (with_machine h old) { half = [] }) (xs ++ behind) 0 k.name) (sym xs_is)
+          (call_calls g old.sink (named x old.lexer.half byte (k.rested ∙ sym none)) (ys ++ behind) refl (leads_nowhere g old.sink (with_machine h old) (bytes_of (x ∷ (ys ++ behind)))) refl)
+      by (b ∷ []) one =
+          let (x, ys, xs_is, first, others) = first_of xs b (k.name ∷ k.behind) (all ∙ ap (λ (bs : List ℕ). bs ++ k.name ∷ k.behind) one) in
+          let (y, zs, ys_is, byte, last) = first_of ys k.name k.behind others in
+          let half : old.lexer.half ++ x.byte ∷ [] ≡ k.before = ap₂ (λ (bs : List ℕ) (c : ℕ). bs ++ c ∷ []) k.rested first ∙ sym one in
+          subst (λ (xs : List Placed). Calls g old.sink (with_machine h old) old.sink (record (with_machine h old) { half = [] }) (xs ++ behind) 1 k.name) (sym (xs_is ∙ ap (λ (zs : List Placed). x ∷ zs) ys_is))
+          (call_calls g old.sink (named y (old.lexer.half ++ x.byte ∷ []) byte half) (zs ++ behind) refl
+          (half_leads g old.sink x (bytes_of (y ∷ (zs ++ behind))) between closed (ap (codes.front old.lexer.sets) half ∙ k.waits)) refl)
+      by (b ∷ c ∷ more) many = absurd (omega (arith, ap length many, k.few))
+
+  pub call_takes : IsLive old → (ended : Bool) → Takes old old xs ended count (requests.Call k.name)
+  call_takes live ended = record {
+    within = omega (arith, k.counted, ap length all, length-append k.before (k.name ∷ k.behind), length-map xs (λ (x : Placed). x.byte));
+    leaves = record { live = live; clear = λ clear. clear };
+    goes = λ some. inl (omega (arith, k.counted));
+    closed = λ nothing less. closed;
+    by = λ h behind between over. (length k.before, k.counted, call_by h behind between);
+  }

@@ -1,176 +1,140 @@
-use Rattle.std.proofs.Common.{ℕ, ◌≡◌, ◌≢◌, ◌<◌, ◌≤◌, ◌+◌, ◌-◌, ◌⊎◌, inl, inr, suc, zero, List, [], ◌∷◌, ◌++◌, length, take, drop, get_or, None, Some, false, refl, ap, ap₂, sym, ◌∙◌, subst, arith, append_assoc, append-nil, length-append}
-use Rattle.std.specs.Prelude.{slice_get}
-use Rattle.std.proofs.lemmas.List.{drop-drop, drop_all, drop_at, drop_more, length-drop, length-take-le, map-append, nil_from_length, take-append-drop, take-append-le, take_at}
+use Rattle.std.proofs.Common.{ℕ, suc, zero, ◌≡◌, ◌≢◌, ◌<◌, ◌≤◌, ◌+◌, ◌-◌, ◌*◌, ◌⊎◌, inl, inr, Some, Result, Ok, Err, OnOk, OnErr, List, [], ◌∷◌, ◌++◌, length, take, drop, get_or, refl, ap, ap₂, sym, ◌∙◌, subst, arith, append_assoc, append-nil, length-append}
+use Rattle.std.proofs.lemmas.List.{drop-drop, drop_all, drop_at, drop_more, length-drop, length-map, length-take-le, nil_from_length, take-append-drop, take-append-le, take-take}
 use Rattle.std.proofs.lemmas.List.Elements.{All-pop}
 use Rattle.std.proofs.Math.Seq.{get_or-append_seam}
-use Rattle.nap_list.specs.declared.sink.Sink.{Ghosts}
-use Rattle.nap_reader.specs.declared.frames.Frame.{Frame}
-use Rattle.nap_reader.specs.declared.reader.Reader.{Reader}
-use Rattle.nap_reader.specs.Framed.{Comes, FramesIn, Innermost, IsFrame, MovesOn, all_next, behind, placed_at, unread}
-use Rattle.nap_reader.specs.Holding.{Continues, Holding, frames_left, holding_of}
-use Rattle.nap_reader.specs.Pieces.{TakesCodes}
-use Rattle.nap_reader.specs.Steps.{Came, Stretches, TakesBytes, as_it_was, of_body, of_piece}
-use Rattle.nap_reader.specs.Stored.{part}
-use Rattle.nap_reader.specs.Stream.{Placed, all_at, bytes_of, place_at, placed_from}
-use Rattle.nap_reader.proofs.FrameLemmas.{frames-unread, innermost-first, last-frame, length-part, skipped_count, unread-push}
-use Rattle.nap_reader.proofs.StreamLemmas.{bytes_of-all_at, bytes_of-append, bytes_of-placed, length-all_at}
+use Rattle.nap_reader.proofs.Common.{Frame, Input, store_limit, CanAdvance, IsNextByte, Passed, coming, Comes, FramesIn, Innermost, IsFrame, behind, placed_at, spaced, unread, unread_of, Came, of_body, of_piece, StoreState, grown, part, Placed, all_at, bytes_of, place_at, placed_from}
+use Rattle.nap_reader.proofs.FrameLemmas.{frames-store, frames-unread, last-frame, length-part, unread-push, unread-store}
+use Rattle.nap_reader.proofs.StoreLemmas.{part-grown}
+use Rattle.nap_reader.proofs.StreamLemmas.{bytes_of-all_at, bytes_of-append, length-all_at, placed_from-append}
 
 -- What comes next, and what was taken of it.
 
--- Frames that are some have bytes to give.
-module _ (stored : List ℕ) (frames : List Frame) (framed : FramesIn (length stored) frames) (first : Frame) (others : List Frame) (is : frames ≡ first ∷ others) where
-  pub some_frames : frames ≢ []
-  some_frames none = let bad : first ∷ others ≡ [] = sym is ∙ none in cc
+-- bytes in the piece, and in a body
+pub spaced-one : (place : ℕ) (bs : List ℕ) → spaced place 1 bs ≡ placed_from place bs
+unfolding spaced placed_from
+spaced-one place [] = refl
+spaced-one place (b ∷ bs) = ap (λ (xs : List Placed). placed_at b place ∷ xs) (ap (λ (n : ℕ). spaced n 1 bs) (let e : place + 1 ≡ suc place = omega arith in e) ∙ spaced-one (suc place) bs)
 
-  pub some_unread : 0 < length (unread stored frames)
-  some_unread = omega (arith, frames-unread stored frames framed, ap length is)
+pub spaced-none : (place : ℕ) (bs : List ℕ) → spaced place 0 bs ≡ all_at place bs
+unfolding spaced
+spaced-none place [] = refl
+spaced-none place (b ∷ bs) = ap (λ (xs : List Placed). placed_at b place ∷ xs) (ap (λ (n : ℕ). spaced n 0 bs) (let e : place + 0 ≡ place = omega arith in e) ∙ spaced-none place bs)
 
-pub none_first : (text : List ℕ) → slice_get text 0 ≡ None → text ≡ []
-none_first [] none = refl
-none_first (b ∷ bs) none = let bad : Some b ≡ None = none in cc
+pub bytes_of-spaced : (place step : ℕ) (bs : List ℕ) → bytes_of (spaced place step bs) ≡ bs
+unfolding spaced
+bytes_of-spaced place step [] = refl
+bytes_of-spaced place step (b ∷ bs) = ap (λ (cs : List ℕ). b ∷ cs) (bytes_of-spaced (place + step) step bs)
 
-pub some_first : (text : List ℕ) (b : ℕ) → slice_get text 0 ≡ Some b → (take 1 text ≡ b ∷ []) × (1 ≤ length text)
-some_first [] b some = let bad : None ≡ Some b = some in cc
-some_first (c ∷ bs) b some = let same : c ≡ b = cc in (ap (λ (c : ℕ). c ∷ []) same, omega arith)
+pub length-spaced : (place step : ℕ) (bs : List ℕ) → length (spaced place step bs) ≡ length bs
+length-spaced place step bs = sym (length-map (spaced place step bs) (λ (x : Placed). x.byte)) ∙ ap length (bytes_of-spaced place step bs)
 
--- Bytes come next, and so many of them were taken.
-module _ (stored : List ℕ) (old new : List Frame) (framed : FramesIn (length stored) old) (piece : List ℕ) (at until fed counted : ℕ) (text : List ℕ) (place n : ℕ) (within : at ≤ length piece) (few : n ≤ length text)
-    (comes : Comes stored old piece at fed text place) (moves : MovesOn stored old new at until fed counted n) where
-  taken : length (take n text) ≡ n
-  taken = length-take-le n text few
+pub length-placed : (n : ℕ) (bs : List ℕ) → length (placed_from n bs) ≡ length bs
+unfolding placed_from
+length-placed n [] = refl
+length-placed n (b ∷ bs) = ap suc (length-placed (suc n) bs)
 
-  -- what was unread, and what is
-  pub unread_less : length (unread stored new) + n + fed ≡ length (unread stored old) + counted
-  unread_less = by old refl
-    where
-      by : (frames : List Frame) → old ≡ frames → length (unread stored new) + n + fed ≡ length (unread stored old) + counted
-      by [] is =
-          let moved = moves.of_piece is in
-          omega (arith, moved.2, ap (λ (fs : List Frame). length (unread stored fs)) is, ap (λ (fs : List Frame). length (unread stored fs)) moved.0)
-      by (first ∷ others) is =
-          let some = some_frames stored old framed first others is in
-          let moved = moves.of_body some in
-          omega (arith, moved.1, skipped_count stored old new text place n few (moved.2 text place (comes.of_body some) few))
+take-placed : (k n : ℕ) (bs : List ℕ) → take k (placed_from n bs) ≡ placed_from n (take k bs)
+unfolding placed_from
+take-placed zero n bs = refl
+take-placed (suc k) n [] = refl
+take-placed (suc k) n (b ∷ bs) = ap (λ (xs : List Placed). placed_at b n ∷ xs) (take-placed k (suc n) bs)
 
-  -- how far the piece was read
-  pub counted_by : counted + at ≡ fed + until
-  counted_by = by old refl
-    where
-      by : (frames : List Frame) → old ≡ frames → counted + at ≡ fed + until
-      by [] is = omega (arith, (moves.of_piece is).1, (moves.of_piece is).2)
-      by (first ∷ others) is =
-          let moved = moves.of_body (some_frames stored old framed first others is) in
-          omega (arith, moved.0, moved.1)
+-- Frames are none, or have bytes to give.
+pub none_or_some : (frames : List Frame) → (frames ≡ []) ⊎ (frames ≢ [])
+none_or_some [] = inl refl
+none_or_some (first ∷ others) = inr (λ none. let bad : ⊥ = cc in bad)
 
-  -- they came
-  pub came_by : (xs : List Placed) × (bytes_of xs ≡ take n text) × Came (unread stored old) (unread stored new) piece at until fed (take n text) xs
-  came_by = by old refl
-    where
-      by : (frames : List Frame) → old ≡ frames → (xs : List Placed) × (bytes_of xs ≡ take n text) × Came (unread stored old) (unread stored new) piece at until fed (take n text) xs
-      by [] is =
-          let front = (comes.of_piece is).0 in
-          let moved = moves.of_piece is in (
-            placed_from fed (take n text),
-            bytes_of-placed fed (take n text),
-            of_piece (ap (unread stored) is) (ap (unread stored) moved.0) refl (ap (λ (k : ℕ). take k (drop at piece)) taken ∙ ap (take n) (sym front)) (omega (arith, moved.1, taken))
-                (omega (arith, moved.1, few, ap length front, length-drop at piece, within)),
-          )
-      by (first ∷ others) is =
-          let some = some_frames stored old framed first others is in
-          let moved = moves.of_body some in (
-            all_at place (take n text),
-            bytes_of-all_at place (take n text),
-            of_body (some_unread stored old framed first others is) place refl (moved.2 text place (comes.of_body some) few) moved.0,
-          )
+some_unread : (stored : List ℕ) (frames : List Frame) → FramesIn (length stored) frames → frames ≢ [] → 0 < length (unread stored frames)
+some_unread stored [] framed some = absurd (some refl)
+some_unread stored (first ∷ others) framed some = omega (arith, frames-unread stored (first ∷ others) framed)
 
-  -- one byte came
-  pub byte_came : (b : ℕ) → n ≡ 1 → take 1 text ≡ b ∷ [] → Came (unread stored old) (unread stored new) piece at until fed (b ∷ []) (placed_at b place ∷ [])
-  unfolding placed_from
-  byte_came b one front = by old refl
-    where
-      is_front : take n text ≡ b ∷ []
-      is_front = ap (λ (n : ℕ). take n text) one ∙ front
+-- How many bytes were passed, and how far.
+pub passed_to : {input input' : Input} {count : ℕ} → Passed input input' count → (0 < length (unread_of input) → count ≤ length (unread_of input)) →
+    (input'.at ≡ input.at + (count - length (unread_of input))) × (input'.fed ≡ input.fed + (count - length (unread_of input)))
+passed_to {input} passed inside = elim (none_or_some input.frames.stack.items) [
+  | inl none ↦
+      let moved = passed.moves.of_piece none in
+      let empty = ap (λ (frames : List Frame). length (unread input.store.bytes frames)) none in
+      (omega (arith, moved.1, empty), omega (arith, moved.2, empty))
+  | inr some ↦
+      let moved = passed.moves.of_body some in
+      let few = inside (some_unread input.store.bytes input.frames.stack.items input.framed some) in
+      (omega (arith, moved.0, few), omega (arith, moved.1, few))
+]
 
-      by : (frames : List Frame) → old ≡ frames → Came (unread stored old) (unread stored new) piece at until fed (b ∷ []) (placed_at b place ∷ [])
-      by [] is =
-          let first = comes.of_piece is in
-          let moved = moves.of_piece is in
-          of_piece (ap (unread stored) is) (ap (unread stored) moved.0) (ap (λ (n : ℕ). placed_at b n ∷ []) first.1) (ap (take 1) (sym first.0) ∙ front) (omega (arith, moved.1, one))
-          (omega (arith, moved.1, few, ap length first.0, length-drop at piece, within))
-      by (first ∷ others) is =
-          let some = some_frames stored old framed first others is in
-          let moved = moves.of_body some in
-          of_body (some_unread stored old framed first others is) place refl
-          (subst (λ (xs : List ℕ). unread stored old ≡ all_at place xs ++ unread stored new) is_front (moved.2 text place (comes.of_body some) few)) moved.0
+-- what the innermost body has comes first of what is unread
+body_next : {stored : List ℕ} {frames : List Frame} {text : List ℕ} {place : ℕ} (inner : Innermost stored frames text place) → unread stored frames ≡ all_at place text ++ unread stored inner.before
+body_next {stored} inner =
+    ap (unread stored) inner.last ∙ unread-push stored inner.before inner.frame ∙ ap₂ (λ (m : ℕ) (bs : List ℕ). all_at m bs ++ unread stored inner.before) (sym inner.place_is) (sym inner.text_is)
 
 -- Where the bytes that come next are none, nothing comes.
 pub none_comes : (stored : List ℕ) (frames : List Frame) → FramesIn (length stored) frames → (piece text : List ℕ) (at fed place : ℕ) → at ≤ length piece → Comes stored frames piece at fed text place →
     text ≡ [] → (unread stored frames ≡ []) × (length piece ≤ at)
-none_comes stored frames framed piece text at fed place within comes none = by frames refl
-  where
-    by : (fs : List Frame) → frames ≡ fs → (unread stored frames ≡ []) × (length piece ≤ at)
-    by [] is = (ap (unread stored) is, omega (arith, ap length (comes.of_piece is).0, ap length none, length-drop at piece))
-    by (first ∷ others) is =
-        let inner = comes.of_body (some_frames stored frames framed first others is) in
-        let last = last-frame (length stored) frames inner.before inner.frame inner.last framed in
-        absurd (omega (arith, last.0, last.1, ap length none, ap length inner.text_is, length-part stored inner.frame.next inner.frame.end (omega (arith, last.0)) last.1))
+none_comes stored frames framed piece text at fed place within comes none = elim (none_or_some frames) [
+  | inl empty ↦ (ap (unread stored) empty, omega (arith, ap length (comes.of_piece empty).0, ap length none, length-drop at piece))
+  | inr some ↦
+      let inner = comes.of_body some in
+      let last = last-frame (length stored) frames inner.before inner.frame inner.last framed in
+      absurd (omega (arith, last.0, last.1, ap length none, ap length inner.text_is, length-part stored inner.frame.next inner.frame.end (omega (arith, last.0)) last.1))
+]
 
--- Bytes that come next, by where they come from.
+-- A slice comes next.
+module _ (input : Input) (piece text : List ℕ) (place : ℕ) (comes : Comes input.store.bytes input.frames.stack.items piece input.at input.fed text place) where
+  -- what comes begins with its bytes, and behind them comes what is behind
+  pub text_next : (step : ℕ) → (input.frames.stack.items ≡ [] → step ≡ 1) → (input.frames.stack.items ≢ [] → step ≡ 0) → (more : List Placed) × (coming input piece ≡ spaced place step text ++ more)
+  text_next step of_one of_none = elim (none_or_some input.frames.stack.items) [
+    | inl none ↦
+        let front = comes.of_piece none in (
+          [],
+          ap (λ (frames : List Frame). unread input.store.bytes frames ++ placed_from input.fed (drop input.at piece)) none
+              ∙ sym (ap₂ (λ (k : ℕ) (bs : List ℕ). spaced place k bs) (of_one none) front.0 ∙ ap (λ (p : ℕ). spaced p 1 (drop input.at piece)) front.1 ∙ spaced-one input.fed (drop input.at piece))
+              ∙ sym (append-nil (spaced place step text)),
+        )
+    | inr some ↦
+        let inner = comes.of_body some in
+        let outer = unread input.store.bytes inner.before in (
+          outer ++ placed_from input.fed (drop input.at piece),
+          ap (λ (xs : List Placed). xs ++ placed_from input.fed (drop input.at piece))
+              (body_next inner ∙ ap (λ (xs : List Placed). xs ++ outer) (sym (ap (λ (k : ℕ). spaced place k text) (of_none some) ∙ spaced-none place text)))
+              ∙ append_assoc (spaced place step text) outer (placed_from input.fed (drop input.at piece)),
+        )
+  ]
 
--- They come of a body, all of them at this place, and then this comes; or of the piece, the first of them at this place.
-pub data Source (frames : List Placed) (piece : List ℕ) (at fed : ℕ) (text : List ℕ) (place : ℕ) : Type 0 where
-  in_frames : (rest : List Placed) → frames ≡ all_at place text ++ rest → Source frames piece at fed text place
-  in_piece : frames ≡ [] → text ≡ drop at piece → place ≡ fed → at ≤ length piece → Source frames piece at fed text place
+  -- its first bytes are the first of them
+  pub taken_next : (n : ℕ) → n ≤ length text → take n (bytes_of (coming input piece)) ≡ take n text
+  taken_next n few = elim (none_or_some input.frames.stack.items) [
+    | inl none ↦ at_step 1 (λ _. refl) (λ some. absurd (some none))
+    | inr some ↦ at_step 0 (λ none. absurd (some none)) (λ _. refl)
+  ]
+    where
+      at_step : (step : ℕ) → (input.frames.stack.items ≡ [] → step ≡ 1) → (input.frames.stack.items ≢ [] → step ≡ 0) → take n (bytes_of (coming input piece)) ≡ take n text
+      at_step step of_one of_none =
+          let next = text_next step of_one of_none in
+          ap (λ (xs : List Placed). take n (bytes_of xs)) next.1
+          ∙ ap (take n) (bytes_of-append (spaced place step text) next.0 ∙ ap (λ (bs : List ℕ). bs ++ bytes_of next.0) (bytes_of-spaced place step text))
+          ∙ take-append-le n text (bytes_of next.0) few
 
--- the place of the byte with this index
-abbrev pub place_in : {frames : List Placed} {piece : List ℕ} {at fed : ℕ} {text : List ℕ} {place : ℕ} → Source frames piece at fed text place → ℕ → ℕ
-place_in {frames} {piece} {at} {fed} {text} {place} (in_frames rest is) i = place
-place_in {frames} {piece} {at} {fed} {text} {place} (in_piece empty all here within) i = place + i
-
-pub source_of : (stored : List ℕ) (frames : List Frame) → FramesIn (length stored) frames → (piece text : List ℕ) (at fed place : ℕ) → at ≤ length piece → Comes stored frames piece at fed text place →
-    Source (unread stored frames) piece at fed text place
-source_of stored frames framed piece text at fed place within comes = by frames refl
-  where
-    by : (fs : List Frame) → frames ≡ fs → Source (unread stored frames) piece at fed text place
-    by [] is = in_piece (ap (unread stored) is) (comes.of_piece is).0 (comes.of_piece is).1 within
-    by (first ∷ others) is =
-        let inner = comes.of_body (some_frames stored frames framed first others is) in
-        in_frames (unread stored inner.before) (innermost-first stored frames text place 0 inner)
-
--- what comes begins with them
-pub comes_first : (frames : List Placed) (piece : List ℕ) (at fed : ℕ) (text : List ℕ) (place : ℕ) → Source frames piece at fed text place → (b : ℕ) → slice_get text 0 ≡ Some b →
-    (rest : List ℕ) × (bytes_of frames ++ drop at piece ≡ b ∷ rest)
-comes_first frames piece at fed [] place source b first = let bad : None ≡ Some b = first in cc
-comes_first frames piece at fed (c ∷ text) place (in_frames rest is) b first =
-    let same : c ≡ b = cc in
-    let all : bytes_of (all_at place (c ∷ text) ++ rest) ≡ c ∷ (text ++ bytes_of rest) =
-    bytes_of-append (all_at place (c ∷ text)) rest ∙ ap (λ (bs : List ℕ). bs ++ bytes_of rest) (bytes_of-all_at place (c ∷ text)) in (
-      (text ++ bytes_of rest) ++ drop at piece,
-      ap (λ (xs : List Placed). bytes_of xs ++ drop at piece) is
-          ∙ ap (λ (bs : List ℕ). bs ++ drop at piece) all
-          ∙ ap (λ (c : ℕ). c ∷ ((text ++ bytes_of rest) ++ drop at piece)) same,
+  -- how many it has
+  pub fits : input.at ≤ length piece → (length (unread_of input) ≡ 0 → input.at + length text ≤ length piece) × (0 < length (unread_of input) → length text ≤ length (unread_of input))
+  fits within = elim (none_or_some input.frames.stack.items) [
+    | inl none ↦ (
+      λ _. omega (arith, within, ap length (comes.of_piece none).0, length-drop input.at piece),
+      λ some. absurd (omega (arith, some, ap (λ (frames : List Frame). length (unread input.store.bytes frames)) none)),
     )
-comes_first frames piece at fed (c ∷ text) place (in_piece empty all here within) b first =
-    let same : c ≡ b = cc in
-    (text, ap (λ (xs : List Placed). bytes_of xs ++ drop at piece) empty ∙ sym all ∙ ap (λ (c : ℕ). c ∷ text) same)
+    | inr some ↦
+        let inner = comes.of_body some in
+        let size = ap length (body_next inner) ∙ length-append (all_at place text) (unread input.store.bytes inner.before) in
+        (λ none. absurd (omega (arith, none, some_unread input.store.bytes input.frames.stack.items input.framed some)), λ _. omega (arith, size, length-all_at place text))
+  ]
 
--- these come first of all
-source_next : (frames : List Placed) (piece : List ℕ) (at fed : ℕ) (text : List ℕ) (place : ℕ) → Source frames piece at fed text place → (more : List ℕ) × (bytes_of frames ++ drop at piece ≡ text ++ more)
-source_next frames piece at fed text place (in_frames rest is) = (
-  bytes_of rest ++ drop at piece,
-  ap (λ (xs : List Placed). bytes_of xs ++ drop at piece) is
-      ∙ ap (λ (bs : List ℕ). bs ++ drop at piece) (bytes_of-append (all_at place text) rest ∙ ap (λ (bs : List ℕ). bs ++ bytes_of rest) (bytes_of-all_at place text))
-      ∙ append_assoc text (bytes_of rest) (drop at piece),
-)
-source_next frames piece at fed text place (in_piece empty all here within) =
-    ([], ap (λ (xs : List Placed). bytes_of xs ++ drop at piece) empty ∙ sym all ∙ sym (append-nil text))
-
--- and behind them comes what is behind
-pub text_and_behind : (stored : List ℕ) (frames : List Frame) → FramesIn (length stored) frames → (piece text : List ℕ) (at fed place : ℕ) → at ≤ length piece → Comes stored frames piece at fed text place →
-    text ++ behind stored frames piece at text ≡ all_next stored frames piece at
-text_and_behind stored frames framed piece text at fed place within comes =
-    let next = source_next (unread stored frames) piece at fed text place (source_of stored frames framed piece text at fed place within comes) in
-    ap (λ (bs : List ℕ). bs ++ behind stored frames piece at text) (sym (ap (take (length text)) next.1 ∙ take_at text next.0 (length text) refl)) ∙ take-append-drop (length text) (all_next stored frames piece at)
+  -- what is unread once so many of them were passed
+  pub passed_rest : {input' : Input} {count : ℕ} → Passed input input' count → count ≤ length text → unread input.store.bytes input'.frames.stack.items ≡ drop count (unread_of input)
+  passed_rest {input'} {count} passed few = elim (none_or_some input.frames.stack.items) [
+    | inl none ↦ ap (unread input.store.bytes) (passed.moves.of_piece none).0 ∙ sym (ap (λ (frames : List Frame). drop count (unread input.store.bytes frames)) none ∙ drop_all count [] (omega arith))
+    | inr some ↦
+        sym (ap (drop count) ((passed.moves.of_body some).2 text place (comes.of_body some) few)
+        ∙ drop_at (all_at place (take count text)) (unread input.store.bytes input'.frames.stack.items) count (length-all_at place (take count text) ∙ length-take-le count text few))
+  ]
 
 -- frames that are some have a last one
 last_parts : (first : Frame) (others : List Frame) → (before : List Frame) × (frame : Frame) × (first ∷ others ≡ before ++ frame ∷ [])
@@ -183,7 +147,7 @@ behind_body : (stored : List ℕ) (frames : List Frame) (piece text : List ℕ) 
 behind_body stored frames piece text at place inner =
     let outer = unread stored inner.before in
     ap (λ (xs : List Placed). drop (length text) (bytes_of xs ++ drop at piece))
-    (ap (unread stored) inner.last ∙ unread-push stored inner.before inner.frame ∙ ap₂ (λ (m : ℕ) (bs : List ℕ). all_at m bs ++ outer) (sym inner.place_is) (sym inner.text_is))
+    (body_next inner)
     ∙ ap (drop (length text))
     (ap (λ (bs : List ℕ). bs ++ drop at piece) (bytes_of-append (all_at place text) outer ∙ ap (λ (bs : List ℕ). bs ++ bytes_of outer) (bytes_of-all_at place text)) ∙ append_assoc text (bytes_of outer) (drop at piece))
     ∙ drop_at text (bytes_of outer ++ drop at piece) (length text) refl
@@ -242,173 +206,72 @@ none_behind stored (first ∷ others) piece text at fed place one (inr all) come
     behind_body stored frames piece text at place inner ∙ ap (λ (fs : List Frame). bytes_of (unread stored fs) ++ drop at piece) none ∙ drop_all at piece all
 
 -- What came, and what comes then.
-pub came_next : (frames rest : List Placed) (piece : List ℕ) (at until fed : ℕ) (bytes : List ℕ) (xs : List Placed) → Came frames rest piece at until fed bytes xs →
-    bytes_of frames ++ drop at piece ≡ bytes ++ (bytes_of rest ++ drop until piece)
-came_next frames rest piece at until fed bytes xs (of_body some place is split still) =
-    ap (λ (zs : List Placed). bytes_of zs ++ drop at piece) (split ∙ ap (λ (zs : List Placed). zs ++ rest) is)
-    ∙ ap (λ (bs : List ℕ). bs ++ drop at piece) (bytes_of-append (all_at place bytes) rest ∙ ap (λ (bs : List ℕ). bs ++ bytes_of rest) (bytes_of-all_at place bytes))
-    ∙ append_assoc bytes (bytes_of rest) (drop at piece)
-    ∙ ap (λ (n : ℕ). bytes ++ (bytes_of rest ++ drop n piece)) (sym still)
-came_next frames rest piece at until fed bytes xs (of_piece empty none is front further within) =
-    ap (λ (zs : List Placed). bytes_of zs ++ drop at piece) empty
-    ∙ sym (take-append-drop (length bytes) (drop at piece))
-    ∙ ap₂ (λ (bs cs : List ℕ). bs ++ cs) front (drop-drop (length bytes) at piece ∙ ap (λ (n : ℕ). drop n piece) (sym further))
-    ∙ ap (λ (zs : List Placed). bytes ++ (bytes_of zs ++ drop until piece)) (sym none)
+pub came_coming : (frames rest : List Placed) (piece : List ℕ) (at until fed counted : ℕ) (xs : List Placed) → Came frames rest piece at until fed xs → counted + at ≡ fed + until →
+    frames ++ placed_from fed (drop at piece) ≡ xs ++ (rest ++ placed_from counted (drop until piece))
+came_coming frames rest piece at until fed counted xs (of_body some split still) counts =
+    ap₂ (λ (zs : List Placed) (n : ℕ). zs ++ placed_from n (drop at piece)) split (let e : fed ≡ counted = omega (arith, still, counts) in e)
+    ∙ append_assoc xs rest (placed_from counted (drop at piece))
+    ∙ ap (λ (n : ℕ). xs ++ (rest ++ placed_from counted (drop n piece))) (sym still)
+came_coming frames rest piece at until fed counted xs (of_piece empty none is further within) counts =
+    let n = length xs in
+    ap (λ (zs : List Placed). zs ++ placed_from fed (drop at piece)) empty
+    ∙ ap (placed_from fed) (sym (take-append-drop n (drop at piece)))
+    ∙ placed_from-append fed (take n (drop at piece)) (drop n (drop at piece))
+    ∙ ap₂ (λ (zs : List Placed) (k : ℕ). zs ++ placed_from k (drop n (drop at piece))) (sym is)
+    (let e : fed + length (take n (drop at piece)) ≡ counted = omega (arith, counts, further, length-take-le n (drop at piece) (omega (arith, further, within, length-drop at piece))) in e)
+    ∙ ap (λ (bs : List ℕ). xs ++ placed_from counted bs) (drop-drop n at piece ∙ ap (λ (k : ℕ). drop k piece) (sym further))
+    ∙ ap (λ (zs : List Placed). xs ++ (zs ++ placed_from counted (drop until piece))) (sym none)
 
--- how much comes then
-pub came_less : (frames rest : List Placed) (piece : List ℕ) (at until fed counted : ℕ) (bytes : List ℕ) (xs : List Placed) → Came frames rest piece at until fed bytes xs → counted + at ≡ fed + until →
-    length rest + length bytes + fed ≡ length frames + counted
-came_less frames rest piece at until fed counted bytes xs (of_body some place is split still) counts =
-    omega (arith, still, counts, ap length split, ap length is, length-append xs rest, length-all_at place bytes)
-came_less frames rest piece at until fed counted bytes xs (of_piece empty none is front further within) counts =
-    omega (arith, further, counts, ap length empty, ap length none)
+-- how far the piece was read
+pub came_within : (frames rest : List Placed) (piece : List ℕ) (at until fed : ℕ) (xs : List Placed) → at ≤ length piece → Came frames rest piece at until fed xs → (at ≤ until) × (until ≤ length piece)
+came_within frames rest piece at until fed xs within (of_body some is same) = (omega (arith, same), omega (arith, same, within))
+came_within frames rest piece at until fed xs within (of_piece empty none is moved inside) = (omega (arith, moved), inside)
 
--- Some bytes come next.
-some_come : (stored : List ℕ) (frames : List Frame) → FramesIn (length stored) frames → (piece : List ℕ) (at fed : ℕ) → (text : List ℕ) × (place : ℕ) × Comes stored frames piece at fed text place
+-- where none came, those that come next are the same
+pub came_none : (frames rest : List Placed) (piece : List ℕ) (at until fed : ℕ) (xs : List Placed) → xs ≡ [] → Came frames rest piece at until fed xs → (rest ≡ frames) × (until ≡ at)
+came_none frames rest piece at until fed xs none (of_body some split same) = (sym (split ∙ ap (λ (zs : List Placed). zs ++ rest) none), same)
+came_none frames rest piece at until fed xs none (of_piece empty gone is moved within) = (gone ∙ sym empty, omega (arith, moved, ap length none))
+
+-- Some bytes come next, in one slice.
+pub some_come : (stored : List ℕ) (frames : List Frame) → FramesIn (length stored) frames → (piece : List ℕ) (at fed : ℕ) → (text : List ℕ) × (place : ℕ) × Comes stored frames piece at fed text place
 some_come stored frames framed piece at fed = by frames refl
   where
     by : (fs : List Frame) → frames ≡ fs → (text : List ℕ) × (place : ℕ) × Comes stored frames piece at fed text place
     by [] is = (drop at piece, fed, record { of_piece = λ _. (refl, refl); of_body = λ some. absurd (some is) })
     by (first ∷ others) is =
         let parts = last_parts first others in
-        let some = some_frames stored frames framed first others is in (
+        let some : frames ≢ [] = λ none. let bad : first ∷ others ≡ [] = sym is ∙ none in cc in (
           part stored parts.1.next parts.1.end,
           parts.1.place,
           record { of_piece = λ none. absurd (some none); of_body = λ _. record { before = parts.0; frame = parts.1; last = is ∙ parts.2; text_is = refl; place_is = refl } },
         )
 
--- The byte that comes next came.
-pub byte_next : (stored : List ℕ) (old new : List Frame) → FramesIn (length stored) old → (piece : List ℕ) (at until fed counted : ℕ) → at ≤ length piece → MovesOn stored old new at until fed counted 1 →
-    (b : ℕ) (bs : List ℕ) → all_next stored old piece at ≡ b ∷ bs →
-    (place : ℕ) × Came (unread stored old) (unread stored new) piece at until fed (b ∷ []) (placed_at b place ∷ []) × (counted + at ≡ fed + until)
-byte_next stored old new framed piece at until fed counted within moves b bs is = by there.0 refl
+-- A byte comes next, in some slice.
+pub byte_comes : {input : Input} {piece : List ℕ} {byte place : ℕ} → IsNextByte input piece byte place →
+    (text : List ℕ) × (first : ℕ) × Comes input.store.bytes input.frames.stack.items piece input.at input.fed text first × (1 ≤ length text)
+byte_comes {input} {piece} {byte} {place} next = by there.0 refl
   where
-    there : (text : List ℕ) × (place : ℕ) × Comes stored old piece at fed text place
-    there = some_come stored old framed piece at fed
+    there : (text : List ℕ) × (first : ℕ) × Comes input.store.bytes input.frames.stack.items piece input.at input.fed text first
+    there = some_come input.store.bytes input.frames.stack.items input.framed piece input.at input.fed
 
-    by : (text : List ℕ) → there.0 ≡ text →
-        (place : ℕ) × Came (unread stored old) (unread stored new) piece at until fed (b ∷ []) (placed_at b place ∷ []) × (counted + at ≡ fed + until)
+    by : (bytes : List ℕ) → there.0 ≡ bytes → (text : List ℕ) × (first : ℕ) × Comes input.store.bytes input.frames.stack.items piece input.at input.fed text first × (1 ≤ length text)
     by [] none =
-        let nothing = none_comes stored old framed piece there.0 at fed there.1 within there.2 none in
-        absurd (omega (arith, ap length is, length-append (bytes_of (unread stored old)) (drop at piece), ap (λ (xs : List Placed). length (bytes_of xs)) nothing.0, nothing.1, length-drop at piece))
-    by (c ∷ cs) some =
-        let text = there.0 in
-        let few : 1 ≤ length text = omega (arith, ap length some) in
-        let next = source_next (unread stored old) piece at fed text there.1 (source_of stored old framed piece text at fed there.1 within there.2) in
-        let front : take 1 text ≡ b ∷ [] = sym (take-append-le 1 text next.0 few) ∙ ap (take 1) (sym next.1 ∙ is) in (
-          there.1,
-          byte_came stored old new framed piece at until fed counted text there.1 1 within few there.2 moves b refl front,
-          counted_by stored old new framed piece at until fed counted text there.1 1 within few there.2 moves,
-        )
+        let nothing = none_comes input.store.bytes input.frames.stack.items input.framed piece there.0 input.at input.fed there.1 next.reads.within there.2 none in
+        absurd (omega (arith, ap length (sym next.is ∙ ap (λ (zs : List Placed). zs ++ placed_from input.fed (drop input.at piece)) nothing.0), length-placed input.fed (drop input.at piece), length-drop input.at piece, nothing.1))
+    by (b ∷ bs) some = (there.0, there.1, there.2, omega (arith, ap length some))
 
--- The first of these bytes came, and the others come then.
-pub record Parts (frames : List Placed) (piece : List ℕ) (at fed : ℕ) (text : List ℕ) (place k : ℕ) (source : Source frames piece at fed text place) : Type 0 where
-  pub xs : List Placed
-  pub rest : List Placed
-  pub until : ℕ
-  pub counted : ℕ
-  pub bytes : bytes_of xs ≡ take k text
-  pub came : Came frames rest piece at until fed (take k text) xs
-  pub counts : counted + at ≡ fed + until
-  pub still : 0 < length frames → (until ≡ at) × (counted ≡ fed) × (0 < length (drop k text) → 0 < length rest)
-  pub moved : frames ≡ [] → (until ≡ at + k) × (counted ≡ fed + k) × (rest ≡ [])
-  pub then : Source rest piece until counted (drop k text) (place_in source k)
-  pub places : (i : ℕ) → place_in then i ≡ place_in source (k + i)
-  pub placed : (i : ℕ) → i < k → place_at xs i ≡ place_in source i
+-- It can be passed.
+pub can_pass : {input : Input} {piece : List ℕ} {byte place : ℕ} → IsNextByte input piece byte place → CanAdvance input 1
+can_pass {input} {piece} next = let c = byte_comes next in record { piece = piece; reads = next.reads; place = c.1; text = c.0; comes = c.2; few = c.3 }
 
-pub place_of_all : (place : ℕ) (bs : List ℕ) (i : ℕ) → i < length bs → place_at (all_at place bs) i ≡ place
-place_of_all place [] i less = absurd (omega (arith, less))
-place_of_all place (b ∷ bs) zero less = refl
-place_of_all place (b ∷ bs) (suc i) less = place_of_all place bs i (omega (arith, less))
+-- a slice is where it is
+pub place_at-spaced : (place step : ℕ) (bs : List ℕ) (i : ℕ) → i < length bs → place_at (spaced place step bs) i ≡ place + step * i
+unfolding spaced
+place_at-spaced place step [] i less = absurd (omega (arith, less))
+place_at-spaced place step (b ∷ bs) zero less = grind arith
+place_at-spaced place step (b ∷ bs) (suc i) less = place_at-spaced (place + step) step bs i (omega (arith, less)) ∙ grind arith
 
-place_of_placed : (fed : ℕ) (bs : List ℕ) (i : ℕ) → i < length bs → place_at (placed_from fed bs) i ≡ fed + i
-unfolding placed_from
-place_of_placed fed [] i less = absurd (omega (arith, less))
-place_of_placed fed (b ∷ bs) zero less = omega arith
-place_of_placed fed (b ∷ bs) (suc i) less = place_of_placed (suc fed) bs i (omega (arith, less)) ∙ omega arith
-
-pub parts : (frames : List Placed) (piece : List ℕ) (at fed : ℕ) (text : List ℕ) (place k : ℕ) → k ≤ length text → 0 < length text → (source : Source frames piece at fed text place) →
-    Parts frames piece at fed text place k source
-parts frames piece at fed text place k few some (in_frames rest is) =
-    let xs = all_at place (take k text) in
-    let split : all_at place text ≡ xs ++ all_at place (drop k text) =
-    ap (all_at place) (sym (take-append-drop k text)) ∙ map-append (λ (b : ℕ). placed_at b place) (take k text) (drop k text) in
-    let all : frames ≡ xs ++ (all_at place (drop k text) ++ rest) =
-    is ∙ ap (λ (ys : List Placed). ys ++ rest) split ∙ append_assoc xs (all_at place (drop k text)) rest in
-    record {
-      xs = xs;
-      rest = all_at place (drop k text) ++ rest;
-      until = at;
-      counted = fed;
-      bytes = bytes_of-all_at place (take k text);
-      came = of_body (omega (arith, some, ap length is, length-append (all_at place text) rest, length-all_at place text)) place refl all refl;
-      counts = refl;
-      still = λ _. (refl, refl, λ more. omega (arith, more, length-append (all_at place (drop k text)) rest, length-all_at place (drop k text)));
-      moved = λ none. absurd (omega (arith, some, ap length (sym is ∙ none), length-append (all_at place text) rest, length-all_at place text));
-      then = in_frames rest refl;
-      places = λ i. refl;
-      placed = λ i less. place_of_all place (take k text) i (omega (arith, less, length-take-le k text few));
-    }
-parts frames piece at fed text place k few some (in_piece empty all here within) =
-    let counted = length-take-le k text few in
-    let long : length text ≡ length piece - at = ap length all ∙ length-drop at piece in
-    record {
-      xs = placed_from fed (take k text);
-      rest = [];
-      until = at + k;
-      counted = fed + k;
-      bytes = bytes_of-placed fed (take k text);
-      came = of_piece empty refl refl (ap (λ (n : ℕ). take n (drop at piece)) counted ∙ ap (take k) (sym all)) (omega (arith, counted)) (omega (arith, few, long, within));
-      counts = omega arith;
-      still = λ more. absurd (omega (arith, more, ap length empty));
-      moved = λ _. (refl, refl, refl);
-      then = in_piece refl (ap (drop k) all ∙ drop-drop k at piece ∙ ap (λ (n : ℕ). drop n piece) (omega arith)) (omega (arith, here)) (omega (arith, few, long, within));
-      places = λ i. omega arith;
-      placed = λ i less. place_of_placed fed (take k text) i (omega (arith, less, counted)) ∙ omega (arith, here);
-    }
-
--- No byte came.
-pub none_came : (frames : List Placed) (piece : List ℕ) (at fed : ℕ) → at ≤ length piece → Came frames frames piece at at fed [] []
-unfolding placed_from
-none_came [] piece at fed within = of_piece refl refl refl refl (omega arith) within
-none_came (x ∷ xs) piece at fed within = of_body (omega arith) 0 refl refl refl
-
-abbrev takes_none : {S : Type 0} {g : Ghosts S} (old new : Reader S g) (piece : List ℕ) (at : ℕ) → at ≤ length piece → new.refusal ≡ None → new.budget ≡ old.budget → new.charged ≡ old.charged → new.fed ≡ old.fed →
-    new.turns ≡ old.turns → new.sink ≡ old.sink → frames_left new ≡ frames_left old → TakesBytes old new piece at at
-takes_none {S} {g} old new piece at within live budget charged fed turns sink frames = record {
-  live = live;
-  budget = budget;
-  charged = charged;
-  clear = λ works. subst (λ (t : S). g.failed t ≡ false) (sym sink) works;
-  fed = ap (λ (n : ℕ). n + at) fed;
-  bytes = [];
-  turns = omega (arith, turns);
-  xs = [];
-  came = subst (λ (rest : List Placed). Came (frames_left old) rest piece at at old.fed [] []) (sym frames) (none_came (frames_left old) piece at old.fed within);
-}
-
-pub stretches_none : {S : Type 0} {g : Ghosts S} (old new : Reader S g) (piece : List ℕ) (at : ℕ) → at ≤ length piece → new.refusal ≡ None → new.budget ≡ old.budget → new.charged ≡ old.charged → new.fed ≡ old.fed →
-    new.turns ≡ old.turns → new.sink ≡ old.sink → holding_of new ≡ holding_of old → frames_left new ≡ frames_left old → Stretches old new piece at at
-stretches_none {S} {g} old new piece at within live budget charged fed turns sink holding frames = record {
-  taken = takes_none old new piece at within live budget charged fed turns sink frames;
-  run = ap (λ (h : Holding). h.open_run) holding;
-  passes = λ s o pending k. subst (λ (t : S). Continues g s o t (holding_of new) pending) (sym sink) (subst (λ (h : Holding). Continues g s o old.sink h pending) (sym holding) k);
-}
-
--- No code came.
-pub takes_no_codes : {S : Type 0} {g : Ghosts S} (old new : Reader S g) (piece : List ℕ) (at : ℕ) → at ≤ length piece → new.refusal ≡ None → new.budget ≡ old.budget → new.charged ≡ old.charged → new.fed ≡ old.fed →
-    new.turns ≡ old.turns → new.sink ≡ old.sink → holding_of new ≡ holding_of old → frames_left new ≡ frames_left old → TakesCodes old new piece at at
-takes_no_codes {S} {g} old new piece at within live budget charged fed turns sink holding frames = record {
-  taken = takes_none old new piece at within live budget charged fed turns sink frames;
-  leads = record {
-    conveys = record { sink = old.sink; holding = holding_of old; left = refl; run = λ n all run. run; passes = λ s o pending k. k; none = λ _. (refl, refl) };
-    acted = as_it_was sink holding;
-    typed = λ set chars. (sink, holding);
-    none = λ _. (sink, holding);
-  };
-}
-
--- What comes of a body that is being read, and of the piece where none is.
+-- What comes of a body that is being read.
 module _ (stored : List ℕ) (frames : List Frame) (text : List ℕ) (place : ℕ) (inner : Innermost stored frames text place) where
   pub some_inside : frames ≢ []
   some_inside none = omega (arith, ap length (sym none ∙ inner.last), length-append inner.before (inner.frame ∷ []))
@@ -416,24 +279,85 @@ module _ (stored : List ℕ) (frames : List Frame) (text : List ℕ) (place : �
   pub comes_inside : (piece : List ℕ) (at fed : ℕ) → Comes stored frames piece at fed text place
   comes_inside piece at fed = record { of_piece = λ none. absurd (some_inside none); of_body = λ _. inner }
 
-  pub few_inside : (n : ℕ) → n ≤ length text → n ≤ length (unread stored frames)
-  few_inside n few =
-      omega (
-        arith,
-        ap (λ (xs : List Placed). length xs) (innermost-first stored frames text place n inner),
-        length-append (all_at place (take n text)) (all_at place (drop n text) ++ unread stored inner.before),
-        length-all_at place (take n text),
-        length-take-le n text few,
-      )
-
   -- it has a byte to give
   pub text_inside : FramesIn (length stored) frames → 0 < length text
   text_inside framed =
       let is = last-frame (length stored) frames inner.before inner.frame inner.last framed in
       omega (arith, is.0, ap length inner.text_is, length-part stored inner.frame.next inner.frame.end (omega (arith, is.0)) is.1)
 
-pub comes_outside : (stored : List ℕ) (frames : List Frame) (piece : List ℕ) (at fed : ℕ) (text : List ℕ) → frames ≡ [] → text ≡ drop at piece → Comes stored frames piece at fed text fed
-comes_outside stored frames piece at fed text none is = record { of_piece = λ _. (is, refl); of_body = λ some. absurd (some none) }
+  -- where it lies in the store, and its first bytes
+  pub part_inside : FramesIn (length stored) frames → (n : ℕ) → n ≤ length text → (inner.frame.next + n ≤ length stored) × (part stored inner.frame.next (inner.frame.next + n) ≡ take n text)
+  part_inside framed n few =
+      let is = last-frame (length stored) frames inner.before inner.frame inner.last framed in
+      let long : length text ≡ inner.frame.end - inner.frame.next = ap length inner.text_is ∙ length-part stored inner.frame.next inner.frame.end (omega (arith, is.0)) is.1 in
+      let same : inner.frame.next + n - inner.frame.next ≡ n = omega arith in (
+        omega (arith, is.0, is.1, long, few),
+        ap (λ (k : ℕ). take k (drop inner.frame.next stored)) same
+            ∙ sym (take-take n (inner.frame.end - inner.frame.next) (drop inner.frame.next stored) (omega (arith, long, few)))
+            ∙ ap (take n) (sym inner.text_is),
+      )
 
-pub moves_outside : (stored : List ℕ) (frames : List Frame) (at fed n : ℕ) → frames ≡ [] → MovesOn stored frames frames at (at + n) fed (fed + n) n
-moves_outside stored frames at fed n none = record { of_piece = λ _. (none, refl, refl); of_body = λ some. absurd (some none) }
+-- Nothing comes of bodies, nor of the piece.
+pub none_left : (input : Input) (piece : List ℕ) → input.frames.stack.items ≡ [] → length piece ≤ input.at → coming input piece ≡ []
+unfolding placed_from
+none_left input piece none all =
+    ap (λ (frames : List Frame). unread input.store.bytes frames ++ placed_from input.fed (drop input.at piece)) none ∙ ap (placed_from input.fed) (drop_all input.at piece all)
+
+-- The open body has more bytes.
+module _ (input : Input) (new : StoreState) (more : List ℕ) (is : new ≡ grown input.store more) where
+  pub grown_unread : unread new.bytes input.frames.stack.items ≡ unread_of input
+  grown_unread = unread-store input.store new more input.frames.stack.items (ap (λ (t : StoreState). t.bytes) is) input.framed
+
+  pub grown_framed : FramesIn (length new.bytes) input.frames.stack.items
+  grown_framed = frames-store input.store new more input.frames.stack.items (ap (λ (t : StoreState). t.bytes) is) input.framed
+
+  pub grown_turned : input.turns + length (unread new.bytes input.frames.stack.items) ≡ input.fed + input.charged
+  grown_turned = omega (arith, input.turned, ap (λ (xs : List Placed). length xs) grown_unread)
+
+  pub grown_few : input.store.stored + length input.store.body + length more ≤ store_limit → new.stored + length new.body ≤ store_limit
+  grown_few few = omega (arith, few, ap (λ (t : StoreState). t.stored + length t.body) is, length-append input.store.body more)
+
+  pub grown_paired : length new.bytes ≤ new.stored + length new.body + input.charged
+  grown_paired =
+      omega (arith, input.paired, ap (λ (t : StoreState). t.stored + length t.body) is, length-append input.store.body more, ap (λ (t : StoreState). length t.bytes) is, length-append input.store.bytes more)
+
+-- it has them, or memory was wanting and it has none
+pub grown_either : {E : Type 0} (r : Result (Unit {0}) E) (old new : StoreState) (more : List ℕ) → OnOk r (new ≡ grown old more) → OnErr r (new ≡ old) → (some : List ℕ) × (length some ≤ length more) × (new ≡ grown old some)
+grown_either (Ok done) old new more ok err = (more, omega arith, ok)
+grown_either (Err e) old new more ok err =
+    ([], omega arith, err ∙ sym (ap₂ (λ (bytes body : List ℕ). record old { bytes = bytes; body = body }) (append-nil old.bytes) (append-nil old.body)))
+
+-- What comes next is the same where the open body has more bytes.
+pub comes_still : (stored more : List ℕ) (frames : List Frame) → FramesIn (length stored) frames → (piece : List ℕ) (at fed : ℕ) (text : List ℕ) (place : ℕ) → Comes stored frames piece at fed text place → Comes (stored ++ more) frames piece at fed text place
+comes_still stored more frames framed piece at fed text place comes = record {
+  of_piece = comes.of_piece;
+  of_body = λ some.
+      let inner = comes.of_body some in
+      let is = last-frame (length stored) frames inner.before inner.frame inner.last framed in
+      record {
+        before = inner.before;
+        frame = inner.frame;
+        last = inner.last;
+        text_is = inner.text_is ∙ sym (part-grown stored more inner.frame.next inner.frame.end (omega (arith, is.0)) is.1);
+        place_is = inner.place_is;
+      };
+}
+
+-- So many bytes came: of bodies, or of the piece.
+pub came_take : (frames : List Placed) (piece : List ℕ) (at fed n : ℕ) → at ≤ length piece → (length frames ≡ 0 → at + n ≤ length piece) → (0 < length frames → n ≤ length frames) →
+    Came frames (drop n frames) piece at (at + (n - length frames)) fed (take n (frames ++ placed_from fed (drop at piece)))
+came_take [] piece at fed n within alone inside =
+    let few = alone refl in
+    let counted : length (take n (placed_from fed (drop at piece))) ≡ n = length-take-le n (placed_from fed (drop at piece)) (omega (arith, few, length-placed fed (drop at piece), length-drop at piece)) in
+    of_piece refl (drop_all n [] (omega arith)) (take-placed n fed (drop at piece) ∙ ap (λ (k : ℕ). placed_from fed (take k (drop at piece))) (sym counted)) (omega (arith, counted)) (omega (arith, few))
+came_take (x ∷ xs) piece at fed n within alone inside =
+    let few = inside (omega arith) in
+    of_body (omega arith) (sym (take-append-drop n (x ∷ xs)) ∙ ap (λ (ys : List Placed). ys ++ drop n (x ∷ xs)) (sym (take-append-le n (x ∷ xs) (placed_from fed (drop at piece)) few))) (omega (arith, few))
+
+-- the byte that comes next came
+pub came_next : (rest : List Placed) (piece : List ℕ) (until fed : ℕ) (x : Placed) (behind : List Placed) → until ≤ length piece → rest ++ placed_from fed (drop until piece) ≡ x ∷ behind →
+    Came rest (drop 1 rest) piece until (until + (1 - length rest)) fed (x ∷ [])
+came_next rest piece until fed x behind within is =
+    subst (Came rest (drop 1 rest) piece until (until + (1 - length rest)) fed) (ap (take 1) is)
+    (came_take rest piece until fed 1 within
+    (λ none. omega (arith, none, within, ap length is, length-append rest (placed_from fed (drop until piece)), length-placed fed (drop until piece), length-drop until piece)) (λ some. omega arith))

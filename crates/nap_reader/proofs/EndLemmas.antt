@@ -1,23 +1,15 @@
-use Rattle.std.proofs.Common.{ℕ, ◌≡◌, List, [], ◌∷◌, ◌++◌, length, false, Option, Some, None, Result, Ok, Err, refl, ap, sym, ◌∙◌, subst, append_assoc}
-use Rattle.nap_list.specs.declared.sink.Sink.{Ghosts}
-use Rattle.nap_list.specs.declared.entry.Entry.{Entry}
-use Rattle.nap_draw.specs.declared.fault.DrawFault.{DrawFault}
-use Rattle.nap_draw.specs.Rule.{Drawn, rule}
-use Rattle.nap_draw.specs.Draws.{Cause, stream, memory, device}
+use Rattle.std.proofs.Common.{ℕ, ◌≡◌, List, [], ◌∷◌, ◌++◌, ◌≢◌, Bool, length, false, true, Option, Some, None, Result, Ok, Err, refl, ap, sym, ◌∙◌, subst, append_assoc}
+use Rattle.nap_reader.specs.Below.{Ghosts, Entry, DrawFault, Drawn, rule, Cause, stream, memory, device}
+use Rattle.nap_reader.proofs.Common.{Refusal, OpenBody, OpenRun, draw_fault, Placed, Machine, Outcome, is_operand, is_operand_byte, half_read, refusal, after_drawing, drawn_front, front, outcome_from, placed_from, begun, with_drawn, with_run, with_code, ended_by, means, cause_of, BreaksBetween, Holding, held_by, IsHeld, IsHeldIn, IsOpenBody, Continues, ContinuesPast, Input, ActsRun, IsLive, StopsRun, Works, asked, asks_if}
 use Rattle.nap_draw.specs.Draws as draws
 use Rattle.nap_reader.specs.declared.fault.Fault.TheVariants as faults
-use Rattle.nap_reader.specs.declared.fault.Refusal.{Refusal}
-use Rattle.nap_reader.specs.declared.body.OpenBody.{OpenBody}
-use Rattle.nap_reader.specs.declared.reader.OpenRun.{OpenRun}
-use Rattle.nap_reader.specs.declared.reader.Reader.{Reader}
-use Rattle.nap_reader.specs.Faults.{draw_fault}
 use Rattle.nap_reader.specs.Stream as model
 use Rattle.nap_reader.specs.Course as course
-use Rattle.nap_reader.specs.Stream.{Placed, Machine, Outcome, is_operand, is_operand_byte, half_read, refusal, after_drawing, drawn_front, front, outcome_from, placed_from, begun, with_drawn, with_run, with_code, ended_by, means}
-use Rattle.nap_reader.specs.Breaking.{cause_of, open_place, run_place, BreaksBetween}
+use Rattle.nap_reader.specs.Breaking.{open_place, run_place}
 use Rattle.nap_reader.specs.Standing.{IsTaken}
-use Rattle.nap_reader.specs.Holding.{Holding, IsHeld, IsHeldIn, IsOpenBody, holding_of, unfinished_by, Continues, ContinuesPast, Ends, BeginsAll, ClosesInto}
-use Rattle.nap_reader.specs.Steps.{ActsRun, RefusesRun, StopsRun}
+use Rattle.nap_reader.specs.Holding.{unfinished_by, Ends, BeginsAll, ClosesInto}
+use Rattle.nap_reader.specs.declared.machine.Machine as struct
+use Rattle.nap_reader.specs.Steps.{Executes}
 use Rattle.nap_reader.proofs.HeldLemmas.{front_run}
 use Rattle.nap_reader.proofs.LeadsLemmas.{TookMore, is_between, TookBroke, Stopped, same_cause, fault_answer, is_open_run, by_front, leads_on, leads_more, leads_entries, leads_unrefused, leads_taken, leads_machine, leads_unfinished}
 
@@ -69,8 +61,7 @@ module _ {S : Type 0} (g : Ghosts S) (s : S) (o : Outcome) (t : S) (h : Holding)
       }
 
 -- an open run acts behind p
-module _ {S : Type 0} (g : Ghosts S) (s : S) (budget : ℕ) (p : List ℕ) (t : S) (h : Holding) (open_run : OpenRun) (no_body : h.open_body ≡ None) (is : h.open_run ≡ Some open_run)
-    (k : Continues g s (begun budget p) t h []) where
+module _ {S : Type 0} {g : Ghosts S} {s : S} {t : S} {h : Holding} {open_run : OpenRun} (budget : ℕ) (p : List ℕ) (no_body : h.open_body ≡ None) (is : h.open_run ≡ Some open_run) (k : Continues g s (begun budget p) t h []) where
   abbrev o : Outcome
   o = begun budget p
 
@@ -100,32 +91,7 @@ module _ {S : Type 0} (g : Ghosts S) (s : S) (budget : ℕ) (p : List ℕ) (t : 
       let more : List Entry = (outcome_from m' (x ∷ [])).entries in
       (more, ap (λ (y : Outcome). y.entries) all ∙ (sym (append_assoc k.done drawn.entries more) ∙ ap (λ (es : List Entry). es ++ more) (sym (run_entries drawn by))))
 
-  -- and with them taken, the byte that ends it is still to be read
-  pub past_run : (u : S) (drawn : Drawn) (h' : Holding) → TookMore g → rule h.machine.work open_run.op h.run ≡ Ok drawn → g.took t drawn.entries u →
-      (g.failed t ≡ false → g.failed u ≡ false) → h'.machine ≡ after_drawing h.machine drawn → IsHeld [] h' → (b : ℕ) → is_operand_byte b ≡ false →
-      ContinuesPast g s (with_run o).entries (begun budget (p ++ b ∷ [])) u h' (record { byte = b; place = length p } ∷ [])
-  unfolding placed_from leads_more leads_on
-  past_run u drawn h' law by took clear same held b other =
-      let x : Placed = record { byte = b; place = length p } in
-      record {
-        continues =
-            leads_on g s (begun budget (p ++ b ∷ [])) t h (x ∷ []) (leads_more g s budget p (b ∷ []) t h k) u drawn.entries h' (x ∷ []) law held
-            (run_over drawn by x other ∙ ap (λ (m : Machine). course.act drawn.entries m (x ∷ [])) (sym same)) took clear;
-        done = sym (run_entries drawn by);
-      }
-
-  ends_acting : (u : S) (drawn : Drawn) (h' : Holding) → TookMore g →
-      rule h.machine.work open_run.op h.run ≡ Ok drawn → g.took t drawn.entries u → h'.machine.work ≡ drawn.work → h'.half ≡ [] →
-      Ends g s (with_run o) u h'
-  ends_acting u drawn h' law by took work none =
-      let at = run_at_end ∙ ap (with_drawn o open_run.place) by in
-      record {
-        refusal = ap (λ (x : Outcome). x.refusal) at;
-        taken = subst (λ (es : List Entry). g.took s es u) (sym (ap (λ (x : Outcome). x.entries) at)) (law s t u o.entries drawn.entries (leads_taken g s o t h k) took);
-        work = ap (λ (x : Outcome). x.machine.work) at ∙ sym work;
-        half = ap (λ (x : Outcome). x.unfinished) at ∙ ap (λ (half : List ℕ). Some (half_read half)) (sym none);
-      }
-
+  -- or it is refused
   ends_refused : (u : S) → TookMore g → TookBroke g → (fault : DrawFault) →
       draws.DrawsBy g.took g.broke g.failed (rule h.machine.work open_run.op h.run) t u fault (draws.cause_of fault) →
       ClosesInto g s budget p u (refusal (draw_fault fault) open_run.place) (cause_of (draw_fault fault))
@@ -143,38 +109,43 @@ module _ {S : Type 0} (g : Ghosts S) (s : S) (budget : ℕ) (p : List ℕ) (t : 
           (λ f e. (ap (λ (x : Outcome). x.refusal) (at (Err f) e), ap (λ (x : Outcome). x.entries) (at (Err f) e)))
           (λ drawn e. (ap (λ (x : Outcome). x.entries) (at (Ok drawn) e), ap (λ (x : Outcome). x.refusal) (at (Ok drawn) e))) fault drew
 
-      memory_acts : draws.DrawsBy g.took g.broke g.failed (rule h.machine.work open_run.op h.run) t u fault memory → BeginsAll budget p
-      memory_acts (drawn, by, some) = begins_all drawn by
-
-      device_acts : draws.DrawsBy g.took g.broke g.failed (rule h.machine.work open_run.op h.run) t u fault device → BeginsAll budget p
-      device_acts (drawn, by, some) = begins_all drawn by
-
       drew_by : (cause : Cause) → cause_of r.fault ≡ cause → draws.DrawsBy g.took g.broke g.failed (rule h.machine.work open_run.op h.run) t u fault cause
       drew_by cause e = subst (draws.DrawsBy g.took g.broke g.failed (rule h.machine.work open_run.op h.run) t u fault) (sym (same_cause fault) ∙ e) drew
 
       by_cause : (cause : Cause) → cause_of r.fault ≡ cause → Stopped g s o (with_run o) u r cause → ClosesInto g s budget p u r cause
       by_cause stream e d = d
-      by_cause memory e d = (memory_acts (drew_by memory e), record { place = open_place_is g s o t h k open_run no_body is; part = subst (BreaksBetween g s o (with_run o) u) (sym e) d })
-      by_cause device e d = (device_acts (drew_by device e), record { place = open_place_is g s o t h k open_run no_body is; part = subst (BreaksBetween g s o (with_run o) u) (sym e) d })
+      by_cause memory e d = let drew = drew_by memory e in (begins_all drew.0 drew.1, record { place = open_place_is g s o t h k open_run no_body is; part = subst (BreaksBetween g s o (with_run o) u) (sym e) d })
+      by_cause device e d = let drew = drew_by device e in (begins_all drew.0 drew.1, record { place = open_place_is g s o t h k open_run no_body is; part = subst (BreaksBetween g s o (with_run o) u) (sym e) d })
+
+-- with its entries taken, the byte that ends it is still to be read
+pub past_run : {S : Type 0} {g : Ghosts S} {s t u : S} {h h' : Holding} (budget : ℕ) (p : List ℕ) (k : Continues g s (begun budget p) t h []) → TookMore g → (acts : ActsRun g t h u h') → IsHeld [] h' → (b : ℕ) → is_operand_byte b ≡ false →
+    ContinuesPast g s (with_run (begun budget p)).entries (begun budget (p ++ b ∷ [])) u h' (record { byte = b; place = length p } ∷ [])
+unfolding placed_from leads_more leads_on
+past_run {g = g} {s = s} {t = t} {u = u} {h = h} {h' = h'} budget p k more acts held b other =
+    let x : Placed = record { byte = b; place = length p } in
+    record {
+      continues =
+          leads_on g s (begun budget (p ++ b ∷ [])) t h (x ∷ []) (leads_more g s budget p (b ∷ []) t h k) u acts.drawn.entries h' (x ∷ []) more held
+          (run_over budget p acts.between acts.is k acts.drawn acts.by x other ∙ ap (λ (m : Machine). course.act acts.drawn.entries m (x ∷ [])) (sym (ap (λ (h : Holding). h.machine) acts.holds))) acts.took acts.clear;
+      done = sym (run_entries budget p acts.between acts.is k acts.drawn acts.by);
+    }
 
 -- the opcode of an open run acts at the end, or doesn't
-module _ {S : Type 0} (g : Ghosts S) (s : S) (budget : ℕ) (p : List ℕ) (t : S) (h : Holding) (k : Continues g s (begun budget p) t h []) (more : TookMore g) where
-  pub acts_at_end : (u : S) (h' : Holding) → ActsRun g t h u h' → Ends g s (with_run (begun budget p)) u h'
-  acts_at_end u h' acts =
-      ends_acting g s budget p t h acts.open_run acts.between acts.is k u acts.drawn h' more acts.by acts.took (ap (λ (h : Holding). h.machine.work) acts.holds)
-      (ap (λ (h : Holding). h.half) acts.holds ∙ (is_open_run h k.rest acts.open_run acts.between acts.is k.held).1)
+module _ {S : Type 0} {g : Ghosts S} {s : S} {t : S} {h : Holding} (budget : ℕ) (p : List ℕ) (k : Continues g s (begun budget p) t h []) (more : TookMore g) where
+  pub acts_at_end : {u : S} {h' : Holding} → ActsRun g t h u h' → Ends g s (with_run (begun budget p)) u h'
+  acts_at_end {u} {h'} acts =
+      let at = run_at_end budget p acts.between acts.is k ∙ ap (with_drawn (begun budget p) acts.open_run.place) acts.by in
+      let none = ap (λ (h : Holding). h.half) acts.holds ∙ (is_open_run h k.rest acts.open_run acts.between acts.is k.held).1 in
+      record {
+        refusal = ap (λ (x : Outcome). x.refusal) at;
+        taken = subst (λ (es : List Entry). g.took s es u) (sym (ap (λ (x : Outcome). x.entries) at)) (more s t u (begun budget p).entries acts.drawn.entries (leads_taken g s (begun budget p) t h k) acts.took);
+        work = ap (λ (x : Outcome). x.machine.work) at ∙ sym (ap (λ (h : Holding). h.machine.work) acts.holds);
+        half = ap (λ (x : Outcome). x.unfinished) at ∙ ap (λ (half : List ℕ). Some (half_read half)) (sym none);
+      }
 
-  pub stops_at_end : TookBroke g → (u : S) (r : Refusal) → StopsRun g t h u r → ClosesInto g s budget p u r (cause_of r.fault)
-  stops_at_end broken u r stops =
-      subst (λ (r : Refusal). ClosesInto g s budget p u r (cause_of r.fault)) (sym stops.why)
-      (ends_refused g s budget p t h stops.open_run stops.between stops.is k u more broken stops.fault stops.drew)
-
--- the same of a reader, by the refusal that it keeps
-pub refuses_at_end : {S : Type 0} {g : Ghosts S} (old new : Reader S g) (s : S) (p : List ℕ) (r : Refusal) → TookMore g → TookBroke g → RefusesRun old new → new.refusal ≡ Some r →
-    Continues g s (begun old.budget p) old.sink (holding_of old) [] → ClosesInto g s old.budget p new.sink r (cause_of r.fault)
-refuses_at_end {S} {g} old new s p r more broken refuses is k =
-    let same : refuses.why ≡ r = let both = sym refuses.latches.is ∙ is in cc in
-    stops_at_end g s old.budget p old.sink (holding_of old) k more broken new.sink r (subst (StopsRun g old.sink (holding_of old) new.sink) same refuses.stops)
+  pub stops_at_end : {u : S} {r : Refusal} → TookBroke g → StopsRun g t h u r → ClosesInto g s budget p u r (cause_of r.fault)
+  stops_at_end {u} broken stops =
+      subst (λ (r : Refusal). ClosesInto g s budget p u r (cause_of r.fault)) (sym stops.why) (ends_refused budget p stops.between stops.is k u more broken stops.fault stops.drew)
 
 -- a stream that is refused only at its end, if at all
 module _ (budget : ℕ) (p : List ℕ) (live : (begun budget p).refusal ≡ None) where
@@ -183,13 +154,10 @@ module _ (budget : ℕ) (p : List ℕ) (live : (begun budget p).refusal ≡ None
   means_settled none =
       ap (ended_by (begun budget p) (length p)) live ∙ ap (model.with_end (with_run (begun budget p)) (length p)) none
 
--- what is taken once nothing is unfinished but a code or a definition is what the stream means
-pub ended_taken : {S : Type 0} (g : Ghosts S) (s : S) (budget : ℕ) (p : List ℕ) (t : S) (h : Holding) (u : S) (answer : Option Refusal) (fed : ℕ) →
-    (begun budget p).refusal ≡ None → Ends g s (with_run (begun budget p)) t h → fed ≡ length p →
-    IsTaken g s (with_code (with_run (begun budget p)) fed (with_run (begun budget p)).unfinished) u answer → IsTaken g s (means budget p) u answer
-ended_taken g s budget p t h u answer fed live k all taken =
-    subst (λ (o : Outcome). IsTaken g s o u answer)
-    (ap (λ (n : ℕ). with_code (with_run (begun budget p)) n (with_run (begun budget p)).unfinished) all ∙ sym (means_settled budget p live k.refusal)) taken
+-- once nothing is unfinished but a code or a definition
+pub ended_is : {S : Type 0} {g : Ghosts S} {s t : S} {h : Holding} (budget : ℕ) (p : List ℕ) (fed : ℕ) → (begun budget p).refusal ≡ None → Ends g s (with_run (begun budget p)) t h → fed ≡ length p →
+    with_code (with_run (begun budget p)) fed (with_run (begun budget p)).unfinished ≡ means budget p
+ended_is budget p fed live k all = ap (λ (n : ℕ). with_code (with_run (begun budget p)) n (with_run (begun budget p)).unfinished) all ∙ sym (means_settled budget p live k.refusal)
 
 -- where the opcode is refused that acts at the end, the stream is
 pub refused_at_end : {S : Type 0} (g : Ghosts S) (s : S) (budget : ℕ) (p : List ℕ) (u : S) (r : Refusal) → cause_of r.fault ≡ stream →
@@ -213,3 +181,29 @@ body_ended g s budget p t h body fed k in_body all =
     ∙ ap (with_code o (length p)) (body_open g s o t h k body in_body) in
     subst (λ (x : Outcome). IsTaken g s x t (Some (refusal faults.Unended fed))) (sym is)
     (ap (λ (n : ℕ). Some (refusal faults.Unended n)) (sym all), leads_taken g s o t h k)
+
+-- what an opcode asks changes nothing of how a stream ends
+ends_asked : {S : Type 0} (g : Ghosts S) (s : S) (o : Outcome) (t : S) (h : Holding) (clears : Bool) → Ends g s o t (asked h (asks_if clears)) → Ends g s o t h
+ends_asked g s o t h true e = record { refusal = e.refusal; taken = e.taken; work = e.work; half = e.half }
+ends_asked g s o t h false e = e
+
+-- The opcode of the open run has acted at the end, where there is one.
+pub ends_run : {S : Type 0} {g : Ghosts S} (m new : struct.Machine S g) (input : Input) → input.body ≡ None → TookMore g → (m.open_run ≡ None → new ≡ m) → (m.open_run ≢ None → (clears : Bool) × Executes m new clears) →
+    (s : S) (budget : ℕ) (p : List ℕ) → Continues g s (begun budget p) m.sink (held_by m input) [] → Ends g s (with_run (begun budget p)) new.sink (held_by new input)
+ends_run {S} {g} m new input between more still acts s budget p k = by m.open_run refl
+  where
+    by : (open_run : Option OpenRun) → m.open_run ≡ open_run → Ends g s (with_run (begun budget p)) new.sink (held_by new input)
+    by None closed =
+        subst (λ (n : struct.Machine S g). Ends g s (with_run (begun budget p)) n.sink (held_by n input)) (sym (still closed)) (ends_still g s (begun budget p) m.sink (held_by m input) k between closed)
+    by (Some open_run) opened =
+        let acted = acts (λ closed. let bad : Some open_run ≡ None = sym opened ∙ closed in cc) in
+        ends_asked g s (with_run (begun budget p)) new.sink (held_by new input) acted.0
+        (acts_at_end budget p k more (acted.1.2 (held_by m input) between))
+
+-- The sink works where it did.
+pub ends_works : {S : Type 0} {g : Ghosts S} (m new : struct.Machine S g) → IsLive m → (m.open_run ≡ None → new ≡ m) → (m.open_run ≢ None → (clears : Bool) × Executes m new clears) → Works m new
+ends_works {S} {g} m new live still acts = by m.open_run refl
+  where
+    by : (open_run : Option OpenRun) → m.open_run ≡ open_run → Works m new
+    by None closed = subst (Works m) (sym (still closed)) (record { live = live; clear = λ working. working })
+    by (Some open_run) opened = (acts (λ closed. let bad : Some open_run ≡ None = sym opened ∙ closed in cc)).1.0

@@ -1,11 +1,9 @@
 use Rattle.std.proofs.Common.{ℕ, ◌+◌, ◌-◌, ◌≡◌, ◌≤◌, List, [], ◌∷◌, ◌++◌, length, take, drop, get_or, Some, refl, sym, ◌∙◌, ap, ap₂, arith, append_assoc, append-nil, length-append, length-take, length-drop}
 use Rattle.std.proofs.Math.Seq.{get_or-append_seam, take-add}
-use Rattle.std.proofs.lemmas.List.{drop-drop, map-append, length-take-le, take-append-drop, take-take, take_all}
-use Rattle.std.proofs.lemmas.List.Elements.{All-head, All-tail, All-pop}
-use Rattle.nap_reader.specs.declared.frames.Frame.{Frame}
-use Rattle.nap_reader.specs.Stored.{part, StoreState}
-use Rattle.nap_reader.specs.Framed.{placed_at, frame_bytes, unread, Innermost, IsFrame, FramesIn}
-use Rattle.nap_reader.specs.Stream.{Placed, all_at}
+use Rattle.std.proofs.lemmas.List.{drop-drop, map-append, take-take, take_all}
+use Rattle.std.proofs.lemmas.List.Elements.{All-append, All-cons, All-head, All-nil, All-tail, All-pop}
+use Rattle.nap_reader.proofs.Common.{Frame, part, StoreState, placed_at, unread, Innermost, IsFrame, FramesIn, Placed, all_at}
+use Rattle.nap_reader.specs.Framed.{frame_bytes}
 use Rattle.nap_reader.proofs.StoreLemmas.{part-grown}
 use Rattle.nap_reader.proofs.StreamLemmas.{length-all_at}
 
@@ -110,21 +108,6 @@ pub frames-store : (old new : StoreState) (more : List ℕ) (frames : List Frame
 frames-store old new more frames e h =
     frames-within (length old.bytes) (length new.bytes) frames (omega (arith, ap length e, length-append old.bytes more)) h
 
--- what the innermost body gives comes first, in two parts
-pub innermost-first : (bytes : List ℕ) (frames : List Frame) (text : List ℕ) (place n : ℕ) (inner : Innermost bytes frames text place) →
-    unread bytes frames ≡ all_at place (take n text) ++ (all_at place (drop n text) ++ unread bytes inner.before)
-innermost-first bytes frames text place n inner =
-    ap (unread bytes) inner.last
-    ∙ unread-push bytes inner.before inner.frame
-    ∙ ap₂ (λ (m : ℕ) (xs : List ℕ). all_at m xs ++ unread bytes inner.before) (sym inner.place_is) (sym inner.text_is)
-    ∙ ap (λ (xs : List ℕ). all_at place xs ++ unread bytes inner.before) (sym (take-append-drop n text))
-    ∙ ap (λ (xs : List Placed). xs ++ unread bytes inner.before) (map-append (λ (b : ℕ). placed_at b place) (take n text) (drop n text))
-    ∙ append_assoc (all_at place (take n text)) (all_at place (drop n text)) (unread bytes inner.before)
-
--- so many bytes were taken of the innermost body
-pub skipped_count : (bytes : List ℕ) (old new : List Frame) (text : List ℕ) (place n : ℕ) → n ≤ length text → unread bytes old ≡ all_at place (take n text) ++ unread bytes new →
-    length (unread bytes old) ≡ n + length (unread bytes new)
-skipped_count bytes old new text place n few is =
-    ap (λ (xs : List Placed). length xs) is
-    ∙ length-append (all_at place (take n text)) (unread bytes new)
-    ∙ ap (λ (k : ℕ). k + length (unread bytes new)) (length-all_at place (take n text) ∙ length-take-le n text few)
+-- one body more is within the store
+pub frames-push : (n : ℕ) (frames : List Frame) (frame : Frame) → FramesIn n frames → IsFrame n frame → FramesIn n (frames ++ frame ∷ [])
+frames-push n frames frame h is = All-append (IsFrame n) frames (frame ∷ []) h (All-cons (IsFrame n) frame [] is (All-nil (IsFrame n)))

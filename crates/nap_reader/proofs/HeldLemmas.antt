@@ -1,38 +1,26 @@
 use Rattle.std.proofs.Common.{ℕ, suc, ◌+◌, ◌-◌, ◌≡◌, ◌<◌, ◌≤◌, List, [], ◌∷◌, ◌++◌, length, take, drop, Bool, true, false, cond, eq-eqb, refl, ap, sym, ◌∙◌, arith, append_assoc, append-nil, length-append, nat_lt}
 use Rattle.std.proofs.lemmas.Bool.{lt-ltb}
 use Rattle.std.proofs.lemmas.Bool.Decides.{nat_tests}
-use Rattle.std.proofs.lemmas.List.{length-map, take_all, take-append-le, drop-append-le}
+use Rattle.std.proofs.lemmas.List.{drop_at, length-map, take_at}
 use Rattle.std.proofs.lemmas.List.Folds.{prefix_len-append, length-prefix_len}
-use Rattle.std.proofs.Math.ListN.{drop_of_length-le}
-use Rattle.nap_codes.specs.declared.code.Code.{Code}
+use Rattle.nap_reader.specs.Below.{Code, CodeFault, CodeSets, Opcode, rule, run_limit}
+use Rattle.nap_reader.proofs.Common.{OpenRun, Mode, between, kind_of, code_fault, Placed, Machine, half_read, bytes_of, words_of, is_operand, run_length, refusal, drawn_front, opcode_front, code_front, place_at, front_by, front_in, front, IsOpenRun}
 use Rattle.nap_codes.specs.declared.code.Code.TheVariants as code
-use Rattle.nap_codes.specs.declared.code.CodeFault.{CodeFault}
-use Rattle.nap_codes.specs.declared.code_set.CodeSets.{CodeSets}
-use Rattle.nap_codes.specs.declared.opcode.Opcode.{Opcode}
 use Rattle.nap_codes.specs.Front as codes
 use Rattle.nap_codes.proofs.PublicLaws.{whole_stays, refused_stays}
-use Rattle.nap_draw.specs.Rule.{rule}
 use Rattle.nap_reader.specs.declared.fault.Fault.TheVariants as faults
-use Rattle.nap_reader.specs.declared.reader.OpenRun.{OpenRun}
-use Rattle.nap_reader.specs.Bodies.{Mode, between}
-use Rattle.nap_reader.specs.Kinds.{kind_of}
 use Rattle.nap_reader.specs.Course as course
-use Rattle.nap_reader.specs.Faults.{code_fault}
 use Rattle.nap_reader.specs.Stream as model
-use Rattle.nap_draw.specs.Limits.{run_limit}
-use Rattle.nap_reader.specs.Stream.{Placed, Machine, half_read, bytes_of, words_of, is_operand, run_length, refusal, drawn_front, opcode_front, code_front, place_at, front_by, front_in, front}
-use Rattle.nap_reader.specs.Holding.{IsOpenRun}
 use Rattle.nap_reader.proofs.StreamLemmas.{bytes_of-append, words_of-append}
 
 -- a list, cut behind one of its bytes
 
 drop_past : (rest : List Placed) (x : Placed) (pending : List Placed) (n : ℕ) → n ≡ suc (length rest) → drop n (rest ++ x ∷ pending) ≡ pending
-drop_past [] x pending n e = rw e refl
-drop_past (y ∷ rest) x pending n e = rw e (drop_past rest x pending (suc (length rest)) refl)
+drop_past rest x pending n e = ap (drop n) (sym (append_assoc rest (x ∷ []) pending)) ∙ drop_at (rest ++ x ∷ []) pending n (omega (arith, e, length-append rest (x ∷ [])))
 
-place_at-past : (rest : List Placed) (x : Placed) (pending : List Placed) → place_at (rest ++ x ∷ pending) (length rest) ≡ x.place
-place_at-past [] x pending = refl
-place_at-past (y ∷ rest) x pending = place_at-past rest x pending
+pub place_at-behind : (rest : List Placed) (x : Placed) (pending : List Placed) (n : ℕ) → n ≡ length rest → place_at (rest ++ x ∷ pending) n ≡ x.place
+place_at-behind [] x pending n e = rw e refl
+place_at-behind (y ∷ rest) x pending n e = rw e (place_at-behind rest x pending (length rest) refl)
 
 bytes_past : (rest : List Placed) (x : Placed) (pending : List Placed) (half : List ℕ) → bytes_of rest ≡ half →
     bytes_of (rest ++ x ∷ pending) ≡ (half ++ x.byte ∷ []) ++ bytes_of pending
@@ -59,7 +47,7 @@ front_code m rest x pending half c n after mode is e len =
     let count : n ≡ suc (length rest) = omega (arith, len, length-append half (x.byte ∷ []), length_past rest half is) in
     let last : n - 1 ≡ length rest = omega (arith, count) in
     front_between m (rest ++ x ∷ pending) mode
-    ∙ rw (found, last, place_at-past rest x pending, drop_past rest x pending n count) refl
+    ∙ rw (found, last, place_at-behind rest x pending (length rest) refl, drop_past rest x pending n count) refl
 
 -- a half-read code, which this byte can't continue
 pub front_fault : (m : Machine) (rest : List Placed) (x : Placed) (pending : List Placed) (half : List ℕ) (fault : CodeFault) (i : ℕ) → m.mode ≡ between →
@@ -69,7 +57,7 @@ front_fault m rest x pending half fault i mode is e index =
     let found : codes.front m.sets (bytes_of (rest ++ x ∷ pending)) ≡ codes.refused fault i =
     rw (bytes_past rest x pending half is) (refused_stays m.sets (half ++ x.byte ∷ []) (bytes_of pending) fault i e) in
     let at : i ≡ length rest = index ∙ length_past rest half is in
-    front_between m (rest ++ x ∷ pending) mode ∙ rw (found, at, place_at-past rest x pending) refl
+    front_between m (rest ++ x ∷ pending) mode ∙ rw (found, at, place_at-behind rest x pending (length rest) refl) refl
 
 -- an open run and what is behind it
 
@@ -110,11 +98,8 @@ pub front_run : (m : Machine) (rest : List Placed) (open_run : OpenRun) (run : L
     front m (rest ++ x ∷ pending) ≡ drawn_front m open_run.place (x ∷ pending) (rule m.work open_run.op run)
 front_run m rest open_run run x pending mode h other =
     let ends = run_ends x h.operands pending other h.all in
-    let taken : take (length h.operands) (h.operands ++ x ∷ pending) ≡ h.operands =
-    take-append-le (length h.operands) h.operands (x ∷ pending) (omega arith) ∙ take_all (length h.operands) h.operands (omega arith) in
-    let dropped : drop (length h.operands) (h.operands ++ x ∷ pending) ≡ x ∷ pending =
-    drop-append-le (length h.operands) h.operands (x ∷ pending) (omega arith)
-    ∙ ap (λ (xs : List Placed). xs ++ x ∷ pending) (drop_of_length-le h.operands {i = length h.operands} (omega arith)) in
+    let taken = take_at h.operands (x ∷ pending) (length h.operands) refl in
+    let dropped = drop_at h.operands (x ∷ pending) (length h.operands) refl in
     opcode_first m rest open_run run (x ∷ pending) mode h
     ∙ rw (ends, taken, dropped, short_run rest open_run run m.sets h, h.words) refl
 
@@ -138,11 +123,9 @@ front_long m rest open_run run x pending mode h word many =
 pub open_run_pauses : (m : Machine) (rest : List Placed) (open_run : OpenRun) (run : List ℕ) → m.mode ≡ between → IsOpenRun rest open_run run m.sets →
     front m rest ≡ course.pause (model.open_run open_run.op open_run.place run)
 open_run_pauses m rest open_run run mode h =
-    let none : drop (length h.operands) (h.operands ++ []) ≡ [] =
-    ap (drop (length h.operands)) (append-nil h.operands) ∙ drop_of_length-le h.operands {i = length h.operands} (omega arith) in
+    let none = drop_at h.operands [] (length h.operands) refl in
     let all : run_length (h.operands ++ []) ≡ length h.operands = ap run_length (append-nil h.operands) ∙ h.all in
-    let taken : take (length h.operands) (h.operands ++ []) ≡ h.operands =
-    ap (take (length h.operands)) (append-nil h.operands) ∙ take_all (length h.operands) h.operands (omega arith) in
+    let taken = take_at h.operands [] (length h.operands) refl in
     ap (front m) (sym (append-nil rest))
     ∙ opcode_first m rest open_run run [] mode h
     ∙ rw (all, none, taken, short_run rest open_run run m.sets h, h.words) refl

@@ -1,18 +1,15 @@
 use Rattle.std.proofs.Common.{ℕ, ◌≡◌, List, Bool, arith}
 use Rattle.std.specs.Prelude.{⊤}
-use Rattle.nap_codes.specs.declared.code.Code.{Code}
+use Rattle.nap_reader.specs.Below.{Code, CodeSets, TextStep, IsGraphic}
+use Rattle.nap_reader.proofs.Common.{Kind, kind_of}
 use Rattle.nap_codes.specs.declared.code.Code.TheVariants as code
-use Rattle.nap_codes.specs.declared.code_set.CodeSets.{CodeSets}
-use Rattle.nap_codes.specs.declared.control.TextStep.{TextStep}
 use Rattle.nap_codes.specs.declared.control.TextStep.TheVariants as steps
 use Rattle.nap_codes.specs.Front as codes
-use Rattle.nap_codes.specs.Laws.{IsGraphic, IsInRange}
+use Rattle.nap_codes.specs.Laws.{IsInRange}
 use Rattle.nap_codes.proofs.PublicLaws.{code_ranges}
 use Rattle.nap_list.specs.Entry.{IsCode, StepMade}
 use Rattle.nap_draw.specs.Codes.{IsMade}
-use Rattle.nap_reader.specs.declared.kind.Kind.{Kind}
 use Rattle.nap_reader.specs.declared.kind.Kind.TheVariants as kinds
-use Rattle.nap_reader.specs.Kinds.{kind_of}
 
 -- The codes that act have their bytes in range.
 
@@ -37,11 +34,6 @@ KindMade (kinds.Binds name show) = IsGraphic name
 KindMade _ = ⊤
 
 kind_made : (c : Code) → IsInRange c → IsMade c → KindMade (kind_of c)
-kind_made (code.Op op) range made = tt
-kind_made (code.Operand word) range made = tt
-kind_made code.Fill range made = tt
-kind_made code.Shifted range made = tt
-kind_made (code.Designated number set) range made = tt
 kind_made (code.Call name) range made = range
 kind_made (code.DefMacro name show) range made = range
 kind_made _ range made = made
@@ -58,3 +50,8 @@ front_kind_made sets xs c n after e = kind_made c (code_ranges sets xs c n after
 pub binds_code : (c : Code) (name : ℕ) (show : Bool) → kind_of c ≡ kinds.Binds name show → c ≡ code.DefMacro name show
 binds_code (code.DefMacro name' show') name show e = let same : name' ≡ name = cc in let also : show' ≡ show = cc in cc
 binds_code _ name show e = let bad : ⊥ = cc in absurd bad
+
+-- a code that acts is itself what acts
+pub acts_itself : (c acting : Code) → kind_of c ≡ kinds.Acts acting → kind_of c ≡ kinds.Acts c
+acts_itself (code.Op op) acting e = cc
+acts_itself _ acting e = cc

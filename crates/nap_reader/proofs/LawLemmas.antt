@@ -1,8 +1,6 @@
 use Rattle.std.proofs.Common.{ℕ, ◌+◌, ◌≡◌, List, [], ◌∷◌, ◌++◌, length, Option, Some, None, refl, ap, sym, ◌∙◌, append_assoc, append-nil, length-append}
-use Rattle.nap_list.specs.declared.entry.Entry.{Entry}
-use Rattle.nap_reader.specs.declared.fault.Refusal.{Refusal}
-use Rattle.nap_reader.specs.Course.{continue_by}
-use Rattle.nap_reader.specs.Stream.{Outcome, outcome_from, placed_from, begun}
+use Rattle.nap_reader.specs.Below.{Entry}
+use Rattle.nap_reader.proofs.Common.{Refusal, continue_by, Outcome, outcome_from, placed_from, begun}
 use Rattle.nap_reader.specs.Laws.{MoreBytesKeepEntries, MoreBytesKeepRefusal, joined, in_pieces, PiecesAgree}
 use Rattle.nap_reader.proofs.StreamLemmas.{begun-append}
 

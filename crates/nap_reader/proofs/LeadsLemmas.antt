@@ -1,25 +1,15 @@
 use Rattle.std.proofs.Common.{ℕ, ◌≡◌, ◌<◌, ◌≤◌, ◌-◌, ◌⊎◌, List, [], ◌∷◌, ◌++◌, length, Bool, true, false, Option, Some, None, Result, Ok, Err, ltb, refl, ap, sym, ◌∙◌, subst, arith, inl, inr, append_assoc, append-nil}
 use Rattle.std.proofs.lemmas.Bool.{cond-true, cond-false, lt-ltb, le-ltb}
-use Rattle.nap_list.specs.declared.sink.Sink.{Ghosts}
-use Rattle.nap_list.specs.declared.entry.Entry.{Entry}
-use Rattle.nap_draw.specs.declared.fault.DrawFault.{DrawFault}
+use Rattle.nap_reader.proofs.Common.{body_front, front, placed_from}
+use Rattle.nap_reader.specs.Below.{Ghosts, Entry, DrawFault, Drawn, Cause, stream, memory, device}
+use Rattle.nap_reader.proofs.Common.{Refusal, OpenRun, OpenBody, Mode, between, in_body, store_limit, prepend, paused, onward, continue, draw_fault, Placed, Machine, Outcome, Front, bytes_of, all_at, charged, refusal, drawn_front, shown_front, body_front_by, front_in, outcome_from, begun, cause_of, TookPart, BreaksBetween, Holding, IsHeld, IsHeldIn, IsOpenBody, IsOpenRun, IsRefused, Continues}
 use Rattle.nap_draw.specs.declared.fault.DrawFault.TheVariants as draw_faults
-use Rattle.nap_draw.specs.Rule.{Drawn}
-use Rattle.nap_draw.specs.Draws.{Cause, stream, memory, device}
 use Rattle.nap_list.specs.Putting as puts
 use Rattle.nap_draw.specs.Draws as draws
 use Rattle.nap_reader.specs.declared.fault.Fault.TheVariants as faults
-use Rattle.nap_reader.specs.declared.fault.Refusal.{Refusal}
-use Rattle.nap_reader.specs.declared.reader.OpenRun.{OpenRun}
-use Rattle.nap_reader.specs.declared.body.OpenBody.{OpenBody}
 use Rattle.nap_reader.specs.Bodies as bodies
-use Rattle.nap_reader.specs.Bodies.{Mode, between, in_body, store_limit, body_front}
 use Rattle.nap_reader.specs.Course as course
-use Rattle.nap_reader.specs.Course.{prepend, paused, onward, continue}
-use Rattle.nap_reader.specs.Faults.{draw_fault}
-use Rattle.nap_reader.specs.Stream.{Placed, Machine, Outcome, Front, bytes_of, all_at, charged, refusal, drawn_front, shown_front, body_front_by, front_in, front, outcome_from, placed_from, begun}
-use Rattle.nap_reader.specs.Breaking.{cause_of, TookPart, BreaksBetween}
-use Rattle.nap_reader.specs.Holding.{Holding, unfinished_by, unfinished_of, held_escape, past, IsHeld, IsHeldIn, IsHalf, IsHeldBy, IsOpenBody, IsOpenRun, IsRefused, Continues}
+use Rattle.nap_reader.specs.Holding.{unfinished_by, unfinished_of, held_escape, past, IsHalf, IsHeldBy}
 use Rattle.nap_reader.proofs.CourseLemmas.{prepend-append}
 use Rattle.nap_reader.proofs.HeldLemmas.{open_run_pauses, half_read_pauses}
 use Rattle.nap_reader.proofs.StreamLemmas.{bytes_of-append, outcome_from-front, outcome_from-left, begun-append}
@@ -96,14 +86,7 @@ holds_open_run h rest open_run no_body mode empty is held none =
 pub same_cause : (fault : DrawFault) → cause_of (draw_fault fault) ≡ draws.cause_of fault
 same_cause draw_faults.Memory = refl
 same_cause draw_faults.Sink = refl
-same_cause draw_faults.ThreeD = refl
-same_cause draw_faults.Missing = refl
-same_cause draw_faults.ManyColours = refl
-same_cause draw_faults.Outside = refl
-same_cause draw_faults.PenUnknown = refl
-same_cause draw_faults.NoAddress = refl
-same_cause draw_faults.ManyPoints = refl
-same_cause draw_faults.NothingToRepeat = refl
+same_cause _ = refl
 
 module _ {S : Type 0} (g : Ghosts S) (s : S) (o : Outcome) (t : S) (h : Holding) (pending : List Placed) (k : Continues g s o t h pending) where
   -- what the front of what is held and pending says of the outcome

@@ -1,22 +1,16 @@
 use Rattle.std.proofs.Common.{ℕ, ◌+◌, ◌-◌, ◌≡◌, ◌≢◌, ◌<◌, ◌≤◌, ◌⊎◌, inl, inr, List, [], ◌∷◌, ◌++◌, length, take, drop, Bool, true, false, cond, eqb, leb, Option, Some, None, refl, ap, sym, ◌∙◌, subst, arith, append_assoc, append-nil, length-append}
-use Rattle.std.proofs.lemmas.List.{length-map, take-append-le, take_all, drop-append-le}
+use Rattle.std.proofs.lemmas.List.{drop_at, length-map, take_at}
 use Rattle.std.proofs.lemmas.Bool.Decides.{nat_tests}
-use Rattle.std.proofs.Math.ListN.{drop_of_length-le}
-use Rattle.nap_codes.specs.declared.code_set.CodeSets.{CodeSets}
-use Rattle.nap_codes.specs.Tables.{row_of, control0_rows}
+use Rattle.nap_reader.specs.Below.{CodeSets, row_of, control0_rows, LexerState, StepsBy, Entry, Ghosts}
+use Rattle.nap_reader.proofs.Common.{OpenBody, Fault, Mode, between, in_body, BodyFront, ends_body, store_limit, body_front, prepend, onward, Placed, Machine, Outcome, bytes_of, refusal, place_at, after_body, all_at, charged, bound_front, shown_front, body_front_by, front, outcome_from, Holding, IsOpenBody, IsHeld, IsHeldIn, IsRefused, Continues}
 use Rattle.nap_codes.specs.declared.code.Step.{Step}
-use Rattle.nap_codes.specs.Lexer.{LexerState, StepsBy}
 use Rattle.nap_codes.specs.Front as codes
-use Rattle.nap_list.specs.declared.entry.Entry.{Entry}
-use Rattle.nap_list.specs.declared.sink.Sink.{Ghosts}
-use Rattle.nap_reader.specs.declared.body.OpenBody.{OpenBody}
 use Rattle.nap_reader.specs.declared.fault.Fault.TheVariants as faults
 use Rattle.nap_reader.specs.Bodies as bodies
-use Rattle.nap_reader.specs.Bodies.{Mode, between, in_body, BodyFront, one_further, stores, ends_body, store_limit, body_front}
+use Rattle.nap_reader.specs.Bodies.{one_further, stores}
 use Rattle.nap_reader.specs.Course as course
-use Rattle.nap_reader.specs.Course.{prepend, onward}
-use Rattle.nap_reader.specs.Stream.{Placed, Machine, Outcome, bytes_of, refusal, place_at, after_body, all_at, charged, bound_front, shown_front, body_front_by, front, outcome_from}
-use Rattle.nap_reader.specs.Holding.{Holding, held_escape, past, AreOfBody, AtBody, IsOpenBody, IsHeld, IsHeldIn, IsRefused, Continues, ReadsOn}
+use Rattle.nap_reader.specs.Holding.{held_escape, past, AreOfBody, AtBody, ReadsOn}
+use Rattle.nap_reader.proofs.HeldLemmas.{place_at-behind}
 use Rattle.nap_reader.proofs.LeadsLemmas.{front_body, leads_left, leads_shown, leads_to_refusal, leads_past, leads_shift, leads_unrefused}
 use Rattle.nap_reader.proofs.ReadingLemmas.{holds_half, nothing_yet, code_goes_on}
 use Rattle.nap_reader.proofs.StreamLemmas.{bytes_of-append, outcome_from-front}
@@ -131,12 +125,6 @@ body_begins b h none mode empty still half =
       at = subst (λ (e : Option ℕ). AtBody [] b h (bytes_of (held_escape e))) (sym none) at;
     }
 
--- places
-
-place_at-behind : (rest : List Placed) (x : Placed) (pending : List Placed) (n : ℕ) → n ≡ length rest → place_at (rest ++ x ∷ pending) n ≡ x.place
-place_at-behind [] x pending n e = rw e refl
-place_at-behind (y ∷ rest) x pending n e = rw e (place_at-behind rest x pending (length rest) refl)
-
 held_length : (rest : List Placed) (b : OpenBody) (h : Holding) (next : List ℕ) → AtBody rest b h next → length h.body ≡ length rest
 held_length rest b h next at = ap length (sym at.body) ∙ length-map rest _
 
@@ -152,8 +140,7 @@ body_at rest b h next xs more at is =
     ∙ at.goes_on more)
 
 -- what is known before the next byte of a body
-module _ {S : Type 0} (g : Ghosts S) (s : S) (o : Outcome) (t : S) (h : Holding) (b : OpenBody) (x : Placed) (pending : List Placed)
-    (k : ReadsOn g s o t h b x pending) where
+module _ {S : Type 0} {g : Ghosts S} {s : S} {o : Outcome} {t : S} {h : Holding} {b : OpenBody} {x : Placed} {pending : List Placed} (k : ReadsOn g s o t h b x pending) where
   abbrev room : ℕ
   room = store_limit - h.machine.stored - length h.body
 
@@ -163,18 +150,20 @@ module _ {S : Type 0} (g : Ghosts S) (s : S) (o : Outcome) (t : S) (h : Holding)
       body_at k.rest b h (x.byte ∷ []) (x ∷ pending) (bytes_of pending) k.at refl
       ∙ ap (λ (f : BodyFront). body_front_by h.machine b.name b.show (k.rest ++ x ∷ pending) (past (length h.body) f)) e
 
-  -- it has no room
-  pub byte_full : IsPlain x.byte → room ≡ 0 → IsRefused g s o t h (refusal faults.Store x.place)
-  byte_full plain none =
-      let e = next_front (bodies.refused faults.Store 0) (plain_front room x.byte (bytes_of pending) plain ∙ stores-none room _ none) in
+  -- it is refused
+  refused_next : (fault : Fault) → body_front room (x.byte ∷ bytes_of pending) ≡ bodies.refused fault 0 → IsRefused g s o t h (refusal fault x.place)
+  refused_next fault e =
       let place = place_at-behind k.rest x pending (length h.body + 0) (omega (arith, held_length k.rest b h (x.byte ∷ []) k.at)) in
-      let is : o ≡ prepend k.done (onward outcome_from h.machine (k.rest ++ x ∷ pending) (course.refuse (refusal faults.Store x.place))) =
+      let is : o ≡ prepend k.done (onward outcome_from h.machine (k.rest ++ x ∷ pending) (course.refuse (refusal fault x.place))) =
       k.leads ∙ ap (prepend k.done) (outcome_from-front h.machine (k.rest ++ x ∷ pending)
-      ∙ ap (onward outcome_from h.machine (k.rest ++ x ∷ pending)) (e ∙ ap (λ (n : ℕ). course.refuse (refusal faults.Store n)) place)) in (
+      ∙ ap (onward outcome_from h.machine (k.rest ++ x ∷ pending)) (next_front (bodies.refused fault 0) e ∙ ap (λ (n : ℕ). course.refuse (refusal fault n)) place)) in (
         ap (λ (o : Outcome). o.refusal) is,
         subst (λ (es : List Entry). g.took s es t) (sym (ap (λ (o : Outcome). o.entries) is ∙ append-nil k.done)) k.taken,
         ap (λ (o : Outcome). o.machine.left) is,
       )
+
+  pub byte_full : IsPlain x.byte → room ≡ 0 → IsRefused g s o t h (refusal faults.Store x.place)
+  byte_full plain none = refused_next faults.Store (plain_front room x.byte (bytes_of pending) plain ∙ stores-none room _ none)
 
   -- what is held once the byte is read
   abbrev pub reading_on : Option ℕ → List ℕ → Holding
@@ -232,8 +221,7 @@ module _ {S : Type 0} (g : Ghosts S) (s : S) (o : Outcome) (t : S) (h : Holding)
   })
 
 -- a byte behind an open body
-module _ {S : Type 0} (g : Ghosts S) (s : S) (o : Outcome) (t : S) (h : Holding) (b : OpenBody) (opened : h.open_body ≡ Some b) (x : Placed) (pending : List Placed)
-    (k : Continues g s o t h (x ∷ pending)) where
+module _ {S : Type 0} {g : Ghosts S} {s : S} {o : Outcome} {t : S} {h : Holding} {b : OpenBody} {x : Placed} {pending : List Placed} (opened : h.open_body ≡ Some b) (k : Continues g s o t h (x ∷ pending)) where
   pub held_body : IsOpenBody k.rest b h
   held_body = subst (IsHeldIn k.rest h) opened k.held
 
@@ -261,7 +249,7 @@ module _ {S : Type 0} (g : Ghosts S) (s : S) (o : Outcome) (t : S) (h : Holding)
       }
 
   -- what stands at the front where an ESC is held at this place
-  module _ (place : ℕ) (held : b.escape ≡ Some place) where
+  module _ {place : ℕ} (held : b.escape ≡ Some place) where
     abbrev escape : Placed
     escape = record { byte = 27; place = place }
 
@@ -325,16 +313,10 @@ module _ {S : Type 0} (g : Ghosts S) (s : S) (o : Outcome) (t : S) (h : Holding)
       bytes_are = bytes_of-append held_body.bytes (escape ∷ x ∷ pending) ∙ ap (λ (bs : List ℕ). bs ++ 27 ∷ x.byte ∷ bytes_of pending) at_escape.body
 
       body_taken : take (length h.body) (bytes_of xs) ≡ h.body
-      body_taken =
-          ap (take (length h.body)) bytes_are
-          ∙ take-append-le (length h.body) h.body (27 ∷ x.byte ∷ bytes_of pending) (omega arith)
-          ∙ take_all (length h.body) h.body (omega arith)
+      body_taken = ap (take (length h.body)) bytes_are ∙ take_at h.body (27 ∷ x.byte ∷ bytes_of pending) (length h.body) refl
 
       pair_left : drop (length h.body) xs ≡ escape ∷ x ∷ pending
-      pair_left =
-          ap (λ (n : ℕ). drop n xs) body_length
-          ∙ drop-append-le (length held_body.bytes) held_body.bytes (escape ∷ x ∷ pending) (omega arith)
-          ∙ ap (λ (ys : List Placed). ys ++ escape ∷ x ∷ pending) (drop_of_length-le held_body.bytes {i = length held_body.bytes} (omega arith))
+      pair_left = drop_at held_body.bytes (escape ∷ x ∷ pending) (length h.body) (sym body_length)
 
       -- and its end is the next code
       pub body_binds : b.show ≡ false →
@@ -356,12 +338,6 @@ module _ {S : Type 0} (g : Ghosts S) (s : S) (o : Outcome) (t : S) (h : Holding)
       unfolding body_bound leads_past leads_shift code_goes_on
       same_done hidden = refl
 
-      behind : (n : ℕ) (ys zs : List Placed) → n ≡ length ys → drop n (ys ++ zs) ≡ zs
-      behind n ys zs e =
-          ap (λ (n : ℕ). drop n (ys ++ zs)) e
-          ∙ drop-append-le (length ys) ys zs (omega arith)
-          ∙ ap (λ (us : List Placed). us ++ zs) (drop_of_length-le ys {i = length ys} (omega arith))
-
       -- or it is shown
       pub body_shows : b.show ≡ true →
           front h.machine (k.rest ++ x ∷ pending) ≡ shown_front (after_body h.machine b.name h.body) x.place (h.body ++ 27 ∷ x.byte ∷ []) pending
@@ -376,10 +352,8 @@ module _ {S : Type 0} (g : Ghosts S) (s : S) (o : Outcome) (t : S) (h : Holding)
           ∙ place_at-behind before x pending (n + 1) (omega (arith, body_length, length-append held_body.bytes (escape ∷ []))) in
           let bytes : take (n + 2) (bytes_of xs) ≡ h.body ++ 27 ∷ x.byte ∷ [] =
           ap (take (n + 2)) (bytes_are ∙ sym (append_assoc h.body (27 ∷ x.byte ∷ []) (bytes_of pending)))
-          ∙ take-append-le (n + 2) (h.body ++ 27 ∷ x.byte ∷ []) (bytes_of pending) (omega (arith, length-append h.body (27 ∷ x.byte ∷ [])))
-          ∙ take_all (n + 2) (h.body ++ 27 ∷ x.byte ∷ []) (omega (arith, length-append h.body (27 ∷ x.byte ∷ []))) in
-          let left : drop (n + 2) xs ≡ pending =
-          ap (drop (n + 2)) joined ∙ behind (n + 2) all pending (omega (arith, body_length, length-append held_body.bytes (escape ∷ x ∷ []))) in
+          ∙ take_at (h.body ++ 27 ∷ x.byte ∷ []) (bytes_of pending) (n + 2) (length-append h.body (27 ∷ x.byte ∷ [])) in
+          let left : drop (n + 2) xs ≡ pending = ap (drop (n + 2)) joined ∙ drop_at all pending (n + 2) (omega (arith, body_length, length-append held_body.bytes (escape ∷ x ∷ []))) in
           ends_at
           ∙ ap (λ (show : Bool). bound_front h.machine b.name show n xs) shown
           ∙ ap (λ (body : List ℕ). shown_front (after_body h.machine b.name body) (place_at xs (n + 1)) (take (n + 2) (bytes_of xs)) (drop (n + 2) xs)) body_taken
@@ -400,38 +374,29 @@ module _ {S : Type 0} (g : Ghosts S) (s : S) (o : Outcome) (t : S) (h : Holding)
 
   -- the byte has the eighth bit
   pub byte_eighth : 128 ≤ x.byte → IsRefused g s o t h (refusal faults.EighthBit x.place)
-  unfolding reads_on held_body
   byte_eighth high = at b.escape refl
     where
       at : (e : Option ℕ) → b.escape ≡ e → IsRefused g s o t h (refusal faults.EighthBit x.place)
-      at None none =
-          let r = reads_on none in
-          let all : k.rest ≡ r.rest = held_body.is ∙ ap (λ (e : Option ℕ). held_body.bytes ++ held_escape e) none ∙ append-nil held_body.bytes in
-          let there = place_at-behind r.rest x pending (length h.body + 0) (omega (arith, held_length r.rest b h (x.byte ∷ []) r.at)) in
-          leads_to_refusal g s o t h (x ∷ pending) k _
-          (ap (λ (ys : List Placed). front h.machine (ys ++ x ∷ pending)) all
-          ∙ next_front g s o t h b x pending r _ (eighth_front unread_room x.byte (bytes_of pending) high)
-          ∙ ap (λ (n : ℕ). course.refuse (refusal faults.EighthBit n)) there)
+      at None none = refused_next (reads_on none) faults.EighthBit (eighth_front unread_room x.byte (bytes_of pending) high)
       at (Some place) held =
           let escape : Placed = record { byte = 27; place = place } in
           let before : List Placed = held_body.bytes ++ escape ∷ [] in
           let there : place_at (held_body.bytes ++ escape ∷ x ∷ pending) (length h.body + 1) ≡ x.place =
           ap (λ (ys : List Placed). place_at ys (length h.body + 1)) (sym (append_assoc held_body.bytes (escape ∷ []) (x ∷ pending)))
-          ∙ place_at-behind before x pending (length h.body + 1) (omega (arith, body_length place held, length-append held_body.bytes (escape ∷ []))) in
+          ∙ place_at-behind before x pending (length h.body + 1) (omega (arith, body_length held, length-append held_body.bytes (escape ∷ []))) in
           leads_to_refusal g s o t h (x ∷ pending) k _
-          (escape_at_front place held _ (eighth_escape unread_room x.byte (bytes_of pending) high)
+          (escape_at_front held _ (eighth_escape unread_room x.byte (bytes_of pending) high)
           ∙ ap (λ (n : ℕ). course.refuse (refusal faults.EighthBit n)) there)
 
 -- a held ESC and a byte behind it belong to a body, which has room for all of them that are stored
-module _ {S : Type 0} (g : Ghosts S) (s : S) (o : Outcome) (t : S) (h : Holding) (b : OpenBody) (opened : h.open_body ≡ Some b) (x : Placed)
-    (k : Continues g s o t h (x ∷ [])) (place : ℕ) (held : b.escape ≡ Some place) (few : x.byte < 128) (ends : ends_body x.byte ≡ false)
-    (some : store_limit - h.machine.stored - length h.body ≢ 0) where
+module _ {S : Type 0} {g : Ghosts S} {s : S} {o : Outcome} {t : S} {h : Holding} {b : OpenBody} {x : Placed} {place : ℕ} (opened : h.open_body ≡ Some b) (k : Continues g s o t h (x ∷ [])) (held : b.escape ≡ Some place)
+    (few : x.byte < 128) (ends : ends_body x.byte ≡ false) (some : store_limit - h.machine.stored - length h.body ≢ 0) where
   both_kept : ReadsOn g s o t (record h { body = h.body ++ 27 ∷ [] }) b x []
-  both_kept = escape_kept g s o t h b opened x [] k place held few ends some
+  both_kept = escape_kept opened k held few ends some
 
   escape_again : x.byte ≡ 27 → o.refusal ≡ None
   escape_again is =
-      leads_unrefused g s o t _ (escape_held g s o t (record h { body = h.body ++ 27 ∷ [] }) b x [] both_kept (ap (λ (n : ℕ). record { byte = n; place = x.place }) is))
+      leads_unrefused g s o t _ (escape_held both_kept (ap (λ (n : ℕ). record { byte = n; place = x.place }) is))
 
   pub escape_unrefused : (x.byte ≡ 27) ⊎ (store_limit - h.machine.stored - length h.body ≢ 1) → o.refusal ≡ None
   escape_unrefused (inl is) = escape_again is
@@ -441,5 +406,5 @@ module _ {S : Type 0} (g : Ghosts S) (s : S) (o : Outcome) (t : S) (h : Holding)
       at true e = escape_again (grind (arith, nat_tests))
       at false e =
           leads_unrefused g s o t _
-          (byte_kept g s o t (record h { body = h.body ++ 27 ∷ [] }) b x [] both_kept (record { low = few; other = grind (arith, nat_tests) })
+          (byte_kept both_kept (record { low = few; other = grind (arith, nat_tests) })
           (omega (arith, some, two, length-append h.body (27 ∷ []))))

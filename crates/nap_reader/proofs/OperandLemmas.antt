@@ -1,39 +1,21 @@
 -- Operand bytes at the front, and their words.
 use Rattle.std.proofs.Common.{◌≡◌, ◌⊎◌, inr, Bool, false, ℕ, ◌-◌, ◌%◌, ◌<◌, ◌≤◌, true, leb, ltb, None, MatchOption, IfSome, List, [], ◌∷◌, ◌++◌, map, Option, Some, sym, take, drop, get_or, length, All, subst, refl, ap, ap₂, ◌∙◌, arith, append_assoc}
-use Rattle.std.proofs.lemmas.List.{length-drop, length-map, length-take-le, map-append, take-append-drop, take-take, take_all, get_or-drop, get_or-take}
+use Rattle.std.proofs.lemmas.List.{length-drop, length-map, length-take-le, map-append, take-append-drop, take_all, get_or-drop, get_or-take}
 use Rattle.std.proofs.lemmas.List.Sums.{prefix_len-le-length, prefix_len_passes, prefix_len_stops}
 use Rattle.std.proofs.lemmas.List.Elements.{All-head, All-tail}
 use Rattle.std.proofs.lemmas.Bool.{leb-true, ltb-true, and_parts}
 use Rattle.std.specs.List.{prefix_len}
-use Rattle.nap_values.specs.Operands.{carried}
-use Rattle.nap_draw.specs.Limits.{run_limit}
-use Rattle.nap_reader.specs.declared.reader.OpenRun.{OpenRun}
-use Rattle.nap_reader.specs.Holding.{run_by}
-use Rattle.nap_reader.specs.Steps.{IsOver, IsWholeRun}
-use Rattle.nap_reader.specs.Stream.{is_operand_byte}
+use Rattle.nap_reader.specs.Below.{carried, run_limit}
+use Rattle.nap_reader.proofs.Common.{OpenRun, run_by, IsOver, IsWholeRun, is_operand_byte}
 
 pub operands_in_front : (bytes : List ℕ) (n : ℕ) → n ≤ prefix_len is_operand_byte bytes → All (λ b. is_operand_byte b ≡ true) (take n bytes)
 operands_in_front bytes n few = λ k d within.
     let k_few : k < n = omega (arith, within, length-take-le n bytes (omega (arith, few, prefix_len-le-length is_operand_byte bytes))) in
     ap is_operand_byte (get_or-take n bytes k d k_few) ∙ prefix_len_passes is_operand_byte bytes k d (omega (arith, k_few, few))
 
--- what is at the front of a part of a piece is at the front of the piece
-pub operands_of_part : (piece : List ℕ) (most n : ℕ) → most ≤ length piece → n ≡ prefix_len is_operand_byte (take most piece) →
-    (n ≤ most) × All (λ b. is_operand_byte b ≡ true) (take n piece)
-operands_of_part piece most n within counted =
-    let front = take most piece in
-    let least : n ≤ most = omega (arith, counted, prefix_len-le-length is_operand_byte front, length-take-le most piece within) in
-    (least, subst (All (λ b. is_operand_byte b ≡ true)) (take-take n most piece least) (operands_in_front front n (omega (arith, counted))))
-
--- they are a whole run, where another byte comes behind them
-pub whole_run_is : (piece behind : List ℕ) (n : ℕ) → n ≡ prefix_len is_operand_byte piece → (n ≡ length piece → IsOver behind) → IsWholeRun piece behind (take n piece)
-whole_run_is piece behind n counted over = record {
-  within = omega (arith, length-take-le n piece least, least);
-  operands = operands_in_front piece n (omega (arith, counted));
-  rest = drop n piece ++ behind;
-  front = ap (λ (bs : List ℕ). bs ++ behind) (sym (take-append-drop n piece)) ∙ append_assoc (take n piece) (drop n piece) behind;
-  over = by (drop n piece) refl;
-}
+-- no operand comes behind them
+pub run_over : (piece behind : List ℕ) (n : ℕ) → n ≡ prefix_len is_operand_byte piece → (n ≡ length piece → IsOver behind) → IsOver (drop n piece ++ behind)
+run_over piece behind n counted over = by (drop n piece) refl
   where
     least : n ≤ length piece
     least = omega (arith, counted, prefix_len-le-length is_operand_byte piece)
@@ -49,26 +31,27 @@ whole_run_is piece behind n counted over = record {
           ∙ prefix_len_stops is_operand_byte piece 0 (omega (arith, counted, ap length some, length-drop n piece));
     }
 
--- the same, where they are all of the piece
-pub last_run_is : {R : Type 0} (now : R → List ℕ) (piece : List ℕ) (n : ℕ) → n ≡ prefix_len is_operand_byte piece → n ≡ length piece → (ended : Bool) (result : Option R) →
+-- they are a whole run, where another byte comes behind them
+pub whole_run_is : (piece behind : List ℕ) (n : ℕ) → n ≡ prefix_len is_operand_byte piece → (n ≡ length piece → IsOver behind) → IsWholeRun piece behind (take n piece)
+whole_run_is piece behind n counted over = record {
+  within = let least = prefix_len-le-length is_operand_byte piece in omega (arith, length-take-le n piece (omega (arith, counted, least)), counted, least);
+  operands = operands_in_front piece n (omega (arith, counted));
+  rest = drop n piece ++ behind;
+  front = ap (λ (bs : List ℕ). bs ++ behind) (sym (take-append-drop n piece)) ∙ append_assoc (take n piece) (drop n piece) behind;
+  over = run_over piece behind n counted over;
+}
+
+-- the last run, where they are all of the piece: how many there are, that it is whole, and why there is none
+pub last_run_is : {R : Type 0} (now : R → List ℕ) (piece : List ℕ) (n : ℕ) → n ≡ prefix_len is_operand_byte piece → n ≤ run_limit → n ≡ length piece → (ended : Bool) (result : Option R) →
     MatchOption result (ended ≡ false) (λ run. (ended ≡ true) × (now run ≡ piece)) →
-    IfSome result (λ run. (behind : List ℕ) → (ended ≡ true → IsOver behind) → IsWholeRun piece behind (now run))
-last_run_is {R} now piece n counted all ended None none = tt
-last_run_is {R} now piece n counted all ended (Some run) some = λ behind over.
-    subst (IsWholeRun piece behind) (take_all n piece (omega (arith, all)) ∙ sym some.1) (whole_run_is piece behind n counted (λ _. over some.0))
-
--- and how many there are
-pub last_run_short : {R : Type 0} (now : R → List ℕ) (piece : List ℕ) (n : ℕ) → n ≤ run_limit → n ≡ length piece → (ended : Bool) (result : Option R) →
-    MatchOption result (ended ≡ false) (λ run. (ended ≡ true) × (now run ≡ piece)) → IfSome result (λ run. length (now run) ≤ run_limit)
-last_run_short {R} now piece n few all ended None none = tt
-last_run_short {R} now piece n few all ended (Some run) some = omega (arith, few, all, ap length some.1)
-
--- and why there is none
-pub last_run_none : {R : Type 0} (now : R → List ℕ) (piece : List ℕ) (n : ℕ) → n ≡ prefix_len is_operand_byte piece → n ≡ length piece → (ended : Bool) (result : Option R) →
-    MatchOption result (ended ≡ false) (λ run. (ended ≡ true) × (now run ≡ piece)) → result ≡ None →
-    (run_limit < prefix_len is_operand_byte piece) ⊎ ((ended ≡ false) × (prefix_len is_operand_byte piece ≡ length piece))
-last_run_none {R} now piece n counted all ended None none is = inr (none, sym counted ∙ all)
-last_run_none {R} now piece n counted all ended (Some run) some is = let bad : ⊥ = cc in absurd bad
+    IfSome result (λ run. length (now run) ≤ run_limit) × IfSome result (λ run. (behind : List ℕ) → (ended ≡ true → IsOver behind) → IsWholeRun piece behind (now run))
+    × (result ≡ None → (run_limit < prefix_len is_operand_byte piece) ⊎ ((ended ≡ false) × (prefix_len is_operand_byte piece ≡ length piece)))
+last_run_is now piece n counted few all ended None none = (tt, tt, λ is. inr (none, sym counted ∙ all))
+last_run_is now piece n counted few all ended (Some run) some = (
+  omega (arith, few, all, ap length some.1),
+  λ behind over. subst (IsWholeRun piece behind) (take_all n piece (omega (arith, all)) ∙ sym some.1) (whole_run_is piece behind n counted (λ _. over some.0)),
+  λ is. let bad : ⊥ = cc in absurd bad,
+)
 
 same_word : (b : ℕ) → is_operand_byte b ≡ true → b % 64 ≡ b - 64
 same_word b is =

@@ -10,10 +10,8 @@ use Rattle.std.specs.List.{prefix_len}
 use Rattle.std.specs.Option.{is_some}
 use lib.Lanes.{Each1, chunk, mask_l, top, zip2}
 use lib.Count.{count_trailing_zeros}
-use Rattle.nap_codes.specs.declared.control.TextStep.{TextStep}
-use Rattle.nap_codes.specs.Tables.{format_effector}
-use Rattle.nap_list.specs.Batches.{IsTyped}
-use Rattle.nap_reader.specs.Prefix.{is_from, is_of_text}
+use Rattle.nap_reader.specs.Below.{TextStep, format_effector, IsTyped}
+use Rattle.nap_reader.proofs.Common.{is_from, is_of_text}
 
 abbrev pub is_other : ℕ → ℕ → Bool
 is_other least b = not (is_from least b)

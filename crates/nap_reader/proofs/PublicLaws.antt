@@ -6,18 +6,17 @@ use Rattle.nap_values.specs.Laws.{IsOperandByte}
 use Rattle.nap_codes.specs.declared.code.Code.{Code}
 use Rattle.nap_codes.specs.declared.code.Code.TheVariants as code
 use Rattle.nap_codes.specs.declared.opcode.Opcode.{Opcode}
-use Rattle.nap_list.specs.declared.sink.Sink.{Ghosts}
 use Rattle.nap_list.specs.State.{walk}
 use Rattle.nap_draw.specs.Codes.{code_rule}
 use Rattle.nap_reader.specs.Holding.{IsOpenRun}
 use Rattle.nap_reader.specs.Kinds.{kind_of}
-use Rattle.nap_reader.specs.Laws.{FrontAfterFront, IsRun, RunActs, RunWaits, IsAlone, CodeActs, MoreBytesKeepEntries, MoreBytesKeepRefusal, PiecesAgree, AcceptedIsLegal, ReadValuesAreInRange, BegunComesFirst, FedBreaksAmong, EndBreaksAmong}
+use Rattle.nap_reader.specs.Laws.{FrontAfterFront, IsRun, RunActs, RunWaits, IsAlone, CodeActs}
 use Rattle.nap_reader.specs.Stream.{Placed, Machine, bytes_of, words_of, is_operand_byte, run_length, drawn_front, code_front}
-use Rattle.nap_reader.proofs.BrokenLemmas as broken
+pub use Rattle.nap_reader.proofs.BrokenLemmas.{begun_comes_first, end_breaks_among, fed_breaks_among}
 use Rattle.nap_reader.proofs.HeldLemmas.{front_code, front_run, open_run_pauses}
-use Rattle.nap_reader.proofs.LawLemmas as laws
-use Rattle.nap_reader.proofs.LegalLemmas as legal
-use Rattle.nap_reader.proofs.RangeLemmas as ranges
+pub use Rattle.nap_reader.proofs.LawLemmas.{more_bytes_keep_entries, more_bytes_keep_refusal, pieces_agree}
+pub use Rattle.nap_reader.proofs.LegalLemmas.{accepted_is_legal}
+pub use Rattle.nap_reader.proofs.RangeLemmas.{read_values_are_in_range}
 use Rattle.nap_reader.proofs.StreamLemmas.{outcome_from-front}
 
 -- The proofs of the laws.
@@ -69,27 +68,3 @@ code_acts m c before last after ys is =
     omega (arith, length-append (bytes_of before) (last.byte ∷ []), length-map before (λ (y : Placed). y.byte)) in
     front_code m before last ys (bytes_of before) c (length before + 1) after is.mode refl is.names size
     ∙ alone_front (record m { sets = after }) c last.place ys is.alone
-
-pub more_bytes_keep_entries : MoreBytesKeepEntries
-more_bytes_keep_entries = laws.more_bytes_keep_entries
-
-pub more_bytes_keep_refusal : MoreBytesKeepRefusal
-more_bytes_keep_refusal = laws.more_bytes_keep_refusal
-
-pub pieces_agree : PiecesAgree
-pieces_agree = laws.pieces_agree
-
-pub accepted_is_legal : AcceptedIsLegal
-accepted_is_legal = legal.accepted_is_legal
-
-pub read_values_are_in_range : ReadValuesAreInRange
-read_values_are_in_range = ranges.read_values_are_in_range
-
-pub begun_comes_first : BegunComesFirst
-begun_comes_first = broken.begun_comes_first
-
-pub fed_breaks_among : {S : Type 0} (g : Ghosts S) → FedBreaksAmong g
-fed_breaks_among = broken.fed_breaks_among
-
-pub end_breaks_among : {S : Type 0} (g : Ghosts S) → EndBreaksAmong g
-end_breaks_among = broken.end_breaks_among

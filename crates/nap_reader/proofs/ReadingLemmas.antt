@@ -1,34 +1,19 @@
 use Rattle.std.proofs.Common.{ℕ, ◌-◌, ◌≡◌, ◌<◌, ◌≤◌, List, [], ◌∷◌, ◌++◌, length, Bool, true, false, Some, None, Result, Ok, Err, OnOk, IfErr, MatchResult, refl, ap, sym, ◌∙◌, subst, arith, length-append}
-use Rattle.nap_codes.specs.declared.code.Code.{Code}
+use Rattle.nap_reader.specs.Below.{Code, CodeFault, CodeSets, Opcode, LexerState, StepsBy, Ghosts, DrawFault, code_rule, Drawn, IsDrawn, rule, stream, run_limit}
+use Rattle.nap_reader.proofs.Common.{OpenRun, Kind, between, in_body, body_of, kind_of, code_fault, draw_fault, Placed, Outcome, bytes_of, is_operand, refusal, after_drawing, drawn_front, shown_front, code_front, start_machine, outcome_from, begun, cause_of, Holding, IsHeld, IsOpenRun, IsRefused, Continues}
 use Rattle.nap_codes.specs.declared.code.Code.TheVariants as code
-use Rattle.nap_codes.specs.declared.code.CodeFault.{CodeFault}
-use Rattle.nap_codes.specs.declared.code_set.CodeSets.{CodeSets}
-use Rattle.nap_codes.specs.declared.opcode.Opcode.{Opcode}
 use Rattle.nap_codes.specs.declared.opcode.Opcode.TheVariants as opcodes
 use Rattle.nap_codes.specs.Laws.{IsInRange}
 use Rattle.nap_codes.specs.Tables.{left_out_opcode}
 use Rattle.nap_codes.specs.CodeSets.{start_sets}
 use Rattle.nap_codes.specs.Front as codes
 use Rattle.nap_codes.specs.declared.code.Step.TheVariants as steps
-use Rattle.nap_codes.specs.Lexer.{LexerState, StepsBy}
 use Rattle.nap_codes.proofs.PublicLaws.{code_ranges, one_byte_opcode}
-use Rattle.nap_list.specs.declared.sink.Sink.{Ghosts}
-use Rattle.nap_draw.specs.declared.fault.DrawFault.{DrawFault}
-use Rattle.nap_draw.specs.Codes.{code_rule}
-use Rattle.nap_draw.specs.Rule.{Drawn, IsDrawn, rule}
-use Rattle.nap_draw.specs.Draws.{stream}
 use Rattle.nap_draw.specs.Draws as draws
 use Rattle.nap_reader.specs.declared.fault.Fault.TheVariants as faults
-use Rattle.nap_reader.specs.declared.reader.OpenRun.{OpenRun}
-use Rattle.nap_reader.specs.declared.kind.Kind.{Kind}
 use Rattle.nap_reader.specs.declared.kind.Kind.TheVariants as kinds
-use Rattle.nap_reader.specs.Bodies.{between, in_body, body_of}
-use Rattle.nap_reader.specs.Kinds.{kind_of}
-use Rattle.nap_reader.specs.Faults.{code_fault, draw_fault}
-use Rattle.nap_draw.specs.Limits.{run_limit}
-use Rattle.nap_reader.specs.Stream.{Placed, Outcome, bytes_of, is_operand, refusal, after_drawing, drawn_front, shown_front, code_front, front, start_machine, outcome_from, placed_from, begun}
-use Rattle.nap_reader.specs.Breaking.{cause_of}
-use Rattle.nap_reader.specs.Holding.{Holding, IsHeld, IsHalf, IsHeldBy, IsOpenRun, IsRefused, Continues}
+use Rattle.nap_reader.specs.Stream.{front, placed_from}
+use Rattle.nap_reader.specs.Holding.{IsHalf, IsHeldBy}
 use Rattle.nap_reader.proofs.StreamLemmas.{bytes_of-append}
 use Rattle.nap_reader.proofs.HeldLemmas.{front_code, front_fault, front_run, front_long, opens_run, joins_run}
 use Rattle.nap_reader.proofs.LeadsLemmas.{TookMore, is_between, holds_between, is_open_run, holds_open_run, leads_on, leads_past, leads_to_refusal, leads_to_fault, leads_shift}
@@ -42,11 +27,11 @@ pub rest_of_nothing : (rest : List Placed) → bytes_of rest ≡ [] → rest ≡
 rest_of_nothing [] e = refl
 rest_of_nothing (x ∷ xs) e = let bad : ⊥ = cc in absurd bad
 
-nothing_half : (half : List ℕ) → length half ≡ 0 → half ≡ []
+pub nothing_half : (half : List ℕ) → length half ≡ 0 → half ≡ []
 nothing_half [] e = refl
 nothing_half (b ∷ bs) e = absurd (omega arith)
 
-opcode_of_kind : (c : Code) (op : Opcode) → kind_of c ≡ kinds.Opens op → c ≡ code.Op op
+pub opcode_of_kind : (c : Code) (op : Opcode) → kind_of c ≡ kinds.Opens op → c ≡ code.Op op
 opcode_of_kind (code.Op op') op e = let same : op' ≡ op = cc in ap code.Op same
 opcode_of_kind _ op e = let bad : ⊥ = cc in absurd bad
 
@@ -70,9 +55,6 @@ on_ok_by (Err e) f = tt
 pub if_err_by : {A E : Type 0} {P : E → Type 0} (r : Result A E) → ((e : E) → r ≡ Err e → P e) → IfErr r P
 if_err_by (Ok a) f = tt
 if_err_by (Err e) f = f e refl
-
-pub matched_ok : {A E : Type 0} (F : A → Type 0) (G : E → Type 0) (r : Result A E) (a : A) → r ≡ Ok a → MatchResult r F G → F a
-matched_ok {A} {E} F G r a is h = subst (λ (x : Result A E). MatchResult x F G) is h
 
 pub matched_err : {A E : Type 0} (F : A → Type 0) (G : E → Type 0) (r : Result A E) (e : E) → r ≡ Err e → MatchResult r F G → G e
 matched_err {A} {E} F G r e is h = subst (λ (x : Result A E). MatchResult x F G) is h
@@ -217,10 +199,11 @@ module _ {S : Type 0} (g : Ghosts S) (s : S) (o : Outcome) (t : S) (h : Holding)
         ≡ drawn_front (record h.machine { sets = after; mode = in_body name show }) x.place pending (code_rule h.machine.work (code.DefMacro name show))
     defines name show kind = whole (kinds.Binds name show) kind
 
-  opens_run_of : (op : Opcode) (n : ℕ) (after : CodeSets) → codes.front h.machine.sets (h.half ++ x.byte ∷ []) ≡ codes.whole (code.Op op) n after →
+  -- an opcode opens a run
+  pub run_opens : (op : Opcode) (n : ℕ) (after : CodeSets) → codes.front h.machine.sets (h.half ++ x.byte ∷ []) ≡ codes.whole (code.Op op) n after →
       n ≡ length (h.half ++ x.byte ∷ []) →
       Continues g s o t (record (reading after []) { open_run = Some (record { op = op; place = x.place }); run = [] }) pending
-  opens_run_of op n after e len =
+  run_opens op n after e len =
       let one = one_byte_opcode h.machine.sets _ op n after e in
       let none : h.half ≡ [] = nothing_half h.half (omega (arith, len, one.0, length-append h.half (x.byte ∷ []))) in
       let alone : codes.front after (x.byte ∷ []) ≡ codes.whole (code.Op op) 1 after =
@@ -229,13 +212,6 @@ module _ {S : Type 0} (g : Ghosts S) (s : S) (o : Outcome) (t : S) (h : Holding)
       let h' : Holding = record (reading after []) { open_run = Some (record { op = op; place = x.place }); run = [] } in
       leads_shift g s o t h x pending h' k (ap (λ (sets : CodeSets). record h.machine { sets = sets }) one.1)
       (rw empty (holds_open_run h' (x ∷ []) (record { op = op; place = x.place }) no_body between_held.mode between_held.body refl (opens_run x op after alone) refl))
-
-  -- an opcode opens a run
-  pub run_opens : (c : Code) (op : Opcode) (n : ℕ) (after : CodeSets) → kind_of c ≡ kinds.Opens op →
-      codes.front h.machine.sets (h.half ++ x.byte ∷ []) ≡ codes.whole c n after → n ≡ length (h.half ++ x.byte ∷ []) →
-      Continues g s o t (record (reading after []) { open_run = Some (record { op = op; place = x.place }); run = [] }) pending
-  run_opens c op n after kind e len =
-      opens_run_of op n after (e ∙ ap (λ (k : Code). codes.whole k n after) (opcode_of_kind c op kind)) len
 
 -- a reader that was fed nothing
 pub begins : {S : Type 0} (g : Ghosts S) (s : S) (budget left : ℕ) → left ≡ budget → g.took s [] s →

@@ -1,14 +1,9 @@
 use Rattle.std.proofs.Common.{ap, ℕ, ◌+◌, ◌≡◌, ◌<◌, List, [], ◌∷◌, ◌++◌, length, take, drop, slice_index, get_or, Some, None, sym, ◌∙◌, subst, arith, append_assoc, length-append}
 use Rattle.std.proofs.lemmas.List.{take_all, take_more, take-append-drop, take-append-le, get_or_append_left, get_or-append-add}
-use Rattle.nap_list.specs.declared.sink.Sink.{Ghosts}
-use Rattle.nap_draw.specs.Draws.{Cause, stream, memory, device}
-use Rattle.nap_reader.specs.declared.fault.Refusal.{Refusal}
-use Rattle.nap_reader.specs.declared.reader.Reader.{Reader}
-use Rattle.nap_reader.specs.Stream.{Machine, begun}
-use Rattle.nap_reader.specs.Breaking.{cause_of}
-use Rattle.nap_reader.specs.Holding.{Continues, holding_of, frames_left}
-use Rattle.nap_reader.specs.Standing.{IsKnown, IsBroken, StopsBy, AnswersBy, Answers, Stands, left_of}
-use Rattle.nap_reader.proofs.LeadsLemmas.{leads_unrefused, leads_taken, leads_machine}
+use Rattle.nap_reader.specs.Below.{Ghosts, Cause, stream, memory, device}
+use Rattle.nap_reader.proofs.Common.{Refusal, Reader, Machine, begun, cause_of, Continues, holding_of, IsBroken, StopsAt, StopsBy, Stands, budget_of, fed_of, left_of, refusal_of, sink_of}
+use Rattle.nap_reader.specs.Standing.{IsKnown, AnswersBy, Answers}
+use Rattle.nap_reader.proofs.LeadsLemmas.{TookBroke, TookMore, WantsMore, leads_unrefused, leads_taken, leads_machine}
 use Rattle.nap_reader.proofs.LawLemmas.{more_bytes_keep_refusal}
 
 -- a piece up to a byte, and that byte
@@ -24,22 +19,28 @@ taken_all p piece i within =
     ∙ ap (λ (q : List ℕ). p ++ q) (take-append-drop (i + 1) piece)
 
 -- A reader whose held bytes lead on stands for the bytes so far.
-pub stands_by : {S : Type 0} {g : Ghosts S} (reader : Reader S g) (s : S) (p : List ℕ) → reader.refusal ≡ None → reader.fed ≡ length p → frames_left reader ≡ [] →
-    Continues g s (begun reader.budget p) reader.sink (holding_of reader) [] → Stands reader s p
-stands_by {S} {g} reader s p live fed empty k = record {
-  answers = subst (Answers g s reader.budget p reader.sink (left_of reader)) (sym live) (record {
-    refusal = leads_unrefused g s (begun reader.budget p) reader.sink (holding_of reader) k;
-    taken = leads_taken g s (begun reader.budget p) reader.sink (holding_of reader) k;
-    left = ap (λ (m : Machine). m.left) (leads_machine g s (begun reader.budget p) reader.sink (holding_of reader) k);
+pub stands_by : {S : Type 0} {g : Ghosts S} (reader : Reader S g) (s : S) (p : List ℕ) → refusal_of reader ≡ None → fed_of reader ≡ length p →
+    Continues g s (begun (budget_of reader) p) (sink_of reader) (holding_of reader) [] → Stands reader s p
+stands_by {S} {g} reader s p live fed k = record {
+  answers = subst (Answers g s (budget_of reader) p (sink_of reader) (left_of reader)) (sym live) (record {
+    refusal = leads_unrefused g s (begun (budget_of reader) p) (sink_of reader) (holding_of reader) k;
+    taken = leads_taken g s (begun (budget_of reader) p) (sink_of reader) (holding_of reader) k;
+    left = ap (λ (m : Machine). m.left) (leads_machine g s (begun (budget_of reader) p) (sink_of reader) (holding_of reader) k);
   });
   fed = λ _. fed;
-  empty = λ _. empty;
   continues = λ _. k;
 }
 
 -- nothing was taken
 abbrev pub TookNone : {S : Type 0} → Ghosts S → Type 0
 TookNone {S} g = (s : S) → g.took s [] s
+
+-- what a sink tells of what it took
+pub record Lawful {S : Type 0} (g : Ghosts S) : Type 0 where
+  pub more : TookMore g
+  pub broken : TookBroke g
+  pub wants : WantsMore g
+  pub none : TookNone g
 
 -- a refusal stands for all that comes after it
 known_stays : {S : Type 0} (g : Ghosts S) (s : S) (budget : ℕ) (p q : List ℕ) (t : S) (n : ℕ) (r : Refusal) →
@@ -71,27 +72,34 @@ stop_answers {S} g s budget p b t n r cause h = at cause h
     at memory k = broken k
     at device k = broken k
 
-stands_refused : {S : Type 0} {g : Ghosts S} (reader : Reader S g) (r : Refusal) (s : S) (p : List ℕ) → reader.refusal ≡ Some r →
-    AnswersBy g s reader.budget p reader.sink (left_of reader) r (cause_of r.fault) → Stands reader s p
+stands_refused : {S : Type 0} {g : Ghosts S} (reader : Reader S g) (r : Refusal) (s : S) (p : List ℕ) → refusal_of reader ≡ Some r →
+    AnswersBy g s (budget_of reader) p (sink_of reader) (left_of reader) r (cause_of r.fault) → Stands reader s p
 stands_refused {S} {g} reader r s p is h = record {
-  answers = subst (Answers g s reader.budget p reader.sink (left_of reader)) (sym is) h;
+  answers = subst (Answers g s (budget_of reader) p (sink_of reader) (left_of reader)) (sym is) h;
   fed = λ e. cc (is, e);
-  empty = λ e. let bad : ⊥ = cc (is, e) in absurd bad;
   continues = λ e. let bad : ⊥ = cc (is, e) in absurd bad;
 }
 
 -- A refused reader stands for all that comes after it.
-pub stays : {S : Type 0} {g : Ghosts S} (reader : Reader S g) (r : Refusal) → reader.refusal ≡ Some r → (s : S) (p q : List ℕ) →
+pub stays : {S : Type 0} {g : Ghosts S} (reader : Reader S g) (r : Refusal) → refusal_of reader ≡ Some r → (s : S) (p q : List ℕ) →
     Stands reader s p → Stands reader s (p ++ q)
 stays {S} {g} reader r is s p q h =
     stands_refused reader r s (p ++ q) is
-    (answers_stay g s reader.budget p q reader.sink (left_of reader) r (cause_of r.fault)
-    (subst (Answers g s reader.budget p reader.sink (left_of reader)) is h.answers))
+    (answers_stay g s (budget_of reader) p q (sink_of reader) (left_of reader) r (cause_of r.fault)
+    (subst (Answers g s (budget_of reader) p (sink_of reader) (left_of reader)) is h.answers))
 
 -- A reader that was refused at a byte stands for it and all that comes after it.
-pub stands_stopped : {S : Type 0} {g : Ghosts S} (reader : Reader S g) (r : Refusal) (s : S) (p : List ℕ) (b : ℕ) (q : List ℕ) → reader.refusal ≡ Some r →
-    StopsBy g s reader.budget p b reader.sink (left_of reader) r (cause_of r.fault) → Stands reader s ((p ++ b ∷ []) ++ q)
+pub stands_stopped : {S : Type 0} {g : Ghosts S} (reader : Reader S g) (r : Refusal) (s : S) (p : List ℕ) (b : ℕ) (q : List ℕ) → refusal_of reader ≡ Some r →
+    StopsBy g s (budget_of reader) p b (sink_of reader) (left_of reader) r (cause_of r.fault) → Stands reader s ((p ++ b ∷ []) ++ q)
 stands_stopped {S} {g} reader r s p b q is h =
     stands_refused reader r s ((p ++ b ∷ []) ++ q) is
-    (answers_stay g s reader.budget (p ++ b ∷ []) q reader.sink (left_of reader) r (cause_of r.fault)
-    (stop_answers g s reader.budget p b reader.sink (left_of reader) r (cause_of r.fault) h))
+    (answers_stay g s (budget_of reader) (p ++ b ∷ []) q (sink_of reader) (left_of reader) r (cause_of r.fault)
+    (stop_answers g s (budget_of reader) p b (sink_of reader) (left_of reader) r (cause_of r.fault) h))
+
+-- a reader that was refused in a piece stands for the piece
+pub stands_behind_stop : {S : Type 0} {g : Ghosts S} (old new : Reader S g) (piece : List ℕ) (r : Refusal) (i : ℕ) → refusal_of new ≡ Some r → budget_of new ≡ budget_of old →
+    StopsAt old new piece r i → (s : S) (p : List ℕ) → Stands old s p → Stands new s (p ++ piece)
+stands_behind_stop {S} {g} old new piece r i refused budget stops s p h =
+    subst (λ (q : List ℕ). Stands new s q) (taken_all p piece i stops.within)
+    (stands_stopped new r s (p ++ take i piece) (get_or piece i 0) (drop (i + 1) piece) refused
+    (subst (λ (budget : ℕ). StopsBy g s budget (p ++ take i piece) (get_or piece i 0) (sink_of new) (left_of new) r (cause_of r.fault)) (sym budget) (stops.there s p h)))

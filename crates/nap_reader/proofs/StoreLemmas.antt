@@ -3,7 +3,7 @@ use Rattle.std.proofs.lemmas.List.{take-append-le, take_all, drop-append-le, map
 use Rattle.std.proofs.Math.ListN.{drop_of_length-le}
 use Rattle.std.proofs.lemmas.List.Elements.{All-head, All-tail}
 use Rattle.nap_reader.specs.declared.store.Span.{Span}
-use Rattle.nap_reader.specs.Stored.{part, part_at, closed, shown, IsBefore, StoreState}
+use Rattle.nap_reader.specs.Stored.{part, part_at, closed, grown, shown, IsBefore, StoreState}
 
 -- a part stays where the list grows
 pub part-grown : (bytes more : List ℕ) (start end : ℕ) → start ≤ end → end ≤ length bytes → part (bytes ++ more) start end ≡ part bytes start end
@@ -28,11 +28,10 @@ bodies-grown bytes more n (span ∷ spans) h all =
 abbrev pub state_of : List ℕ → List Span → ℕ → ℕ → StoreState
 state_of bytes spans from stored = record { names = map (part_at bytes) spans; bytes = bytes; body = drop from bytes; stored = stored }
 
-pub pushed : (bytes : List ℕ) (spans : List Span) (from stored b : ℕ) → All (IsBefore from) spans → from ≤ length bytes →
-    state_of (bytes ++ b ∷ []) spans from stored
-    ≡ record (state_of bytes spans from stored) { bytes = bytes ++ b ∷ []; body = drop from bytes ++ b ∷ [] }
-pushed bytes spans from stored b all h =
-    rw (bodies-grown bytes (b ∷ []) from spans h all, drop-append-le from bytes (b ∷ []) h) refl
+pub grown_by : (bytes more : List ℕ) (spans : List Span) (from stored : ℕ) → All (IsBefore from) spans → from ≤ length bytes →
+    state_of (bytes ++ more) spans from stored ≡ grown (state_of bytes spans from stored) more
+grown_by bytes more spans from stored all h =
+    rw (bodies-grown bytes more from spans h all, drop-append-le from bytes more h) refl
 
 pub bound : (bytes : List ℕ) (spans : List Span) (from stored name end : ℕ) → from ≤ length bytes → end ≡ length bytes →
     state_of bytes (set spans (name - 32) (record { start = from; end = end })) end (stored + (end - from))

@@ -1,149 +1,27 @@
-use Rattle.std.proofs.Common.{ℕ, zero, suc, ◌+◌, ◌-◌, ◌≡◌, ◌≢◌, ◌<◌, ◌≤◌, List, [], ◌∷◌, ◌++◌, length, take, drop, Result, Ok, Err, Bool, true, false, cond, eqb, ltb, refl, ap, ◌∙◌, arith, sym, subst, append_assoc, length-append, length-drop}
-use Rattle.std.proofs.lemmas.Bool.{cond_both, ltb-true, ltb-false, lt-ltb, eqb-true, eqb-false}
+use Rattle.std.proofs.Common.{ℕ, zero, suc, ◌+◌, ◌-◌, ◌≡◌, ◌≢◌, ◌<◌, ◌≤◌, List, [], ◌∷◌, ◌++◌, length, take, drop, Result, Ok, Err, Bool, true, false, cond, eqb, ltb, refl, ap, ◌∙◌, arith, sym, append_assoc, length-drop}
+use Rattle.std.proofs.lemmas.Bool.{ltb-true, lt-ltb, eqb-true, eqb-false}
 use Rattle.std.proofs.Math.ListN.{drop_of_length-le}
 use Rattle.std.proofs.lemmas.List.{length-map, take-append-le, drop-append-le}
 use Rattle.std.proofs.lemmas.List.Folds.{prefix_len-append, length-prefix_len}
 use Rattle.std.proofs.lemmas.List.Sums.{prefix_len-le-length}
-use Rattle.nap_codes.specs.declared.code.Code.{Code}
+use Rattle.nap_reader.specs.Below.{Opcode, Entry, DrawFault, code_rule, Drawn, rule, run_limit}
+use Rattle.nap_reader.proofs.Common.{Refusal, Kind, kind_of, Mode, between, in_body, body_of, onward, continue, Placed, Machine, Unfinished, Front, bytes_of, words_of, is_operand, run_length, refusal, all_at, drawn_front, opcode_front, shown_front, code_front, place_at, front_by, after_body, bound_front, body_front_by, front_in, front, outcome_from, placed_from, start_machine, begun}
 use Rattle.nap_codes.specs.declared.code.Code.TheVariants as code
-use Rattle.nap_codes.specs.declared.code_set.CodeSets.{CodeSets}
-use Rattle.nap_codes.specs.declared.opcode.Opcode.{Opcode}
 use Rattle.nap_codes.specs.Front as codes
 use Rattle.nap_codes.proofs.PublicLaws.{whole_stays, refused_stays, whole_length, refused_index}
-use Rattle.nap_list.specs.declared.entry.Entry.{Entry}
-use Rattle.nap_draw.specs.declared.fault.DrawFault.{DrawFault}
-use Rattle.nap_draw.specs.Codes.{code_rule}
-use Rattle.nap_draw.specs.Rule.{Drawn, rule}
 use Rattle.nap_reader.specs.declared.fault.Fault.TheVariants as faults
-use Rattle.nap_reader.specs.declared.fault.Refusal.{Refusal}
-use Rattle.nap_reader.specs.declared.kind.Kind.{Kind}
 use Rattle.nap_reader.specs.declared.kind.Kind.TheVariants as kinds
-use Rattle.nap_reader.specs.Kinds.{kind_of}
 use Rattle.nap_reader.specs.Bodies as bodies
-use Rattle.nap_reader.specs.Bodies.{Mode, between, in_body, body_of, store_limit, body_front}
 use Rattle.nap_reader.specs.Course as course
-use Rattle.nap_reader.specs.Course.{Lessens, Stays, onward, continue}
-use Rattle.nap_draw.specs.Limits.{run_limit}
-use Rattle.nap_reader.specs.Stream.{Placed, Machine, Unfinished, Front, bytes_of, words_of, is_operand, run_length, refusal, all_at, drawn_front, closed_front, run_front, opcode_front, shown_front, code_front, place_at, front_by, after_body, bound_front, body_front_by, front_in, front, ends_of, left_of, outcome_from, placed_from, start_machine, begun}
+use Rattle.nap_reader.specs.Course.{Stays}
+use Rattle.nap_reader.specs.Stream.{run_front, left_of}
 use Rattle.nap_reader.proofs.BodyLemmas as settled
-use Rattle.nap_reader.proofs.BodyLemmas.{Settled, waits, ends, body_front-Settled, definition_length}
-use Rattle.nap_reader.proofs.CourseLemmas.{Falls, outcome-front, outcome-append, outcome-falls}
-
--- what is unread after a front and what is left then, taken together, are below this number
-data Shrinks (k : ℕ) : Front → Type 0 where
-  pauses : {u : Unfinished} → Shrinks k (course.pause u)
-  refuses : {r : Refusal} → Shrinks k (course.refuse r)
-  acts : {es : List Entry} {m : Machine} {xs : List Placed} → length xs + left_of m < k → Shrinks k (course.act es m xs)
-
-Shrinks-cond : {k : ℕ} (b : Bool) {x y : Front} → (b ≡ true → Shrinks k x) → (b ≡ false → Shrinks k y) → Shrinks k (cond b x y)
-Shrinks-cond {k} b {x} {y} f g = cond_both b x y (Shrinks k) f g
-
-Shrinks-more : {k n : ℕ} {f : Front} → k ≤ n → Shrinks k f → Shrinks n f
-Shrinks-more h pauses = pauses
-Shrinks-more h refuses = refuses
-Shrinks-more h (acts less) = acts (omega arith)
-
-Shrinks-act : {k : ℕ} {es : List Entry} {m : Machine} {xs : List Placed} → Shrinks k (course.act es m xs) → length xs + left_of m < k
-Shrinks-act (acts h) = h
-
-drawn_front-Shrinks : (m : Machine) (place : ℕ) (rest : List Placed) (by : Result Drawn DrawFault) (k : ℕ) →
-    length rest + left_of m < k → Shrinks k (drawn_front m place rest by)
-drawn_front-Shrinks m place rest (Ok drawn) k h = acts h
-drawn_front-Shrinks m place rest (Err fault) k h = refuses
-
-closed_front-Shrinks : (m : Machine) (op : Opcode) (place : ℕ) (run rest : List Placed) (k : ℕ) →
-    length rest + left_of m < k → Shrinks k (closed_front m op place run rest)
-closed_front-Shrinks m op place run [] k h = pauses
-closed_front-Shrinks m op place run (x ∷ xs) k h = drawn_front-Shrinks m place (x ∷ xs) (rule m.work op (words_of run)) k h
-
-opcode_front-Shrinks : (m : Machine) (op : Opcode) (place : ℕ) (xs : List Placed) (k : ℕ) →
-    length xs + left_of m < k → Shrinks k (opcode_front m op place xs)
-opcode_front-Shrinks m op place xs k h =
-    let run = take (run_length xs) xs in
-    let rest = drop (run_length xs) xs in
-    let less : length rest + left_of m < k = simp length-drop (omega arith) in
-    Shrinks-cond (ltb run_limit (length run)) (λ _. refuses) (λ _. closed_front-Shrinks m op place run rest k less)
+use Rattle.nap_reader.proofs.BodyLemmas.{Settled, waits, ends}
+use Rattle.nap_reader.proofs.CourseLemmas.{outcome-front, outcome-append, outcome-falls}
+use Rattle.nap_reader.proofs.FrontLemmas.{front-falls, front-lessens, settled_body}
 
 pub length-all_at : (place : ℕ) (bytes : List ℕ) → length (all_at place bytes) ≡ length bytes
 length-all_at place bytes = length-map bytes _
-
--- what is charged for the bytes is no less than they are
-shown_front-Shrinks : (m : Machine) (place : ℕ) (bytes : List ℕ) (rest : List Placed) (k : ℕ) →
-    length rest + left_of m < k → Shrinks k (shown_front m place bytes rest)
-shown_front-Shrinks m place bytes rest k h =
-    Shrinks-cond (ltb m.left (length bytes)) (λ _. refuses) (λ e.
-    let within : length bytes ≤ m.left = ltb-false m.left (length bytes) e in
-    let all : length (all_at place bytes ++ rest) ≡ length bytes + length rest =
-    length-append (all_at place bytes) rest ∙ ap (λ (n : ℕ). n + length rest) (length-all_at place bytes) in
-    acts (omega arith))
-
--- the fewest bytes that a code of this kind has
-abbrev least : Kind → ℕ
-least (kinds.Binds name show) = 2
-least _ = 1
-
-code_front-Shrinks : (m : Machine) (kind : Kind) (place : ℕ) (rest : List Placed) (k : ℕ) → m.mode ≡ between →
-    length rest + (least kind + m.left) ≤ k → Shrinks k (code_front m kind place rest)
-code_front-Shrinks m kind place rest k mode h = at kind h
-  where
-    still : ends_of m.mode ≡ 0
-    still = ap ends_of mode
-
-    at : (kind : Kind) → length rest + (least kind + m.left) ≤ k → Shrinks k (code_front m kind place rest)
-    at (kinds.Opens op) h = opcode_front-Shrinks m op place rest k (omega (arith, still))
-    at kinds.Strays h = refuses
-    at kinds.AddsNothing h = acts (omega (arith, still))
-    at (kinds.Acts c) h = drawn_front-Shrinks m place rest (code_rule m.work c) k (omega (arith, still))
-    at (kinds.Calls name) h = shown_front-Shrinks m place (body_of m.names name) rest k (omega (arith, still))
-    at (kinds.Binds name show) h =
-        drawn_front-Shrinks (record m { mode = in_body name show }) place rest (code_rule m.work (code.DefMacro name show)) k (omega (arith, still))
-
-least_of : (sets : CodeSets) (bytes : List ℕ) (c : Code) (n : ℕ) (after : CodeSets) → codes.front sets bytes ≡ codes.whole c n after → least (kind_of c) ≤ n
-least_of sets bytes (code.DefMacro name show) n after e = definition_length sets bytes name show n after e
-least_of sets bytes c n after e = (whole_length sets bytes c n after e).0
-
-front_by-Shrinks : (m : Machine) (xs : List Placed) (f : codes.Front) → codes.front m.sets (bytes_of xs) ≡ f → m.mode ≡ between →
-    Shrinks (length xs + m.left) (front_by m xs f)
-front_by-Shrinks m xs codes.unfinished e mode = pauses
-front_by-Shrinks m xs (codes.refused fault i) e mode = refuses
-front_by-Shrinks m xs (codes.whole c n sets) e mode =
-    let within = whole_length m.sets (bytes_of xs) c n sets e in
-    let few = least_of m.sets (bytes_of xs) c n sets e in
-    let same : length (bytes_of xs) ≡ length xs = length-map xs _ in
-    let behind : length (drop n xs) + (least (kind_of c) + m.left) ≤ length xs + m.left = simp length-drop (omega (arith, within.1, few, same)) in
-    code_front-Shrinks (record m { sets = sets }) (kind_of c) (place_at xs (n - 1)) (drop n xs) (length xs + m.left) mode behind
-
-bound_front-Shrinks : (m : Machine) (name : ℕ) (show : Bool) (n : ℕ) (xs : List Placed) → n + 2 ≤ length xs →
-    Shrinks (length xs + (m.left + 1)) (bound_front m name show n xs)
-bound_front-Shrinks m name false n xs h =
-    let behind : length (drop n xs) + m.left < length xs + (m.left + 1) = simp length-drop (omega arith) in
-    acts (omega arith)
-bound_front-Shrinks m name true n xs h =
-    let behind : length (drop (n + 2) xs) + m.left < length xs + (m.left + 1) = simp length-drop (omega arith) in
-    shown_front-Shrinks (after_body m name (take n (bytes_of xs))) (place_at xs (n + 1)) (take (n + 2) (bytes_of xs)) (drop (n + 2) xs) _ (omega arith)
-
-body_front_by-Shrinks : (m : Machine) (name : ℕ) (show : Bool) (xs : List Placed) {f g : bodies.BodyFront} → Settled (length xs) f g →
-    Shrinks (length xs + (m.left + 1)) (body_front_by m name show xs f)
-body_front_by-Shrinks m name show xs waits = pauses
-body_front_by-Shrinks m name show xs (settled.refuses within) = refuses
-body_front_by-Shrinks m name show xs (ends {k = k} within) = bound_front-Shrinks m name show k xs within
-
--- what is known of the body at the front of a list, where these come behind it
-settled_body : (m : Machine) (xs q : List Placed) →
-    Settled (length xs) (body_front (store_limit - m.stored) (bytes_of xs)) (body_front (store_limit - m.stored) (bytes_of xs ++ bytes_of q))
-settled_body m xs q =
-    subst (λ (n : ℕ). Settled n (body_front (store_limit - m.stored) (bytes_of xs)) (body_front (store_limit - m.stored) (bytes_of xs ++ bytes_of q)))
-    (length-map xs _) (body_front-Settled (store_limit - m.stored) (bytes_of xs) (bytes_of q))
-
-front-Shrinks : (m : Machine) (xs : List Placed) (mode : Mode) → m.mode ≡ mode → Shrinks (length xs + (m.left + ends_of mode)) (front_in mode m xs)
-front-Shrinks m xs between e = Shrinks-more (omega arith) (front_by-Shrinks m xs (codes.front m.sets (bytes_of xs)) refl e)
-front-Shrinks m xs (in_body name show) e = body_front_by-Shrinks m name show xs (settled_body m xs [])
-
-pub front-lessens : Lessens front left_of
-unfolding front
-front-lessens m xs es m' ys e =
-    let s = front-Shrinks m xs m.mode refl in
-    Shrinks-act (rw e at s)
 
 -- the second is the first with more input behind it
 data Kept (q : List Placed) : Front → Front → Type 0 where
@@ -318,60 +196,6 @@ pub begun-append : (budget : ℕ) (p q : List ℕ) → begun budget (p ++ q) ≡
 begun-append budget p q =
     ap (outcome_from (start_machine budget)) (placed_from-append 0 p q ∙ ap (λ (m : ℕ). placed_from 0 p ++ placed_from m q) (omega arith))
     ∙ outcome_from-append (start_machine budget) (placed_from 0 p) (placed_from (length p) q)
-
--- what is left to charge after a front is at most this
-data Spends (n : ℕ) : Front → Type 0 where
-  pauses : {u : Unfinished} → Spends n (course.pause u)
-  refuses : {r : Refusal} → Spends n (course.refuse r)
-  acts : {es : List Entry} {m : Machine} {xs : List Placed} → m.left ≤ n → Spends n (course.act es m xs)
-
-Spends-cond : {n : ℕ} (b : Bool) {x y : Front} → Spends n x → Spends n y → Spends n (cond b x y)
-Spends-cond true x y = x
-Spends-cond false x y = y
-
-Spends-act : {n : ℕ} {es : List Entry} {m : Machine} {xs : List Placed} → Spends n (course.act es m xs) → m.left ≤ n
-Spends-act (acts h) = h
-
-drawn_front-Spends : (m : Machine) (place : ℕ) (rest : List Placed) (by : Result Drawn DrawFault) → Spends m.left (drawn_front m place rest by)
-drawn_front-Spends m place rest (Ok drawn) = acts (omega arith)
-drawn_front-Spends m place rest (Err fault) = refuses
-
-closed_front-Spends : (m : Machine) (op : Opcode) (place : ℕ) (run rest : List Placed) → Spends m.left (closed_front m op place run rest)
-closed_front-Spends m op place run [] = pauses
-closed_front-Spends m op place run (x ∷ xs) = drawn_front-Spends m place (x ∷ xs) (rule m.work op (words_of run))
-
-shown_front-Spends : (m : Machine) (place : ℕ) (bytes : List ℕ) (rest : List Placed) → Spends m.left (shown_front m place bytes rest)
-shown_front-Spends m place bytes rest = Spends-cond (ltb m.left (length bytes)) refuses (acts (omega arith))
-
-code_front-Spends : (m : Machine) (kind : Kind) (place : ℕ) (rest : List Placed) → Spends m.left (code_front m kind place rest)
-code_front-Spends m (kinds.Opens op) place rest = Spends-cond _ refuses (closed_front-Spends m op place _ _)
-code_front-Spends m kinds.Strays place rest = refuses
-code_front-Spends m kinds.AddsNothing place rest = acts (omega arith)
-code_front-Spends m (kinds.Acts c) place rest = drawn_front-Spends m place rest (code_rule m.work c)
-code_front-Spends m (kinds.Calls name) place rest = shown_front-Spends m place (body_of m.names name) rest
-code_front-Spends m (kinds.Binds name show) place rest =
-    drawn_front-Spends (record m { mode = in_body name show }) place rest (code_rule m.work (code.DefMacro name show))
-
-front_by-Spends : (m : Machine) (xs : List Placed) (f : codes.Front) → Spends m.left (front_by m xs f)
-front_by-Spends m xs codes.unfinished = pauses
-front_by-Spends m xs (codes.refused fault i) = refuses
-front_by-Spends m xs (codes.whole c n sets) = code_front-Spends (record m { sets = sets }) (kind_of c) (place_at xs (n - 1)) (drop n xs)
-
-body_front_by-Spends : (m : Machine) (name : ℕ) (show : Bool) (xs : List Placed) (f : bodies.BodyFront) → Spends m.left (body_front_by m name show xs f)
-body_front_by-Spends m name show xs bodies.unfinished = pauses
-body_front_by-Spends m name show xs (bodies.refused fault i) = refuses
-body_front_by-Spends m name false xs (bodies.ended n) = acts (omega arith)
-body_front_by-Spends m name true xs (bodies.ended n) = shown_front-Spends (after_body m name (take n (bytes_of xs))) _ _ _
-
-front-Spends : (mode : Mode) (m : Machine) (xs : List Placed) → Spends m.left (front_in mode m xs)
-front-Spends between m xs = front_by-Spends m xs (codes.front m.sets (bytes_of xs))
-front-Spends (in_body name show) m xs = body_front_by-Spends m name show xs (body_front (store_limit - m.stored) (bytes_of xs))
-
-front-falls : Falls front (λ m. m.left)
-unfolding front
-front-falls m xs es m' ys e =
-    let s = front-Spends m.mode m xs in
-    Spends-act (rw e at s)
 
 -- what comes of a list leaves no more to charge
 pub outcome_from-left : (m : Machine) (xs : List Placed) → (outcome_from m xs).machine.left ≤ m.left

@@ -1,59 +1,33 @@
-use Rattle.std.proofs.Common.{ℕ, suc, ◌+◌, ◌-◌, ◌≡◌, ◌<◌, ◌≤◌, ◌⊎◌, List, [], ◌∷◌, ◌++◌, length, length-take, take, drop, get_or, All, Bool, true, false, cond, Option, Some, None, refl, ap, ap₂, sym, ◌∙◌, subst, inl, inr, arith, append-nil, append_assoc, length-append}
+use Rattle.std.proofs.Common.{ℕ, suc, ◌+◌, ◌-◌, ◌≡◌, ◌≢◌, ◌<◌, ◌≤◌, ◌⊎◌, List, [], ◌∷◌, ◌++◌, length, length-take, take, drop, get_or, All, Bool, true, false, cond, Option, Some, None, refl, ap, ap₂, sym, ◌∙◌, subst, inl, inr, arith, append-nil, append_assoc, length-append}
 use Rattle.std.proofs.Math.Seq.{take-append_seam, get_or-append_seam}
 use Rattle.std.proofs.lemmas.List.{take-take, get_or-drop, get_or-take, get_or_append_left, length-drop}
 use Rattle.std.proofs.lemmas.List.Elements.{All-head, All-tail}
-use Rattle.nap_codes.specs.declared.code.Code.TheVariants as code
-use Rattle.nap_codes.specs.declared.code_set.CharSet.{CharSet}
-use Rattle.nap_codes.specs.declared.code_set.CodeSets.{CodeSets}
-use Rattle.nap_codes.specs.declared.control.TextStep.{TextStep}
+use Rattle.nap_reader.specs.Below.{CharSet, CodeSets, TextStep, format_effector, Entry, Ghosts, SinkFault, IsTyped, HaltsAfter, shows_of, walk, fault_of, memory, device, stream}
+use Rattle.nap_reader.proofs.Common.{Fault, Refusal, Kind, Reader, between, AllCharacters, prepend, paused, onward, draw_fault, kind_of, code_front, drawn_front, Placed, Machine, Outcome, Unfinished, bytes_of, nothing, refusal, is_operand_byte, outcome_from, placed_from, begun, with_run, with_run_by, cause_of, closed_by, BreaksFrom, TookFront, TookPart, Holding, Continues, LeadsTo, IsBroken, Stands, StopsAt, budget_of, fed_of, left_of, sink_of, StopsText}
 use Rattle.nap_codes.specs.Front as codes
-use Rattle.nap_codes.specs.Laws.{IsGraphic}
-use Rattle.nap_codes.specs.Tables.{format_effector}
 use Rattle.nap_codes.proofs.PublicLaws.{format_effector_front}
-use Rattle.nap_list.specs.declared.entry.Entry.{Entry}
-use Rattle.nap_list.specs.declared.sink.Sink.{Ghosts}
-use Rattle.nap_list.specs.declared.sink.SinkFault.{SinkFault}
 use Rattle.nap_list.specs.declared.sink.SinkFault.TheVariants as sink_faults
 use Rattle.nap_list.specs.declared.state.State.{State}
-use Rattle.nap_list.specs.Batches.{IsTyped, typed}
-use Rattle.nap_list.specs.Putting.{HaltsAfter}
-use Rattle.nap_list.specs.Shown.{shows_of}
-use Rattle.nap_list.specs.State.{after, hand_of, walk}
+use Rattle.nap_list.specs.Batches.{typed}
+use Rattle.nap_list.specs.State.{after, hand_of}
 use Rattle.nap_draw.specs.Codes.{code_as, text, typed_code}
-use Rattle.nap_draw.specs.Draws.{fault_of, memory, device}
 use Rattle.nap_draw.specs.Rule.{drawn}
 use Rattle.nap_draw.proofs.PublicLaws.{typed_rule}
-use Rattle.nap_reader.specs.declared.fault.Fault.{Fault}
-use Rattle.nap_reader.specs.declared.fault.Refusal.{Refusal}
-use Rattle.nap_reader.specs.declared.kind.Kind.{Kind}
 use Rattle.nap_reader.specs.declared.kind.Kind.TheVariants as kinds
-use Rattle.nap_reader.specs.declared.reader.Reader.{Reader}
-use Rattle.nap_reader.specs.Bodies.{between}
-use Rattle.nap_reader.specs.Course.{prepend, paused, onward}
-use Rattle.nap_reader.specs.Faults.{draw_fault}
-use Rattle.nap_reader.specs.Kinds.{kind_of}
-use Rattle.nap_reader.specs.Stream.{code_front, drawn_front, Placed, Machine, Outcome, Unfinished, bytes_of, nothing, refusal, is_operand_byte, outcome_from, placed_from, begun, with_run, with_run_by}
-use Rattle.nap_reader.specs.Breaking.{cause_of, closed_by, BreaksFrom, TookFront, TookPart}
-use Rattle.nap_reader.specs.Holding.{Holding, Continues}
-use Rattle.nap_reader.specs.Standing.{IsBroken, StopsBy, Stands, StopsAt, left_of}
-use Rattle.nap_reader.specs.Steps.{StopsText}
 use Rattle.nap_reader.proofs.CourseLemmas.{prepend-append}
 use Rattle.nap_reader.proofs.HeldLemmas.{front_code, half_read_pauses}
 use Rattle.nap_reader.proofs.StreamLemmas.{bytes_of-placed, outcome_from-front}
 use Rattle.nap_reader.proofs.PartLemmas.{was_failed}
-use Rattle.nap_reader.proofs.LeadsLemmas.{TookMore, TookBroke, WantsMore, is_between, fails_part, leads_more}
+use Rattle.nap_reader.proofs.LeadsLemmas.{TookMore, TookBroke, is_between, fails_part, leads_more}
 use Rattle.nap_reader.proofs.ReadingLemmas.{nothing_yet, rest_of_nothing, is_half, holds_half}
 use Rattle.nap_reader.proofs.BreakingLemmas.{brings_breaks}
-use Rattle.nap_reader.proofs.PieceLemmas.{length_taken, taken_further}
+use Rattle.nap_reader.proofs.StandingLemmas.{Lawful}
+use Rattle.nap_reader.proofs.PieceLemmas.{length_taken, stops_by, taken_further}
 
 -- A stretch of a text is its characters, and the moves among them, in turn.
 
--- all bytes from 20 to 7F are by themselves characters of this set
-abbrev pub AreCharacters : CodeSets → CharSet → Type 0
-AreCharacters sets set = (b : ℕ) → IsGraphic b → codes.front sets (b ∷ []) ≡ codes.whole (code.Char set b) 1 sets
-
--- Then each byte of a text is the move that it is by itself, or such a character.
-are_typed : (sets : CodeSets) (set : CharSet) → AreCharacters sets set → (b : ℕ) → IsTyped b → codes.front sets (b ∷ []) ≡ codes.whole (typed_code set b) 1 sets
+-- Where all bytes from 20 to 7F are characters, each byte of a text is the move that it is by itself, or such a character.
+are_typed : (sets : CodeSets) (set : CharSet) → AllCharacters sets set → (b : ℕ) → IsTyped b → codes.front sets (b ∷ []) ≡ codes.whole (typed_code set b) 1 sets
 are_typed sets set are b is = by (format_effector b) refl
   where
     by : (step : Option TextStep) → format_effector b ≡ step → codes.front sets (b ∷ []) ≡ codes.whole (code_as step set b) 1 sets
@@ -82,12 +56,8 @@ one_char : (s : State) (set : CharSet) (b : ℕ) → text s set (b ∷ []) ≡ t
 unfolding text
 one_char s set b = refl
 
-no_text : (s : State) (set : CharSet) → text s set [] ≡ []
-unfolding text
-no_text s set = refl
-
 -- what comes of them is their text, and then what comes of the machine that they leave
-text_acts : (m : Machine) (set : CharSet) (xs pending : List Placed) → m.mode ≡ between → AreCharacters m.sets set → All IsTyped (bytes_of xs) →
+text_acts : (m : Machine) (set : CharSet) (xs pending : List Placed) → m.mode ≡ between → AllCharacters m.sets set → All IsTyped (bytes_of xs) →
     outcome_from m (xs ++ pending) ≡ prepend (text m.work.state set (bytes_of xs)) (outcome_from (with_text m set (bytes_of xs)) pending)
 unfolding text walk
 text_acts m set [] pending mode are all = refl
@@ -104,7 +74,7 @@ text_acts m set (x ∷ xs) pending mode are all =
     ∙ ap (prepend (e ∷ [])) (text_acts m' set xs pending mode are (All-tail IsTyped b (bytes_of xs) all))
 
 -- what comes of them alone
-text_comes : (m : Machine) (set : CharSet) (q : List ℕ) (n : ℕ) → m.mode ≡ between → AreCharacters m.sets set → All IsTyped q →
+text_comes : (m : Machine) (set : CharSet) (q : List ℕ) (n : ℕ) → m.mode ≡ between → AllCharacters m.sets set → All IsTyped q →
     outcome_from m (placed_from n q) ≡ prepend (text m.work.state set q) (paused (with_text m set q) [] (Some nothing))
 text_comes m set q n mode are all =
     let xs = placed_from n q in
@@ -125,20 +95,28 @@ closed_still o false known is none = ap (λ (u : Option Unfinished). (with_run_b
 
 -- Where the putting of a text halts.
 
--- so many of them were taken, and the next one wasn't, up to which memory may be wanting, or broke
-abbrev pub Halted : {S : Type 0} → Ghosts S → State → CharSet → List ℕ → ℕ → S → S → SinkFault → Type 0
-Halted g s set before b t u sink_faults.Memory = g.took t (text s set before) u × g.wants t (text s set before ++ typed_in (walk s (text s set before)) set b ∷ [])
-Halted g s set before b t u sink_faults.Write =
-    ((g.failed t ≡ true) × (u ≡ t) × (before ≡ [])) ⊎ g.broke t (text s set before) (typed_in (walk s (text s set before)) set b) u
+-- these were taken, and the next one wasn't, up to which memory may be wanting, or broke
+abbrev pub Halted : {S : Type 0} → Ghosts S → List Entry → Entry → S → S → SinkFault → Type 0
+Halted g es next t u sink_faults.Memory = g.took t es u × g.wants t (es ++ next ∷ [])
+Halted g es next t u sink_faults.Write = ((g.failed t ≡ true) × (u ≡ t) × (es ≡ [])) ⊎ g.broke t es next u
 
--- the text up to where its putting halts
+-- what a text draws up to where its putting halts
 pub record HaltsIn {S : Type 0} (g : Ghosts S) (s : State) (set : CharSet) (q : List ℕ) (i : ℕ) (t u : S) (fault : SinkFault) : Type 0 where
-  pub before : List ℕ
-  pub byte : ℕ
-  pub behind : List ℕ
-  pub parts : q ≡ before ++ byte ∷ behind
-  pub count : i ≡ length before
-  pub halted : Halted g s set before byte t u fault
+  pub es : List Entry
+  pub next : Entry
+  pub rest : List Entry
+  pub parts : text s set q ≡ es ++ next ∷ rest
+  pub count : i ≡ length es
+  pub halted : Halted g es next t u fault
+
+pub halts_in : {S : Type 0} (g : Ghosts S) (s : State) (set : CharSet) (q : List ℕ) (i : ℕ) (t u : S) (fault : SinkFault) → 0 < length q →
+    HaltsAfter (shows_of g) (text s set q) t u i fault → HaltsIn g s set q i t u fault
+unfolding text
+halts_in g s set q i t u sink_faults.Memory some h = record { es = h.front; next = h.next; rest = h.rest; parts = h.parts; count = sym h.count; halted = (h.taken, h.wants) }
+halts_in g s set [] i t u sink_faults.Write some (inl h) = absurd (omega arith)
+halts_in g s set (b ∷ q) i t u sink_faults.Write some (inl h) =
+    record { es = []; next = typed_in s set b; rest = text (after s (typed_in s set b)) set q; parts = refl; count = h.2; halted = inl (h.0, h.1, refl) }
+halts_in g s set q i t u sink_faults.Write some (inr h) = record { es = h.front; next = h.next; rest = h.rest; parts = h.parts; count = sym h.count; halted = inr h.broken }
 
 -- the first entries of a text are the text of its first bytes, and the next one is what the byte behind them draws
 pub record IsTextOf (s : State) (set : CharSet) (q : List ℕ) (es : List Entry) (e : Entry) : Type 0 where
@@ -163,64 +141,34 @@ behind_one s set b q e es next first k = record {
   count = ap suc k.count;
 }
 
-text_parts : (s : State) (set : CharSet) (q : List ℕ) (front : List Entry) (next : Entry) (rest : List Entry) → text s set q ≡ front ++ next ∷ rest → IsTextOf s set q front next
+pub text_parts : (s : State) (set : CharSet) (q : List ℕ) (front : List Entry) (next : Entry) (rest : List Entry) → text s set q ≡ front ++ next ∷ rest → IsTextOf s set q front next
 unfolding text walk
 text_parts s set [] [] next rest e = let bad : ⊥ = cc in absurd bad
 text_parts s set [] (first ∷ front) next rest e = let bad : ⊥ = cc in absurd bad
 text_parts s set (b ∷ q) [] next rest e = record { before = []; byte = b; behind = q; parts = refl; front = refl; next = cc; count = refl }
 text_parts s set (b ∷ q) (first ∷ front) next rest e = behind_one s set b q first front next (cc) (text_parts (after s (typed_in s set b)) set q front next rest (cc))
 
-pub halts_in : {S : Type 0} (g : Ghosts S) (s : State) (set : CharSet) (q : List ℕ) (i : ℕ) (t u : S) (fault : SinkFault) → 0 < length q →
-    HaltsAfter (shows_of g) (text s set q) t u i fault → HaltsIn g s set q i t u fault
-halts_in g s set q i t u sink_faults.Memory some h =
-    let k = text_parts s set q h.front h.next h.rest h.parts in
-    record {
-      before = k.before;
-      byte = k.byte;
-      behind = k.behind;
-      parts = k.parts;
-      count = sym h.count ∙ k.count;
-      halted = (
-        subst (λ (es : List Entry). g.took t es u) k.front h.taken,
-        subst (λ (e : Entry). g.wants t (text s set k.before ++ e ∷ [])) k.next (subst (λ (es : List Entry). g.wants t (es ++ h.next ∷ [])) k.front h.wants),
-      );
-    }
-halts_in g s set [] i t u sink_faults.Write some (inl h) = absurd (omega arith)
-halts_in g s set (b ∷ q) i t u sink_faults.Write some (inl h) = record {
-  before = [];
-  byte = b;
-  behind = q;
-  parts = refl;
-  count = h.2;
-  halted = inl (h.0, h.1, refl);
-}
-halts_in g s set q i t u sink_faults.Write some (inr h) =
-    let k = text_parts s set q h.front h.next h.rest h.parts in
-    record {
-      before = k.before;
-      byte = k.byte;
-      behind = k.behind;
-      parts = k.parts;
-      count = sym h.count ∙ k.count;
-      halted = inr (subst (λ (e : Entry). g.broke t (text s set k.before) e u) k.next (subst (λ (es : List Entry). g.broke t es h.next u) k.front h.broken));
-    }
-
-pub halts_less : {S : Type 0} (g : Ghosts S) (s : State) (set : CharSet) (q : List ℕ) (i : ℕ) (t u : S) (fault : SinkFault) → 0 < length q →
-    HaltsAfter (shows_of g) (text s set q) t u i fault → i < length q
+pub halts_less : {S : Type 0} (g : Ghosts S) (s : State) (set : CharSet) (q : List ℕ) (i : ℕ) (t u : S) (fault : SinkFault) → 0 < length q → HaltsAfter (shows_of g) (text s set q) t u i fault → i < length q
 halts_less g s set q i t u fault some h =
-    let k = halts_in g s set q i t u fault some h in
-    let whole = ap (λ (xs : List ℕ). length xs) k.parts in
-    omega (arith, k.count, whole, length-append k.before (k.byte ∷ k.behind))
+    let halt = halts_in g s set q i t u fault some h in
+    let is = text_parts s set q halt.es halt.next halt.rest halt.parts in
+    omega (arith, halt.count, is.count, ap (λ (xs : List ℕ). length xs) is.parts, length-append is.before (is.byte ∷ is.behind))
 
--- Nothing is held back, and characters pend before other bytes.
-module _ {S : Type 0} (g : Ghosts S) (s : S) (o : Outcome) (t : S) (h : Holding) (xs pending : List Placed) (k : Continues g s o t h (xs ++ pending))
-    (no_body : h.open_body ≡ None) (closed : h.open_run ≡ None) (none : h.half ≡ []) (set : CharSet) (are : AreCharacters h.machine.sets set) (all : All IsTyped (bytes_of xs)) where
+-- Nothing is held back, and all bytes from 20 to 7F are characters of this set.
+pub record InText (h : Holding) (set : CharSet) : Type 0 where
+  pub between : h.open_body ≡ None
+  pub closed : h.open_run ≡ None
+  pub rested : h.half ≡ []
+  pub chars : AllCharacters h.machine.sets set
+
+-- Characters pend before other bytes.
+module _ {S : Type 0} {g : Ghosts S} {s : S} {o : Outcome} {t : S} {h : Holding} {set : CharSet} (xs pending : List Placed) (k : Continues g s o t h (xs ++ pending)) (in_text : InText h set) (all : All IsTyped (bytes_of xs)) where
   acts : o ≡ prepend (k.done ++ text h.machine.work.state set (bytes_of xs)) (outcome_from (with_text h.machine set (bytes_of xs)) pending)
   acts =
-      let empty : k.rest ≡ [] = rest_of_nothing k.rest ((is_half h k.rest no_body closed k.held).0 ∙ none) in
+      let empty : k.rest ≡ [] = rest_of_nothing k.rest ((is_half h k.rest in_text.between in_text.closed k.held).0 ∙ in_text.rested) in
       k.leads
       ∙ ap (λ (ys : List Placed). prepend k.done (outcome_from h.machine (ys ++ (xs ++ pending)))) empty
-      ∙ ap (prepend k.done) (text_acts h.machine set xs pending (is_between h k.rest no_body k.held).mode are all)
+      ∙ ap (prepend k.done) (text_acts h.machine set xs pending (is_between h k.rest in_text.between k.held).mode in_text.chars all)
       ∙ sym (prepend-append k.done (text h.machine.work.state set (bytes_of xs)) (outcome_from (with_text h.machine set (bytes_of xs)) pending))
 
   -- all of them were taken
@@ -228,95 +176,85 @@ module _ {S : Type 0} (g : Ghosts S) (s : S) (o : Outcome) (t : S) (h : Holding)
       Continues g s o u (record h { machine = with_text h.machine set (bytes_of xs) }) pending
   text_passes u more took clear =
       let h' : Holding = record h { machine = with_text h.machine set (bytes_of xs) } in
-      let held = is_between h k.rest no_body k.held in
+      let held = is_between h k.rest in_text.between k.held in
       record {
         done = k.done ++ text h.machine.work.state set (bytes_of xs);
         taken = more s t u k.done (text h.machine.work.state set (bytes_of xs)) k.taken took;
         clear = λ before. clear (k.clear before);
         rest = [];
-        held = holds_half h' [] no_body held.mode held.body closed (sym none) (ap (codes.front h.machine.sets) none ∙ nothing_yet h.machine.sets);
+        held = holds_half h' [] in_text.between held.mode held.body in_text.closed (sym in_text.rested) (ap (codes.front h.machine.sets) in_text.rested ∙ nothing_yet h.machine.sets);
         leads = acts;
       }
 
   -- one of them wasn't taken, or broke
-  pub text_breaks_off : (i : ℕ) (u : S) (fault : SinkFault) → TookMore g → TookBroke g → HaltsIn g h.machine.work.state set (bytes_of xs) i t u fault →
+  pub text_breaks_off : {i : ℕ} {u : S} {fault : SinkFault} → TookMore g → TookBroke g → HaltsIn g h.machine.work.state set (bytes_of xs) i t u fault →
       BreaksFrom g s [] o u (cause_of (draw_fault (fault_of fault)))
-  unfolding text
-  text_breaks_off i u fault more broken halt = record { more = o.entries; adds = refl; part = at fault halt.halted }
+  text_breaks_off {i} {u} {fault} more broken halt = record { more = o.entries; adds = refl; part = at fault halt.halted }
     where
-      state : State
-      state = h.machine.work.state
+      behind : List Entry
+      behind = (outcome_from (with_text h.machine set (bytes_of xs)) pending).entries
 
       first : List Entry
-      first = k.done ++ text state set halt.before
+      first = k.done ++ halt.es
 
-      next : Entry
-      next = typed_in (walk state (text state set halt.before)) set halt.byte
-
-      rest : List Entry
-      rest = text (after (walk state (text state set halt.before)) next) set halt.behind ++ (outcome_from (with_text h.machine set (bytes_of xs)) pending).entries
-
-      parts : o.entries ≡ first ++ next ∷ rest
+      parts : o.entries ≡ first ++ halt.next ∷ (halt.rest ++ behind)
       parts =
-          let behind = (outcome_from (with_text h.machine set (bytes_of xs)) pending).entries in
-          ap (λ (o : Outcome). o.entries) acts
-          ∙ ap (λ (es : List Entry). (k.done ++ es) ++ behind) (ap (text state set) halt.parts ∙ text_more state set halt.before (halt.byte ∷ halt.behind))
-          ∙ ap (λ (es : List Entry). es ++ behind) (sym (append_assoc k.done (text state set halt.before) (text (walk state (text state set halt.before)) set (halt.byte ∷ halt.behind))))
-          ∙ append_assoc first (text (walk state (text state set halt.before)) set (halt.byte ∷ halt.behind)) behind
+          ap (λ (o : Outcome). o.entries) acts ∙ ap (λ (es : List Entry). (k.done ++ es) ++ behind) halt.parts
+          ∙ ap (λ (es : List Entry). es ++ behind) (sym (append_assoc k.done halt.es (halt.next ∷ halt.rest))) ∙ append_assoc first (halt.next ∷ halt.rest) behind
 
-      at : (fault : SinkFault) → Halted g state set halt.before halt.byte t u fault → TookFront g s [] o.entries u (cause_of (draw_fault (fault_of fault)))
-      at sink_faults.Memory (took, wants) = (first, next ∷ rest, parts, more s t u k.done (text state set halt.before) k.taken took)
+      at : (fault : SinkFault) → Halted g halt.es halt.next t u fault → TookFront g s [] o.entries u (cause_of (draw_fault (fault_of fault)))
+      at sink_faults.Memory (took, wants) = (first, halt.next ∷ (halt.rest ++ behind), parts, more s t u k.done halt.es k.taken took)
       at sink_faults.Write (inl (failed, stays, empty)) =
-          let none : text state set halt.before ≡ [] = ap (text state set) empty ∙ no_text state set in
           inl (
             was_failed g s t k.clear failed,
             (
               first,
-              next ∷ rest,
+              halt.next ∷ (halt.rest ++ behind),
               parts,
-              subst (λ (es : List Entry). g.took s es u) (sym (ap (λ (es : List Entry). k.done ++ es) none ∙ append-nil k.done)) (subst (g.took s k.done) (sym stays) k.taken),
+              subst (λ (es : List Entry). g.took s es u) (sym (ap (λ (es : List Entry). k.done ++ es) empty ∙ append-nil k.done)) (subst (g.took s k.done) (sym stays) k.taken),
             ),
           )
-      at sink_faults.Write (inr broke) = inr (first, next, rest, parts, broken s t u k.done (text state set halt.before) next k.taken broke)
+      at sink_faults.Write (inr broke) = inr (first, halt.next, halt.rest ++ behind, parts, broken s t u k.done halt.es halt.next k.taken broke)
 
--- Nothing is held back, and characters come.
-module _ {S : Type 0} (g : Ghosts S) (s : S) (budget : ℕ) (p : List ℕ) (t : S) (h : Holding) (k : Continues g s (begun budget p) t h [])
-    (no_body : h.open_body ≡ None) (closed : h.open_run ≡ None) (none : h.half ≡ []) (set : CharSet) (are : AreCharacters h.machine.sets set) where
+-- Characters come.
+module _ {S : Type 0} {g : Ghosts S} {s : S} {t : S} {h : Holding} {set : CharSet} (budget : ℕ) (p : List ℕ) (k : Continues g s (begun budget p) t h []) (in_text : InText h set) where
   comes : (q : List ℕ) → All IsTyped q → begun budget (p ++ q) ≡ prepend (k.done ++ text h.machine.work.state set q) (paused (with_text h.machine set q) [] (Some nothing))
   unfolding leads_more
   comes q all =
-      let empty : k.rest ≡ [] = rest_of_nothing k.rest ((is_half h k.rest no_body closed k.held).0 ∙ none) in
+      let empty : k.rest ≡ [] = rest_of_nothing k.rest ((is_half h k.rest in_text.between in_text.closed k.held).0 ∙ in_text.rested) in
       (leads_more g s budget p q t h k).leads
       ∙ ap (λ (xs : List Placed). prepend k.done (outcome_from h.machine (xs ++ placed_from (length p) q))) empty
-      ∙ ap (prepend k.done) (text_comes h.machine set q (length p) (is_between h k.rest no_body k.held).mode are all)
+      ∙ ap (prepend k.done) (text_comes h.machine set q (length p) (is_between h k.rest in_text.between k.held).mode in_text.chars all)
       ∙ sym (prepend-append k.done (text h.machine.work.state set q) (paused (with_text h.machine set q) [] (Some nothing)))
 
   -- the next one wasn't taken, or broke
-  text_breaks : (before : List ℕ) (b : ℕ) (behind : List ℕ) → All IsTyped (before ++ b ∷ behind) → (u : S) (left : ℕ) (r : Refusal) → left ≡ h.machine.left → r.place ≡ length (p ++ before) →
-      (cause_of r.fault ≡ memory → g.wants s ((k.done ++ text h.machine.work.state set before) ++ typed_in (walk h.machine.work.state (text h.machine.work.state set before)) set b ∷ [])) →
-      TookPart g s (k.done ++ text h.machine.work.state set before) (typed_in (walk h.machine.work.state (text h.machine.work.state set before)) set b ∷ []) u (cause_of r.fault) →
-      IsBroken g s budget (p ++ before) b u left r
-  text_breaks before b behind all u left r same place wants part =
+  text_breaks : {q : List ℕ} {i : ℕ} {u : S} {fault : SinkFault} {left : ℕ} {r : Refusal} (halt : HaltsIn g h.machine.work.state set q i t u fault) (is : IsTextOf h.machine.work.state set q halt.es halt.next) → All IsTyped q → left ≡ h.machine.left →
+      r.place ≡ length p + i → (cause_of r.fault ≡ memory → g.wants s ((k.done ++ halt.es) ++ halt.next ∷ [])) → TookPart g s (k.done ++ halt.es) (halt.next ∷ []) u (cause_of r.fault) →
+      IsBroken g s budget (p ++ is.before) is.byte u left r
+  text_breaks {u = u} {r = r} halt is typed same place wants part =
+      let before = is.before in
+      let b = is.byte in
+      let all = subst (All IsTyped) is.parts typed in
       let s' = h.machine.work.state in
-      let known = k.done ++ text s' set before in
-      let next = typed_in (walk s' (text s' set before)) set b in
+      let known = k.done ++ halt.es in
       let past : Outcome = prepend known (paused (with_text h.machine set before) [] (Some nothing)) in
-      let there : begun budget (p ++ before) ≡ past = comes before (all_front before (b ∷ behind) all) in
-      let one = all_front (before ++ b ∷ []) behind (subst (All IsTyped) (sym (append_assoc before (b ∷ []) behind)) all) in
+      let there : begun budget (p ++ before) ≡ past =
+      comes before (all_front before (b ∷ is.behind) all) ∙ ap (λ (es : List Entry). prepend (k.done ++ es) (paused (with_text h.machine set before) [] (Some nothing))) (sym is.front) in
+      let one = all_front (before ++ b ∷ []) is.behind (subst (All IsTyped) (sym (append_assoc before (b ∷ []) is.behind)) all) in
       let further = ap (begun budget) (append_assoc p before (b ∷ [])) ∙ comes (before ++ b ∷ []) one in
       let still = λ (word : Bool). closed_still past word known (append-nil known) refl in
       record {
         before = ap (λ (o : Outcome). o.refusal) there;
         breaks =
-            brings_breaks g s budget (p ++ before) b u r known (sym (ap (λ (o : Outcome). (closed_by o b).entries) there ∙ still (is_operand_byte b))) place
+            brings_breaks g s budget (p ++ before) b u r (sym (ap (λ (o : Outcome). (closed_by o b).entries) there ∙ still (is_operand_byte b))) (omega (arith, place, halt.count, is.count, length-append p before))
             (record {
-              more = next ∷ [];
+              more = halt.next ∷ [];
               some = λ none. let bad : ⊥ = cc in bad;
               adds =
                   ap (λ (o : Outcome). o.entries) further
                   ∙ append-nil (k.done ++ text s' set (before ++ b ∷ []))
-                  ∙ ap (λ (es : List Entry). k.done ++ es) (text_more s' set before (b ∷ []) ∙ ap (λ (es : List Entry). text s' set before ++ es) (one_char (walk s' (text s' set before)) set b))
-                  ∙ sym (append_assoc k.done (text s' set before) (next ∷ []));
+                  ∙ ap (λ (es : List Entry). k.done ++ es) (text_more s' set before (b ∷ []) ∙ ap (λ (es : List Entry). text s' set before ++ es) (one_char (walk s' (text s' set before)) set b)
+                  ∙ ap₂ (λ (es : List Entry) (e : Entry). es ++ e ∷ []) (sym is.front) (sym is.next)) ∙ sym (append_assoc k.done halt.es (halt.next ∷ []));
               unrefused = ap (λ (o : Outcome). o.refusal) further;
               wants = wants;
               part = part;
@@ -325,66 +263,54 @@ module _ {S : Type 0} (g : Ghosts S) (s : S) (budget : ℕ) (p : List ℕ) (t : 
         charged = let is = ap (λ (o : Outcome). o.machine.left) further in omega (arith, is, same);
       }
 
-  text_broken : (q : List ℕ) → All IsTyped q → (i : ℕ) (u : S) (fault : SinkFault) → TookMore g → TookBroke g → WantsMore g →
-      (halt : HaltsIn g h.machine.work.state set q i t u fault) → (left : ℕ) → left ≡ h.machine.left → (place : ℕ) → place ≡ length p + i →
-      IsBroken g s budget (p ++ halt.before) halt.byte u left (refusal (draw_fault (fault_of fault)) place)
-  text_broken q all i u sink_faults.Memory more broken law halt left same place there =
-      let before = halt.before in
-      let front = text h.machine.work.state set before in
-      let next = typed_in (walk h.machine.work.state front) set halt.byte in
-      let joined : k.done ++ ((front ++ next ∷ []) ++ []) ≡ (k.done ++ front) ++ next ∷ [] =
-      ap (λ (es : List Entry). k.done ++ es) (append-nil (front ++ next ∷ [])) ∙ sym (append_assoc k.done front (next ∷ [])) in
-      text_breaks before halt.byte halt.behind (subst (All IsTyped) halt.parts all) u left (refusal (draw_fault (fault_of sink_faults.Memory)) place) same (omega (arith, there, halt.count, length-append p before))
-      (λ _. subst (g.wants s) joined (law s t k.done (front ++ next ∷ []) [] k.taken halt.halted.1))
-      (inl (more s t u k.done front k.taken halt.halted.0))
-  text_broken q all i u sink_faults.Write more broken law halt left same place there =
-      let before = halt.before in
-      text_breaks before halt.byte halt.behind (subst (All IsTyped) halt.parts all) u left (refusal (draw_fault (fault_of sink_faults.Write)) place) same (omega (arith, there, halt.count, length-append p before))
-      (λ is. let bad : ⊥ = cc in absurd bad) (part halt.halted)
+  text_broken : {q : List ℕ} {i : ℕ} {u : S} (fault : SinkFault) {left place : ℕ} → Lawful g → (halt : HaltsIn g h.machine.work.state set q i t u fault) (is : IsTextOf h.machine.work.state set q halt.es halt.next) → All IsTyped q →
+      left ≡ h.machine.left → place ≡ length p + i → IsBroken g s budget (p ++ is.before) is.byte u left (refusal (draw_fault (fault_of fault)) place)
+  text_broken {u = u} sink_faults.Memory laws halt is all same there =
+      let joined : k.done ++ ((halt.es ++ halt.next ∷ []) ++ []) ≡ (k.done ++ halt.es) ++ halt.next ∷ [] =
+      ap (λ (es : List Entry). k.done ++ es) (append-nil (halt.es ++ halt.next ∷ [])) ∙ sym (append_assoc k.done halt.es (halt.next ∷ [])) in
+      text_breaks halt is all same there (λ _. subst (g.wants s) joined (laws.wants s t k.done (halt.es ++ halt.next ∷ []) [] k.taken halt.halted.1)) (inl (laws.more s t u k.done halt.es k.taken halt.halted.0))
+  text_broken {u = u} sink_faults.Write laws halt is all same there = text_breaks halt is all same there (λ own. let bad : ⊥ = cc in absurd bad) (part halt.halted)
     where
-      part : Halted g h.machine.work.state set halt.before halt.byte t u sink_faults.Write →
-          TookPart g s (k.done ++ text h.machine.work.state set halt.before) (typed_in (walk h.machine.work.state (text h.machine.work.state set halt.before)) set halt.byte ∷ []) u device
+      part : Halted g halt.es halt.next t u sink_faults.Write → TookPart g s (k.done ++ halt.es) (halt.next ∷ []) u device
       part (inl (failed, stays, empty)) =
-          let known = k.done ++ text h.machine.work.state set halt.before in
-          let nothing_more = ap (λ (es : List Entry). k.done ++ es) (ap (text h.machine.work.state set) empty ∙ no_text h.machine.work.state set) ∙ append-nil k.done in
-          fails_part g s t u known _ (subst (λ (es : List Entry). g.took s es t) (sym nothing_more) k.taken) broken k.clear (inl (failed, stays))
-      part (inr broke) =
-          let known = k.done ++ text h.machine.work.state set halt.before in
-          let next = typed_in (walk h.machine.work.state (text h.machine.work.state set halt.before)) set halt.byte in
-          inr ([], next, [], refl, subst (λ (es : List Entry). g.broke s es next u) (sym (append-nil known)) (broken s t u k.done (text h.machine.work.state set halt.before) next k.taken broke))
+          fails_part g s t u (k.done ++ halt.es) _ (subst (λ (es : List Entry). g.took s es t) (sym (ap (λ (es : List Entry). k.done ++ es) empty ∙ append-nil k.done)) k.taken) laws.broken k.clear (inl (failed, stays))
+      part (inr broke) = inr ([], halt.next, [], refl, subst (λ (es : List Entry). g.broke s es halt.next u) (sym (append-nil (k.done ++ halt.es))) (laws.broken s t u k.done halt.es halt.next k.taken broke))
+
+-- it is no refusal of the stream's own
+pub not_own : (fault : SinkFault) → cause_of (draw_fault (fault_of fault)) ≢ stream
+not_own sink_faults.Memory is = let bad : ⊥ = cc in bad
+not_own sink_faults.Write is = let bad : ⊥ = cc in bad
 
 -- Where a reading of the piece stops in characters: at the byte with this index.
-pub text_stops : {S : Type 0} {g : Ghosts S} (old new : Reader S g) (piece : List ℕ) (at : ℕ) (t : S) (h : Holding) (q : List ℕ) (i : ℕ) (r : Refusal) → old.refusal ≡ None → at ≤ length piece → left_of new ≡ h.machine.left →
-    ((s : S) (p : List ℕ) → Stands old s p → Continues g s (begun old.budget (p ++ take at piece)) t h []) → StopsText g t h q i new.sink r → take (length q) (drop at piece) ≡ q → r.place ≡ old.fed + at + i →
-    TookMore g → TookBroke g → WantsMore g → new.fed ≡ old.fed + at + (i + 1) → StopsAt old new piece r (at + i)
-text_stops {S} {g} old new piece at t h q i r live within left alone stops front place more broken law fed =
-    let less = halts_less g h.machine.work.state stops.set q i t new.sink stops.fault stops.some stops.halts in
-    let halt = halts_in g h.machine.work.state stops.set q i t new.sink stops.fault stops.some stops.halts in
+pub text_stops : {S : Type 0} {g : Ghosts S} {old : Reader S g} {piece : List ℕ} {at : ℕ} {t : S} {h : Holding} {frames : List Placed} {q : List ℕ} {i : ℕ} {r : Refusal} (new : Reader S g) → LeadsTo old piece at t h frames → frames ≡ [] → left_of new ≡ h.machine.left →
+    Lawful g → StopsText g t h q i (sink_of new) r → take (length q) (drop at piece) ≡ q → r.place ≡ fed_of old + at + i → fed_of new ≡ fed_of old + at + (i + 1) → StopsAt old new piece r (at + i)
+text_stops {S} {g} {old} {piece} {at} {t} {h} {q = q} {i = i} {r = r} new leads empty left laws stops front place fed =
+    let halt = halts_in g h.machine.work.state stops.set q i t (sink_of new) stops.fault stops.some stops.halts in
+    let is = text_parts h.machine.work.state stops.set q halt.es halt.next halt.rest halt.parts in
+    let count : i ≡ length is.before = halt.count ∙ is.count in
+    let less = halts_less g h.machine.work.state stops.set q i t (sink_of new) stops.fault stops.some stops.halts in
     let long : length q ≤ length piece - at = omega (arith, sym (ap length front), length-take (length q) (drop at piece), length-drop at piece) in
-    let first : take (length halt.before) (drop at piece) ≡ halt.before =
-    ap (λ (j : ℕ). take j (drop at piece)) (sym halt.count)
-    ∙ sym (take-take i (length q) (drop at piece) (omega (arith, less))) ∙ ap (take i) (front ∙ halt.parts) ∙ ap (λ (j : ℕ). take j (halt.before ++ halt.byte ∷ halt.behind)) halt.count
-    ∙ take-append_seam halt.before (halt.byte ∷ halt.behind) in
-    let there : get_or piece (at + i) 0 ≡ halt.byte =
+    let first : take (length is.before) (drop at piece) ≡ is.before =
+    ap (λ (j : ℕ). take j (drop at piece)) (sym count)
+    ∙ sym (take-take i (length q) (drop at piece) (omega (arith, less))) ∙ ap (take i) (front ∙ is.parts) ∙ ap (λ (j : ℕ). take j (is.before ++ is.byte ∷ is.behind)) count
+    ∙ take-append_seam is.before (is.byte ∷ is.behind) in
+    let there : get_or piece (at + i) 0 ≡ is.byte =
     sym (get_or-drop at piece i 0)
-    ∙ sym (get_or-take (length q) (drop at piece) i 0 less) ∙ ap (λ (xs : List ℕ). get_or xs i 0) (front ∙ halt.parts)
-    ∙ ap (λ (j : ℕ). get_or (halt.before ++ halt.byte ∷ halt.behind) j 0) halt.count ∙ get_or-append_seam halt.before halt.byte halt.behind 0 in
-    let stopped = λ (s : S) (p : List ℕ) (stood : Stands old s p).
-    subst (λ (q : List ℕ). IsBroken g s old.budget q (get_or piece (at + i) 0) new.sink (left_of new) (refusal (draw_fault (fault_of stops.fault)) r.place))
-    (taken_further p piece halt.before at first ∙ ap (λ (j : ℕ). p ++ take (at + j) piece) (sym halt.count))
-    (subst (λ (b : ℕ). IsBroken g s old.budget ((p ++ take at piece) ++ halt.before) b new.sink (left_of new) (refusal (draw_fault (fault_of stops.fault)) r.place)) (sym there)
-    (text_broken g s old.budget (p ++ take at piece) t h (alone s p stood) stops.between stops.closed stops.rested stops.set stops.chars q stops.typed i new.sink stops.fault more broken law halt
-    (left_of new) left r.place (omega (arith, place, length_taken p piece at within, stood.fed live)))) in
+    ∙ sym (get_or-take (length q) (drop at piece) i 0 less) ∙ ap (λ (xs : List ℕ). get_or xs i 0) (front ∙ is.parts)
+    ∙ ap (λ (j : ℕ). get_or (is.before ++ is.byte ∷ is.behind) j 0) count ∙ get_or-append_seam is.before is.byte is.behind 0 in
+    let reason : refusal (draw_fault (fault_of stops.fault)) r.place ≡ r = ap (λ (f : Fault). refusal f r.place) (sym stops.why) in
+    let broken = λ (s : S) (p : List ℕ) (stood : Stands old s p).
+    subst (IsBroken g s (budget_of old) (p ++ take (at + i) piece) (get_or piece (at + i) 0) (sink_of new) (left_of new)) reason
+    (subst (λ (q : List ℕ). IsBroken g s (budget_of old) q (get_or piece (at + i) 0) (sink_of new) (left_of new) (refusal (draw_fault (fault_of stops.fault)) r.place))
+    (taken_further p piece is.before at first ∙ ap (λ (j : ℕ). p ++ take (at + j) piece) (sym count))
+    (subst (λ (b : ℕ). IsBroken g s (budget_of old) ((p ++ take at piece) ++ is.before) b (sink_of new) (left_of new) (refusal (draw_fault (fault_of stops.fault)) r.place)) (sym there)
+    (text_broken {set = stops.set} (budget_of old) (p ++ take at piece) (leads.alone empty s p stood) (record { between = stops.between; closed = stops.closed; rested = stops.rested; chars = stops.chars }) stops.fault laws halt is stops.typed left
+    (omega (arith, place, length_taken p piece at leads.within, stood.fed leads.live))))) in
     record {
-      within = omega (arith, less, long, within);
+      within = omega (arith, less, long, leads.within);
       fed = omega (arith, fed);
-      before = λ s p stood. (stopped s p stood).before;
+      before = λ s p stood. (broken s p stood).before;
       there = λ s p stood.
-          subst (λ (r : Refusal). StopsBy g s old.budget (p ++ take (at + i) piece) (get_or piece (at + i) 0) new.sink (left_of new) r (cause_of r.fault))
-          (ap (λ (f : Fault). refusal f r.place) (sym stops.why)) (by_fault stops.fault s (p ++ take (at + i) piece) (get_or piece (at + i) 0) r.place (stopped s p stood));
+          stops_by s (budget_of old) (p ++ take (at + i) piece) (get_or piece (at + i) 0) (sink_of new) (left_of new) r (λ own. absurd (not_own stops.fault (ap (λ (r : Refusal). cause_of r.fault) reason ∙ own)))
+          (λ _. broken s p stood);
     }
-  where
-    by_fault : (fault : SinkFault) (s : S) (p : List ℕ) (b place : ℕ) → IsBroken g s old.budget p b new.sink (left_of new) (refusal (draw_fault (fault_of fault)) place) →
-        StopsBy g s old.budget p b new.sink (left_of new) (refusal (draw_fault (fault_of fault)) place) (cause_of (draw_fault (fault_of fault)))
-    by_fault sink_faults.Memory s p b place h = h
-    by_fault sink_faults.Write s p b place h = h

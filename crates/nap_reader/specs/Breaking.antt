@@ -1,8 +1,6 @@
 use Rattle.std.specs.Prelude.{◌≡◌, ◌≢◌, ◌<◌, ◌⊎◌, ◌++◌, ℕ, true, false, List, [], ◌∷◌, Option, Some, None, IsSome, if◌then◌else◌, length, take, slice_index}
-use Rattle.nap_list.specs.declared.sink.Sink.{Ghosts}
-use Rattle.nap_list.specs.declared.entry.Entry.{Entry}
+use Rattle.nap_reader.specs.Below.{Ghosts, Entry, Cause, stream, memory, device}
 use Rattle.nap_list.specs.Putting.{Stops, Breaks}
-use Rattle.nap_draw.specs.Draws.{Cause, stream, memory, device}
 use Rattle.nap_reader.specs.declared.fault.Fault.{Fault}
 use Rattle.nap_reader.specs.declared.fault.Fault.TheVariants as faults
 use Rattle.nap_reader.specs.declared.fault.Refusal.{Refusal}

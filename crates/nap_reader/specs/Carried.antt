@@ -1,10 +1,11 @@
-use Rattle.std.specs.Prelude.{Option, Some, None, ⊤}
+use Rattle.std.specs.Prelude.{ℕ, Option, Some, None, ⊤, ◌≡◌, [], ◌∷◌}
 use Rattle.std.proofs.Props.{props}
-use Rattle.nap_draw.specs.Rule.{IsDrawn}
+use Rattle.nap_reader.specs.Below.{IsDrawn, CharSet, CodeSets, IsGraphic, LexerState}
 use Rattle.nap_draw.specs.Carried.{IsDrawn-prop}
-use Rattle.nap_codes.specs.Laws.{IsGraphic}
+use Rattle.nap_codes.specs.declared.code.Code.TheVariants as code
+use Rattle.nap_codes.specs.Front as codes
 use Rattle.nap_reader.specs.declared.body.OpenBody.{OpenBody}
-use Rattle.nap_reader.specs.declared.reader.OpenRun.{OpenRun}
+use Rattle.nap_reader.specs.declared.machine.OpenRun.{OpenRun}
 
 -- the opcode of an open run has a rule
 abbrev pub HasRule : Option OpenRun → Type 0
@@ -24,3 +25,16 @@ HasName (Some body) = IsGraphic body.name
 pub HasName-prop : (body : Option OpenBody) → IsProp (HasName body)
 HasName-prop None = hlevel props
 HasName-prop (Some body) = hlevel props
+
+-- all bytes from 20 to 7F are by themselves characters of this set
+abbrev pub AllCharacters : CodeSets → CharSet → Type 0
+AllCharacters sets set = (b : ℕ) → IsGraphic b → codes.front sets (b ∷ []) ≡ codes.whole (code.Char set b) 1 sets
+
+-- they aren't where a run is open
+abbrev pub NoCharacters : LexerState → Option OpenRun → Type 0
+NoCharacters lexer None = ⊤
+NoCharacters lexer (Some open_run) = (set : CharSet) → AllCharacters lexer.sets set → ⊥
+
+pub NoCharacters-prop : (lexer : LexerState) (open_run : Option OpenRun) → IsProp (NoCharacters lexer open_run)
+NoCharacters-prop lexer None = hlevel props
+NoCharacters-prop lexer (Some open_run) = hlevel props

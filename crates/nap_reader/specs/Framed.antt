@@ -9,6 +9,11 @@ use Rattle.nap_reader.specs.Stream.{Placed, all_at, bytes_of}
 abbrev pub placed_at : ℕ → ℕ → Placed
 placed_at byte place = record { byte = byte; place = place }
 
+-- bytes, the first of them at this place, and each further one so far behind the one before it
+unfoldable pub spaced : ℕ → ℕ → List ℕ → List Placed
+spaced place step [] = []
+spaced place step (b ∷ bs) = placed_at b place ∷ spaced (place + step) step bs
+
 -- the bytes of one body
 abbrev pub frame_bytes : List ℕ → Frame → List Placed
 frame_bytes bytes frame = all_at frame.place (part bytes frame.next frame.end)
@@ -55,12 +60,3 @@ pub record MovesOn (stored : List ℕ) (old new : List Frame) (at until fed coun
   pub of_piece : old ≡ [] → (new ≡ []) × (until ≡ at + n) × (counted ≡ fed + n)
   pub of_body : old ≢ [] → (until ≡ at) × (counted ≡ fed)
       × ((text : List ℕ) (place : ℕ) → Innermost stored old text place → n ≤ length text → GivesFrom stored old place text n new)
-
--- so many of them were taken, and then so many more of what came next then
-pub record MovesPast (stored : List ℕ) (old new : List Frame) (at until fed counted n more : ℕ) : Type 0 where
-  pub mid : List Frame
-  pub mid_at : ℕ
-  pub mid_fed : ℕ
-  pub framed : FramesIn (length stored) mid
-  pub first : MovesOn stored old mid at mid_at fed mid_fed n
-  pub then : MovesOn stored mid new mid_at until mid_fed counted more

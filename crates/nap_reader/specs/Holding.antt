@@ -1,21 +1,18 @@
 use Rattle.std.specs.Prelude.{⊤, ◌≡◌, ◌≢◌, ◌<◌, ◌≤◌, ◌⊎◌, ◌-◌, ◌+◌, ◌++◌, ℕ, false, List, [], ◌∷◌, Option, Some, None, length}
-use Rattle.nap_values.specs.Operands.{carried}
+use Rattle.nap_reader.specs.Below.{carried, CodeSets, Ghosts, Entry, Cause, stream, memory, run_limit}
 use Rattle.nap_codes.specs.declared.code.Code.TheVariants as code
-use Rattle.nap_codes.specs.declared.code_set.CodeSets.{CodeSets}
 use Rattle.nap_codes.specs.Front as codes
-use Rattle.nap_list.specs.declared.sink.Sink.{Ghosts}
-use Rattle.nap_list.specs.declared.entry.Entry.{Entry}
-use Rattle.nap_draw.specs.Draws.{Cause, stream, memory}
 use Rattle.nap_reader.specs.declared.fault.Refusal.{Refusal}
 use Rattle.nap_reader.specs.declared.body.OpenBody.{OpenBody}
-use Rattle.nap_reader.specs.declared.reader.OpenRun.{OpenRun}
+use Rattle.nap_reader.specs.declared.machine.OpenRun.{OpenRun}
+use Rattle.nap_reader.specs.declared.machine.Machine as struct
+use Rattle.nap_reader.specs.declared.input.Input.{Input}
 use Rattle.nap_reader.specs.declared.reader.Reader.{Reader}
 use Rattle.nap_reader.specs.Bodies as bodies
 use Rattle.nap_reader.specs.Bodies.{Mode, between, in_body, BodyFront, store_limit, body_front}
 use Rattle.nap_reader.specs.Framed.{unread}
 use Rattle.nap_reader.specs.Course.{prepend}
 use Rattle.nap_reader.specs.Stream as model
-use Rattle.nap_draw.specs.Limits.{run_limit}
 use Rattle.nap_reader.specs.Stream.{Placed, Machine, Outcome, Unfinished, open_body, charged, refusal, bytes_of, words_of, is_operand_byte, run_length, half_read, outcome_from, begun, with_run}
 use Rattle.nap_reader.specs.Breaking.{cause_of, TookPart, BreaksInRun, BreaksFrom, Begins}
 
@@ -35,14 +32,15 @@ abbrev pub mode_of : Option OpenBody → Mode
 mode_of None = between
 mode_of (Some body) = in_body body.name body.show
 
-abbrev pub machine_of : {S : Type 0} {g : Ghosts S} → Reader S g → Machine
-machine_of reader = record {
-  work = reader.work;
-  sets = reader.lexer.sets;
-  left = reader.budget - reader.charged;
-  names = reader.store.names;
-  stored = reader.store.stored;
-  mode = mode_of reader.open_body;
+-- the machine of the model, of which a part is the reader's input
+abbrev pub machine_of : {S : Type 0} {g : Ghosts S} → struct.Machine S g → Input → Machine
+machine_of machine input = record {
+  work = machine.work;
+  sets = machine.lexer.sets;
+  left = input.budget - input.charged;
+  names = input.store.names;
+  stored = input.store.stored;
+  mode = mode_of input.body;
 }
 
 -- the words of the open run, of which these bytes are kept
@@ -50,19 +48,22 @@ abbrev pub run_by : Option OpenRun → List ℕ → List ℕ
 run_by None bytes = []
 run_by (Some open_run) bytes = carried bytes
 
-abbrev pub holding_of : {S : Type 0} {g : Ghosts S} → Reader S g → Holding
-holding_of reader = record {
-  machine = machine_of reader;
-  half = reader.lexer.half;
-  open_run = reader.open_run;
-  run = run_by reader.open_run reader.run.items;
-  open_body = reader.open_body;
-  body = reader.store.body;
+abbrev pub held_by : {S : Type 0} {g : Ghosts S} → struct.Machine S g → Input → Holding
+held_by machine input = record {
+  machine = machine_of machine input;
+  half = machine.lexer.half;
+  open_run = machine.open_run;
+  run = run_by machine.open_run machine.run.items;
+  open_body = input.body;
+  body = input.store.body;
 }
 
+abbrev pub holding_of : {S : Type 0} {g : Ghosts S} → Reader S g → Holding
+holding_of reader = held_by reader.machine reader.input
+
 -- what the bodies that are being read have still to give
-abbrev pub frames_left : {S : Type 0} {g : Ghosts S} → Reader S g → List Placed
-frames_left reader = unread reader.store.bytes reader.frames.stack.items
+abbrev pub unread_of : Input → List Placed
+unread_of input = unread input.store.bytes input.frames.stack.items
 
 abbrev pub unfinished_by : Option OpenBody → Option OpenRun → List ℕ → List ℕ → Unfinished
 unfinished_by (Some body) open_run half run = open_body
@@ -203,10 +204,6 @@ BeginsAll budget p = (b : ℕ) → is_operand_byte b ≡ false → Begins (with_
 abbrev pub ClosesInto : {S : Type 0} → Ghosts S → S → ℕ → List ℕ → S → Refusal → Cause → Type 0
 ClosesInto g s budget p t r stream = ((with_run (begun budget p)).refusal ≡ Some r) × g.took s (with_run (begun budget p)).entries t
 ClosesInto g s budget p t r _ = BeginsAll budget p × BreaksInRun g s budget p t r
-
--- what the bodies have still to give, and what is left to charge, taken together
-abbrev pub to_come : {S : Type 0} {g : Ghosts S} → Reader S g → ℕ
-to_come reader = length (frames_left reader) + (reader.budget - reader.charged)
 
 -- the open run is at this place, where there is one
 abbrev pub RunAt : ℕ → Option OpenRun → Type 0

@@ -10,11 +10,15 @@ pub mod Breaking
 pub mod Standing
 pub mod Feeding
 pub mod Laws
+pub mod Collecting
+pub mod Counting
 -- what a reader keeps and does, which no one sees
+pub mod Below
 pub mod Carried
 pub mod Stored
 pub mod Framed
 pub mod Prefix
 pub mod Holding
 pub mod Steps
+pub mod Coming
 pub mod Pieces

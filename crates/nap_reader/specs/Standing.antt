@@ -1,32 +1,31 @@
 use Rattle.std.specs.Prelude.{◌≡◌, ◌-◌, ◌+◌, ◌<◌, ◌≤◌, ◌++◌, ℕ, List, [], ◌∷◌, Option, Some, None, length, take, slice_index}
-use Rattle.nap_list.specs.declared.sink.Sink.{Ghosts}
-use Rattle.nap_draw.specs.Draws.{Cause, stream}
+use Rattle.nap_reader.specs.Below.{Ghosts, Cause, stream}
 use Rattle.nap_reader.specs.declared.fault.Refusal.{Refusal}
 use Rattle.nap_reader.specs.declared.reader.Reader.{Reader}
 use Rattle.nap_reader.specs.Bodies.{store_limit}
 use Rattle.nap_reader.specs.Stream.{Outcome, begun}
 use Rattle.nap_reader.specs.Breaking.{cause_of, BreaksAt}
-use Rattle.nap_reader.specs.Holding.{Continues, holding_of, frames_left}
+use Rattle.nap_reader.specs.Holding.{Continues, holding_of}
 
 -- what a reader shows
 
 abbrev pub sink_of : {S : Type 0} {g : Ghosts S} → Reader S g → S
-sink_of reader = reader.sink
+sink_of reader = reader.machine.sink
 
 abbrev pub refusal_of : {S : Type 0} {g : Ghosts S} → Reader S g → Option Refusal
-refusal_of reader = reader.refusal
+refusal_of reader = reader.machine.refusal
 
 abbrev pub budget_of : {S : Type 0} {g : Ghosts S} → Reader S g → ℕ
-budget_of reader = reader.budget
+budget_of reader = reader.input.budget
 
 abbrev pub fed_of : {S : Type 0} {g : Ghosts S} → Reader S g → ℕ
-fed_of reader = reader.fed
+fed_of reader = reader.input.fed
 
 abbrev pub turns_of : {S : Type 0} {g : Ghosts S} → Reader S g → ℕ
-turns_of reader = reader.turns
+turns_of reader = reader.input.turns
 
 abbrev pub charged_of : {S : Type 0} {g : Ghosts S} → Reader S g → ℕ
-charged_of reader = reader.charged
+charged_of reader = reader.input.charged
 
 -- what is left to be charged
 abbrev pub left_of : {S : Type 0} {g : Ghosts S} → Reader S g → ℕ
@@ -36,13 +35,13 @@ left_of reader = budget_of reader - charged_of reader
 -- ended those which were shown.
 
 abbrev pub frames_of : {S : Type 0} {g : Ghosts S} → Reader S g → ℕ
-frames_of reader = length reader.frames.stack.items
+frames_of reader = length reader.input.frames.stack.items
 
 abbrev pub bodies_of : {S : Type 0} {g : Ghosts S} → Reader S g → ℕ
-bodies_of reader = reader.store.stored + length reader.store.body
+bodies_of reader = reader.input.store.stored + length reader.input.store.body
 
 abbrev pub pairs_of : {S : Type 0} {g : Ghosts S} → Reader S g → ℕ
-pairs_of reader = length reader.store.bytes - bodies_of reader
+pairs_of reader = length reader.input.store.bytes - bodies_of reader
 
 -- these are no more than the bytes that were charged, or than all bodies may have
 pub record IsBounded {S : Type 0} {g : Ghosts S} (reader : Reader S g) : Type 0 where
@@ -83,7 +82,6 @@ Answers g s budget p t left (Some r) = AnswersBy g s budget p t left r (cause_of
 pub record Stands {S : Type 0} {g : Ghosts S} (reader : Reader S g) (s : S) (p : List ℕ) : Type 0 where
   pub answers : Answers g s (budget_of reader) p (sink_of reader) (left_of reader) (refusal_of reader)
   pub fed : refusal_of reader ≡ None → fed_of reader ≡ length p
-  pub empty : refusal_of reader ≡ None → frames_left reader ≡ []
   pub continues : refusal_of reader ≡ None → Continues g s (begun (budget_of reader) p) (sink_of reader) (holding_of reader) []
 
 -- The refusal came at the byte with this index, behind which nothing was taken.

@@ -19,6 +19,10 @@ pub record StoreState : Type 0 where
   pub body : List ℕ
   pub stored : ℕ
 
+-- the open body has these bytes more
+abbrev pub grown : StoreState → List ℕ → StoreState
+grown store more = record store { bytes = store.bytes ++ more; body = store.body ++ more }
+
 -- the name is bound to the open body, which is over
 abbrev pub closed : StoreState → ℕ → StoreState
 closed store name = record store { names = bind store.names name store.body; body = []; stored = store.stored + length store.body }

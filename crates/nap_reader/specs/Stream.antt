@@ -1,17 +1,10 @@
 use Rattle.std.specs.Prelude.{ℕ, zero, suc, ◌+◌, ◌-◌, ◌&&◌, nat_lt, nat_le, Bool, true, false, if◌then◌else◌, List, [], ◌∷◌, ◌++◌, length, map, take, drop, Option, Some, None, Result, Ok, Err}
 use Rattle.std.specs.List.{prefix_len}
+use Rattle.nap_reader.specs.Below.{CodeSets, Opcode, Entry, Opened, Work, DrawFault, code_rule, run_limit, Drawn, rule}
 use Rattle.nap_codes.specs.declared.code.Code.TheVariants as code
-use Rattle.nap_codes.specs.declared.code_set.CodeSets.{CodeSets}
-use Rattle.nap_codes.specs.declared.opcode.Opcode.{Opcode}
 use Rattle.nap_codes.specs.CodeSets.{start_sets}
 use Rattle.nap_codes.specs.Front as codes
-use Rattle.nap_list.specs.declared.entry.Entry.{Entry}
-use Rattle.nap_list.specs.declared.state.Opened.{Opened}
-use Rattle.nap_draw.specs.declared.work.Work.{Work}
-use Rattle.nap_draw.specs.declared.fault.DrawFault.{DrawFault}
-use Rattle.nap_draw.specs.Codes.{code_rule}
-use Rattle.nap_draw.specs.Limits.{run_limit}
-use Rattle.nap_draw.specs.Rule.{Drawn, rule, start_work}
+use Rattle.nap_draw.specs.Rule.{start_work}
 use Rattle.nap_reader.specs.declared.fault.Fault.{Fault}
 use Rattle.nap_reader.specs.declared.fault.Fault.TheVariants as faults
 use Rattle.nap_reader.specs.declared.fault.Refusal.{Refusal}

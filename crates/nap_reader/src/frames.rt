@@ -1,5 +1,6 @@
 //! The bodies that are being read.
-ghost use Rattle.std.specs.Prelude.{true, ℕ, List, ◌≡◌, ◌<◌, ◌≤◌, ◌+◌, ◌↔◌, [], ◌∷◌, ◌++◌, length, MatchOption, OnOk, OnErr};
+ghost use Rattle.std.specs.Prelude.{true, ℕ, List, ◌≡◌, ◌<◌, ◌≤◌, ◌+◌, ◌↔◌, [], ◌∷◌, ◌++◌, length, MatchOption, OnOk};
+ghost use Rattle.smallvec.specs.SmallVec.{HasRoomFor};
 ghost use Rattle.nap_reader.specs.Framed.{Comes, FramesIn, GivesFrom, Innermost, behind, unread};
 
 use crate::store::Span;
@@ -30,18 +31,33 @@ impl Frames {
         }
     }
 
-    /// This part of the store comes next, at this place.
-    pub(crate) fn push(&mut self, span: Span, place: u64) -> Result<(), AllocError>
-        requires { span.start < span.end }
-        ensures ok { OnOk result (self.new.stack.items ≡ self.old.stack.items ++ record { next = span.start; end = span.end; place = place } ∷ []) }
-        ensures err { OnErr result (self.new.stack.items ≡ self.old.stack.items) }
+    /// Makes room for one more body.
+    pub(crate) fn reserve(&mut self) -> Result<(), AllocError>
+        ensures items { self.new.stack.items ≡ self.old.stack.items }
+        ensures ok { OnOk result (HasRoomFor self.new.stack 1) }
     {
-        self.stack.push(Frame {
+        self.stack.reserve(1)
+    }
+
+    /// This part of the store comes next, at this place. There is room for it.
+    pub(crate) fn push_reserved(&mut self, span: Span, place: u64)
+        requires some { span.start < span.end }
+        requires room { HasRoomFor self.old.stack 1 }
+        ensures { self.new.stack.items ≡ self.old.stack.items ++ record { next = span.start; end = span.end; place = place } ∷ [] }
+    {
+        self.stack.push_reserved(Frame {
             next: span.start,
             end: span.end,
             place,
-        })?;
-        Ok(())
+        });
+    }
+
+    /// Where in the store the byte is that comes next, where a body gives it.
+    pub(crate) fn next(&self) -> Option<usize>
+        ensures { MatchOption result (self.now.stack.items ≡ []) (λ next. (before : List Frame) × (frame : Frame) × (self.now.stack.items ≡ before ++ frame ∷ []) × (next ≡ frame.next)) }
+    {
+        let frame = self.stack.last()?;
+        Some(frame.next)
     }
 
     /// Whether no body is being read.

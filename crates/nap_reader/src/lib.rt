@@ -3,19 +3,26 @@
 
 mod body;
 mod budget;
+mod collect;
+mod counting;
 mod fault;
 mod feeding;
 mod frames;
+mod input;
 mod kind;
 pub mod laws;
+mod machine;
 mod operands;
 mod prefix;
 mod reader;
+mod slice;
 mod store;
 mod text;
 mod whole;
 
 pub use budget::Budget;
+pub use collect::{ReadFault, read_input, read_stream};
+pub use counting::read_counted;
 pub use fault::{Fault, Refusal};
 pub use feeding::{FeedFault, feed_from};
 pub use nap_draw::RUN_LIMIT;

@@ -8,22 +8,11 @@ ghost use Rattle.nap_reader.specs.Stream.{is_operand_byte};
 use crate::prefix::prefix_from;
 use nap_draw::RUN_LIMIT;
 
-/// The operand bytes at the front join the run, as far as it has room for them, and none if memory runs out. Tells how many
-/// joined.
-#[inline]
-pub(crate) fn take_operands(run: &mut Vec<u8>, piece: &[u8]) -> usize
-    ensures within { result ≤ length piece.now }
-    ensures operands { All (λ b. is_operand_byte b ≡ true) (take result piece.now) }
-    ensures joined { run.new.items ≡ run.old.items ++ take result piece.now }
-    ensures short { vec_len run.old ≤ run_limit → vec_len run.new ≤ run_limit }
+/// How many bytes at the front are of operands.
+pub(crate) fn operand_bytes(bytes: &[u8]) -> usize
+    ensures { result ≡ prefix_len is_operand_byte bytes.now }
 {
-    let room = RUN_LIMIT.saturating_sub(run.len());
-    let most = piece.len().min(room);
-    let count = prefix_from(&piece[..most], 0x40);
-    if run.extend_from_slice(&piece[..count]).is_err() {
-        return 0;
-    }
-    count
+    prefix_from(bytes, 0x40)
 }
 
 /// The operand bytes at the front, if they are no more than a run may have, and another byte comes behind them: one of these,

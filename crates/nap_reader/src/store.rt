@@ -1,11 +1,13 @@
 //! The bodies of the macros.
-ghost use Rattle.std.specs.Prelude.{◌≡◌, ◌+◌, ◌<◌, ◌≤◌, [], ◌∷◌, ◌++◌, length, OnOk, OnErr, IfOk, if◌then◌else◌};
+ghost use Rattle.std.specs.Prelude.{◌≡◌, ◌+◌, ◌<◌, ◌≤◌, [], ◌∷◌, ◌++◌, length, OnOk, OnErr, IfOk};
 ghost use Rattle.nap_reader.specs.Bodies.{no_names, body_of, store_limit};
-ghost use Rattle.nap_reader.specs.Stored.{IsBefore, closed, part_at, shown};
+ghost use Rattle.nap_reader.specs.Stored.{IsBefore, closed, grown, part_at, shown};
 ghost use Rattle.nap_codes.specs.Laws.{IsGraphic};
 
 use std::alloc::{AllocError, Global};
 use std::marker::Model;
+
+mod growing;
 
 /// The most bytes of macro bodies in one stream, those that were bound again or cleared with them (our profile).
 pub const STORE_LIMIT: usize = 1_048_576;
@@ -71,7 +73,7 @@ impl Store {
     /// Adds a byte to the open body.
     pub(crate) fn push(&mut self, byte: u8) -> Result<(), AllocError>
         requires { self.old.stored + length self.old.body < store_limit }
-        ensures ok { OnOk result (self.new ≡ record self.old { bytes = self.old.bytes ++ byte ∷ []; body = self.old.body ++ byte ∷ [] }) }
+        ensures ok { OnOk result (self.new ≡ grown self.old (byte ∷ [])) }
         ensures err { OnErr result (self.new ≡ self.old) }
     {
         self.bytes.push(byte)?;
@@ -120,15 +122,6 @@ impl Store {
         ensures { self.new ≡ record self.old { names = no_names } }
     {
         self.spans = [EMPTY; 96];
-    }
-
-    /// Unbinds all names, where this says so.
-    pub(crate) fn clear_if(&mut self, clears: bool)
-        ensures { self.new ≡ record self.old { names = if clears then no_names else self.old.names } }
-    {
-        if clears {
-            self.clear();
-        }
     }
 
     /// Where the body of the name is.

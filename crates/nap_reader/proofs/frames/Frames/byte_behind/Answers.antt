@@ -1,8 +1,7 @@
 use Rattle.std.proofs.Common.{◌≡◌, ◌≢◌, ◌<◌, ◌≤◌, ◌-◌, inl, inr, ℕ, List, [], ◌∷◌, length, slice_index_or, ap, sym, ◌∙◌, subst, arith}
 use Rattle.std.proofs.lemmas.Bool.{eqb-false, eqb-true}
 use Rattle.std.proofs.lemmas.List.{nil_from_length}
-use Rattle.nap_reader.specs.declared.frames.Frame.{Frame}
-use Rattle.nap_reader.specs.Framed.{behind}
+use Rattle.nap_reader.proofs.Common.{Frame, behind}
 use Rattle.nap_reader.proofs.ComingLemmas.{behind_in_body, behind_in_piece, none_behind}
 use Rattle.nap_reader.proofs.frames.Frames.byte_behind.Goals as goal
 use Rattle.nap_reader.proofs.frames.Frames.byte_behind.Goals.{then-is_empty-via-then-is_empty, then-is_empty-via-else-is_empty+then-at-piece}

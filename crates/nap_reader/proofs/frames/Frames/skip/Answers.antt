@@ -1,8 +1,6 @@
 use Rattle.std.proofs.Common.{[], ◌+◌, ◌∷◌, ◌++◌, List, take, length, Some, ap, sym, subst, ◌∙◌, arith}
 use Rattle.std.proofs.lemmas.List.Elements.{All-append, All-cons, All-nil, All-pop}
-use Rattle.nap_reader.specs.declared.frames.Frame.{Frame}
-use Rattle.nap_reader.specs.Framed.{FramesIn, IsFrame, unread}
-use Rattle.nap_reader.specs.Stream.{Placed, all_at}
+use Rattle.nap_reader.proofs.Common.{Frame, FramesIn, IsFrame, unread, Placed, all_at}
 use Rattle.nap_reader.proofs.FrameLemmas.{last-frame, gives-some, gives-all, same-front}
 use Rattle.nap_reader.proofs.frames.Frames.skip.Goals as goal
 

@@ -4,10 +4,6 @@ use Rattle.nap_reader.proofs.reader.Reader.charged.Goals as goal
 
 pub returns-clause-bounded : goal.returns-clause-bounded
 returns-clause-bounded g c =
-    let r = c.args.self.now in
-    let some = frames-unread r.store.bytes r.frames.stack.items r.framed in
-    record {
-      frames = omega (arith, some, r.turned, r.counted);
-      bodies = r.few;
-      pairs = λ none. let paired = r.paired none in omega (arith, paired);
-    }
+    let input = c.args.self.now.input in
+    let some = frames-unread input.store.bytes input.frames.stack.items input.framed in
+    record { frames = omega (arith, some, input.turned, input.counted); bodies = input.few; pairs = λ none. omega (arith, input.paired) }

@@ -1,87 +1,92 @@
-use Rattle.std.proofs.Common.{Some, None, ◌∙◌}
-use Rattle.std.proofs.lemmas.Result.{err_from_is_err_and}
-use Rattle.nap_reader.specs.Breaking.{cause_of}
-use Rattle.nap_reader.specs.Holding.{holding_of}
+use Rattle.std.proofs.Common.{ℕ, List, MatchResult, ◌≡◌, true, false, IfErr, None, Some, ap, sym, ◌∙◌, subst}
+use Rattle.nap_reader.specs.Below.{device, stream}
+use Rattle.nap_reader.proofs.Common.{cause_of, IsOwn, holding_of, Stands, Outcome, begun, means, with_run}
 use Rattle.nap_reader.specs.Standing.{IsTaken}
-use Rattle.nap_reader.specs.Stream.{begun, with_run, with_code}
 use Rattle.nap_reader.proofs.BreakingLemmas.{in_run}
-use Rattle.nap_reader.proofs.EndLemmas.{acts_at_end, body_ended, ends_still, ended_taken, refused_at_end, refuses_at_end}
+use Rattle.nap_reader.proofs.EndLemmas.{body_ended, ended_is, ends_run, ends_works, refused_at_end, stops_at_end}
 use Rattle.nap_reader.proofs.LeadsLemmas.{leads_unrefused}
-use Rattle.nap_reader.proofs.ReadingLemmas.{on_ok_by, if_err_by, matched_ok, matched_err}
+use Rattle.nap_reader.proofs.ReadingLemmas.{on_ok_by, if_err_by}
 use Rattle.nap_reader.proofs.reader.Reader.end.Goals as goal
+use Rattle.nap_reader.proofs.reader.Reader.end.Goals.{After-check_finished}
 
-pub returns-in_default-open_run-clause-ended : goal.returns-in_default-open_run-clause-ended
-returns-in_default-open_run-clause-ended g c =
+pub end_run-requires : goal.end_run-requires
+end_run-requires g c = record { live = record { live = c.in_default.is; agrees = c.args.self.now.agrees c.in_default.is } }
+
+pub returns-in-Some-body-clause-refused : goal.returns-in-Some-body-clause-refused
+returns-in-Some-body-clause-refused g c = λ own s p h.
+    let r = c.args.self.now in
+    body_ended g.S.Sink s r.input.budget p r.machine.sink (holding_of r) c.in-Some-body.field-0 r.input.fed (h.continues c.in_default.is) c.in-Some-body.is (h.fed c.in_default.is)
+
+pub returns-in-Err-clause-refused : goal.returns-in-Err-clause-refused
+returns-in-Err-clause-refused g c = λ own s p h.
+    let r = c.args.self.now in
+    let k = h.continues c.in_default.is in
+    refused_at_end g.S.Sink s r.input.budget p c.end_run.new.self.sink c.in-Err.refusal own (leads_unrefused g.S.Sink s (begun r.input.budget p) r.machine.sink (holding_of r) k)
+    (stops_at_end r.input.budget p k g.met.S.Sink.took_more g.met.S.Sink.took_broke (c.in-Err.ensures.acts.0 (holding_of r) c.in_default-body.is))
+
+pub returns-in-Err-clause-breaks : goal.returns-in-Err-clause-breaks
+returns-in-Err-clause-breaks g c = λ live broke s p h.
+    let r = c.args.self.now in
+    let k = h.continues c.in_default.is in
+    in_run g.S.Sink s r.input.budget p c.end_run.new.self.sink c.in-Err.refusal (cause_of c.in-Err.refusal.fault) broke
+    (stops_at_end r.input.budget p k g.met.S.Sink.took_more g.met.S.Sink.took_broke (c.in-Err.ensures.acts.0 (holding_of r) c.in_default-body.is))
+
+pub returns-in-Err-clause-failed : goal.returns-in-Err-clause-failed
+returns-in-Err-clause-failed g c = λ live is. c.in-Err.ensures.acts.1 is
+
+pub returns-in-Err-clause-kept : goal.returns-in-Err-clause-kept
+returns-in-Err-clause-kept g c = λ working fails. c.in-Err.ensures.acts.2 working fails
+
+pub invariant_of-self-in_default-end_run-clause-agrees : goal.invariant_of-self-in_default-end_run-clause-agrees
+invariant_of-self-in_default-end_run-clause-agrees g c = λ none.
+    (ends_works c.args.self.now.machine c.end_run.new.self (record { live = c.in_default.is; agrees = c.args.self.now.agrees c.in_default.is }) (λ closed. (c.in_default-end_run.ensures.still closed).0) c.in_default-end_run.ensures.acts).live.agrees
+
+pub invariant_of-self-in_default-end_run-clause-rested : goal.invariant_of-self-in_default-end_run-clause-rested
+invariant_of-self-in_default-end_run-clause-rested g c = λ none. c.args.self.now.rested c.in_default.is
+
+pub check_finished-requires : goal.check_finished-requires
+check_finished-requires g c =
+    (ends_works c.args.self.now.machine c.end_run.new.self (record { live = c.in_default.is; agrees = c.args.self.now.agrees c.in_default.is }) (λ closed. (c.in_default-end_run.ensures.still closed).0) c.in_default-end_run.ensures.acts).live.live
+
+-- what the stream means was taken
+settled : (g : _) (c : After-check_finished g) (s : g.row.S.Denot) (p : List ℕ) → Stands {S = g.row.S.Denot} {g = g.S.Sink} c.args.self.now s p →
+    MatchResult c.check_finished.result (λ _. IsTaken g.S.Sink s (means c.args.self.now.input.budget p) c.check_finished.new.self.machine.sink None)
+    (λ f. IsTaken g.S.Sink s (means c.args.self.now.input.budget p) c.check_finished.new.self.machine.sink (Some f))
+settled g c s p h =
+    let r = c.args.self.now in
+    let u = c.check_finished.new.self.machine.sink in
+    let k = h.continues c.in_default.is in
+    let e = ends_run r.machine c.end_run.new.self r.input c.in_default-body.is g.met.S.Sink.took_more (λ closed. (c.in_default-end_run.ensures.still closed).0) c.in_default-end_run.ensures.acts s r.input.budget p k in
+    subst (λ (o : Outcome). MatchResult c.check_finished.result (λ _. IsTaken g.S.Sink s o u None) (λ f. IsTaken g.S.Sink s o u (Some f)))
+    (ended_is r.input.budget p r.input.fed (leads_unrefused g.S.Sink s (begun r.input.budget p) r.machine.sink (holding_of r) k) e (h.fed c.in_default.is)) (c.check_finished.ensures.settled s (with_run (begun r.input.budget p)) e)
+
+pub returns-clause-ended : goal.returns-clause-ended
+returns-clause-ended g c =
     on_ok_by c.check_finished.result (λ a is s p h.
-    let r = c.args.self.now in
-    let u = c.check_finished.new.self in
-    let o = begun r.budget p in
-    let w = with_run o in
-    let k = h.continues c.in_default.is in
-    let e = ends_still g.S.Sink s o r.sink (holding_of r) k c.in_default-open_body.is c.in_default-open_run.is in
-    ended_taken g.S.Sink s r.budget p r.sink (holding_of r) u.sink None r.fed (leads_unrefused g.S.Sink s o r.sink (holding_of r) k) e (h.fed c.in_default.is)
-    (matched_ok (λ _. IsTaken g.S.Sink s (with_code w r.fed w.unfinished) u.sink None) (λ f. IsTaken g.S.Sink s (with_code w r.fed w.unfinished) u.sink (Some f)) c.check_finished.result a is (c.check_finished.ensures.settled s w e)))
+    subst (λ r. MatchResult r (λ _. IsTaken g.S.Sink s (means c.args.self.now.input.budget p) c.check_finished.new.self.machine.sink None) (λ f. IsTaken g.S.Sink s (means c.args.self.now.input.budget p) c.check_finished.new.self.machine.sink (Some f)))
+    is (settled g (goal.at.returns-clause-ended g c).After-check_finished s p h))
 
-pub returns-in_default-open_run-clause-refused : goal.returns-in_default-open_run-clause-refused
-returns-in_default-open_run-clause-refused g c =
-    if_err_by c.check_finished.result (λ f is own s p h.
-    let r = c.args.self.now in
-    let u = c.check_finished.new.self in
-    let o = begun r.budget p in
-    let w = with_run o in
-    let k = h.continues c.in_default.is in
-    let e = ends_still g.S.Sink s o r.sink (holding_of r) k c.in_default-open_body.is c.in_default-open_run.is in
-    ended_taken g.S.Sink s r.budget p r.sink (holding_of r) u.sink (Some f) r.fed (leads_unrefused g.S.Sink s o r.sink (holding_of r) k) e (h.fed c.in_default.is)
-    (matched_err (λ _. IsTaken g.S.Sink s (with_code w r.fed w.unfinished) u.sink None) (λ f. IsTaken g.S.Sink s (with_code w r.fed w.unfinished) u.sink (Some f)) c.check_finished.result f is (c.check_finished.ensures.settled s w e)))
-
-pub returns-in-Some-open_body-clause-refused : goal.returns-in-Some-open_body-clause-refused
-returns-in-Some-open_body-clause-refused g c =
-    let r = c.args.self.now in
-    λ own s p h. body_ended g.S.Sink s r.budget p r.sink (holding_of r) c.in-Some-open_body.field-0 r.fed (h.continues c.in_default.is) c.in-Some-open_body.is (h.fed c.in_default.is)
-
-pub returns-clause-breaks : goal.returns-clause-breaks
-returns-clause-breaks g c =
-    let e = err_from_is_err_and c.kept_refusal.result c.kept_refusal.ensures in
-    let r = c.args.self.now in
-    let u = c.close.new.self in
-    rw e.1
-    (λ live broke s p h.
-    in_run g.S.Sink s r.budget p u.sink e.0 (cause_of e.0.fault) broke
-    (refuses_at_end r u s p e.0 g.met.S.Sink.took_more g.met.S.Sink.took_broke c.in-Err.ensures e.2 (h.continues live)))
-
-pub returns-in_default-close-clause-ended : goal.returns-in_default-close-clause-ended
-returns-in_default-close-clause-ended g c =
-    on_ok_by c.check_finished-in_default-close.result (λ a is s p h.
-    let r = c.args.self.now in
-    let t = c.close.new.self in
-    let u = c.check_finished-in_default-close.new.self in
-    let o = begun r.budget p in
-    let w = with_run o in
-    let k = h.continues c.in_default.is in
-    let e = acts_at_end g.S.Sink s r.budget p r.sink (holding_of r) k g.met.S.Sink.took_more t.sink (holding_of t) c.in_default-close.ensures.acts in
-    ended_taken g.S.Sink s r.budget p t.sink (holding_of t) u.sink None t.fed (leads_unrefused g.S.Sink s o r.sink (holding_of r) k) e (c.in_default-close.ensures.counts.fed ∙ h.fed c.in_default.is)
-    (matched_ok (λ _. IsTaken g.S.Sink s (with_code w t.fed w.unfinished) u.sink None) (λ f. IsTaken g.S.Sink s (with_code w t.fed w.unfinished) u.sink (Some f)) c.check_finished-in_default-close.result a is (c.check_finished-in_default-close.ensures.settled s w e)))
-
-pub returns-in_default-close-clause-refused : goal.returns-in_default-close-clause-refused
-returns-in_default-close-clause-refused g c =
-    if_err_by c.check_finished-in_default-close.result (λ f is own s p h.
-    let r = c.args.self.now in
-    let t = c.close.new.self in
-    let u = c.check_finished-in_default-close.new.self in
-    let o = begun r.budget p in
-    let w = with_run o in
-    let k = h.continues c.in_default.is in
-    let e = acts_at_end g.S.Sink s r.budget p r.sink (holding_of r) k g.met.S.Sink.took_more t.sink (holding_of t) c.in_default-close.ensures.acts in
-    ended_taken g.S.Sink s r.budget p t.sink (holding_of t) u.sink (Some f) t.fed (leads_unrefused g.S.Sink s o r.sink (holding_of r) k) e (c.in_default-close.ensures.counts.fed ∙ h.fed c.in_default.is)
-    (matched_err (λ _. IsTaken g.S.Sink s (with_code w t.fed w.unfinished) u.sink None) (λ f. IsTaken g.S.Sink s (with_code w t.fed w.unfinished) u.sink (Some f)) c.check_finished-in_default-close.result f is (c.check_finished-in_default-close.ensures.settled s w e)))
-
--- the opcode was refused that acted at the end
 pub returns-clause-refused : goal.returns-clause-refused
 returns-clause-refused g c =
-    let e = err_from_is_err_and c.kept_refusal.result c.kept_refusal.ensures in
-    let r = c.args.self.now in
-    let u = c.close.new.self in
-    rw e.1
-    (λ own s p h.
-    refused_at_end g.S.Sink s r.budget p u.sink e.0 own (leads_unrefused g.S.Sink s (begun r.budget p) r.sink (holding_of r) (h.continues c.in_default.is))
-    (refuses_at_end r u s p e.0 g.met.S.Sink.took_more g.met.S.Sink.took_broke c.in-Err.ensures e.2 (h.continues c.in_default.is)))
+    if_err_by c.check_finished.result (λ f is own s p h.
+    subst (λ r. MatchResult r (λ _. IsTaken g.S.Sink s (means c.args.self.now.input.budget p) c.check_finished.new.self.machine.sink None) (λ f. IsTaken g.S.Sink s (means c.args.self.now.input.budget p) c.check_finished.new.self.machine.sink (Some f)))
+    is (settled g (goal.at.returns-clause-refused g c).After-check_finished s p h))
+
+pub returns-clause-failed : goal.returns-clause-failed
+returns-clause-failed g c =
+    if_err_by c.check_finished.result (λ f is live broken.
+    let own = subst (λ r. IfErr r IsOwn) is c.check_finished.ensures.own in
+    let bad : device ≡ stream = sym (ap cause_of broken) ∙ own in
+    cc)
+
+pub returns-clause-kept : goal.returns-clause-kept
+returns-clause-kept g c =
+    let works = ends_works c.args.self.now.machine c.end_run.new.self (record { live = c.in_default.is; agrees = c.args.self.now.agrees c.in_default.is }) (λ closed. (c.in_default-end_run.ensures.still closed).0) c.in_default-end_run.ensures.acts in
+    if_err_by c.check_finished.result (λ f is working fails.
+    let bad : true ≡ false = sym fails ∙ ap g.S.Sink.failed c.check_finished.ensures.sink ∙ works.clear working in
+    cc)
+
+pub returns-clause-clear : goal.returns-clause-clear
+returns-clause-clear g c =
+    let works = ends_works c.args.self.now.machine c.end_run.new.self (record { live = c.in_default.is; agrees = c.args.self.now.agrees c.in_default.is }) (λ closed. (c.in_default-end_run.ensures.still closed).0) c.in_default-end_run.ensures.acts in
+    on_ok_by c.check_finished.result (λ a is working. ap g.S.Sink.failed c.check_finished.ensures.sink ∙ works.clear working)

@@ -1,10 +1,10 @@
-use Rattle.std.proofs.Common.{[], refl, ap, arith}
-use Rattle.nap_reader.specs.Framed.{unread}
+use Rattle.std.proofs.Common.{[], arith}
 use Rattle.nap_reader.proofs.ReadingLemmas.{begins}
 use Rattle.nap_reader.proofs.StandingLemmas.{stands_by}
 use Rattle.nap_reader.proofs.reader.Reader.new.Goals as goal
 
 pub returns-clause-stands : goal.returns-clause-stands
 returns-clause-stands g c =
-    stands_by _ c.args.sink [] refl refl (ap (unread c.new-4.result.bytes) c.new-5.ensures)
-    (rw (c.start.ensures, c.new.ensures, c.new-4.ensures) (begins g.S.Sink c.args.sink c.args.budget _ (omega arith) (g.met.S.Sink.took_none c.args.sink)))
+    stands_by _ c.args.sink [] c.new.ensures.none.1 c.new-2.ensures.counts.0
+    (rw (c.new.ensures.work, c.new.ensures.lexer, c.new.ensures.none.0, c.new.ensures.sink, c.new-2.ensures.store, c.new-2.ensures.none.0)
+    (begins g.S.Sink c.args.sink c.new-2.result.budget _ (omega (arith, c.new-2.ensures.counts.2)) (g.met.S.Sink.took_none c.args.sink)))

@@ -1,0 +1,111 @@
+use Rattle.std.proofs.Common.{ℕ, ◌≡◌, true, List, [], ◌∷◌, ◌++◌, length, length-append, Option, None, Some, Result, Ok, Err, refl, ap, sym, subst, ◌∙◌, inl, inr, arith}
+use Rattle.std.specs.Result.{IsErrAnd}
+use Rattle.nap_list.specs.declared.entry.Entry.{Entry}
+use Rattle.nap_list.specs.declared.sink.BatchFault.{BatchFault}
+use Rattle.nap_list.specs.declared.sink.Sink.{Ghosts}
+use Rattle.nap_list.specs.declared.sink.SinkFault.{SinkFault}
+use Rattle.nap_list.specs.declared.sink.SinkFault.TheVariants as faults
+use Rattle.nap_list.specs.Putting.{HaltsAfter, Put, PutSome, SinkShows, Tells}
+use Rattle.nap_list.specs.Shown.{shows_of}
+use Rattle.nap_draw.specs.Draws.{Cause, stream, memory, device}
+use Rattle.nap_reader.specs.declared.fault.Refusal.{Refusal}
+use Rattle.nap_reader.specs.Breaking.{cause_of}
+use Rattle.nap_reader.specs.Stream.{means}
+use Rattle.nap_reader.specs.Collecting.{Collects, CountsAll, IsCount, RefusedBy}
+use Rattle.nap_reader.specs.Counting.{Counting, GrowsBy, Took, counting, grows_none}
+
+-- A sink that counts what another one takes.
+
+abbrev pub made : {S : Type 0} → S → Option ℕ → Counting S
+made sink count = record { sink = sink; count = count }
+
+same : {S : Type 0} (s t : Counting S) → t.sink ≡ s.sink → t.count ≡ s.count → t ≡ s
+same {S = S} s t sink count = ap (λ (x : S). made x t.count) sink ∙ ap (made s.sink) count
+
+-- how many of so many entries were taken
+abbrev pub taken_of : ℕ → Result (Unit {0}) BatchFault → ℕ
+taken_of all (Ok x) = all
+taken_of all (Err stop) = stop.taken
+
+-- where one entry wasn't taken, none was
+module _ {S : Type 0} (h : SinkShows S) (x : Entry) (s t : S) where
+  only_one : (front rest : List Entry) (next : Entry) (n : ℕ) → x ∷ [] ≡ front ++ next ∷ rest → length front ≡ n → n ≡ 0
+  only_one front rest next n parts count = omega (arith, count, ap length parts, length-append front (next ∷ rest))
+
+  none_first : (n : ℕ) (f : SinkFault) → HaltsAfter h (x ∷ []) s t n f → n ≡ 0
+  none_first n faults.Memory stops = only_one stops.front stops.rest stops.next n stops.parts stops.count
+  none_first n faults.Write (inl (set, same, zero)) = zero
+  none_first n faults.Write (inr breaks) = only_one breaks.front breaks.rest breaks.next n breaks.parts breaks.count
+
+-- What another sink took is counted.
+module _ {S : Type 0} (g : Ghosts S) (list : List Entry) (s t : Counting S) where
+  halts : (n : ℕ) (f : SinkFault) → GrowsBy n s.count t.count → (n ≡ 0 → t.count ≡ s.count) → HaltsAfter (shows_of g) list s.sink t.sink n f → HaltsAfter (counting g) list s t n f
+  halts n faults.Memory grows still h = record {
+    front = h.front;
+    next = h.next;
+    rest = h.rest;
+    parts = h.parts;
+    count = h.count;
+    taken = record { took = h.taken; count = subst (λ (k : ℕ). GrowsBy k s.count t.count) (sym h.count) grows };
+    wants = h.wants;
+  }
+  halts n faults.Write grows still (inl (set, sink, zero)) = inl (set, same s t sink (still zero), zero)
+  halts n faults.Write grows still (inr h) = inr (record { front = h.front; next = h.next; rest = h.rest; parts = h.parts; count = h.count; broken = h.broken })
+
+  tells : (n : ℕ) (f : SinkFault) → (n ≡ 0 → t.count ≡ s.count) → Tells (shows_of g) s.sink t.sink n f → Tells (counting g) s t n f
+  tells n f still h = record { write = h.write; memory = h.memory; none = λ set. let k = h.none set in (k.0, same s t k.1 (still k.2), k.2) }
+
+  pub puts : (r : Result (Unit {0}) BatchFault) (n : ℕ) → n ≡ taken_of (length list) r → GrowsBy n s.count t.count → (n ≡ 0 → t.count ≡ s.count) → Put (shows_of g) list s.sink t.sink r →
+      Put (counting g) list s t r
+  puts (Ok x) n is grows still h = record {
+    took = record { took = h.took; count = subst (λ (k : ℕ). GrowsBy k s.count t.count) is grows };
+    state = h.state;
+    works = h.works;
+    none = λ set. let k = h.none set in (k.0, same s t k.1 (still (is ∙ ap length k.0)));
+  }
+  puts (Err stop) n is grows still h =
+      let more = subst (λ (k : ℕ). GrowsBy k s.count t.count) is grows in
+      let stays : stop.taken ≡ 0 → t.count ≡ s.count = λ zero. still (is ∙ zero) in
+      (halts stop.taken stop.fault more stays h.0, tells stop.taken stop.fault stays h.1)
+
+-- An entry that another sink didn't take isn't counted.
+module _ {S : Type 0} (g : Ghosts S) (x : Entry) (s : Counting S) (t : S) (f : SinkFault) (h : PutSome {A = Unit {0}} (shows_of g) (x ∷ []) s.sink t (Err f)) where
+  none_counted : PutSome {A = Unit {0}} (counting g) (x ∷ []) s (made t s.count) (Err f)
+  none_counted =
+      let none = none_first (shows_of g) x s.sink t h.0 f h.1 in
+      let grows : GrowsBy h.0 s.count s.count = subst (λ (k : ℕ). GrowsBy k s.count s.count) (sym none) (grows_none s.count) in
+      (h.0, halts g (x ∷ []) s (made t s.count) h.0 f grows (λ zero. refl) h.1, tells g (x ∷ []) s (made t s.count) h.0 f (λ zero. refl) h.2)
+
+  pub puts_none : (r : Result (Unit {0}) SinkFault) → IsErrAnd r (λ fault. fault ≡ f) → PutSome (counting g) (x ∷ []) s (made t s.count) r
+  puts_none (Ok _) is = absurd is
+  puts_none (Err fault) is = subst (λ (fault : SinkFault). PutSome {A = Unit {0}} (counting g) (x ∷ []) s (made t s.count) (Err fault)) (sym is) none_counted
+
+-- A page was read into a sink that counts, over another one.
+module _ {S : Type 0} (g : Ghosts S) (h : Ghosts (Counting S)) (took_is : (s t : Counting S) (d : List Entry) → h.took s d t → Took g s d t)
+    (wants_is : (s : Counting S) (d : List Entry) → h.wants s d → g.wants s.sink d) (failed_is : (t : Counting S) → h.failed t ≡ true → g.failed t.sink ≡ true) where
+  known : (n : ℕ) (before after : Option ℕ) → before ≡ Some 0 → GrowsBy n before after → IsCount after n
+  known n before after none h = count n after (subst (λ (b : Option ℕ). GrowsBy n b after) none h)
+    where
+      count : (n : ℕ) (after : Option ℕ) → GrowsBy n (Some 0) after → IsCount after n
+      count n None past = omega (arith, past)
+      count n (Some k) sum = omega (arith, sum)
+
+  pub counted_all : (s : Counting S) (first : S) → s ≡ made first (Some 0) → (budget : ℕ) (p : List ℕ) (t : Counting S) (last : S) (n : Option ℕ) → last ≡ t.sink → n ≡ t.count →
+      Collects h s budget p (Ok t) → CountsAll g first budget p (Ok (last, n))
+  counted_all s first is budget p t last n sink count (accepted, taken) =
+      let took = took_is s t (means budget p).entries taken in
+      let from : g.took first (means budget p).entries t.sink = subst (λ (x : S). g.took x (means budget p).entries t.sink) (ap (λ (x : Counting S). x.sink) is) took.took in (
+        accepted,
+        subst (g.took first (means budget p).entries) (sym sink) from,
+        subst (λ (k : Option ℕ). IsCount k (length (means budget p).entries)) (sym count) (known (length (means budget p).entries) s.count t.count (ap (λ (x : Counting S). x.count) is) took.count),
+      )
+
+  refused_by : (s : Counting S) (budget : ℕ) (p : List ℕ) (r : Refusal) (cause : Cause) → RefusedBy h s budget p r cause → RefusedBy g s.sink budget p r cause
+  refused_by s budget p r stream is = is
+  refused_by s budget p r memory (breaks, inl own) = (breaks, inl own)
+  refused_by s budget p r memory (breaks, inr (first, rest, parts, wants)) = (breaks, inr (first, rest, parts, wants_is s first wants))
+  refused_by s budget p r device (breaks, (t, failed)) = (breaks, (t.sink, failed_is t failed))
+
+  pub counted_refused : (s : Counting S) (first : S) → s ≡ made first (Some 0) → (budget : ℕ) (p : List ℕ) (r : Refusal) → Collects h s budget p (Err r) → CountsAll g first budget p (Err r)
+  counted_refused s first is budget p r refused =
+      subst (λ (x : S). RefusedBy g x budget p r (cause_of r.fault)) (ap (λ (x : Counting S). x.sink) is) (refused_by s budget p r (cause_of r.fault) refused)

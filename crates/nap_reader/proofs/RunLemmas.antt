@@ -1,0 +1,415 @@
+use Rattle.std.proofs.Common.{ℕ, ◌+◌, ◌-◌, ◌≡◌, ◌≤◌, List, [], ◌∷◌, ◌++◌, map, length, All, true, None, Some, sym, arith, append-nil, append_assoc, length-append, ◌<◌, Bool, false, take, drop, get_or, inl, inr, refl, ap, ◌∙◌, subst}
+use Rattle.std.proofs.lemmas.List.Elements.{All-head, All-tail}
+use Rattle.nap_reader.proofs.ReadingLemmas.{word_joins, word_too_many}
+use Rattle.std.specs.List.{prefix_len}
+use Rattle.std.proofs.lemmas.List.{drop-append-le, drop-map, drop_more, length-map, length-take-le, take-append-le, take-map}
+use Rattle.std.proofs.lemmas.List.Sums.{prefix_len-le-length, prefix_len_passes}
+use Rattle.nap_reader.specs.Below.{Ghosts, run_limit, CharSet, CodeSets, DrawsBy, carried, Opcode, DrawFault, Drawn, rule}
+use Rattle.nap_reader.proofs.Common.{OpenRun, Placed, Outcome, bytes_of, is_operand_byte, place_at, refusal, after_drawing, Holding, Continues, run_by, Refusal, AllCharacters, ActsRun, Conveys, IsLive, IsOver, LeadsOn, Refuses, Stops, StopsRun, Takes, ahead, as_it_was, asked, asks_if, at_byte, at_word, with_machine, Codes, IsOpcodeByte, IsWholeRun, TakesBy, Request, draw_fault}
+use Rattle.nap_reader.specs.declared.fault.Fault.TheVariants as faults
+use Rattle.nap_reader.specs.declared.machine.Machine.{Machine}
+use Rattle.nap_reader.specs.declared.machine.Request.TheVariants as requests
+use Rattle.nap_reader.specs.Carried.{NoCharacters}
+use Rattle.nap_reader.specs.Steps.{Executes, FailsRun}
+use Rattle.nap_reader.proofs.MachineLemmas.{held_is, no_some, own_takes, stop_takes, Drew, LeftBy, asked_is, leaves_from}
+use Rattle.nap_reader.proofs.OperandLemmas.{as_many_words, more_words, operands_in_front, run_over, same_words}
+use Rattle.nap_reader.proofs.SliceLemmas.{first_of, split_bytes}
+use Rattle.nap_reader.proofs.StepLemmas.{conveys_nothing, stops_run}
+use Rattle.nap_reader.proofs.StreamLemmas.{bytes_of-append, place_at-append}
+use Rattle.nap_draw.specs.Draws as draws
+use Rattle.nap_reader.specs.declared.machine.codes.CodeOutcome.TheVariants as outcomes
+use Rattle.nap_reader.proofs.CodesLemmas.{StartsRun, open_at, run_opened}
+use Rattle.nap_reader.proofs.LeadsLemmas.{TookMore}
+use Rattle.nap_reader.proofs.TakingLemmas.{leads_behind, stops_behind, takes_behind}
+
+-- A stretch of bytes is its bytes in turn.
+
+-- the words of operand bytes
+abbrev pub words : List ℕ → List ℕ
+words bytes = map (λ b. b - 64) bytes
+
+-- operand bytes of an open run join it, whatever comes behind them
+pub words_join : {S : Type 0} (g : Ghosts S) (s : S) (o : Outcome) (t : S) (open_run : OpenRun) (xs pending : List Placed) (h : Holding) → h.open_body ≡ None → h.open_run ≡ Some open_run →
+    Continues g s o t h (xs ++ pending) → All (λ b. is_operand_byte b ≡ true) (bytes_of xs) → length h.run + length xs ≤ run_limit →
+    Continues g s o t (record h { run = h.run ++ words (bytes_of xs) }) pending
+words_join g s o t open_run [] pending h between opened k all few = rw (append-nil h.run) k
+words_join g s o t open_run (x ∷ xs) pending h between opened k all few =
+    let b = x.byte in
+    let h' : Holding = record h { run = h.run ++ (b - 64) ∷ [] } in
+    let one : Continues g s o t h' (xs ++ pending) =
+    word_joins g s o t h open_run between opened x (xs ++ pending) k (All-head (λ b. is_operand_byte b ≡ true) b (bytes_of xs) all) (omega (arith, few)) in
+    rw (sym (append_assoc h.run ((b - 64) ∷ []) (words (bytes_of xs))))
+    (words_join g s o t open_run xs pending h' between opened one (All-tail (λ b. is_operand_byte b ≡ true) b (bytes_of xs) all)
+    (omega (arith, few, length-append h.run ((b - 64) ∷ []))))
+
+-- Operands of an open run.
+
+-- This run is open, and no body; and not all bytes from 20 to 7F are characters.
+pub record IsOpen (h : Holding) (open_run : OpenRun) : Type 0 where
+  pub is : h.open_run ≡ Some open_run
+  pub between : h.open_body ≡ None
+  pub alone : (set : CharSet) → AllCharacters h.machine.sets set → ⊥
+
+-- So many bytes at the front are operands, for which a run has room.
+pub record HasRoom (h : Holding) (all : List Placed) (k : ℕ) : Type 0 where
+  pub few : k ≤ length all
+  pub operands : All (λ b. is_operand_byte b ≡ true) (bytes_of (take k all))
+  pub short : length h.run + k ≤ run_limit
+
+module _ {S : Type 0} (g : Ghosts S) (t : S) {h : Holding} {open_run : OpenRun} (run : IsOpen h open_run) {all : List Placed} {k : ℕ} (room : HasRoom h all k) where
+  -- what is held with them
+  abbrev pub joined : Holding
+  joined = record h { run = h.run ++ words (bytes_of (take k all)) }
+
+  -- They join the run.
+  unfoldable pub joins : Conveys g t h (take k all)
+  joins = record {
+    sink = t;
+    holding = joined;
+    left = refl;
+    run = λ n all before. before;
+    passes = λ s o pending c. words_join g s o t open_run (take k all) pending h run.between run.is c room.operands (omega (arith, room.short, length-take-le k all room.few));
+    none = λ empty. (refl, ap (λ (ws : List ℕ). record h { run = ws }) (ap (λ (xs : List Placed). h.run ++ words (bytes_of xs)) empty ∙ append-nil h.run));
+  }
+
+  -- They wait.
+  pub operands_wait : (next : List ℕ) → LeadsOn g t h t joined (take k all) next
+  unfolding joins
+  operands_wait next = record { conveys = joins; acted = as_it_was refl refl; typed = λ set rested chars. (refl, refl) }
+
+  -- The run acts ahead of a byte that is no operand.
+  pub operands_act : {next : List ℕ} → IsOver next → {v : S} {h' : Holding} → ActsRun g t joined v h' → LeadsOn g t h v h' (take k all) next
+  unfolding joins
+  operands_act over acts = record {
+    conveys = joins;
+    acted = ahead over.byte over.rest over.is over.other acts;
+    typed = λ set rested chars. absurd (run.alone set (subst (λ (sets : CodeSets). AllCharacters sets set) (ap (λ (h : Holding). h.machine.sets) acts.holds) chars));
+  }
+
+  -- It is refused, or breaks, there.
+  pub operands_stop : IsOver (bytes_of (drop k all)) → {v : S} {r : Refusal} → StopsRun g t joined v r → (many : ℕ) → Stops g t h all many k v r
+  unfolding joins
+  operands_stop over {v} {r} stops many =
+      let (x, ys, left, byte, others) = first_of (drop k all) over.byte over.rest over.is in
+      at_byte x ys left joins (stops_run g t joined x v r (ap is_operand_byte byte ∙ over.other) stops)
+
+  -- There are more than it has room for.
+  pub operands_long : (x : Placed) (zs : List Placed) → drop k all ≡ x ∷ zs → is_operand_byte x.byte ≡ true → length h.run + k ≡ run_limit → (many : ℕ) → Stops g t h all many k t (refusal faults.LongRun open_run.place)
+  unfolding joins
+  operands_long x zs left word full many =
+      at_byte x zs left joins (record {
+        own = λ own s o pending c.
+            word_too_many g s o t joined open_run run.between run.is x pending c word
+            (omega (arith, full, length-append h.run (words (bytes_of (take k all))), length-map (bytes_of (take k all)) (λ (b : ℕ). b - 64), length-map (take k all) (λ (x : Placed). x.byte), length-take-le k all room.few));
+        broke = λ broke. absurd (broke refl);
+      })
+
+-- The operand bytes at the front of a slice.
+
+-- how many there are
+abbrev pub operands_in : List Placed → ℕ
+operands_in xs = prefix_len is_operand_byte (bytes_of xs)
+
+module _ (xs behind : List Placed) where
+  size : length (bytes_of xs) ≡ length xs
+  size = length-map xs (λ (x : Placed). x.byte)
+
+  within : operands_in xs ≤ length xs
+  within = omega (arith, size, prefix_len-le-length is_operand_byte (bytes_of xs))
+
+  bytes_taken : (k : ℕ) → k ≤ operands_in xs → bytes_of (take k (xs ++ behind)) ≡ take k (bytes_of xs)
+  bytes_taken k few = ap bytes_of (take-append-le k xs behind (omega (arith, few, within))) ∙ sym (take-map (λ (x : Placed). x.byte) k xs)
+
+  bytes_left : (k : ℕ) → k ≤ operands_in xs → bytes_of (drop k (xs ++ behind)) ≡ drop k (bytes_of xs) ++ bytes_of behind
+  bytes_left k few =
+      ap bytes_of (drop-append-le k xs behind (omega (arith, few, within))) ∙ bytes_of-append (drop k xs) behind ∙ ap (λ (bs : List ℕ). bs ++ bytes_of behind) (sym (drop-map (λ (x : Placed). x.byte) k xs))
+
+  -- the byte behind some of them
+  next_byte : (k : ℕ) → k < operands_in xs → (x : Placed) × (zs : List Placed) × (drop k (xs ++ behind) ≡ x ∷ zs) × (is_operand_byte x.byte ≡ true)
+  next_byte k less =
+      let (x, zs, left, byte, others) = first_of (drop k (xs ++ behind)) (get_or (bytes_of xs) k 0) (drop (k + 1) (bytes_of xs) ++ bytes_of behind)
+      (bytes_left k (omega (arith, less)) ∙ ap (λ (bs : List ℕ). bs ++ bytes_of behind) (drop_more (bytes_of xs) k 0 (omega (arith, less, within, size)))) in
+      (x, zs, left, ap is_operand_byte byte ∙ prefix_len_passes is_operand_byte (bytes_of xs) k 0 less)
+
+  -- no operand comes behind them all
+  over_behind : (operands_in xs ≡ length xs → IsOver (bytes_of behind)) → IsOver (bytes_of (drop (operands_in xs) (xs ++ behind)))
+  over_behind over = subst IsOver (sym (bytes_left (operands_in xs) (omega arith))) (run_over (bytes_of xs) (bytes_of behind) (operands_in xs) refl (λ all. over (all ∙ size)))
+
+-- What a machine makes of them, whose run is open.
+
+module _ {S : Type 0} {g : Ghosts S} (old : Machine S g) (open_run : OpenRun) (is : old.open_run ≡ Some open_run) (h : Holding) where
+  is_open : h.open_body ≡ None → IsOpen (with_machine h old) open_run
+  is_open between = record { is = is; between = between; alone = subst (NoCharacters old.lexer) is old.drawing }
+
+  counted : length (with_machine h old).run ≡ length old.run.items
+  counted = as_many_words old.open_run open_run old.run.items is
+
+  has_room : (xs behind : List Placed) (k : ℕ) → k ≤ operands_in xs → length old.run.items + k ≤ run_limit → HasRoom (with_machine h old) (xs ++ behind) k
+  has_room xs behind k few short = record {
+    few = omega (arith, few, within xs behind, length-append xs behind);
+    operands = subst (All (λ b. is_operand_byte b ≡ true)) (sym (bytes_taken xs behind k few)) (operands_in_front (bytes_of xs) k few);
+    short = omega (arith, short, counted);
+  }
+
+-- More come than the run has room for.
+pub run_too_long : {S : Type 0} {g : Ghosts S} {old new : Machine S g} {open_run : OpenRun} {xs : List Placed} (ended : Bool) (most : ℕ) → old.open_run ≡ Some open_run → most < operands_in xs → length old.run.items + most ≡ run_limit →
+    new.refusal ≡ Some (refusal faults.LongRun open_run.place) → new.sink ≡ old.sink → Takes old new xs ended most requests.Stop
+run_too_long {g = g} {old = old} {open_run = open_run} {xs = xs} ended most is less full refused same =
+    own_takes refused same (λ own. cc) (omega (arith, less, within xs []))
+    (λ h behind between over.
+    let (x, zs, left, word) = next_byte xs behind most less in
+    operands_long g old.sink (is_open old open_run is h between) (has_room old open_run is h xs behind most (omega (arith, less)) (omega (arith, full))) x zs left word (omega (arith, full, counted old open_run is h)) (length xs))
+
+-- Memory is wanting for them.
+pub run_lacks : {S : Type 0} {g : Ghosts S} {old new : Machine S g} {open_run : OpenRun} {xs : List Placed} (ended : Bool) → old.open_run ≡ Some open_run → 0 < operands_in xs → length old.run.items + operands_in xs ≤ run_limit →
+    new.refusal ≡ Some (refusal faults.Memory (place_at xs 0)) → new.sink ≡ old.sink → Takes old new xs ended 0 requests.Stop
+run_lacks {g = g} {old = old} {open_run = open_run} {xs = xs} ended is some short refused same =
+    own_takes refused same (λ own. cc) (omega arith)
+    (λ h behind between over.
+    let (x, zs, left, word) = next_byte xs behind 0 some in
+    let here : x.place ≡ place_at xs 0 = sym (ap (λ (ys : List Placed). place_at ys 0) left) ∙ place_at-append xs behind 0 (omega (arith, some, within xs behind)) in
+    at_byte x zs left (conveys_nothing g old.sink (with_machine h old)) (record {
+      own = λ own. let bad : ⊥ = cc in absurd bad;
+      broke = λ broke.
+          at_word (record {
+            open_run = open_run;
+            between = between;
+            is = is;
+            word = word;
+            few = omega (arith, some, short, counted old open_run is h);
+            sink = refl;
+            why = ap (refusal faults.Memory) (sym here);
+          });
+    }))
+
+-- They joined the open run.
+pub record Joins {S : Type 0} {g : Ghosts S} (old mid : Machine S g) (open_run : OpenRun) (xs : List Placed) : Type 0 where
+  pub is : old.open_run ≡ Some open_run
+  pub short : length old.run.items + operands_in xs ≤ run_limit
+  pub items : mid.run.items ≡ old.run.items ++ take (operands_in xs) (bytes_of xs)
+  pub work : mid.work ≡ old.work
+  pub lexer : mid.lexer ≡ old.lexer
+  pub open_run_is : mid.open_run ≡ old.open_run
+  pub sink : mid.sink ≡ old.sink
+
+module _ {S : Type 0} {g : Ghosts S} {old mid : Machine S g} {open_run : OpenRun} {xs : List Placed} (j : Joins old mid open_run xs) (ended : Bool) where
+  few : operands_in xs ≤ length xs
+  few = within xs []
+
+  open_in : (h : Holding) → h.open_body ≡ None → IsOpen (with_machine h old) open_run
+  open_in = is_open old open_run j.is
+
+  room_in : (h : Holding) (behind : List Placed) → HasRoom (with_machine h old) (xs ++ behind) (operands_in xs)
+  room_in h behind = has_room old open_run j.is h xs behind (operands_in xs) (omega arith) j.short
+
+  -- what is held then
+  held_joined : (h : Holding) (between : h.open_body ≡ None) (behind : List Placed) → with_machine h mid ≡ joined g old.sink (open_in h between) (room_in h behind)
+  held_joined h between behind =
+      held_is h mid old.work old.lexer old.open_run j.work j.lexer j.open_run_is
+      ∙ ap (λ (ws : List ℕ). record (with_machine h old) { run = ws })
+      (ap (run_by old.open_run) j.items ∙ more_words old.open_run open_run old.run.items (take (operands_in xs) (bytes_of xs)) j.is (operands_in_front (bytes_of xs) (operands_in xs) (omega arith))
+      ∙ ap (λ (bs : List ℕ). run_by old.open_run old.run.items ++ words bs) (sym (bytes_taken xs behind (operands_in xs) (omega arith))))
+
+  -- They are all of the bytes.
+  pub run_waits : IsLive mid → operands_in xs ≡ length xs → Takes old mid xs ended (operands_in xs) requests.Nothing
+  run_waits live all = record {
+    within = few;
+    leaves = record { live = live; clear = λ clear. ap g.failed j.sink ∙ clear };
+    goes = λ some. inl (omega (arith, some, all));
+    closed = λ nothing less. absurd (omega (arith, less, all));
+    by = λ h behind between over.
+        subst (λ (v : S). LeadsOn g old.sink (with_machine h old) v (with_machine h mid) (take (operands_in xs) (xs ++ behind)) (bytes_of (drop (operands_in xs) (xs ++ behind)))) (sym j.sink)
+        (subst (λ (h' : Holding). LeadsOn g old.sink (with_machine h old) old.sink h' (take (operands_in xs) (xs ++ behind)) (bytes_of (drop (operands_in xs) (xs ++ behind)))) (sym (held_joined h between behind))
+        (operands_wait g old.sink (open_in h between) (room_in h behind) (bytes_of (drop (operands_in xs) (xs ++ behind)))));
+  }
+
+  -- The byte behind them is known, and the opcode acts.
+  leads : (operands_in xs ≡ length xs → ended ≡ true) → (new : Machine S g) (clears : Bool) → Executes mid new clears → (h : Holding) (behind : List Placed) → h.open_body ≡ None → (ended ≡ true → IsOver (bytes_of behind)) →
+      LeadsOn g old.sink (with_machine h old) new.sink (asked (with_machine h new) (asks_if clears)) (take (operands_in xs) (xs ++ behind)) (bytes_of (drop (operands_in xs) (xs ++ behind)))
+  leads ends new clears (works, closed, acted) h behind between over =
+      operands_act g old.sink (open_in h between) (room_in h behind) (over_behind xs behind (λ all. over (ends all)))
+      (subst (λ (h' : Holding). ActsRun g old.sink h' new.sink (asked (with_machine h new) (asks_if clears))) (held_joined h between behind)
+      (subst (λ (t : S). ActsRun g t (with_machine h mid) new.sink (asked (with_machine h new) (asks_if clears))) j.sink (acted h between)))
+
+  pub run_acts : (operands_in xs ≡ length xs → ended ≡ true) → {new : Machine S g} (clears : Bool) → Executes mid new clears → Takes old new xs ended (operands_in xs) (asks_if clears)
+  run_acts ends {new} true executes = record {
+    within = few;
+    leaves = record { live = executes.0.live; clear = λ clear. executes.0.clear (ap g.failed j.sink ∙ clear) };
+    goes = λ some. inr (inr (executes.1, λ none. no_some (sym j.is ∙ none)));
+    closed = λ nothing less. executes.1;
+    by = leads ends new true executes;
+  }
+  run_acts ends {new} false executes = record {
+    within = few;
+    leaves = record { live = executes.0.live; clear = λ clear. executes.0.clear (ap g.failed j.sink ∙ clear) };
+    goes = λ some. inr (inr (executes.1, λ none. no_some (sym j.is ∙ none)));
+    closed = λ nothing less. executes.1;
+    by = leads ends new false executes;
+  }
+
+  -- It is refused, or breaks.
+  pub run_stops : (operands_in xs ≡ length xs → ended ≡ true) → {failed new : Machine S g} {r : Refusal} → FailsRun mid failed r → Refuses failed new r → Takes old new xs ended (operands_in xs) requests.Stop
+  run_stops ends {failed} {new} {r} (stopped, fails, kept) refuses =
+      stop_takes refuses.is few (λ is. ap g.failed refuses.sink ∙ fails is) (λ works fails. kept (ap g.failed j.sink ∙ works) (sym (ap g.failed refuses.sink) ∙ fails))
+      (λ h behind between over.
+      subst (λ (v : S). Stops g old.sink (with_machine h old) (xs ++ behind) (length xs) (operands_in xs) v r) (sym refuses.sink)
+      (operands_stop g old.sink (open_in h between) (room_in h behind) (over_behind xs behind (λ all. over (ends all)))
+      (subst (λ (h' : Holding). StopsRun g old.sink h' failed.sink r) (held_joined h between behind) (subst (λ (t : S). StopsRun g t (with_machine h mid) failed.sink r) j.sink (stopped h between))) (length xs)))
+
+-- What a machine makes of an opcode, where no run is open.
+
+-- It is at the front, where no code is half read.
+pub record AtOpcode {S : Type 0} {g : Ghosts S} (old : Machine S g) (byte : ℕ) (op : Opcode) : Type 0 where
+  pub closed : old.open_run ≡ None
+  pub is : IsOpcodeByte old.lexer.half old.lexer.sets byte op
+
+-- where this byte is it
+starts : {S : Type 0} {g : Ghosts S} {old : Machine S g} {x : Placed} {op : Opcode} → AtOpcode old x.byte op → (h : Holding) → h.open_body ≡ None → StartsRun (with_machine h old) x op
+starts at h between = record { between = between; closed = at.closed; is = at.is }
+
+-- Its run is whole: these bytes are it and what stands behind it, of which this is its run.
+pub record RunsWhole {S : Type 0} {g : Ghosts S} (old : Machine S g) (op : Opcode) (bytes : List ℕ) (ended : Bool) (run : List ℕ) : Type 0 where
+  pub byte : ℕ
+  pub rest : List ℕ
+  pub bytes_is : bytes ≡ byte ∷ rest
+  pub at : AtOpcode old byte op
+  pub short : length run ≤ run_limit
+  pub whole : (behind : List ℕ) → (ended ≡ true → IsOver behind) → IsWholeRun rest behind run
+
+module _ {S : Type 0} {g : Ghosts S} {old : Machine S g} {op : Opcode} {bytes : List ℕ} {ended : Bool} {run : List ℕ} (r : RunsWhole old op bytes ended run) where
+  run_within : length run + 1 ≤ length bytes
+  run_within = omega (arith, ap length r.bytes_is, (r.whole (0 ∷ []) (λ _. record { byte = 0; rest = []; is = refl; other = refl })).within)
+
+  -- They are these, and others come behind them.
+  record Comes (h : Holding) (x : Placed) (ys behind : List Placed) : Type 0 where
+    between : h.open_body ≡ None
+    byte : x.byte ≡ r.byte
+    rest : bytes_of ys ≡ r.rest
+    over : ended ≡ true → IsOver (bytes_of behind)
+
+  module _ {h : Holding} {x : Placed} {ys behind : List Placed} (comes : Comes h x ys behind) where
+    abbrev all : List Placed
+    all = ys ++ behind
+
+    whole : IsWholeRun r.rest (bytes_of behind) run
+    whole = r.whole (bytes_of behind) comes.over
+
+    split : (bytes_of (take (length run) all) ≡ run) × (bytes_of (drop (length run) all) ≡ whole.rest)
+    split = split_bytes all run whole.rest (bytes_of-append ys behind ∙ ap (λ (bs : List ℕ). bs ++ bytes_of behind) comes.rest ∙ whole.front)
+
+    start : StartsRun (with_machine h old) x op
+    start = starts (subst (λ (b : ℕ). AtOpcode old b op) (sym comes.byte) r.at) h comes.between
+
+    abbrev begun : Holding
+    begun = open_at start
+
+    begun_open : IsOpen begun (record { op = op; place = x.place })
+    begun_open = record { is = refl; between = comes.between; alone = r.at.is.alone }
+
+    room : HasRoom begun all (length run)
+    room = record {
+      few = omega (arith, whole.within, ap length comes.rest, length-map ys (λ (x : Placed). x.byte), length-append ys behind);
+      operands = subst (All (λ b. is_operand_byte b ≡ true)) (sym split.0) whole.operands;
+      short = omega (arith, r.short);
+    }
+
+    run_words : carried run ≡ words (bytes_of (take (length run) all))
+    run_words = same_words run whole.operands ∙ ap words (sym split.0)
+
+    whole_leads : (new : Machine S g) (drawn : Drawn) → LeftBy old new drawn.work old.lexer → Drew g (rule old.work op (carried run)) old.sink drawn new.sink → TookMore g →
+        LeadsOn g old.sink (with_machine h old) new.sink (asked (with_machine h new) (asks_if drawn.clears)) (take (1 + length run) (x ∷ all)) (bytes_of (drop (1 + length run) (x ∷ all)))
+    whole_leads new drawn left drew more =
+        let h' : Holding = record (with_machine h old) { machine = after_drawing (with_machine h old).machine drawn; half = []; open_run = None; run = [] } in
+        let held : asked (with_machine h new) (asks_if drawn.clears) ≡ h' =
+        ap (λ (held : Holding). asked held (asks_if drawn.clears)) (held_is h new drawn.work old.lexer None left.work_is left.lexer_is left.closed)
+        ∙ asked_is (record (with_machine h old) { open_run = None; run = [] }) drawn ∙ ap (λ (half : List ℕ). record h' { half = half }) r.at.is.rested in
+        leads_behind (x ∷ all) 1 more (run_opened g old.sink start (bytes_of all)) (length run)
+        (subst (λ (held : Holding). LeadsOn g old.sink begun new.sink held (take (length run) all) (bytes_of (drop (length run) all))) (sym held)
+        (operands_act g old.sink begun_open room (subst IsOver (sym split.1) whole.over) (record {
+          open_run = record { op = op; place = x.place };
+          between = comes.between;
+          is = refl;
+          drawn = drawn;
+          by = ap (rule old.work op) (sym run_words) ∙ drew.is;
+          took = drew.took;
+          clear = drew.clear;
+          holds = refl;
+        })))
+
+    stops : (u : S) (fault : DrawFault) → DrawsBy g.took g.broke g.failed (rule old.work op (carried run)) old.sink u fault (draws.cause_of fault) → TookMore g →
+        Stops g old.sink (with_machine h old) (x ∷ all) (length (x ∷ ys)) (1 + length run) u (refusal (draw_fault fault) x.place)
+    stops u fault drew more =
+        stops_behind (x ∷ all) 1 more (run_opened g old.sink start (bytes_of all)) (length (x ∷ ys)) (length run)
+        (operands_stop g old.sink begun_open room (subst IsOver (sym split.1) whole.over) (record {
+          open_run = record { op = op; place = x.place };
+          between = comes.between;
+          is = refl;
+          fault = fault;
+          why = refl;
+          drew = subst (λ (words : List ℕ). DrawsBy g.took g.broke g.failed (rule old.work op words) old.sink u fault (draws.cause_of fault)) run_words drew;
+        }) (length (x ∷ ys) - 1))
+
+  -- It acts.
+  pub opcode_acts : {new : Machine S g} (drawn : Drawn) → LeftBy old new drawn.work old.lexer → Drew g (rule old.work op (carried run)) old.sink drawn new.sink → IsLive new → TookMore g → Codes old new bytes ended (outcomes.Acted (length run + 1) drawn.clears)
+  opcode_acts {new} drawn left drew live more = record {
+    within = (omega arith, run_within);
+    leaves = record { live = live; clear = drew.clear };
+    closed = left.closed ∙ sym left.before;
+    by = λ h xs behind between is over.
+        let (x, ys, all, byte, rest) = first_of xs r.byte r.rest (is ∙ r.bytes_is) in
+        let comes : Comes h x ys behind = record { between = between; byte = byte; rest = rest; over = over } in
+        subst (λ (xs : List Placed). LeadsOn g old.sink (with_machine h old) new.sink (asked (with_machine h new) (asks_if drawn.clears)) (take (length run + 1) (xs ++ behind)) (bytes_of (drop (length run + 1) (xs ++ behind)))) (sym all)
+        (subst (λ (n : ℕ). LeadsOn g old.sink (with_machine h old) new.sink (asked (with_machine h new) (asks_if drawn.clears)) (take n (x ∷ (ys ++ behind))) (bytes_of (drop n (x ∷ (ys ++ behind))))) (let e : 1 + length run ≡ length run + 1 = omega arith in e)
+        (whole_leads comes new drawn left drew more));
+  }
+
+  -- It is refused, or breaks.
+  pub opcode_stops : {new : Machine S g} (fault : DrawFault) → new.open_run ≡ old.open_run → DrawsBy g.took g.broke g.failed (rule old.work op (carried run)) old.sink new.sink fault (draws.cause_of fault) →
+      (draw_fault fault ≡ faults.Sink → g.failed new.sink ≡ true) × (g.failed old.sink ≡ false → g.failed new.sink ≡ true → draw_fault fault ≡ faults.Sink) → TookMore g → Codes old new bytes ended (outcomes.Stopped (length run + 1) (draw_fault fault) 0)
+  opcode_stops {new} fault closed drew told more = record {
+    within = (run_within, omega (arith, run_within));
+    leaves = told;
+    closed = closed;
+    by = λ h xs behind between is over.
+        let (x, ys, all, byte, rest) = first_of xs r.byte r.rest (is ∙ r.bytes_is) in
+        let comes : Comes h x ys behind = record { between = between; byte = byte; rest = rest; over = over } in
+        subst (λ (xs : List Placed). Stops g old.sink (with_machine h old) (xs ++ behind) (length xs) (length run + 1) new.sink (refusal (draw_fault fault) (place_at (xs ++ behind) 0))) (sym all)
+        (subst (λ (n : ℕ). Stops g old.sink (with_machine h old) (x ∷ (ys ++ behind)) (length (x ∷ ys)) n new.sink (refusal (draw_fault fault) x.place)) (let e : 1 + length run ≡ length run + 1 = omega arith in e)
+        (stops comes new.sink fault drew more));
+  }
+
+-- Its run opens.
+
+pub record OpensRun {S : Type 0} {g : Ghosts S} (old mid : Machine S g) (x : Placed) (op : Opcode) : Type 0 where
+  pub at : AtOpcode old x.byte op
+  pub run : mid.open_run ≡ Some (record { op = op; place = x.place })
+  pub items : mid.run.items ≡ []
+  pub work : mid.work ≡ old.work
+  pub lexer : mid.lexer ≡ old.lexer
+  pub sink : mid.sink ≡ old.sink
+
+module _ {S : Type 0} {g : Ghosts S} {old mid : Machine S g} {x : Placed} {op : Opcode} (o : OpensRun old mid x op) where
+  opened : (h : Holding) → h.open_body ≡ None → (next : List ℕ) → LeadsOn g old.sink (with_machine h old) mid.sink (with_machine h mid) (x ∷ []) next
+  opened h between next =
+      let open_run : OpenRun = record { op = op; place = x.place } in
+      let held : with_machine h mid ≡ record (with_machine h old) { half = []; open_run = Some open_run; run = [] } =
+      held_is h mid old.work old.lexer (Some open_run) o.work o.lexer o.run
+      ∙ ap (λ (half : List ℕ). record (with_machine h old) { half = half; open_run = Some open_run; run = carried mid.run.items }) o.at.is.rested
+      ∙ ap (λ (run : List ℕ). record (with_machine h old) { half = []; open_run = Some open_run; run = carried run }) o.items in
+      subst (λ (v : S). LeadsOn g old.sink (with_machine h old) v (with_machine h mid) (x ∷ []) next) (sym o.sink)
+      (subst (λ (h' : Holding). LeadsOn g old.sink (with_machine h old) old.sink h' (x ∷ []) next) (sym held)
+      (run_opened g old.sink (starts o.at h between) next))
+
+-- What the machine takes behind it is taken with it.
+pub open_takes : {S : Type 0} {g : Ghosts S} {old mid new : Machine S g} {x : Placed} {op : Opcode} {xs : List Placed} {ended : Bool} {count : ℕ} {request : Request} → Takes mid new xs ended count request → OpensRun old mid x op → TookMore g →
+    Takes old new (x ∷ xs) ended (1 + count) request
+open_takes {g = g} {old = old} {mid = mid} {new = new} {x = x} {xs = xs} {count = count} {request = request} takes o more = record {
+  within = omega (arith, takes.within);
+  leaves = leaves_from old mid new request (λ clear. ap g.failed o.sink ∙ clear) takes.leaves;
+  goes = λ some. inl (omega arith);
+  closed = λ nothing less. takes.closed nothing (omega (arith, less));
+  by = λ h behind between over.
+      takes_behind (x ∷ (xs ++ behind)) 1 more (opened o h between (bytes_of (xs ++ behind))) new h request (length (x ∷ xs)) count
+      (subst (λ (many : ℕ). TakesBy g mid.sink (with_machine h mid) new.sink (with_machine h new) (xs ++ behind) many count new.refusal request) (let e : length xs ≡ length (x ∷ xs) - 1 = omega arith in e)
+      (takes.by h behind between over));
+}

@@ -1,0 +1,66 @@
+use Rattle.std.proofs.Common.{◌≡◌, ◌+◌, ◌-◌, ◌++◌, ◌∙◌, ℕ, Err, refl, ap, subst, arith}
+use Rattle.std.proofs.KnownBytes.{Consumes-trans}
+use Rattle.std.proofs.lemmas.Result.{err_from_is_err_and}
+use Rattle.nap_list.specs.Limits.{reads_limit}
+use Rattle.nap_list.specs.Reading.{reading}
+use Rattle.nap_reader.specs.Breaking.{cause_of}
+use Rattle.nap_reader.specs.declared.feeding.FeedFault.{FeedFault}
+use Rattle.nap_reader.specs.Feeding.{FailsBy, Feeds}
+use Rattle.nap_reader.specs.Standing.{sink_of}
+use Rattle.nap_reader.specs.Collecting.{RefusedBy}
+use Rattle.nap_reader.proofs.CollectLemmas.{cut_off, read_whole, reads_few, refused_whole}
+use Rattle.nap_reader.proofs.collect.read_input.Goals as goal
+
+pub overflow_sub-calls : goal.overflow_sub-calls
+overflow_sub-calls g c = omega (arith, c.calls.ensures, c.calls-before.ensures, c.in-Err-Refused.ensures.more)
+
+-- the rest of the input was cut off
+pub returns-in_err-read_out-in-Err-Refused-clause-collected : goal.returns-in_err-read_out-in-Err-Refused-clause-collected
+returns-in_err-read_out-in-Err-Refused-clause-collected g c =
+    let I = g.I.Inlet in
+    let start = c.args.input.now in
+    let mid = c.feed_from.new.input in
+    let end = c.read_out.new.input in
+    let old = c.new-reader.result in
+    let new = c.feed_from.new.reader in
+    let s = c.args.sink in
+    let refused = c.in-Err-Refused in
+    let (p, read, feeds) = refused.ensures.feeds in
+    let h = subst (λ (f : FeedFault). Feeds I old new s p start mid (Err f)) refused.field-0-is (feeds s c.new-reader.ensures.stands) in
+    let fails = subst (λ (f : FeedFault). FailsBy (g.S.Sink.failed (sink_of new)) (Err f)) refused.field-0-is (refused.ensures.fails (ap g.S.Sink.failed c.new-reader.ensures.sink ∙ c.requires.works)) in
+    let (more, rest, out) = c.in_err-read_out-in-Err-Refused.ensures.read in
+    let few = reads_few I old new s p start mid refused.refusal h c.feed_from.ensures.budget fails.0 more in
+    let most = reads_limit - (c.calls.result - c.calls-before.result) in
+    let reads : I.calls end - I.calls start ≡ (I.calls mid - I.calls start) + (I.calls end - I.calls mid) = omega (arith, refused.ensures.more, c.read_out.ensures.more) in
+    let all : most + (I.calls mid - I.calls start) ≡ reads_limit = omega (arith, c.calls.ensures, c.calls-before.ensures, refused.ensures.few, refused.ensures.more) in
+    let cut = cut_off (reading I start mid) (reading I mid end) (reading I start end) p more few h.ends.0 refl refl refl refl reads most all
+    c.in_err-read_out-in-Err-Refused.field-0.0 out in
+    let e = err_from_is_err_and c.from_residual.result c.from_residual.ensures.1 in
+    (p ++ more, Consumes-trans _ _ _ p more read rest, rw (e.1) cut)
+
+-- all was read
+pub returns-clause-collected : goal.returns-clause-collected
+returns-clause-collected g c =
+    let I = g.I.Inlet in
+    let start = c.args.input.now in
+    let mid = c.feed_from.new.input in
+    let end = c.read_out.new.input in
+    let old = c.new-reader.result in
+    let new = c.feed_from.new.reader in
+    let s = c.args.sink in
+    let refused = c.in-Err-Refused in
+    let r = refused.refusal in
+    let (p, read, feeds) = refused.ensures.feeds in
+    let h = subst (λ (f : FeedFault). Feeds I old new s p start mid (Err f)) refused.field-0-is (feeds s c.new-reader.ensures.stands) in
+    let fails = subst (λ (f : FeedFault). FailsBy (g.S.Sink.failed (sink_of new)) (Err f)) refused.field-0-is (refused.ensures.fails (ap g.S.Sink.failed c.new-reader.ensures.sink ∙ c.requires.works)) in
+    let (more, rest, out) = c.in_ok-read_out-in-Err-Refused.ensures.read in
+    let few = reads_few I old new s p start mid r h c.feed_from.ensures.budget fails.0 more in
+    let reads : I.calls end - I.calls start ≡ (I.calls mid - I.calls start) + (I.calls end - I.calls mid) = omega (arith, refused.ensures.more, c.read_out.ensures.more) in
+    let why = refused_whole I old new s p start mid r h c.feed_from.ensures.budget fails.0 more in (
+      p ++ more,
+      Consumes-trans _ _ _ p more read rest,
+      (
+        read_whole (reading I start mid) (reading I mid end) (reading I start end) p more few h.ends.0 refl refl refl refl reads out,
+        record { collects = subst (λ (budget : ℕ). RefusedBy g.S.Sink s budget (p ++ more) r (cause_of r.fault)) c.new-reader.ensures.budget why },
+      ),
+    )

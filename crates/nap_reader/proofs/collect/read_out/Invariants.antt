@@ -1,0 +1,11 @@
+use Rattle.std.proofs.Common.{◌≡◌, ◌+◌, ◌≤◌, ℕ, List, length}
+use Rattle.std.specs.Io.KnownBytes.{Consumes}
+use Rattle.nap_reader.proofs.collect.read_out.Given as goal
+
+abbrev pub invariant-loop : goal.invariant-loop
+invariant-loop g l = record {
+  room : length l.room ≡ length l.fn.room;
+  calls : g.I.Inlet.calls l.input ≡ g.I.Inlet.calls l.fn.input + l.counter;
+  flag : g.I.Inlet.failed l.input ≡ g.I.Inlet.failed l.fn.input;
+  read : (p : List ℕ) × Consumes (g.I.Inlet.left l.fn.input) (g.I.Inlet.left l.input) p × (l.counter ≤ length p);
+}

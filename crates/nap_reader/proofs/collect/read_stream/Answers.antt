@@ -1,0 +1,27 @@
+use Rattle.std.proofs.Common.{◌++◌, ◌∙◌, ℕ, List, [], take, append-nil, subst}
+use Rattle.std.specs.Prelude.{slice_index}
+use Rattle.std.proofs.lemmas.Result.{err_from_is_err_and}
+use Rattle.nap_reader.specs.Breaking.{cause_of}
+use Rattle.nap_reader.specs.Standing.{StopsBy, left_of, sink_of}
+use Rattle.nap_reader.specs.Collecting.{RefusedBy}
+use Rattle.nap_reader.proofs.CollectLemmas.{device_fault, refused_behind}
+use Rattle.nap_reader.proofs.collect.read_stream.Goals as goal
+
+-- the stream is refused before its end
+pub returns-in_err-feed : goal.returns-in_err-feed
+returns-in_err-feed g c =
+    let S = g.S.Sink in
+    let s = c.args.sink in
+    let stream = c.args.stream.now in
+    let budget = c.args.budget in
+    let new = c.feed.new.self in
+    let r = c.in_err-feed.field-0.0 in
+    let unrefused = c.new-reader.ensures.unrefused in
+    let stands = c.new-reader.ensures.stands in
+    let (i, stops) = c.in_err-feed.ensures.stops unrefused in
+    let there = subst (λ (b : ℕ). StopsBy S s b ([] ++ take i stream) (slice_index stream i) (sink_of new) (left_of new) r (cause_of r.fault)) c.new-reader.ensures.budget
+    (stops.there s [] stands) in
+    let refused = refused_behind new s budget [] stream [] i r stops.within (c.feed.ensures.budget ∙ c.new-reader.ensures.budget) c.in_err-feed.ensures.answered
+    (c.feed.ensures.stands s [] stands) there (λ is. c.in_err-feed.ensures.failed unrefused (device_fault r.fault is)) in
+    let e = err_from_is_err_and c.from_residual.result c.from_residual.ensures.1 in
+    rw (e.1, e.2) (record { collects = subst (λ (p : List ℕ). RefusedBy S s budget p r (cause_of r.fault)) (append-nil stream) refused })

@@ -1,0 +1,77 @@
+use Rattle.std.proofs.Common.{◌≡◌, ◌+◌, ◌++◌, [], ◌∷◌, ℕ, List, inl, inr, length, refl, ap, sym, ◌∙◌, subst, arith}
+use Rattle.std.proofs.lemmas.List.{nil_from_length}
+use Rattle.nap_reader.proofs.Common.{Frame, body_of, Shows, FramesIn, unread, all_at}
+use Rattle.nap_reader.proofs.FrameLemmas.{frames-push, length-part, length-unread-push, unread-push}
+use Rattle.nap_reader.proofs.input.Input.call.Goals as goal
+use Rattle.nap_reader.proofs.input.Input.call.Goals.{After-span-span}
+
+-- how many bytes the body has
+counted : (c : After-span-span) → length (body_of c.args.self.now.store.names c.args.name) + c.span-span.result.start ≡ c.span-span.result.end
+counted c =
+    let span = c.span-span.result in
+    let within = c.span-span.ensures.within in
+    omega (arith, within.0, ap length c.span-span.ensures.body, length-part c.args.self.now.store.bytes span.start span.end within.0 within.1)
+
+pub invariant_of-self-2-clause-framed : goal.invariant_of-self-2-clause-framed
+invariant_of-self-2-clause-framed c =
+    let input = c.args.self.now in
+    let span = c.span-span.result in
+    let frame : Frame = record { next = span.start; end = span.end; place = c.args.place } in
+    subst (FramesIn (length input.store.bytes)) (sym (c.push_reserved.ensures ∙ ap (λ (fs : List Frame). fs ++ frame ∷ []) c.reserve.ensures.items))
+    (frames-push (length input.store.bytes) input.frames.stack.items frame input.framed (omega (arith, c.if-count-eq0.false, c.span-span.ensures.within.0), c.span-span.ensures.within.1))
+
+pub invariant_of-self-2-clause-turned : goal.invariant_of-self-2-clause-turned
+invariant_of-self-2-clause-turned c =
+    let input = c.args.self.now in
+    let span = c.span-span.result in
+    let frame : Frame = record { next = span.start; end = span.end; place = c.args.place } in
+    let more = ap (λ (fs : List Frame). length (unread input.store.bytes fs)) (c.push_reserved.ensures ∙ ap (λ (fs : List Frame). fs ++ frame ∷ []) c.reserve.ensures.items)
+    ∙ length-unread-push input.store.bytes input.frames.stack.items frame (omega (arith, c.if-count-eq0.false, c.span-span.ensures.within.0), c.span-span.ensures.within.1) in
+    omega (arith, input.turned, more)
+
+pub returns-then-count-eq0 : goal.returns-then-count-eq0
+returns-then-count-eq0 c =
+    let input = c.args.self.now in
+    let none : body_of input.store.names c.args.name ≡ [] = nil_from_length (body_of input.store.names c.args.name) (omega (arith, counted (goal.at.returns-then-count-eq0 c).After-span-span, c.if-count-eq0.true)) in
+    subst (λ (bytes : List ℕ). Shows input input input.store input.body bytes c.args.place) (sym none) (record {
+      few = omega arith;
+      charged = omega arith;
+      unread = refl;
+      names = refl;
+      stored = refl;
+      open_bytes = refl;
+      body = refl;
+      same = record { budget = refl; at = refl; fed = refl; turns = refl };
+    })
+
+pub returns-then-count-left : goal.returns-then-count-left
+returns-then-count-left c = record {
+  reason = inl (refl, omega (arith, counted (goal.at.returns-then-count-left c).After-span-span, c.left.ensures.left, c.if-count-left.true));
+  still = record { same = record { budget = refl; at = refl; fed = refl; turns = refl }; frames = refl; charged = refl };
+}
+
+pub returns-in_default : goal.returns-in_default
+returns-in_default c =
+    let count = counted (goal.at.returns-in_default c).After-span-span in
+    record {
+      reason = inr (refl, omega (arith, count, c.if-count-eq0.false), omega (arith, count, c.left.ensures.left, c.if-count-left.false));
+      still = record { same = record { budget = refl; at = refl; fed = refl; turns = refl }; frames = c.reserve.ensures.items; charged = refl };
+    }
+
+pub returns : goal.returns
+returns c =
+    let input = c.args.self.now in
+    let span = c.span-span.result in
+    let frame : Frame = record { next = span.start; end = span.end; place = c.args.place } in
+    let count = counted (goal.at.returns c).After-span-span in
+    record {
+      few = omega (arith, count, c.left.ensures.left, c.if-count-left.false);
+      charged = omega (arith, count);
+      unread = ap (unread input.store.bytes) (c.push_reserved.ensures ∙ ap (λ (fs : List Frame). fs ++ frame ∷ []) c.reserve.ensures.items) ∙ unread-push input.store.bytes input.frames.stack.items frame
+          ∙ ap (λ (bytes : List ℕ). all_at c.args.place bytes ++ unread input.store.bytes input.frames.stack.items) c.span-span.ensures.body;
+      names = refl;
+      stored = refl;
+      open_bytes = refl;
+      body = refl;
+      same = record { budget = refl; at = refl; fed = refl; turns = refl };
+    }

@@ -1,0 +1,10 @@
+use Rattle.std.proofs.Common.{◌-◌, length}
+use Rattle.nap_reader.specs.Framed.{spaced}
+use Rattle.nap_reader.proofs.TakingLemmas.{Took}
+use Rattle.nap_reader.proofs.machine.Machine.codes.Given as goal
+
+abbrev pub invariant-loop-count : goal.invariant-loop-count
+invariant-loop-count g l = Took {S = g.row.S.Denot} {g = g.S.Sink} l.fn.self l.self (spaced l.slice.place l.slice.step l.bytes) l.ended l.count
+
+abbrev pub decreases-loop-count : goal.decreases-loop-count
+decreases-loop-count g l = length l.bytes - l.count

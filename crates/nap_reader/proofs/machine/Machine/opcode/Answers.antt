@@ -1,0 +1,37 @@
+use Rattle.std.proofs.Common.{◌-◌, ℕ, List, Err, length, drop, refl, ap, ◌∙◌, subst, arith}
+use Rattle.std.proofs.lemmas.List.{length-drop, take_all}
+use Rattle.nap_reader.specs.Below.{Drawn}
+use Rattle.nap_reader.proofs.Common.{draw_fault, IsWholeRun}
+use Rattle.nap_reader.proofs.RunLemmas.{RunsWhole, opcode_acts, opcode_stops}
+use Rattle.nap_reader.proofs.StepLemmas.{sink_fault}
+use Rattle.nap_reader.proofs.machine.Machine.opcode.Given.{Over}
+use Rattle.nap_reader.proofs.machine.Machine.opcode.Goals.{In-Some}
+use Rattle.nap_reader.proofs.machine.Machine.opcode.Goals as goal
+
+-- Its run is whole.
+runs_whole : (g : Over) (c : In-Some g) → RunsWhole c.args.self.now c.args.op c.args.bytes.now c.args.ended c.in-Some.run'.now
+runs_whole g c =
+    let (byte, rest, bytes, is) = c.requires.is in
+    record {
+      byte = byte;
+      rest = rest;
+      bytes_is = bytes;
+      at = record { closed = c.requires.closed; is = is };
+      short = c.in-Some.ensures.short;
+      whole = λ behind over.
+          subst (λ (bs : List ℕ). IsWholeRun bs behind c.in-Some.run'.now) (take_all (length c.args.bytes.now - 1) (drop 1 c.args.bytes.now) (omega (arith, length-drop 1 c.args.bytes.now)) ∙ ap (drop 1) bytes) (c.in-Some.ensures.whole behind over);
+    }
+
+pub returns-in-Ok : goal.returns-in-Ok
+returns-in-Ok g c =
+    let acted = c.in-Ok.ensures.acts in
+    let drawn : Drawn = record { entries = acted.0; work = c.act.new.self; clears = c.in-Ok.clears } in
+    opcode_acts (runs_whole g (goal.at.returns-in-Ok g c).In-Some) drawn (record { before = c.requires.closed; closed = c.requires.closed; work_is = refl; lexer_is = refl })
+    (record { is = acted.1; took = acted.2; clear = c.in-Ok.ensures.clear }) (record { live = c.requires.live.live; agrees = acted.4 }) g.met.S.Sink.took_more
+
+pub returns-in-Err : goal.returns-in-Err
+returns-in-Err g c =
+    let fault = c.in-Err.fault in
+    rw c.from.ensures
+    (opcode_stops (runs_whole g (goal.at.returns-in-Err g c).In-Some) fault refl c.in-Err.ensures.acts.1
+    (λ is. c.in-Err.ensures.failed (ap Err (sink_fault fault is)), λ works fails. ap draw_fault (c.in-Err.ensures.kept works fails)) g.met.S.Sink.took_more)

@@ -1,0 +1,74 @@
+use Rattle.std.proofs.Common.{ℕ, ◌≡◌, ◌+◌, ◌-◌, ◌*◌, ap, sym, ◌∙◌, subst, arith}
+use Rattle.std.proofs.lemmas.Result.{err_from_is_err_and}
+use Rattle.nap_reader.specs.Pieces.{ReadsTo, Turn}
+use Rattle.nap_reader.proofs.ComingLemmas.{length-spaced}
+use Rattle.nap_reader.proofs.FurtherLemmas.{begin_reads, comes_rested, reads_piece, smaller, stops_piece, stops_then}
+use Rattle.nap_reader.proofs.TurnLemmas.{leaves_live, turn_is, turn_less}
+use Rattle.nap_reader.proofs.machine.Machine.read.Goals as goal
+use Rattle.nap_reader.proofs.machine.Machine.read.Goals.{After-place_of-place}
+
+-- the bytes that were taken
+turned : (g : _) (c : After-place_of-place g) → Turn {S = g.row.S.Denot} {g = g.S.Sink} c.loop-slice.self c.take-taken.new.self c.loop-slice.input c.args.piece.now c.take-taken.result.count c.take-taken.result.request c.place_of-place.result
+turned g c =
+    let last : c.saturating_sub.result ≡ c.take-taken.result.count - 1 = omega (arith, c.saturating_sub.ensures) in
+    turn_is c.loop-slice.invariant.reads c.loop-slice.invariant.ends c.in-Some.ensures c.take-taken.ensures (c.place_of-place.ensures ∙ ap (λ (i : ℕ). c.in-Some.slice.place + c.in-Some.slice.step * i) last)
+
+pub define-requires-clause-reads : goal.define-requires-clause-reads
+define-requires-clause-reads g c = begin_reads c.args.input.now c.begin.new.self c.args.piece.now c.begin.ensures (omega (arith, c.requires.few)) c.requires.few
+
+pub loop-slice-init : goal.loop-slice-init
+loop-slice-init g c = record {
+  live = c.in_ok-define.ensures.live;
+  reads = c.in_ok-define.ensures.counts.reads;
+  ends = c.in_ok-define.ensures.ends;
+  goes = λ old before by. c.in_ok-define.ensures.goes old before (subst (λ i. ReadsTo {S = g.row.S.Denot} {g = g.S.Sink} old c.args.piece.now c.args.self.now i) (sym c.begin.ensures) by);
+}
+
+pub returns-in_err-define-clause-reads : goal.returns-in_err-define-clause-reads
+returns-in_err-define-clause-reads g c =
+    let e = err_from_is_err_and c.from_residual.result c.from_residual.ensures.1 in
+    rw e.1 (stops_piece c.begin.ensures c.requires.rested c.requires.live.live (omega (arith, c.requires.few)) c.requires.few c.in_err-define.ensures.goes)
+
+pub place_of-place-requires : goal.place_of-place-requires
+place_of-place-requires g c = omega (arith, c.take-taken.ensures.within, length-spaced c.in-Some.slice.place c.in-Some.slice.step c.in-Some.slice.bytes.now, c.saturating_sub.ensures)
+
+pub answer-requires-clause-live : goal.answer-requires-clause-live
+answer-requires-clause-live g c = λ other. leaves_live c.loop-slice.self c.take-taken.new.self c.take-taken.result.request c.take-taken.ensures.leaves other
+
+pub answer-requires-clause-turn : goal.answer-requires-clause-turn
+answer-requires-clause-turn g c = (c.loop-slice.self, turned g (goal.at.answer-requires-clause-turn g c).After-place_of-place)
+
+pub loop-slice-preserved : goal.loop-slice-preserved
+loop-slice-preserved g c =
+    let turn = turned g (goal.at.loop-slice-preserved g c).After-place_of-place in
+    record {
+      live = c.in_ok-answer.ensures.live;
+      reads = c.in_ok-answer.ensures.counts.reads;
+      ends = c.in_ok-answer.ensures.ends;
+      goes = λ old before by. c.in_ok-answer.ensures.goes c.loop-slice.self turn old before (c.loop-slice.invariant.goes old before by);
+    }
+
+pub loop-slice-smaller : goal.loop-slice-smaller
+loop-slice-smaller g c =
+    let next = c.in-Some.ensures in
+    let text = next.some in
+    smaller c.loop-slice.invariant.reads c.in_ok-answer.ensures.counts
+    (turn_less c.loop-slice.self c.take-taken.new.self c.answer.new.self c.take-taken.ensures (omega (arith, text, length-spaced c.in-Some.slice.place c.in-Some.slice.step c.in-Some.slice.bytes.now)) c.in_ok-answer.ensures.on
+    c.in_ok-answer.ensures.run)
+
+pub returns-in_err-answer-clause-reads : goal.returns-in_err-answer-clause-reads
+returns-in_err-answer-clause-reads g c =
+    let e = err_from_is_err_and c.from_residual-in_err-answer.result c.from_residual-in_err-answer.ensures.1 in
+    let turn = turned g (goal.at.returns-in_err-answer-clause-reads g c).After-place_of-place in
+    rw e.1
+    (stops_piece c.begin.ensures c.requires.rested c.requires.live.live (omega (arith, c.requires.few)) c.requires.few
+    (stops_then (λ old before by. c.loop-slice.invariant.goes old before (subst (λ i. ReadsTo {S = g.row.S.Denot} {g = g.S.Sink} old c.args.piece.now c.args.self.now i) c.begin.ensures by))
+    (c.in_err-answer.ensures.goes c.loop-slice.self turn)))
+
+pub returns-clause-rests : goal.returns-clause-rests
+returns-clause-rests g c = comes_rested c.loop-slice.input c.args.piece.now c.in_default.ensures
+
+pub returns-clause-reads : goal.returns-clause-reads
+returns-clause-reads g c =
+    reads_piece c.begin.ensures c.requires.rested c.requires.live.live (omega (arith, c.requires.few)) c.requires.few
+    (λ old before by. c.loop-slice.invariant.goes old before (subst (λ i. ReadsTo {S = g.row.S.Denot} {g = g.S.Sink} old c.args.piece.now c.args.self.now i) c.begin.ensures by)) c.in_default.ensures

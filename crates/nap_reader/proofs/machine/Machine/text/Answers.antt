@@ -1,0 +1,53 @@
+use Rattle.std.proofs.Common.{◌≡◌, ◌<◌, ◌≤◌, [], ◌∷◌, ◌++◌, ℕ, List, All, Option, Some, None, length, take, drop, get_or, slice_index, refl, ap, sym, ◌∙◌, subst, arith}
+use Rattle.std.proofs.lemmas.List.{take-append-drop}
+use Rattle.std.proofs.lemmas.List.Elements.{All-cons, All-head, All-nil}
+use Rattle.nap_reader.specs.Below.{TextStep, IsGraphic, format_effector, IsTyped}
+use Rattle.nap_reader.proofs.Common.{is_of_text, Codes}
+use Rattle.nap_codes.proofs.PublicLaws.{format_effector_front}
+use Rattle.nap_reader.proofs.CodesLemmas.{IsTextOf, text_halts, text_taken}
+use Rattle.nap_reader.proofs.PrefixLemmas.{at_front}
+use Rattle.nap_reader.proofs.machine.Machine.text.Given.{Over}
+use Rattle.nap_reader.proofs.machine.Machine.text.Goals.{Else-text-lt2}
+use Rattle.nap_reader.proofs.machine.Machine.text.Goals as goal
+
+-- a byte of a text that is no format effector is graphic
+typed_graphic : (b : ℕ) → IsTyped b → 0x20 ≤ b → IsGraphic b
+typed_graphic b typed from = by (format_effector b) refl
+  where
+    by : (step : Option TextStep) → format_effector b ≡ step → IsGraphic b
+    by (Some step) is = absurd (omega (arith, from, (format_effector_front b step is).0))
+    by None is = (from, omega (arith, (typed is).1))
+
+-- so is a text of one byte
+one_graphic : (text rest bytes : List ℕ) → text ++ rest ≡ bytes → 0x20 ≤ slice_index bytes 0 → length text < 2 → All IsTyped text → All IsGraphic text
+one_graphic [] rest bytes is from few typed = All-nil IsGraphic
+one_graphic (b ∷ []) rest bytes is from few typed =
+    All-cons IsGraphic b [] (typed_graphic b (All-head IsTyped b [] typed) (omega (arith, from, ap (λ (bs : List ℕ). get_or bs 0 0) is))) (All-nil IsGraphic)
+one_graphic (b ∷ c ∷ more) rest bytes is from few typed = absurd (omega (arith, few))
+
+-- the text and the bytes behind it
+parts : (bytes text : List ℕ) (n : ℕ) → text ≡ take n bytes → text ++ drop n bytes ≡ bytes
+parts bytes text n is = ap (λ (bs : List ℕ). bs ++ drop n bytes) is ∙ take-append-drop n bytes
+
+pub character-requires-clause-graphic : goal.character-requires-clause-graphic
+character-requires-clause-graphic g c =
+    one_graphic c.text_bytes-text.result.now _ c.args.bytes.now (parts c.args.bytes.now c.text_bytes-text.result.now _ c.text_bytes-text.ensures.bytes) c.requires.first (omega arith) c.text_bytes-text.ensures.typed
+
+pub returns-then-text-lt2 : goal.returns-then-text-lt2
+returns-then-text-lt2 g c = λ ended.
+    subst (λ (bytes : List ℕ). Codes c.args.self.now c.character.new.self bytes ended c.character.result) (parts c.args.bytes.now c.text_bytes-text.result.now _ c.text_bytes-text.ensures.bytes) (c.character.ensures ended _)
+
+-- It is more than one byte.
+is_text : (g : Over) (c : Else-text-lt2 g) → IsTextOf c.args.self.now c.args.set c.args.bytes.now c.text_bytes-text.result.now
+is_text g c =
+    let front = at_front is_of_text c.args.bytes.now c.text_bytes-text.result.now c.text_bytes-text.ensures.bytes in
+    record { front = sym front.1; few = front.0; some = omega arith; typed = c.text_bytes-text.ensures.typed; closed = c.requires.closed; are = c.requires.set }
+
+pub returns-in-Ok : goal.returns-in-Ok
+returns-in-Ok g c = λ ended.
+    let put = c.in-Ok.ensures.put in
+    text_taken (is_text g (goal.at.returns-in-Ok g c).Else-text-lt2) (record { before = c.requires.closed; closed = c.requires.closed; work_is = c.in-Ok.ensures.work; lexer_is = refl }) put.took put.works
+    (record { live = c.requires.live.live; agrees = c.in-Ok.ensures.agree }) g.met.S.Sink.took_more
+
+pub returns-in-Err : goal.returns-in-Err
+returns-in-Err g c = λ ended. rw c.from.ensures (text_halts (is_text g (goal.at.returns-in-Err g c).Else-text-lt2) c.in-Err.short.fault refl c.in-Err.ensures.put.0 c.in-Err.ensures.put.1)

@@ -1,0 +1,23 @@
+use Rattle.std.proofs.Common.{◌≡◌, refl, sym, ap, ◌∙◌, rules, arith}
+use Rattle.nap_reader.specs.Below.{CodeSets, set_at}
+use denote.Enum.Bare.{same_true}
+use Rattle.nap_codes.specs.contracts.code_set.CodeSet.{the_type}
+use Rattle.nap_codes.specs.declared.code_set.CodeSet.TheVariants.{Macros}
+use Rattle.nap_reader.proofs.CodesLemmas.{calls_by_name, calls_by_shift}
+use Rattle.nap_reader.proofs.machine.front.call_bytes.Goals as goal
+
+pub returns-then-eq : goal.returns-then-eq
+returns-then-eq c =
+    let lexer = c.args.lexer.now in
+    let name = c.if-is_name.ensures.0 refl in
+    let macros : set_at lexer.sets lexer.sets.gl ≡ Macros =
+    ap (λ (sets : CodeSets). set_at sets sets.gl) (sym c.sets-sets.ensures) ∙ sym c.at.ensures ∙ same_true the_type (search rules) _ _ (sym c.if-eq.ensures) in
+    calls_by_name lexer c.args.bytes.now (c.if-not-at_rest.ensures.rests.0 refl) name.0 name.1 macros
+
+pub returns-then-eq-2 : goal.returns-then-eq-2
+returns-then-eq-2 c =
+    let lexer = c.args.lexer.now in
+    let name = c.if-is_name-2.ensures.0 refl in
+    let macros : lexer.sets.g3 ≡ Macros =
+    ap (λ (sets : CodeSets). sets.g3) (sym c.sets-sets.ensures) ∙ sym c.at-then-is_name-2.ensures ∙ same_true the_type (search rules) _ _ (sym c.if-eq-2.ensures) in
+    calls_by_shift lexer c.args.bytes.now (c.if-not-at_rest.ensures.rests.0 refl) (omega (arith, c.if-bytes-eq29.true)) name.0 name.1 macros

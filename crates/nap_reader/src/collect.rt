@@ -1,0 +1,91 @@
+//! Reads a page into a sink, and keeps none of its bytes.
+ghost use Rattle.std.specs.Prelude.{◌≡◌, ◌+◌, ◌-◌, ◌<◌, ◌≤◌, ◌^◌, ℕ, List, false, length};
+ghost use Rattle.std.specs.Io.KnownBytes.{Consumes};
+ghost use Rattle.nap_list.specs.State.{start};
+ghost use Rattle.nap_list.specs.Limits.{reads_limit};
+ghost use Rattle.nap_list.specs.Reading.{reading};
+ghost use Rattle.nap_reader.specs.Collecting.{IsCollected, IsRead, IsReadOut};
+
+use crate::budget::Budget;
+use crate::fault::Refusal;
+use crate::feeding::{FeedFault, feed_from};
+use crate::reader::Reader;
+use nap_list::{Inlet, READS, Sink};
+use std::alloc::Global;
+
+/// An input failed, or was read as often as one may be.
+#[derive(Clone, Copy, PartialEq, Eq, Drop)]
+pub struct ReadFault;
+
+/// The most bytes of one read.
+const ROOM: usize = 65_536;
+
+/// Reads an input to its end, in so many reads or fewer, and keeps nothing.
+fn read_out<I: Inlet>(input: &mut I, room: &mut [u8], most: u64) -> Result<(), ReadFault>
+    requires calls { I.calls input.old + most < 2 ^ 64 - 1 }
+    requires room { 0 < length room.old }
+    ensures few { I.calls input.new ≤ I.calls input.old + most }
+    ensures more { I.calls input.old ≤ I.calls input.new }
+    ensures read { let seen = reading I.Inlet input.old input.new in
+        (p : List ℕ) × Consumes (I.left input.old) (I.left input.new) p × IsReadOut most p seen result }
+{
+    for _ in 0..most {
+        let Ok(count) = input.read(room) else {
+            return Err(ReadFault);
+        };
+        if count == 0 {
+            return Ok(());
+        }
+    }
+    Err(ReadFault)
+}
+
+/// The sink with all entries of the page that the input gives, or why that is refused. All of the input is read.
+pub fn read_input<I: Inlet, S: Sink + Drop>(
+    alloc: Global,
+    budget: Budget,
+    input: &mut I,
+    sink: S,
+) -> Result<Result<S, Refusal>, ReadFault>
+    requires calls { I.calls input.old < 2 ^ 63 }
+    requires start { S.state sink ≡ start }
+    requires works { S.failed sink ≡ false }
+    ensures few { I.calls input.new ≤ I.calls input.old + reads_limit }
+    ensures collected { let seen = reading I.Inlet input.old input.new in
+        (p : List ℕ) × Consumes (I.left input.old) (I.left input.new) p × IsCollected S.Sink sink budget p seen result }
+{
+    let before = input.calls();
+    let mut reader = Reader::new(alloc, budget, sink);
+    let mut room = [0; ROOM];
+    match feed_from(&mut reader, input, &mut room) {
+        Ok(()) => match reader.finish() {
+            Ok(sink) => Ok(Ok(sink)),
+            Err(stopped) => Ok(Err(stopped.refusal)),
+        },
+        Err(FeedFault::Read) => Err(ReadFault),
+        // A read that fails comes before a refusal.
+        Err(FeedFault::Refused(refusal)) => {
+            read_out(input, &mut room, READS - (input.calls() - before))?;
+            Ok(Err(refusal))
+        }
+    }
+}
+
+/// The sink with all entries of a stream, or why that is refused.
+pub fn read_stream<S: Sink + Drop>(
+    alloc: Global,
+    budget: Budget,
+    stream: &[u8],
+    sink: S,
+) -> Result<S, Refusal>
+    requires start { S.state sink ≡ start }
+    requires works { S.failed sink ≡ false }
+    ensures { IsRead S.Sink sink budget stream.now result }
+{
+    let mut reader = Reader::new(alloc, budget, sink);
+    reader.feed(stream)?;
+    match reader.finish() {
+        Ok(sink) => Ok(sink),
+        Err(stopped) => Err(stopped.refusal),
+    }
+}

@@ -1,0 +1,124 @@
+//! A sink with the number of entries that it took.
+ghost use Rattle.std.specs.Prelude.{◌≡◌, false, Some, Option};
+ghost use Rattle.nap_list.specs.State.{start};
+ghost use Rattle.nap_reader.specs.Collecting.{IsCounted};
+ghost use Rattle.nap_reader.specs.Counting.{GrowsBy, Took, took_more, took_none};
+
+use crate::budget::Budget;
+use crate::collect::read_stream;
+use crate::fault::Refusal;
+use nap_list::{Batch, BatchFault, Entry, Shape, Sink, SinkFault};
+use std::alloc::Global;
+use std::marker::Model;
+
+/// Counts the entries that another sink takes, as long as a `u64` holds their number.
+#[derive(Drop)]
+pub(crate) struct CountingSink<S: Sink + Drop> {
+    sink: S,
+    count: Option<u64>,
+}
+
+impl<S: Sink + Drop> Model for CountingSink<S> {
+    ghost use Rattle.nap_reader.specs.Counting.{Counting};
+
+    ghost Value = { Counting S };
+
+    ghost view = { λ s. record { sink = s.sink; count = s.count } };
+}
+
+impl<S: Sink + Drop> CountingSink<S> {
+    /// A sink over this one, of whose entries none is counted.
+    pub(crate) fn new(sink: S) -> CountingSink<S>
+        ensures { result ≡ record { sink = sink; count = Some 0 } }
+    {
+        CountingSink {
+            sink,
+            count: Some(0),
+        }
+    }
+
+    /// How many entries it took, if a `u64` can hold their number.
+    pub(crate) fn count(&self) -> Option<u64>
+        ensures { result ≡ self.now.count }
+    {
+        self.count
+    }
+
+    /// The sink that took them.
+    pub(crate) fn into_inner(self) -> S
+        ensures { result ≡ self.sink }
+    {
+        let CountingSink { sink, .. } = self;
+        sink
+    }
+}
+
+/// The count after `entries` more, if a `u64` can hold it.
+fn counted(count: Option<u64>, entries: usize) -> Option<u64>
+    ensures grows { GrowsBy entries count result }
+    ensures none { entries ≡ 0 → result ≡ count }
+{
+    count?.checked_add(entries as u64)
+}
+
+impl<S: Sink + Drop> Sink for CountingSink<S> {
+    ghost state = { λ s. S.state s.sink };
+
+    ghost wants = { λ s d. S.wants s.sink d };
+
+    ghost failed = { λ s. S.failed s.sink };
+
+    ghost took = { λ s d t. Took S.Sink s d t };
+
+    ghost broke = { λ s d e t. S.broke s.sink d e t.sink };
+
+    fn put(&mut self, entry: Entry) -> Result<(), SinkFault> {
+        self.sink.put(entry)?;
+        self.count = counted(self.count, 1);
+        Ok(())
+    }
+
+    fn put_batch(&mut self, batch: &Batch) -> Result<(), BatchFault> {
+        let put = self.sink.put_batch(batch);
+        let taken = match &put {
+            Ok(()) => batch.len(),
+            Err(stop) => stop.taken,
+        };
+        self.count = counted(self.count, taken);
+        put
+    }
+
+    fn put_shape(&mut self, alloc: Global, shape: &Shape) -> Result<(), SinkFault> {
+        self.sink.put_shape(alloc, shape)?;
+        self.count = counted(self.count, 1);
+        Ok(())
+    }
+
+    ghost took_none = { λ s. took_none _ s (S.took_none s.sink) };
+
+    ghost took_more = { λ s t u d e a b. took_more _ s t u d e (S.took_more s.sink t.sink u.sink d e a.took b.took) a b };
+
+    ghost wants_more = { λ s t d e f a b. S.wants_more s.sink t.sink d e f a.took b };
+
+    ghost took_broke = { λ s t u d e x a b. S.took_broke s.sink t.sink u.sink d e x a.took b };
+}
+
+/// The sink with all entries of a stream, and how many they are, if a `u64` can hold it; or why that is refused.
+pub fn read_counted<S: Sink + Drop>(
+    alloc: Global,
+    budget: Budget,
+    stream: &[u8],
+    sink: S,
+) -> Result<(S, Option<u64>), Refusal>
+    requires start { S.state sink ≡ start }
+    requires works { S.failed sink ≡ false }
+    ensures { IsCounted S.Sink sink budget stream.now result }
+{
+    match read_stream(alloc, budget, stream, CountingSink::new(sink)) {
+        Ok(found) => {
+            let count = found.count();
+            Ok((found.into_inner(), count))
+        }
+        Err(refusal) => Err(refusal),
+    }
+}

@@ -1,0 +1,135 @@
+//! What comes next of a stream: bytes of the bodies that are called, and then of the piece.
+ghost use Rattle.std.specs.Prelude.{◌≡◌, ◌+◌, ◌≤◌, ℕ, List, [], None, length, IsTrue, MatchOption};
+ghost use Rattle.nap_reader.specs.Bodies.{no_names, store_limit};
+ghost use Rattle.nap_reader.specs.Budgets.{most_budget};
+ghost use Rattle.nap_reader.specs.Carried.{HasName, HasName-prop};
+ghost use Rattle.nap_reader.specs.Framed.{Comes, FramesIn, behind, unread};
+
+use crate::body::OpenBody;
+use crate::budget::Budget;
+use crate::frames::Frames;
+use crate::operands::is_operand;
+use crate::slice::Slice;
+use crate::store::Store;
+use std::alloc::Global;
+
+mod calls;
+mod defining;
+mod keeping;
+
+/// The bodies of the macros, those that are being read, and how much was read of them and of the stream.
+#[derive(Drop)]
+pub(crate) struct Input {
+    pub(crate) store: Store,
+    /// The body that is being defined.
+    pub(crate) body: Option<OpenBody>,
+    pub(crate) frames: Frames,
+    pub(crate) budget: Budget,
+    /// How many bytes of the piece were taken.
+    pub(crate) at: usize,
+    /// How many bytes of the stream were taken.
+    pub(crate) fed: u64,
+    /// How many bytes of the stream and of bodies were taken.
+    pub(crate) turns: u64,
+    /// How many bytes of bodies were charged.
+    pub(crate) charged: u64,
+    ghost within: { charged ≤ budget },
+    ghost small: { charged ≤ most_budget },
+    ghost named: { HasName body } by { HasName-prop body },
+    ghost framed: { FramesIn (length store.bytes) frames.stack.items },
+    ghost turned: { turns + length (unread store.bytes frames.stack.items) ≡ fed + charged },
+    ghost counted: { fed ≤ turns },
+    ghost few: { store.stored + length store.body ≤ store_limit },
+    ghost paired: { length store.bytes ≤ store.stored + length store.body + charged },
+}
+
+impl Input {
+    ghost use Rattle.nap_reader.specs.Coming.{Advances, CanAdvance, IsNext, Reads, Sets, coming};
+    ghost use Rattle.nap_reader.specs.Steps.{IsOver};
+
+    /// Nothing was read yet.
+    pub(crate) fn new(alloc: Global, budget: Budget) -> Input
+        ensures store { result.store ≡ record { names = no_names; bytes = []; body = []; stored = 0 } }
+        ensures none { (result.body ≡ None) × (result.frames.stack.items ≡ []) }
+        ensures budget { result.budget ≡ budget }
+        ensures counts { (result.fed ≡ 0) × (result.turns ≡ 0) × (result.charged ≡ 0) }
+    {
+        Input {
+            store: Store::new(alloc),
+            body: None,
+            frames: Frames::new(alloc),
+            budget,
+            at: 0,
+            fed: 0,
+            turns: 0,
+            charged: 0,
+        }
+    }
+
+    /// A new piece comes.
+    pub(crate) fn begin(&mut self)
+        ensures { self.new ≡ record self.old { at = 0 } }
+    {
+        self.at = 0;
+    }
+
+    /// The bytes that come next, if there are any, and whether a byte that is no operand comes behind them.
+    #[inline(always)]
+    pub(crate) fn next_slice<'a>(&'a self, piece: &'a [u8]) -> Option<(Slice<'a>, bool)>
+        requires { Reads self.now piece.now }
+        ensures { MatchOption result (coming self.now piece.now ≡ []) (λ x. IsNext self.now piece.now x.0.place x.0.step x.0.bytes.now x.1) }
+    {
+        let Some((bytes, place)) = self.frames.innermost(self.store.bytes()) else {
+            if self.at == piece.len() {
+                return None;
+            }
+            let slice = Slice {
+                bytes: &piece[self.at..],
+                place: self.fed,
+                step: 1,
+            };
+            return Some((slice, false));
+        };
+        let slice = Slice {
+            bytes,
+            place,
+            step: 0,
+        };
+        Some((slice, self.is_ended(piece)))
+    }
+
+    /// Whether a byte that is no operand comes behind the innermost body.
+    #[inline(always)]
+    fn is_ended(&self, piece: &[u8]) -> bool
+        requires { Reads self.now piece.now }
+        ensures { (text : List ℕ) (place : ℕ) → Comes self.now.store.bytes self.now.frames.stack.items piece.now self.now.at self.now.fed text place →
+            IsTrue result → IsOver (behind self.now.store.bytes self.now.frames.stack.items piece.now self.now.at text) }
+    {
+        match self.frames.byte_behind(self.store.bytes(), piece, self.at) {
+            Some(byte) => !is_operand(byte),
+            None => false,
+        }
+    }
+
+    /// Passes so many of the bytes that come next, no more than their slice has.
+    #[inline(always)]
+    pub(crate) fn advance(&mut self, count: usize)
+        requires { CanAdvance self.old count }
+        ensures { Advances self.old self.new count }
+    {
+        self.turns += count as u64;
+        if self.frames.is_empty() {
+            self.at += count;
+            self.fed += count as u64;
+        } else {
+            self.frames.skip(self.store.bytes(), count);
+        }
+    }
+
+    /// Unbinds all names.
+    pub(crate) fn clear(&mut self)
+        ensures { Sets self.old self.new (record self.old.store { names = no_names }) self.old.body }
+    {
+        self.store.clear();
+    }
+}

@@ -1,0 +1,63 @@
+//! Bodies that come next.
+ghost use Rattle.std.specs.Prelude.{◌≡◌, ◌+◌, ◌-◌, ◌++◌, ◌<◌, ◌≤◌, [], ◌∷◌, None, MatchResult};
+ghost use Rattle.nap_codes.specs.Laws.{IsGraphic};
+ghost use Rattle.nap_reader.specs.Bodies.{body_of};
+ghost use Rattle.nap_reader.specs.Budgets.{most_budget};
+
+use super::Input;
+use crate::fault::Fault;
+
+impl Input {
+    ghost use Rattle.nap_reader.specs.Coming.{CannotShow, Shows};
+    ghost use Rattle.nap_reader.specs.Stored.{closed};
+
+    /// What is left to charge.
+    fn left(&self) -> u64
+        ensures left { result ≡ self.now.budget - self.now.charged }
+        ensures most { result + self.now.charged ≤ most_budget }
+    {
+        u64::from(self.budget.get()) - self.charged
+    }
+
+    /// The body of the name comes next, at this place.
+    pub(crate) fn call(&mut self, name: u8, place: u64) -> Result<(), Fault>
+        requires { name < 0x80 }
+        ensures { MatchResult result (λ _. Shows self.old self.new self.old.store self.old.body (body_of self.old.store.names name) place) (λ fault. CannotShow self.old self.new (body_of self.old.store.names name) fault) }
+    {
+        let span = self.store.span(name);
+        let count = (span.end - span.start) as u64;
+        if count == 0 {
+            return Ok(());
+        }
+        if count > self.left() {
+            return Err(Fault::Budget);
+        }
+        let Ok(()) = self.frames.reserve() else {
+            return Err(Fault::Memory);
+        };
+        self.frames.push_reserved(span, place);
+        self.charged += count;
+        Ok(())
+    }
+
+    /// The body is over and is shown: it is bound to the name and comes next, at this place, with the two bytes that end it.
+    pub(crate) fn show(&mut self, name: u8, ender: u8, place: u64) -> Result<(), Fault>
+        requires { IsGraphic name }
+        ensures { MatchResult result (λ _. Shows self.old self.new (closed self.old.store name) None (self.old.store.body ++ 0x1B ∷ ender ∷ []) place) (λ fault. CannotShow self.old self.new (self.old.store.body ++ 0x1B ∷ ender ∷ []) fault) }
+    {
+        let count = self.store.open_len() as u64 + 2;
+        if count > self.left() {
+            return Err(Fault::Budget);
+        }
+        let Ok(()) = self.frames.reserve() else {
+            return Err(Fault::Memory);
+        };
+        let Ok(span) = self.store.show(name, ender) else {
+            return Err(Fault::Memory);
+        };
+        self.frames.push_reserved(span, place);
+        self.charged += count;
+        self.body = None;
+        Ok(())
+    }
+}

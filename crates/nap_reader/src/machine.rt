@@ -1,0 +1,156 @@
+//! What the codes of a stream work on.
+ghost use Rattle.std.specs.Prelude.{◌≡◌, ◌≢◌, ◌≤◌, Bool, [], None, Some, length, vec_len, IsOk, MatchResult, OnOk};
+ghost use Rattle.nap_codes.specs.CodeSets.{start_sets};
+ghost use Rattle.nap_draw.specs.Limits.{run_limit};
+ghost use Rattle.nap_draw.specs.Rule.{start_work};
+ghost use Rattle.nap_reader.specs.Carried.{HasRule, HasRule-prop, NoCharacters, NoCharacters-prop};
+ghost use Rattle.nap_reader.specs.Stream.{refusal};
+
+use crate::fault::{Fault, Refusal};
+use nap_codes::{Lexer, Opcode};
+use nap_draw::Work;
+use nap_list::Sink;
+use nap_values::Point;
+use std::alloc::Global;
+
+mod answering;
+mod bodies;
+mod characters;
+mod codes;
+mod escapes;
+mod front;
+mod opcodes;
+mod other;
+mod reading;
+mod runs;
+
+pub(crate) use answering::Refused;
+
+/// An opcode whose operands are still coming.
+#[derive(Clone, Copy, Drop)]
+pub(crate) struct OpenRun {
+    pub(crate) op: Opcode,
+    pub(crate) place: u64,
+}
+
+/// What a code asks of the input.
+#[derive(Clone, Copy, Drop)]
+pub(crate) enum Request {
+    /// Nothing.
+    Nothing,
+    /// All names are unbound.
+    Clear,
+    /// The macro of the name is called.
+    Call(u8),
+    /// The macro of the name is defined: its body comes next. And whether that is shown once it has ended.
+    Define(u8, bool),
+    /// The byte behind those that were taken is refused, or breaks, and the refusal is kept.
+    Stop,
+}
+
+/// How many bytes were taken, and what their last code asks of the input.
+#[derive(Clone, Copy, Drop)]
+pub(crate) struct Taken {
+    pub(crate) count: usize,
+    pub(crate) request: Request,
+}
+
+/// What codes work on.
+#[derive(Drop)]
+pub(crate) struct Machine<S: Sink> {
+    alloc: Global,
+    pub(crate) work: Work,
+    pub(crate) lexer: Lexer,
+    pub(crate) open_run: Option<OpenRun>,
+    /// The operand bytes of the open run.
+    run: Vec<u8>,
+    scratch: Vec<Point>,
+    pub(crate) refusal: Option<Refusal>,
+    pub(crate) sink: S,
+    ghost short: { vec_len run ≤ run_limit },
+    ghost rule: { HasRule open_run } by { HasRule-prop open_run },
+    ghost drawing: { NoCharacters lexer open_run } by { NoCharacters-prop lexer open_run },
+}
+
+impl<S: Sink> Machine<S> {
+    ghost use Rattle.nap_reader.specs.Steps.{Executes, FailsRun, IsLive, Refuses};
+
+    /// The machine before any code.
+    pub(crate) fn new(alloc: Global, sink: S) -> Machine<S>
+        ensures work { result.work ≡ start_work }
+        ensures lexer { result.lexer ≡ record { sets = start_sets; half = [] } }
+        ensures none { (result.open_run ≡ None) × (result.refusal ≡ None) }
+        ensures sink { result.sink ≡ sink }
+    {
+        Machine {
+            alloc,
+            work: Work::start(),
+            lexer: Lexer::new(),
+            open_run: None,
+            run: Vec::new(alloc),
+            scratch: Vec::new(alloc),
+            refusal: None,
+            sink,
+        }
+    }
+
+    /// The sink as it stands.
+    pub(crate) fn into_sink(self) -> S
+        ensures { result ≡ self.sink }
+    {
+        let Machine {
+            alloc: _,
+            work: _,
+            lexer: _,
+            open_run: _,
+            run: _,
+            scratch: _,
+            refusal: _,
+            sink,
+        } = self;
+        sink
+    }
+
+    /// Executes the open run where the stream ends.
+    pub(crate) fn end_run(&mut self) -> Result<(), Refusal>
+        requires live { IsLive self.old }
+        ensures closed { OnOk result (self.new.open_run ≡ None) }
+        ensures still { self.old.open_run ≡ None → OnOk result (self.new ≡ self.old) × IsOk result }
+        ensures acts { MatchResult result (λ _. self.old.open_run ≢ None → (clears : Bool) × Executes self.old self.new clears) (λ r. FailsRun self.old self.new r) }
+    {
+        let Some(open_run) = self.open_run else {
+            return Ok(());
+        };
+        match self.execute(open_run) {
+            Ok(_) => Ok(()),
+            Err(fault) => Err(Refusal {
+                fault,
+                place: open_run.place,
+            }),
+        }
+    }
+
+    /// So many bytes were taken before the one that is refused, or breaks.
+    #[inline(never)]
+    fn stop(&mut self, count: usize, fault: Fault, place: u64) -> Taken
+        ensures kept { Refuses self.old self.new (refusal fault place) }
+        ensures answer { result ≡ record { count = count; request = Request.Stop } }
+    {
+        self.refusal = Some(Refusal { fault, place });
+        Taken {
+            count,
+            request: Request::Stop,
+        }
+    }
+}
+
+/// So many bytes were taken, and nothing is asked.
+#[inline(always)]
+fn took(count: usize) -> Taken
+    ensures { result ≡ record { count = count; request = Request.Nothing } }
+{
+    Taken {
+        count,
+        request: Request::Nothing,
+    }
+}

@@ -1,0 +1,86 @@
+//! What a code asks of the input is done.
+ghost use Rattle.std.specs.Prelude.{◌≡◌, ◌≢◌, ◌⊎◌, [], Err, None, Some, MatchResult, OnOk};
+ghost use Rattle.nap_reader.specs.Stream.{refusal};
+
+use super::{Machine, Request, Taken};
+use crate::fault::{Fault, Refusal};
+use crate::input::Input;
+use nap_list::Sink;
+
+/// The stream was refused, and its refusal is kept.
+#[derive(Clone, Copy, Drop)]
+pub(crate) struct Refused;
+
+impl<S: Sink> Machine<S> {
+    ghost use Rattle.nap_reader.specs.Coming.{Counts, Reads, coming};
+    ghost use Rattle.nap_reader.specs.Pieces.{GoesOn, StopsFrom, Turn};
+    ghost use Rattle.nap_reader.specs.Steps.{IsLive, Refuses};
+
+    /// Takes bytes of the body that is being defined, where one is, until it is over or nothing comes.
+    #[inline(always)]
+    pub(super) fn define(&mut self, input: &mut Input, piece: &[u8]) -> Result<(), Refused>
+        requires live { IsLive self.old }
+        requires reads { Reads input.old piece.now }
+        ensures live { OnOk result (IsLive self.new) }
+        ensures run { OnOk result (self.old.open_run ≡ None → self.new.open_run ≡ None) }
+        ensures ends { OnOk result ((input.new.body ≡ None) ⊎ (coming input.new piece.now ≡ [])) }
+        ensures counts { OnOk result (Counts input.old input.new piece.now 0) }
+        ensures goes { MatchResult result (λ _. GoesOn piece.now self.old input.old self.new input.new) (λ _. StopsFrom piece.now self.old input.old self.new input.new) }
+    {
+        if input.body.is_none() {
+            return Ok(());
+        }
+        self.take_body(input, piece)
+    }
+
+    /// Passes the bytes that were taken, of which the last has this place, and does what their last code asks of the input.
+    #[inline(always)]
+    pub(super) fn answer(
+        &mut self,
+        input: &mut Input,
+        taken: Taken,
+        place: u64,
+        piece: &[u8],
+    ) -> Result<(), Refused>
+        requires live { taken.request ≢ Request.Stop → IsLive self.old }
+        requires turn { (old : Machine S S.Sink) × Turn old self.old input.old piece.now taken.count taken.request place }
+        ensures live { OnOk result (IsLive self.new) }
+        ensures run { OnOk result (self.old.open_run ≡ None → self.new.open_run ≡ None) }
+        ensures ends { OnOk result ((input.new.body ≡ None) ⊎ (coming input.new piece.now ≡ [])) }
+        ensures counts { OnOk result (Counts input.old input.new piece.now taken.count) }
+        ensures on { OnOk result (taken.request ≢ Request.Stop) }
+        ensures goes { (old : Machine S S.Sink) → Turn old self.old input.old piece.now taken.count taken.request place →
+            MatchResult result (λ _. GoesOn piece.now old input.old self.new input.new) (λ _. StopsFrom piece.now old input.old self.new input.new) }
+    {
+        input.advance(taken.count);
+        match taken.request {
+            Request::Nothing => Ok(()),
+            Request::Clear => {
+                input.clear();
+                Ok(())
+            }
+            Request::Call(name) => match input.call(name, place) {
+                Ok(()) => Ok(()),
+                Err(fault) => self.refuse(fault, place),
+            },
+            Request::Define(name, show) => {
+                input.open_body(name, show);
+                self.take_body(input, piece)
+            }
+            Request::Stop => {
+                input.advance(1);
+                Err(Refused)
+            }
+        }
+    }
+
+    /// Refuses the stream, for good.
+    #[inline(never)]
+    pub(super) fn refuse(&mut self, fault: Fault, place: u64) -> Result<(), Refused>
+        ensures latched { Refuses self.old self.new (refusal fault place) }
+        ensures answer { result ≡ Err (record {}) }
+    {
+        self.refusal = Some(Refusal { fault, place });
+        Err(Refused)
+    }
+}

@@ -1,0 +1,94 @@
+//! Bodies of macros, from the name to their end.
+ghost use Rattle.std.specs.Prelude.{◌≡◌, ◌⊎◌, ◌<◌, [], None, Some, MatchResult, OnOk};
+
+use super::{Machine, Refused};
+use crate::body::{OpenBody, body_bytes, ends_body};
+use crate::fault::Fault;
+use crate::input::Input;
+use nap_list::Sink;
+
+/// The byte that comes next.
+#[derive(Clone, Copy, Drop)]
+pub(super) struct Next {
+    pub(super) byte: u8,
+    pub(super) place: u64,
+}
+
+impl<S: Sink> Machine<S> {
+    ghost use Rattle.nap_reader.specs.Coming.{Counts, IsNextByte, Reads, coming};
+    ghost use Rattle.nap_reader.specs.Pieces.{GoesOn, StopsFrom};
+    ghost use Rattle.nap_reader.specs.Steps.{IsLive};
+
+    /// Takes bytes of the body that is being defined, until it is over or nothing comes.
+    #[inline(never)]
+    pub(super) fn take_body(&mut self, input: &mut Input, piece: &[u8]) -> Result<(), Refused>
+        requires live { IsLive self.old }
+        requires reads { Reads input.old piece.now }
+        ensures live { OnOk result (IsLive self.new) }
+        ensures run { OnOk result (self.old.open_run ≡ None → self.new.open_run ≡ None) }
+        ensures ends { OnOk result ((input.new.body ≡ None) ⊎ (coming input.new piece.now ≡ [])) }
+        ensures counts { OnOk result (Counts input.old input.new piece.now 0) }
+        ensures goes { MatchResult result (λ _. GoesOn piece.now self.old input.old self.new input.new) (λ _. StopsFrom piece.now self.old input.old self.new input.new) }
+    {
+        while let Some(body) = input.body {
+            let Some((slice, _)) = input.next_slice(piece) else {
+                return Ok(());
+            };
+            let next = Next {
+                byte: slice.bytes[0],
+                place: slice.place,
+            };
+            if next.byte >= 0x80 {
+                input.advance(1);
+                return self.refuse(Fault::EighthBit, next.place);
+            }
+            match body.escape {
+                None => self.keep(input, body, next, piece)?,
+                Some(_) if ends_body(next.byte) => self.end_body(input, body, next)?,
+                Some(_) => self.keep_escape(input, body, next, piece)?,
+            }
+        }
+        Ok(())
+    }
+
+    /// Takes the ESC that comes next, or all bytes of the body up to one, where none is held.
+    #[inline(always)]
+    fn keep(
+        &mut self,
+        input: &mut Input,
+        body: OpenBody,
+        next: Next,
+        piece: &[u8],
+    ) -> Result<(), Refused>
+        requires live { IsLive self.old }
+        requires open { input.old.body ≡ Some body }
+        requires held { body.escape ≡ None }
+        requires next { IsNextByte input.old piece.now next.byte next.place }
+        requires low { next.byte < 0x80 }
+        ensures same { OnOk result (self.new ≡ self.old) }
+        ensures counts { OnOk result (Counts input.old input.new piece.now 1) }
+        ensures goes { MatchResult result (λ _. GoesOn piece.now self.old input.old self.new input.new) (λ _. StopsFrom piece.now self.old input.old self.new input.new) }
+    {
+        if next.byte == 0x1B {
+            input.hold_escape(body, next.place);
+            input.advance(1);
+            return Ok(());
+        }
+        let room = input.store.room();
+        let Some((slice, _)) = input.next_slice(piece) else {
+            return Ok(());
+        };
+        let count = body_bytes(slice.bytes);
+        if count > room {
+            let place = slice.place_of(room);
+            input.advance(room);
+            input.advance(1);
+            return self.refuse(Fault::Store, place);
+        }
+        let Ok(()) = input.keep(count, piece) else {
+            input.advance(1);
+            return self.refuse(Fault::Memory, next.place);
+        };
+        Ok(())
+    }
+}

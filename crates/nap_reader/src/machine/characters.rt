@@ -1,0 +1,52 @@
+//! Characters at the front of the bytes that come next.
+ghost use Rattle.std.specs.Prelude.{All, ◌≡◌, ◌++◌, ◌<◌, ◌≤◌, ℕ, Bool, List, None, length, slice_index};
+ghost use Rattle.nap_codes.specs.Laws.{IsGraphic};
+
+use super::Machine;
+use super::codes::CodeOutcome;
+use crate::fault::Fault;
+use crate::text::text_bytes;
+use nap_codes::CharSet;
+use nap_list::Sink;
+
+impl<S: Sink> Machine<S> {
+    ghost use Rattle.nap_reader.specs.Steps.{AreCharacters, Codes, IsLive};
+
+    /// Takes the characters at the front, which are of this set, and the format effectors among them.
+    #[inline(always)]
+    pub(super) fn text(&mut self, set: CharSet, bytes: &[u8]) -> CodeOutcome
+        requires live { IsLive self.old }
+        requires closed { self.old.open_run ≡ None }
+        requires set { AreCharacters self.old.lexer set }
+        requires first { 0x20 ≤ slice_index bytes.now 0 }
+        ensures { (ended : Bool) → Codes self.old self.new bytes.now ended result }
+    {
+        let text = text_bytes(bytes);
+        if text.len() < 2 {
+            return self.character(set, text);
+        }
+        match self.work.characters(set, text, &mut self.sink) {
+            Ok(()) => CodeOutcome::Acted(text.len(), false),
+            Err(short) => CodeOutcome::Stopped(short.taken, Fault::from(short.fault), short.taken),
+        }
+    }
+
+    /// Takes the character, if there is one.
+    #[inline(always)]
+    fn character(&mut self, set: CharSet, text: &[u8]) -> CodeOutcome
+        requires live { IsLive self.old }
+        requires closed { self.old.open_run ≡ None }
+        requires set { AreCharacters self.old.lexer set }
+        requires graphic { All IsGraphic text.now }
+        requires few { length text.now < 2 }
+        ensures { (ended : Bool) (behind : List ℕ) → Codes self.old self.new (text.now ++ behind) ended result }
+    {
+        let Some(byte) = text.first() else {
+            return CodeOutcome::Other;
+        };
+        match self.work.text(set, *byte, &mut self.sink) {
+            Ok(()) => CodeOutcome::Acted(1, false),
+            Err(fault) => CodeOutcome::Stopped(0, Fault::from(fault), 0),
+        }
+    }
+}

@@ -1,0 +1,92 @@
+//! An ESC that is held in a body, and the byte that comes behind it.
+ghost use Rattle.std.specs.Prelude.{◌≡◌, ◌<◌, ℕ, List, None, Some, false, true, IsSome, MatchResult, OnOk};
+ghost use Rattle.nap_reader.specs.Bodies as bodies;
+
+use super::bodies::Next;
+use super::{Machine, Refused};
+use crate::body::OpenBody;
+use crate::fault::Fault;
+use crate::input::Input;
+use nap_list::Sink;
+
+impl<S: Sink> Machine<S> {
+    ghost use Rattle.nap_reader.specs.Coming.{Counts, IsNextByte};
+    ghost use Rattle.nap_reader.specs.Pieces.{GoesOn, StopsFrom};
+    ghost use Rattle.nap_reader.specs.Steps.{IsLive};
+
+    /// The ESC that is held is of the body, since this byte comes behind it, and so is the byte, or it is held itself.
+    pub(super) fn keep_escape(
+        &mut self,
+        input: &mut Input,
+        body: OpenBody,
+        next: Next,
+        piece: &[u8],
+    ) -> Result<(), Refused>
+        requires live { IsLive self.old }
+        requires open { input.old.body ≡ Some body }
+        requires held { IsSome body.escape }
+        requires next { IsNextByte input.old piece.now next.byte next.place }
+        requires low { next.byte < 0x80 }
+        requires other { bodies.ends_body next.byte ≡ false }
+        ensures same { OnOk result (self.new ≡ self.old) }
+        ensures counts { OnOk result (Counts input.old input.new piece.now 1) }
+        ensures goes { MatchResult result (λ _. GoesOn piece.now self.old input.old self.new input.new) (λ _. StopsFrom piece.now self.old input.old self.new input.new) }
+    {
+        let room = input.store.room();
+        if room == 0 {
+            input.advance(1);
+            return self.refuse(Fault::Store, body.escape.unwrap_or(next.place));
+        }
+        if room == 1 && next.byte != 0x1B {
+            input.advance(1);
+            return self.refuse(Fault::Store, next.place);
+        }
+        let Ok(()) = input.keep_escape(body) else {
+            input.advance(1);
+            return self.refuse(Fault::Memory, next.place);
+        };
+        if next.byte == 0x1B {
+            input.hold_escape(body, next.place);
+            input.advance(1);
+            return Ok(());
+        }
+        let Ok(()) = input.keep(1, piece) else {
+            input.advance(1);
+            return self.refuse(Fault::Memory, next.place);
+        };
+        Ok(())
+    }
+
+    /// The byte that comes next ends the open body, with the ESC that is held.
+    pub(super) fn end_body(
+        &mut self,
+        input: &mut Input,
+        body: OpenBody,
+        next: Next,
+    ) -> Result<(), Refused>
+        requires live { IsLive self.old }
+        requires open { input.old.body ≡ Some body }
+        requires held { IsSome body.escape }
+        requires next { (piece : List ℕ) × IsNextByte input.old piece next.byte next.place }
+        requires ends { bodies.ends_body next.byte ≡ true }
+        ensures live { OnOk result (IsLive self.new) }
+        ensures closed { self.new.open_run ≡ None }
+        ensures over { OnOk result (input.new.body ≡ None) }
+        ensures counts { (piece : List ℕ) → IsNextByte input.old piece next.byte next.place → OnOk result (Counts input.old input.new piece 0) }
+        ensures goes { (piece : List ℕ) → IsNextByte input.old piece next.byte next.place →
+            MatchResult result (λ _. GoesOn piece self.old input.old self.new input.new) (λ _. StopsFrom piece self.old input.old self.new input.new) }
+    {
+        // (no run is open in a body)
+        self.open_run = None;
+        if !body.show {
+            input.bind(body.name);
+            let _ = self.lexer.step(0x1B);
+            return Ok(());
+        }
+        input.advance(1);
+        match input.show(body.name, next.byte, next.place) {
+            Ok(()) => Ok(()),
+            Err(fault) => self.refuse(fault, next.place),
+        }
+    }
+}

@@ -1,0 +1,63 @@
+//! Opcodes at the front of the bytes that come next.
+ghost use Rattle.std.specs.Prelude.{◌≡◌, ◌-◌, ◌<◌, ℕ, List, ◌∷◌, None, drop, length, slice_index};
+ghost use Rattle.nap_reader.specs.Framed.{spaced};
+
+use super::codes::CodeOutcome;
+use super::{Machine, OpenRun, Taken};
+use crate::fault::Fault;
+use crate::operands::whole_run;
+use crate::slice::Slice;
+use nap_codes::Opcode;
+use nap_list::Sink;
+
+impl<S: Sink> Machine<S> {
+    ghost use Rattle.nap_reader.specs.Steps.{Codes, IsLive, IsOpcodeByte, Takes};
+
+    /// Executes the opcode at the front with its run, where that is whole.
+    #[inline(always)]
+    pub(super) fn opcode(&mut self, op: Opcode, bytes: &[u8], ended: bool) -> CodeOutcome
+        requires live { IsLive self.old }
+        requires closed { self.old.open_run ≡ None }
+        requires is { (byte : ℕ) × (rest : List ℕ) × (bytes.now ≡ byte ∷ rest) × IsOpcodeByte self.old.lexer.half self.old.lexer.sets byte op }
+        ensures { Codes self.old self.new bytes.now ended result }
+    {
+        let Some(run) = whole_run(&bytes[1..], ended) else {
+            return CodeOutcome::Opens(op);
+        };
+        match self
+            .work
+            .act(self.alloc, &mut self.scratch, op, run, &mut self.sink)
+        {
+            Ok(clears) => CodeOutcome::Acted(run.len() + 1, clears),
+            Err(fault) => CodeOutcome::Stopped(run.len() + 1, Fault::from(fault), 0),
+        }
+    }
+
+    /// Opens a run: the opcode is the byte with this index, and the bytes behind it are its operands.
+    #[inline(never)]
+    pub(super) fn open(&mut self, op: Opcode, slice: &Slice, at: usize, ended: bool) -> Taken
+        requires live { IsLive self.old }
+        requires closed { self.old.open_run ≡ None }
+        requires within { at < length slice.now.bytes.now }
+        requires is { IsOpcodeByte self.old.lexer.half self.old.lexer.sets (slice_index slice.now.bytes.now at) op }
+        ensures some { at < result.count }
+        ensures takes { Takes self.old self.new (drop at (spaced slice.now.place slice.now.step slice.now.bytes.now)) ended (result.count - at) result.request }
+    {
+        let open_run = OpenRun {
+            op,
+            place: slice.place_of(at),
+        };
+        self.open_run = Some(open_run);
+        self.run.clear();
+        let rest = Slice {
+            bytes: &slice.bytes[at + 1..],
+            place: slice.place_of(at + 1),
+            step: slice.step,
+        };
+        let taken = self.join(open_run, &rest, ended);
+        Taken {
+            count: at + 1 + taken.count,
+            request: taken.request,
+        }
+    }
+}

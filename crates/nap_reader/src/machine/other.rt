@@ -1,0 +1,60 @@
+//! Codes that don't stand whole at the front as one byte or as a run.
+ghost use Rattle.std.specs.Prelude.{◌≡◌, ◌⊎◌, ◌-◌, ◌<◌, ◌≤◌, None, drop, length};
+ghost use Rattle.nap_reader.specs.Framed.{spaced};
+
+use super::front::call_bytes;
+use super::{Machine, Request, Taken, took};
+use crate::fault::Fault;
+use crate::kind::Kind;
+use crate::slice::Slice;
+use nap_codes::Step;
+use nap_list::Sink;
+
+impl<S: Sink> Machine<S> {
+    ghost use Rattle.nap_reader.specs.Steps.{IsLive, Takes};
+
+    /// Takes a call that is the code with this index, or a byte of any code.
+    #[inline(never)]
+    pub(super) fn other(&mut self, slice: &Slice, at: usize, ended: bool) -> Taken
+        requires live { IsLive self.old }
+        requires closed { self.old.open_run ≡ None }
+        requires within { at < length slice.now.bytes.now }
+        ensures from { at ≤ result.count }
+        ensures some { at < result.count ⊎ (result.request ≡ Request.Stop) }
+        ensures takes { Takes self.old self.new (drop at (spaced slice.now.place slice.now.step slice.now.bytes.now)) ended (result.count - at) result.request }
+    {
+        if let Some(more) = call_bytes(&self.lexer, &slice.bytes[at..]) {
+            let count = at + more;
+            return Taken {
+                count,
+                request: Request::Call(slice.bytes[count - 1]),
+            };
+        }
+        let byte = slice.bytes[at];
+        let code = match self.lexer.step(byte) {
+            Step::More => return took(at + 1),
+            Step::Fault(fault) => return self.stop(at, Fault::from(fault), slice.place_of(at)),
+            Step::Code(code) => code,
+        };
+        let request = match Kind::of(code) {
+            Kind::Opens(op) => return self.open(op, slice, at, ended),
+            Kind::Strays => return self.stop(at, Fault::Stray, slice.place_of(at)),
+            Kind::AddsNothing => return took(at + 1),
+            Kind::Calls(name) => {
+                return Taken {
+                    count: at + 1,
+                    request: Request::Call(name),
+                };
+            }
+            Kind::Acts(_) => Request::Nothing,
+            Kind::Binds { name, show } => Request::Define(name, show),
+        };
+        match self.work.control(&code, &mut self.sink) {
+            Ok(()) => Taken {
+                count: at + 1,
+                request,
+            },
+            Err(fault) => self.stop(at, Fault::from(fault), slice.place_of(at)),
+        }
+    }
+}

@@ -1,0 +1,45 @@
+//! The loop over the slices of what comes next.
+ghost use Rattle.std.specs.Prelude.{◌≡◌, ◌+◌, ◌<◌, ◌^◌, [], length, MatchResult, OnOk};
+ghost use Rattle.nap_reader.specs.Framed.{spaced};
+
+use super::{Machine, Refused, Taken};
+use crate::input::Input;
+use crate::slice::Slice;
+use nap_list::Sink;
+
+impl<S: Sink> Machine<S> {
+    ghost use Rattle.nap_reader.specs.Pieces.{ReadsPiece, StopsPiece};
+    ghost use Rattle.nap_reader.specs.Steps.{IsLive, Takes};
+
+    /// Reads the next piece, where nothing is refused yet: slice by slice, of the bodies that it calls and of itself.
+    pub(crate) fn read(&mut self, input: &mut Input, piece: &[u8]) -> Result<(), Refused>
+        requires live { IsLive self.old }
+        requires rested { input.old.frames.stack.items ≡ [] }
+        requires few { input.old.fed + length piece.now < 2 ^ 63 }
+        ensures live { OnOk result (IsLive self.new) }
+        ensures rests { OnOk result (input.new.frames.stack.items ≡ []) }
+        ensures reads { MatchResult result (λ _. ReadsPiece piece.now self.old input.old self.new input.new) (λ _. StopsPiece piece.now self.old input.old self.new input.new) }
+    {
+        input.begin();
+        self.define(input, piece)?;
+        while let Some((slice, ended)) = input.next_slice(piece) {
+            let taken = self.take(&slice, ended);
+            let place = slice.place_of(taken.count.saturating_sub(1));
+            self.answer(input, taken, place, piece)?;
+        }
+        Ok(())
+    }
+
+    /// Takes bytes of the slice: operands of the open run, or codes.
+    #[inline(always)]
+    fn take(&mut self, slice: &Slice, ended: bool) -> Taken
+        requires live { IsLive self.old }
+        requires some { 0 < length slice.now.bytes.now }
+        ensures { Takes self.old self.new (spaced slice.now.place slice.now.step slice.now.bytes.now) ended result.count result.request }
+    {
+        match self.open_run {
+            Some(open_run) => self.join(open_run, slice, ended),
+            None => self.codes(slice, ended),
+        }
+    }
+}

@@ -1,0 +1,32 @@
+//! Bytes that an open body grows by.
+ghost use Rattle.std.specs.Prelude.{◌≡◌, ◌+◌, ◌≤◌, length, OnOk, OnErr};
+ghost use Rattle.nap_reader.specs.Bodies.{store_limit};
+ghost use Rattle.nap_reader.specs.Stored.{grown, part};
+
+use super::Store;
+use std::alloc::AllocError;
+
+impl Store {
+    /// Adds bytes to the open body. Often there is one.
+    #[inline(always)]
+    pub(crate) fn extend(&mut self, bytes: &[u8]) -> Result<(), AllocError>
+        requires { self.old.stored + length self.old.body + length bytes.now ≤ store_limit }
+        ensures ok { OnOk result (self.new ≡ grown self.old bytes.now) }
+        ensures err { OnErr result (self.new ≡ self.old) }
+    {
+        if bytes.len() != 1 {
+            return self.bytes.extend_from_slice(bytes);
+        }
+        self.push(bytes[0])
+    }
+
+    /// Adds bytes to the open body that are stored already.
+    pub(crate) fn extend_within(&mut self, from: usize, count: usize) -> Result<(), AllocError>
+        requires within { from + count ≤ length self.old.bytes }
+        requires few { self.old.stored + length self.old.body + count ≤ store_limit }
+        ensures ok { OnOk result (self.new ≡ grown self.old (part self.old.bytes from (from + count))) }
+        ensures err { OnErr result (self.new ≡ self.old) }
+    {
+        self.bytes.extend_from_within(from..from + count)
+    }
+}
