@@ -1,22 +1,19 @@
-use Rattle.std.proofs.Common.{ℕ, ◌≡◌, ◌≢◌, ◌⊎◌, false, List, [], ◌++◌, Option, None, Some, Result, Ok, Err, length, refl, ap, sym, subst, ◌∙◌, inl, inr}
+use Rattle.std.proofs.Common.{ℕ, ◌≡◌, ◌≢◌, ◌⊎◌, false, List, [], Option, None, Some, Result, Ok, Err, length, refl, ap, sym, subst, ◌∙◌, inl, inr}
 use Rattle.std.specs.Prelude.{IfSome, IsSome}
-use Rattle.std.specs.Io.KnownBytes.{Appends}
-use Rattle.nap_list.specs.declared.device.outlet.Outlet as outlet
-use Rattle.nap_list.specs.declared.entry.Entry.{Entry}
 use Rattle.nap_list.specs.declared.sink.Sink.{Ghosts}
 use Rattle.nap_reader.specs.declared.fault.Fault.{Fault}
 use Rattle.nap_reader.specs.declared.fault.Fault.TheVariants as fault
 use Rattle.nap_reader.specs.declared.fault.Refusal.{Refusal}
 use Rattle.nap_reader.specs.Breaking.{BreaksWithin}
+use Rattle.nap_reader.specs.Collecting.{IsCount, IsCounted}
 use Rattle.nap_reader.specs.Stream.{means}
-use Rattle.nap_canon.specs.Sinking.{Begun, Canonical, Took}
+use Rattle.nap_canon.specs.declared.page.PageText.{PageText}
+use Rattle.nap_canon.specs.PageTexts.{IsPageText, RefusesPage}
 use Rattle.nap_canon.specs.Streams.{IsAccepted, list_of}
-use Rattle.nap_canon.specs.Text.{text}
-use Rattle.nap_canon.proofs.PublicLaws.{sink_writes_text}
-use Rattle.nap_command.specs.Commands.{count_line, refusal_of_text}
+use Rattle.nap_command.specs.Commands.{count_line}
 use Rattle.nap_batch.specs.declared.request.Question.{Question}
 use Rattle.nap_batch.specs.declared.request.Question.TheVariants as question
-use Rattle.nap_batch.specs.Answers.{IsAnswer, IsCount, IsCounted, IsPlaced, body_of, ended_line, refused_body_of, refused_line}
+use Rattle.nap_batch.specs.Answers.{IsAnswer, IsPlaced, ShowsText, body_of, ended_line, refused_body_of, refused_line}
 
 -- What is read of a page makes the answer to its request.
 
@@ -57,18 +54,15 @@ module _ (q : Question) (apart : q ≢ question.Check) (budget : ℕ) (p : List 
   answers_refused g s fault.Sink place h sound line body is = let (breaks, (t, failed)) = h.counts in cc (sound t)
   answers_refused g s f place h sound line body is = refusing line body (record { fault = f; place = place }) (λ wants. let bad : ⊥ = cc in absurd bad) h.counts is.0 is.1
 
-  -- its sink fails where memory is wanting
-  pub answers_unspelled : {S : Type 0} (g : Ghosts S) (s : S) (f : Fault) (place : ℕ) → IsCounted g s budget p (Err (record { fault = f; place = place })) → (line body : List ℕ) →
-      (line ≡ refused_line (refusal_of_text (record { fault = f; place = place }))) × (body ≡ []) → IsAnswer q budget p line body
-  answers_unspelled g s fault.Memory place h line body is = lacking line body place h.counts.0 is.0 is.1
-  answers_unspelled g s fault.Sink place h line body is = lacking line body place h.counts.0 is.0 is.1
-  answers_unspelled g s f place h line body is = refusing line body (record { fault = f; place = place }) (λ wants. let bad : ⊥ = cc in absurd bad) h.counts is.0 is.1
+  -- so is one whose canonical text was to be made
+  answers_unspelled : (r : Refusal) → RefusesPage budget p r → (line body : List ℕ) → (line ≡ refused_line r) × (body ≡ []) → IsAnswer q budget p line body
+  answers_unspelled r h line body is =
+      elim (is_memory r.fault) [
+        | inl wanting ↦ lacking line body r.place (h.memory wanting) (is.0 ∙ ap (λ (f : Fault). refused_line (record { fault = f; place = r.place })) wanting) is.1
+        | inr apart ↦ refusing line body r apart (h.refused apart) is.0 is.1
+      ]
 
--- the text that a sink wrote, over an outlet that tells its bytes and had none
-pub text_written : {O : Type 0} (o : outlet.Ghosts O) (w : O) (s t : Canonical O) (begins : Begun o w s) (works : o.failed s.outlet ≡ false) (items : O → List ℕ) →
-    ((u : O) → o.taken u ≡ Some (items u)) → items w ≡ [] → (d : List Entry) → Took o s d t → items t.outlet ≡ text d
-text_written o w s t begins works items tells empty d took =
-    let taken : Appends (o.taken w) (o.taken t.outlet) (text d) = (sink_writes_text o w s t d begins works took).grows.taken in
-    let told : Appends (Some (items w)) (Some (items t.outlet)) (text d) =
-    subst (λ (a : Option (List ℕ)). Appends a (Some (items t.outlet)) (text d)) (tells w) (subst (λ (b : Option (List ℕ)). Appends (o.taken w) b (text d)) (tells t.outlet) taken) in
-    told ∙ ap (λ (bytes : List ℕ). bytes ++ text d) empty
+-- the canonical text of a page is shown, or why that is refused
+pub answers_spelled : (budget : ℕ) (p line body : List ℕ) (found : Result PageText Refusal) → IsPageText budget p found → ShowsText found line body → IsAnswer question.Canon budget p line body
+answers_spelled budget p line body (Ok found) h is = answers_accepted question.Canon budget p line body found.count h.0.accepted h.1 (is.0, is.1) (is.2 ∙ h.0.text_is)
+answers_spelled budget p line body (Err r) h is = answers_unspelled question.Canon (λ h. cc) budget p refl r h line body is

@@ -1,4 +1,3 @@
-mod CountingLemmas
 mod RequestLemmas
 mod FrontLemmas
 pub mod PlaceLemmas

@@ -1,10 +1,10 @@
-use Rattle.std.specs.Prelude.{ℕ, zero, suc, ◌≡◌, ◌≢◌, ◌⊎◌, ◌+◌, ◌^◌, ◌≤◌, false, List, [], ◌∷◌, ◌++◌, Option, None, Some, Result, Ok, Err, decimal, drop, flat_map, length, take}
+use Rattle.std.specs.Prelude.{ℕ, zero, suc, ◌≡◌, ◌≢◌, ◌⊎◌, ◌+◌, ◌^◌, ◌≤◌, false, List, [], ◌∷◌, ◌++◌, Some, Result, Ok, Err, decimal, drop, flat_map, length, take, IfSome, IsSome}
 use Rattle.nap_list.specs.declared.entry.Entry.{Entry}
 use Rattle.nap_reader.specs.declared.fault.Fault.TheVariants as fault
 use Rattle.nap_reader.specs.declared.fault.Refusal.{Refusal}
-use Rattle.nap_list.specs.declared.sink.Sink.{Ghosts}
-use Rattle.nap_reader.specs.Breaking.{BreaksWithin, LacksWithin, cause_of}
+use Rattle.nap_reader.specs.Breaking.{BreaksWithin, LacksWithin}
 use Rattle.nap_reader.specs.Stream.{begun, means, refusal}
+use Rattle.nap_canon.specs.declared.page.PageText.{PageText}
 use Rattle.nap_canon.specs.Streams.{IsAccepted, list_of}
 use Rattle.nap_canon.specs.Text.{text}
 use Rattle.nap_lines.specs.Lines.{line}
@@ -13,7 +13,6 @@ use Rattle.nap_command.specs.declared.command.Action.{Action}
 use Rattle.nap_command.specs.declared.command.Action.TheVariants as action
 use Rattle.nap_command.specs.declared.command.Command.{Command}
 use Rattle.nap_command.specs.declared.failure.Failure.{Failure}
-use Rattle.nap_command.specs.Collecting.{RefusedBy}
 use Rattle.nap_command.specs.Commands.{Denies, count_line}
 use Rattle.nap_command.specs.Failures.{refusal_text}
 use Rattle.nap_batch.specs.declared.request.Question.{Question}
@@ -129,17 +128,9 @@ question_of action.Check = question.Check
 question_of action.List = question.List
 question_of action.Canon = question.Canon
 
--- A page is read into a sink that counts.
+-- The canonical text of a page.
 
--- a number of entries is so many, if 64 bits can hold it
-abbrev pub IsCount : Option ℕ → ℕ → Type 0
-IsCount None n = 2 ^ 64 ≤ n
-IsCount (Some k) n = k ≡ n
-
--- a sink that was s has all entries of the page, and how many they are; or that is refused
-abbrev pub CountsAll : {S : Type 0} → Ghosts S → S → ℕ → List ℕ → Result (S × Option ℕ) Refusal → Type 0
-CountsAll g s budget p (Ok found) = IsAccepted budget p × g.took s (list_of budget p) found.0 × IsCount found.1 (length (list_of budget p))
-CountsAll g s budget p (Err r) = RefusedBy g s budget p r (cause_of r.fault)
-
-pub record IsCounted {S : Type 0} (g : Ghosts S) (s : S) (budget : ℕ) (p : List ℕ) (found : Result (S × Option ℕ) Refusal) : Type 0 where
-  pub counts : CountsAll g s budget p found
+-- what an answer shows of it, or why the page is refused
+abbrev pub ShowsText : Result PageText Refusal → List ℕ → List ℕ → Type 0
+ShowsText (Ok found) line body = IfSome found.count (λ n. line ≡ count_line n) × IsSome found.count × (body ≡ found.text.items)
+ShowsText (Err r) line body = (line ≡ refused_line r) × (body ≡ [])

@@ -1,5 +1,4 @@
 pub mod Limits
-pub mod Counting
 pub mod Requests
 pub mod Answers
 pub mod Waiting

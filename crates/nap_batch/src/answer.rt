@@ -1,22 +1,16 @@
 //! The answer to a request.
-ghost use Rattle.std.specs.Prelude.{◌≡◌, [], false, IfOk, IfSome, IsSome};
-ghost use Rattle.nap_list.specs.State.{start};
+ghost use Rattle.std.specs.Prelude.{◌≡◌, [], IfOk, IfSome, IsSome};
 ghost use Rattle.nap_command.specs.declared.command.Action.TheVariants.{Check};
 ghost use Rattle.nap_command.specs.Commands.{PrintsBy, count_line};
-ghost use Rattle.nap_batch.specs.Answers.{IsAnswer, IsCounted, answer_text, ended_line, page_command, refused_line};
+ghost use Rattle.nap_batch.specs.Answers.{IsAnswer, ShowsText, answer_text, ended_line, page_command, refused_line};
 
-use crate::counting::CountingSink;
 use crate::places::read_places;
 use crate::request::Question;
 use itoa::Buffer;
-use nap_canon::CanonSink;
-use nap_command::{
-    Action, Command, Printout, answer_stream, count_line, read_stream, refusal_line,
-    refusal_of_text,
-};
+use nap_canon::{PageText, page_text};
+use nap_command::{Action, Command, Printout, answer_stream, count_line, refusal_line};
 use nap_lines::LineSink;
-use nap_list::{Sink, Target};
-use nap_reader::{Budget, Refusal};
+use nap_reader::{Budget, Refusal, read_counted};
 use std::alloc::{AllocError, Global};
 
 /// A line with its end, and a body.
@@ -83,26 +77,6 @@ fn accepted(alloc: Global, count: Option<u64>, body: Vec<u8>) -> Result<Answer, 
     }
 }
 
-/// The sink with all entries of a page, and how many they are, if a `u64` can hold it; or why the page is refused.
-fn read_counted<S: Sink + Drop>(
-    alloc: Global,
-    budget: Budget,
-    page: &[u8],
-    sink: S,
-) -> Result<(S, Option<u64>), Refusal>
-    requires start { S.state sink ≡ start }
-    requires works { S.failed sink ≡ false }
-    ensures { IsCounted S.Sink sink budget page.now result }
-{
-    match read_stream(alloc, budget, page, CountingSink::new(sink)) {
-        Ok(found) => {
-            let count = found.count();
-            Ok((found.into_inner(), count))
-        }
-        Err(refusal) => Err(refusal),
-    }
-}
-
 /// The answer that shows the lines of a page's entries.
 fn listed(alloc: Global, budget: Budget, page: &[u8]) -> Result<Answer, AllocError>
     ensures { IfOk result (λ a. IsAnswer Question.List budget page.now a.line.items a.body.items) }
@@ -113,17 +87,23 @@ fn listed(alloc: Global, budget: Budget, page: &[u8]) -> Result<Answer, AllocErr
     }
 }
 
+/// The answer that shows the canonical text that was made of a page, or why that is refused.
+fn shown(alloc: Global, found: Result<PageText, Refusal>) -> Result<Answer, AllocError>
+    ensures { IfOk result (λ a. ShowsText found a.line.items a.body.items) }
+{
+    match found {
+        Ok(found) => accepted(alloc, found.count, found.text),
+        Err(refusal) => refused(alloc, refusal),
+    }
+}
+
 /// The answer that shows the canonical text of a page.
 fn spelled(alloc: Global, budget: Budget, page: &[u8]) -> Result<Answer, AllocError>
     ensures { IfOk result (λ a. IsAnswer Question.Canon budget page.now a.line.items a.body.items) }
 {
-    let sink = CanonSink::new(Target::new(Vec::new(alloc)));
-    if sink.failed() {
-        return Err(AllocError);
-    }
-    match read_counted(alloc, budget, page, sink) {
-        Ok((sink, count)) => accepted(alloc, count, sink.close().into_inner()),
-        Err(refusal) => refused(alloc, refusal_of_text(refusal)),
+    match page_text(alloc, budget, page) {
+        Ok(found) => shown(alloc, found),
+        Err(AllocError) => Err(AllocError),
     }
 }
 

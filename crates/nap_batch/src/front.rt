@@ -8,7 +8,7 @@ use crate::request::{RequestLine, cut, parse_line};
 const LINE: usize = 24;
 
 /// What stands in front of bytes.
-#[derive(Clone, Copy, PartialEq, Eq, Debug, Drop)]
+#[derive(Clone, Copy, PartialEq, Eq, Drop)]
 pub enum Front {
     /// A whole request, whose page begins at this index.
     Whole(RequestLine, usize),

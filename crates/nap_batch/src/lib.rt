@@ -2,7 +2,6 @@
 #![tactic(auto)]
 
 mod answer;
-mod counting;
 mod front;
 mod held;
 pub mod laws;

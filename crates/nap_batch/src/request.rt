@@ -6,7 +6,7 @@ ghost use Rattle.nap_batch.specs.Requests.{Cuts, IsLine, IsNumber, name_of};
 use nap_reader::Budget;
 
 /// What is asked of a page.
-#[derive(Clone, Copy, PartialEq, Eq, Debug, Drop)]
+#[derive(Clone, Copy, PartialEq, Eq, Drop)]
 pub enum Question {
     /// How many entries it has.
     Check,
@@ -25,7 +25,7 @@ pub const PAGE: u32 = 16_777_216;
 const DIGITS: usize = 8;
 
 /// The line of a request: what is asked, and how long the page is.
-#[derive(Clone, Copy, PartialEq, Eq, Debug, Drop)]
+#[derive(Clone, Copy, PartialEq, Eq, Drop)]
 pub struct RequestLine {
     /// What is asked.
     pub question: Question,

@@ -17,7 +17,7 @@ use std::alloc::{AllocError, Global};
 pub const REQUESTS: u64 = 4_398_046_511_104;
 
 /// How a row of requests ends.
-#[derive(Clone, Copy, PartialEq, Eq, Debug, Drop)]
+#[derive(Clone, Copy, PartialEq, Eq, Drop)]
 pub enum Ended {
     /// The input ended between two requests.
     Done,

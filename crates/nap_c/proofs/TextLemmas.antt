@@ -1,26 +1,23 @@
-use Rattle.std.proofs.Common.{ℕ, ◌≡◌, ◌⊎◌, ◌^◌, ◌≤◌, true, false, List, length, Err, refl, ap, sym, ◌∙◌, inl, inr, length-append, arith}
+use Rattle.std.proofs.Common.{ℕ, ◌≡◌, ◌⊎◌, ◌^◌, ◌≤◌, true, false, List, length, Result, Ok, Err, refl, ap, sym, ◌∙◌, inl, inr, length-append, arith}
+use Rattle.std.specs.Prelude.{MatchResult}
 use Rattle.nap_list.specs.declared.count_sink.CountSink.{CountSink}
 use Rattle.nap_list.specs.declared.entry.Entry.{Entry}
 use Rattle.nap_list.specs.declared.sink.Sink.{Ghosts}
 use Rattle.nap_list.specs.Counting.{Uncounted}
 use Rattle.nap_reader.specs.declared.fault.Fault.{Fault}
 use Rattle.nap_reader.specs.declared.fault.Fault.TheVariants as fault
+use Rattle.nap_reader.specs.declared.fault.Refusal.{Refusal}
 use Rattle.nap_reader.specs.Breaking.{LacksWithin}
 use Rattle.nap_reader.specs.Stream.{means}
-use Rattle.nap_command.specs.Collecting.{IsRead, LacksMemoryFor}
-use Rattle.nap_command.specs.Commands.{refusal_of_text}
-use Rattle.nap_c.specs.Texts.{IsRefusal, LacksForText, LacksToCount}
+use Rattle.nap_reader.specs.Collecting.{IsRead, LacksMemoryFor}
+use Rattle.nap_canon.specs.declared.page.PageText.{PageText}
+use Rattle.nap_canon.specs.PageTexts.{IsPageText}
+use Rattle.nap_canon.specs.Streams.{list_of}
+use Rattle.nap_canon.specs.Text.{text}
+use Rattle.nap_c.specs.Texts.{IsRefusal, IsTextOf, LacksForText, LacksToCount}
 
 pub true_isnt : false ≡ true → ⊥
 true_isnt h = let bad : ⊥ = cc in bad
-
--- A page was refused whose entries went into a sink that fails where memory is wanting.
-module _ {S : Type 0} (g : Ghosts S) (s : S) (budget : ℕ) (p : List ℕ) where
-  pub refused_in_memory : (f : Fault) (place : ℕ) → IsRead g s budget p (Err (record { fault = f; place = place })) →
-      IsRefusal budget p (LacksForText budget p) (refusal_of_text (record { fault = f; place = place }))
-  refused_in_memory fault.Memory place h = record { refused = λ no. absurd (no refl); memory = λ _. inl h.collects.0 }
-  refused_in_memory fault.Sink place h = record { refused = λ no. absurd (no refl); memory = λ _. inl h.collects.0 }
-  refused_in_memory f place h = record { refused = λ _. h.collects; memory = λ is. let bad : ⊥ = cc in absurd bad }
 
 -- A page was refused whose entries were counted.
 module _ (g : Ghosts CountSink) (s : CountSink) (none : s.count ≡ 0) (wants_is : (d : List Entry) → g.wants s d → Uncounted s d) (sound : (t : CountSink) → g.failed t ≡ false) (budget : ℕ) (p : List ℕ) where
@@ -33,3 +30,11 @@ module _ (g : Ghosts CountSink) (s : CountSink) (none : s.count ≡ 0) (wants_is
   refused_to_count fault.Memory place h = record { refused = λ no. absurd (no refl); memory = λ _. record { breaks = h.collects.0; own = own place h.collects.1 } }
   refused_to_count fault.Sink place h = let (breaks, (t, failed)) = h.collects in absurd (true_isnt (sym (sound t) ∙ failed))
   refused_to_count f place h = record { refused = λ _. h.collects; memory = λ is. let bad : ⊥ = cc in absurd bad }
+
+-- the canonical text of a page was made, or that is refused
+pub text_made : {V : Type 0} (items : V → List ℕ) (budget : ℕ) (p : List ℕ) (found : Result PageText Refusal) (result : Result V Refusal) → IsPageText budget p found →
+    MatchResult found (λ t. MatchResult result (λ made. items made ≡ t.text.items) (λ r. ⊥)) (λ r. result ≡ Err r) →
+    MatchResult result (λ made. IsTextOf budget p (text (list_of budget p)) (items made)) (IsRefusal budget p (LacksForText budget p))
+text_made items budget p (Ok t) (Ok made) h is = record { accepted = h.0.accepted; text_is = is ∙ h.0.text_is }
+text_made items budget p (Ok t) (Err r) h is = absurd is
+text_made items budget p (Err r) result h is = rw is (record { refused = h.refused; memory = λ wants. inl (h.memory wants) })

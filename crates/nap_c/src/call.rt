@@ -11,9 +11,8 @@ ghost use Rattle.nap_c.specs.Texts.{LacksForText};
 use crate::answer::{Answer, answer_placed, answer_text};
 use crate::text::{canon_text, form1_text, list_text, wanting_at_end};
 use nap_batch::read_places;
-use nap_command::read_stream;
 use nap_list::CountSink;
-use nap_reader::Budget;
+use nap_reader::{Budget, read_stream};
 use std::alloc::{AllocError, Global};
 
 /// How many entries a page has.

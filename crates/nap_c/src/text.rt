@@ -1,17 +1,15 @@
 //! The texts of a page.
-ghost use Rattle.std.specs.Prelude.{◌≡◌, MatchResult};
+ghost use Rattle.std.specs.Prelude.{◌≡◌, Err, MatchResult};
 ghost use Rattle.nap_reader.specs.Breaking.{BreaksWithin};
 ghost use Rattle.nap_canon.specs.Streams.{list_of};
 ghost use Rattle.nap_canon.specs.Text.{text, text1};
 ghost use Rattle.nap_lines.specs.Listing.{lines};
 ghost use Rattle.nap_c.specs.Texts.{IsRefusal, IsTextOf, LacksForText, wanting_at_end};
 
-use nap_canon::{CanonFault, CanonSink, canon_form1};
-use nap_command::{read_stream, refusal_of_text};
+use nap_canon::{CanonFault, PageText, canon_form1, page_text};
 use nap_lines::LineSink;
-use nap_list::Target;
-use nap_reader::{Budget, Fault, Refusal, read_all};
-use std::alloc::Global;
+use nap_reader::{Budget, Fault, Refusal, read_all, read_stream};
+use std::alloc::{AllocError, Global};
 
 /// There was no memory for a text, which is told at the end of the page.
 pub(crate) fn wanting_at_end(page: &[u8]) -> Refusal
@@ -33,19 +31,25 @@ pub(crate) fn list_text(alloc: Global, budget: Budget, page: &[u8]) -> Result<Ve
     Ok(sink.into_text())
 }
 
+/// The text that was made of a page, or why that is refused.
+fn made(found: Result<PageText, Refusal>) -> Result<Vec<u8>, Refusal>
+    ensures { MatchResult found (λ t. MatchResult result (λ text. text.items ≡ t.text.items) (λ r. ⊥)) (λ r. result ≡ Err r) }
+{
+    match found {
+        Ok(found) => Ok(found.text),
+        Err(refusal) => Err(refusal),
+    }
+}
+
 /// The canonical text of a page, or why it is refused.
 pub(crate) fn canon_text(alloc: Global, budget: Budget, page: &[u8]) -> Result<Vec<u8>, Refusal>
     ensures { MatchResult result
         (λ found. IsTextOf budget page.now (text (list_of budget page.now)) found.items)
         (IsRefusal budget page.now (LacksForText budget page.now)) }
 {
-    let sink = CanonSink::new(Target::new(Vec::new(alloc)));
-    if sink.failed() {
-        return Err(wanting_at_end(page));
-    }
-    match read_stream(alloc, budget, page, sink) {
-        Ok(sink) => Ok(sink.close().into_inner()),
-        Err(refusal) => Err(refusal_of_text(refusal)),
+    match page_text(alloc, budget, page) {
+        Ok(found) => made(found),
+        Err(AllocError) => Err(wanting_at_end(page)),
     }
 }
 

@@ -5,6 +5,7 @@ pub mod Spelling
 pub mod Text
 pub mod Range
 pub mod Streams
+pub mod PageTexts
 pub mod Laws
 pub mod Plain
 pub mod Checking

@@ -5,13 +5,27 @@ ghost use Rattle.nap_canon.specs.Laws.{IsReadAs};
 ghost use Rattle.nap_canon.specs.Plain.{IsPlain};
 ghost use Rattle.nap_canon.specs.Streams.{list_of, IsCanonicalOf, LacksMemoryAt};
 
-use crate::fault::CanonFault;
-use crate::text::canon;
-use nap_reader::{Budget, Fault, Refusal, read_all};
-use std::alloc::Global;
+use crate::page::page_text;
+use nap_list::CountSink;
+use nap_reader::{Budget, Fault, Refusal, read_stream};
+use std::alloc::{AllocError, Global};
 
-/// The canonical stream of a stream: the canonical text of its display list. Want of memory for the text is refused at
-/// the end of the stream.
+/// Why a stream is refused that there is no memory to write: what it says itself comes before that, which is told at its end.
+fn unwritten(alloc: Global, budget: Budget, bytes: &[u8]) -> Refusal
+    ensures refused { result.fault ≢ Fault.Memory → (means budget bytes.now).refusal ≡ Some result }
+    ensures memory { result.fault ≡ Fault.Memory → LacksMemoryAt budget bytes.now result.place }
+{
+    match read_stream(alloc, budget, bytes, CountSink::new()) {
+        Ok(_) => Refusal {
+            fault: Fault::Memory,
+            place: bytes.len() as u64,
+        },
+        Err(refusal) => refusal,
+    }
+}
+
+/// The canonical stream of a stream: the canonical text of its display list. Want of memory for the text is refused
+/// where it is written, or at the end of the stream.
 pub fn normalise(alloc: Global, budget: Budget, bytes: &[u8]) -> Result<Vec<u8>, Refusal>
     requires { length bytes.now < 2 ^ 63 }
     ensures canonical { IfOk result (λ c. IsCanonicalOf budget c.items bytes.now) }
@@ -25,14 +39,9 @@ pub fn normalise(alloc: Global, budget: Budget, bytes: &[u8]) -> Result<Vec<u8>,
     ensures refused { IfErr result (λ r. r.fault ≢ Fault.Memory → (means budget bytes.now).refusal ≡ Some r) }
     ensures memory { IfErr result (λ r. r.fault ≡ Fault.Memory → LacksMemoryAt budget bytes.now r.place) }
 {
-    let list = read_all(alloc, budget, bytes)?;
-    match canon(alloc, &list) {
-        Ok(text) => Ok(text),
-        Err(CanonFault::Memory) => Err(Refusal {
-            fault: Fault::Memory,
-            place: bytes.len() as u64,
-        }),
-        // What was read is legal.
-        Err(CanonFault::Illegal(_)) => unreachable!(),
+    match page_text(alloc, budget, bytes) {
+        Ok(Ok(found)) => Ok(found.text),
+        Ok(Err(refusal)) => Err(refusal),
+        Err(AllocError) => Err(unwritten(alloc, budget, bytes)),
     }
 }

@@ -12,6 +12,8 @@ use Rattle.nap_reader.specs.declared.fault.Fault.TheVariants as fault
 use Rattle.nap_reader.specs.declared.fault.Refusal.{Refusal}
 use Rattle.nap_reader.specs.Breaking.{cause_of, LacksWithin}
 use Rattle.nap_reader.specs.Stream.{means}
+use Rattle.nap_canon.specs.declared.page.PageText.{PageText}
+use Rattle.nap_canon.specs.PageTexts.{IsPageText, refusal_of_text}
 use Rattle.nap_canon.specs.Sinking.{Begun, Canonical, Took}
 use Rattle.nap_canon.specs.Streams.{list_of}
 use Rattle.nap_canon.specs.Text.{text}
@@ -24,8 +26,8 @@ use Rattle.nap_command.specs.declared.command.Action.TheVariants as action
 use Rattle.nap_command.specs.declared.command.Command.{Command}
 use Rattle.nap_command.specs.declared.failure.Failure.{Failure}
 use Rattle.nap_command.specs.declared.failure.Failure.TheVariants as failure
-use Rattle.nap_command.specs.Collecting.{Collects, IsRead, LacksMemoryFor, RefusedBy}
-use Rattle.nap_command.specs.Commands.{Denies, Fails, Finds, IsRefusal, LacksToCount, PrintsBy, PrintsCount, canon_text, count_line, refusal_of_text}
+use Rattle.nap_reader.specs.Collecting.{Collects, IsRead, LacksMemoryFor, RefusedBy}
+use Rattle.nap_command.specs.Commands.{Denies, Fails, Finds, IsRefusal, LacksToCount, PrintsBy, PrintsCount, canon_text, count_line}
 
 -- What is read of a page makes the answer of a command.
 
@@ -67,6 +69,15 @@ module _ (g : Ghosts CountSink) (s : CountSink) (none : s.count ≡ 0) (took_is 
       MatchResult result (λ a. Finds c p seen a.text.items a.verdict) (Fails c p seen)
   finds_count seen found (Ok a) bytes whole h is = (whole, (p, rw bytes refl, subst (λ (act : Action). PrintsBy act c p a.text.items a.verdict) (sym check) (counted found a.text.items a.verdict h.collects is)))
   finds_count seen found (Err f) bytes whole h is = rw is whole.none_failed
+
+-- The text of a page was made.
+pub prints_page : (c : Command) (p : List ℕ) → c.action ≡ action.Canon → (found : Result PageText Refusal) (result : Result Printout Failure) → IsPageText c.budget p found →
+    MatchResult found (λ t. MatchResult result (λ a. (a.text.items ≡ canon_text c.hex t.text.items) × (a.verdict ≡ verdict.Accepted)) (λ f. f ≡ failure.Memory))
+    (λ r. result ≡ Err (failure.Refused r)) →
+    MatchResult result (λ a. PrintsBy c.action c p a.text.items a.verdict) (Denies c p)
+prints_page c p canon (Ok t) (Ok a) h is = subst (λ (act : Action). PrintsBy act c p a.text.items a.verdict) (sym canon) (rw (is.1) (t.text.items, h.0, is.0))
+prints_page c p canon (Ok t) (Err f) h is = rw is tt
+prints_page c p canon (Err r) result h is = rw is (λ other. let bad : ⊥ = cc (canon, other) in bad, record { refused = h.refused; memory = h.memory })
 
 -- The text of a page was taken, by an outlet that tells its bytes.
 module _ {O : Type 0} (o : outlet.Ghosts O) (w : O) (s : Canonical O) (begins : Begun o w s) (works : o.failed s.outlet ≡ false) (items : O → List ℕ)

@@ -2,7 +2,6 @@ use Rattle.std.specs.Prelude.{ℕ, ◌≡◌, ◌≢◌, ◌⊎◌, ◌==◌, �
 use Rattle.std.specs.Io.KnownBytes.{Appends, Consumes}
 use Rattle.hex.specs.Hex.{decode_of, encode_lower}
 use Rattle.nap_list.specs.declared.count_sink.CountSink.{CountSink}
-use Rattle.nap_reader.specs.declared.fault.Fault.{Fault}
 use Rattle.nap_reader.specs.declared.fault.Fault.TheVariants as fault
 use Rattle.nap_reader.specs.declared.fault.Refusal.{Refusal}
 use Rattle.nap_reader.specs.Stream.{means}
@@ -56,14 +55,6 @@ abbrev pub PrintsCount : Result CountSink Refusal → List ℕ → Verdict → T
 PrintsCount (Ok s) q verdict.Accepted = q ≡ count_line s.count
 PrintsCount (Err r) q verdict.Refused = q ≡ refusal_text r ++ 10 ∷ []
 PrintsCount found q v = ⊥
-
-abbrev pub fault_of_text : Fault → Fault
-fault_of_text fault.Sink = fault.Memory
-fault_of_text f = f
-
--- why a page is refused whose text was taken: where its sink failed, memory was wanting
-abbrev pub refusal_of_text : Refusal → Refusal
-refusal_of_text r = record r { fault = fault_of_text r.fault }
 
 -- The refusal is that of the stream. One for want of memory has a place where an act of the stream can lack it.
 pub record IsRefusal (c : Command) (stream : List ℕ) (r : Refusal) : Type 0 where

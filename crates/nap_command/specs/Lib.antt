@@ -1,4 +1,3 @@
 pub mod Failures
 pub mod Devices
 pub mod Commands
-pub mod Collecting

@@ -3,19 +3,19 @@ ghost use Rattle.std.specs.Prelude.{◌≡◌, ◌+◌, ◌<◌, ◌≤◌, ◌^
 ghost use Rattle.std.specs.Io.KnownBytes.{Consumes};
 ghost use Rattle.nap_list.specs.Limits.{reads_limit};
 ghost use Rattle.nap_list.specs.Reading.{reading};
+ghost use Rattle.nap_canon.specs.PageTexts.{refusal_of_text};
 ghost use Rattle.nap_canon.specs.Sinking.{Begun};
 ghost use Rattle.nap_command.specs.Failures.{refusal_text, verdict_status};
-ghost use Rattle.nap_command.specs.Commands.{Fails, FailsOn, FailsToSpell, Finds, Denies, IsStream, Prints, PrintsBy, PrintsCount, canon_text, count_line, is_blank, refusal_of_text};
+ghost use Rattle.nap_command.specs.Commands.{Fails, FailsOn, FailsToSpell, Finds, Denies, IsStream, Prints, PrintsBy, PrintsCount, canon_text, count_line, is_blank};
 
-use crate::collect::{read_input, read_stream};
 use crate::command::{Action, Command};
 use crate::device::read_whole;
 use crate::failure::Failure;
 use hex::FromHexError;
-use nap_canon::CanonSink;
+use nap_canon::{CanonSink, PageText, page_text, refusal_of_text};
 use nap_lines::LineSink;
 use nap_list::{CountSink, Inlet, Outlet, Target};
-use nap_reader::{Fault, Refusal};
+use nap_reader::{Refusal, read_input, read_stream};
 use std::alloc::{AllocError, Global};
 
 /// What a printed answer says of the stream.
@@ -127,41 +127,46 @@ fn begun<O: Outlet + Drop>(outlet: O) -> Result<CanonSink<O>, Failure>
     Ok(sink)
 }
 
-/// Why a page is refused whose text is kept in memory: if the sink of the text failed, memory ran out.
-pub fn refusal_of_text(refusal: Refusal) -> Refusal
-    ensures { result ≡ refusal_of_text refusal }
+/// The text that `canon` prints: the canonical one, or a line of digits that spells it.
+fn canon_text(alloc: Global, hex: bool, text: Vec<u8>) -> Result<Vec<u8>, AllocError>
+    ensures { IfOk result (λ printed. printed.items ≡ canon_text hex text.items) }
 {
-    match refusal.fault {
-        Fault::Sink => Refusal {
-            fault: Fault::Memory,
-            place: refusal.place,
-        },
-        _ => refusal,
+    if hex {
+        return hex_line(alloc, text.as_slice());
+    }
+    Ok(text)
+}
+
+/// What `canon` prints of a page whose text was made.
+fn print_page(
+    alloc: Global,
+    hex: bool,
+    found: Result<PageText, Refusal>,
+) -> Result<Printout, Failure>
+    ensures { MatchResult found
+        (λ t. MatchResult result (λ a. (a.text.items ≡ canon_text hex t.text.items) × (a.verdict ≡ Verdict.Accepted)) (λ f. f ≡ Failure.Memory))
+        (λ r. result ≡ Err (Failure.Refused r)) }
+{
+    match found {
+        Ok(found) => Ok(Printout {
+            text: canon_text(alloc, hex, found.text)?,
+            verdict: Verdict::Accepted,
+        }),
+        Err(refusal) => Err(Failure::Refused(refusal)),
     }
 }
 
-/// What `canon` prints of a page whose text was written to memory.
-fn print_text(
-    alloc: Global,
-    hex: bool,
-    found: Result<TextSink, Refusal>,
-) -> Result<Printout, Failure>
+/// What `canon` prints of a page whose text was written to memory as the page was read from an input.
+fn print_text(found: Result<TextSink, Refusal>) -> Result<Printout, Failure>
     ensures { MatchResult found
-        (λ s. MatchResult result (λ a. (a.text.items ≡ canon_text hex s.outlet.writer.items) × (a.verdict ≡ Verdict.Accepted)) (λ f. f ≡ Failure.Memory))
+        (λ s. MatchResult result (λ a. (a.text.items ≡ s.outlet.writer.items) × (a.verdict ≡ Verdict.Accepted)) (λ f. f ≡ Failure.Memory))
         (λ r. result ≡ Err (Failure.Refused (refusal_of_text r))) }
 {
     match found {
-        Ok(sink) => {
-            let text = sink.close().into_inner();
-            Ok(Printout {
-                text: if hex {
-                    hex_line(alloc, text.as_slice())?
-                } else {
-                    text
-                },
-                verdict: Verdict::Accepted,
-            })
-        }
+        Ok(sink) => Ok(Printout {
+            text: sink.close().into_inner(),
+            verdict: Verdict::Accepted,
+        }),
         Err(refusal) => Err(Failure::Refused(refusal_of_text(refusal))),
     }
 }
@@ -181,8 +186,8 @@ pub fn answer_stream(alloc: Global, command: &Command, stream: &[u8]) -> Result<
         }
         Action::Check => print_count(alloc, read_stream(alloc, budget, stream, CountSink::new())),
         Action::Canon => {
-            let found = read_stream(alloc, budget, stream, begun(Target::new(Vec::new(alloc)))?);
-            print_text(alloc, command.hex, found)
+            let found = page_text(alloc, budget, stream)?;
+            print_page(alloc, command.hex, found)
         }
     }
 }
@@ -224,7 +229,7 @@ pub fn answer_input<I: Inlet>(
         }
         Action::Canon => {
             let found = read_input(alloc, budget, input, begun(Target::new(Vec::new(alloc)))?)?;
-            print_text(alloc, false, found)
+            print_text(found)
         }
     }
 }

@@ -1,12 +1,12 @@
 //! Why a command fails.
 ghost use Rattle.std.specs.Prelude.{◌≡◌, ◌≤◌, ◌+◌, ◌++◌, ◌∷◌, [], decimal, length};
-ghost use Rattle.nap_command.specs.declared.failure.Failure.TheVariants.{Memory, Refused, Write};
+ghost use Rattle.nap_command.specs.declared.failure.Failure.TheVariants.{Memory, Read, Refused, Write};
 ghost use Rattle.nap_command.specs.Failures.{failure_text, refusal_text, status_of};
 
 use crate::name::fault_name;
 use arrayvec::ArrayString;
 use itoa::Buffer;
-use nap_reader::Refusal;
+use nap_reader::{ReadFault, Refusal};
 use std::alloc::AllocError;
 
 /// As many bytes as the line of a failure has at most, or more.
@@ -34,6 +34,14 @@ impl From<AllocError> for Failure {
 
     fn from(_: AllocError) -> Self {
         Failure::Memory
+    }
+}
+
+impl From<ReadFault> for Failure {
+    ghost from_gives = { λ _ e. e ≡ Read };
+
+    fn from(_: ReadFault) -> Self {
+        Failure::Read
     }
 }
 

@@ -2,7 +2,6 @@
 #![tactic(auto)]
 
 mod answer;
-mod collect;
 mod command;
 mod device;
 mod execution;
@@ -11,9 +10,7 @@ mod name;
 
 pub use answer::{
     Printout, Verdict, answer_input, answer_stream, answer_text, count_line, refusal_line,
-    refusal_of_text,
 };
-pub use collect::{read_input, read_stream};
 pub use command::{Action, Command};
 pub use device::{read_whole, write_whole};
 pub use execution::{execute, tell};

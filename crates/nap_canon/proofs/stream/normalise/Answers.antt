@@ -1,21 +1,34 @@
-use Rattle.std.proofs.Common.{Err, ap, sym, subst, ◌∙◌}
-use Rattle.nap_list.specs.State.{Legal}
-use Rattle.nap_list.proofs.PublicLaws.{legal_never_breaks}
-use Rattle.nap_reader.proofs.PublicLaws.{accepted_is_legal}
-use Rattle.nap_canon.proofs.reading_back.CanonicalLaws.{equal_texts, text_is_canonical}
+use Rattle.std.proofs.Common.{inl, subst}
+use Rattle.nap_canon.specs.PageTexts.{IsPageText}
+use Rattle.nap_canon.proofs.reading_back.CanonicalLaws.{equal_texts, own_text, plain_text, read_as}
 use Rattle.nap_canon.proofs.stream.normalise.Goals as goal
 
-pub returns-in-Ok-clause-equal : goal.returns-in-Ok-clause-equal
-returns-in-Ok-clause-equal c other d q canonical =
-    let same = c.deref.ensures.value ∙ c.in_ok-list.ensures.list in
-    equal_texts c.args.budget other c.in-Ok.text.items c.args.bytes.now d q
-    (text_is_canonical c.args.budget c.in-Ok.text.items c.args.bytes.now c.deref.result.now c.in_ok-list.ensures.accepted same c.in-Ok.ensures.text)
-    canonical
+pub returns-in-Ok-Ok : goal.returns-in-Ok-Ok
+returns-in-Ok-Ok c =
+    let budget = c.args.budget in
+    let bytes = c.args.bytes.now in
+    let text = c.in-Ok-Ok.found.text.items in
+    let made = subst (IsPageText budget bytes) c.in-Ok-Ok.field-0-is c.in-Ok-Ok.ensures in
+    let is = made.0 in
+    record {
+      canonical = rw c.in-Ok-Ok.field-0-is (is);
+      plain = rw c.in-Ok-Ok.field-0-is (plain_text budget text bytes is);
+      read_again = rw c.in-Ok-Ok.field-0-is (λ other. read_as budget other text bytes is);
+      own = rw c.in-Ok-Ok.field-0-is (λ other. own_text budget other text bytes is);
+      equal = rw c.in-Ok-Ok.field-0-is (λ other d q. equal_texts budget other text bytes d q is);
+      refused = tt;
+      memory = tt;
+    }
 
--- what was read is legal
-pub unreachable-requires : goal.unreachable-requires
-unreachable-requires c =
-    let same = c.deref.ensures.value ∙ c.in_ok-list.ensures.list in
-    let legal : Legal c.deref.result.now = subst Legal (sym same) (accepted_is_legal c.args.budget c.args.bytes.now c.in_ok-list.ensures.accepted) in
-    let i = c.in-Err-Illegal.field-0-0 in
-    legal_never_breaks c.deref.result.now i legal ((c.in-Err-Illegal.ensures.illegal i).0 (ap Err c.in-Err-Illegal.field-0-is))
+pub returns-in-Ok-Err : goal.returns-in-Ok-Err
+returns-in-Ok-Err c =
+    let why = subst (IsPageText c.args.budget c.args.bytes.now) c.in-Ok-Err.field-0-is c.in-Ok-Err.ensures in
+    record {
+      canonical = tt;
+      plain = tt;
+      read_again = tt;
+      own = tt;
+      equal = tt;
+      refused = rw c.in-Ok-Err.field-0-is why.refused;
+      memory = rw c.in-Ok-Err.field-0-is (λ is. inl (why.memory is));
+    }

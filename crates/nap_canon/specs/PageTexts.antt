@@ -1,0 +1,29 @@
+use Rattle.std.specs.Prelude.{ℕ, ◌≡◌, ◌≢◌, List, Some, Result, Ok, Err, length}
+use Rattle.nap_reader.specs.declared.fault.Fault.{Fault}
+use Rattle.nap_reader.specs.declared.fault.Fault.TheVariants as fault
+use Rattle.nap_reader.specs.declared.fault.Refusal.{Refusal}
+use Rattle.nap_reader.specs.Breaking.{BreaksWithin}
+use Rattle.nap_reader.specs.Collecting.{IsCount}
+use Rattle.nap_reader.specs.Stream.{means}
+use Rattle.nap_canon.specs.declared.page.PageText.{PageText}
+use Rattle.nap_canon.specs.Streams.{list_of, IsCanonicalOf}
+
+-- The canonical text of a page, which is written in memory as the page is read.
+
+abbrev pub fault_of_text : Fault → Fault
+fault_of_text fault.Sink = fault.Memory
+fault_of_text f = f
+
+-- why a page is refused whose text was taken: where its sink failed, memory was wanting
+abbrev pub refusal_of_text : Refusal → Refusal
+refusal_of_text r = record r { fault = fault_of_text r.fault }
+
+-- The refusal is that of the page. One for want of memory has a place where an act of the page can lack it.
+pub record RefusesPage (budget : ℕ) (p : List ℕ) (r : Refusal) : Type 0 where
+  pub refused : r.fault ≢ fault.Memory → (means budget p).refusal ≡ Some r
+  pub memory : r.fault ≡ fault.Memory → BreaksWithin budget p r.place
+
+-- the canonical text of a page and the number of its entries, or why it is refused
+abbrev pub IsPageText : ℕ → List ℕ → Result PageText Refusal → Type 0
+IsPageText budget p (Ok found) = IsCanonicalOf budget found.text.items p × IsCount found.count (length (list_of budget p))
+IsPageText budget p (Err r) = RefusesPage budget p r
