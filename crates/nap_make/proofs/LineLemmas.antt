@@ -142,7 +142,7 @@ rest_in (entry.MaskStart mask) fits = mask_in mask
 rest_in entry.DefEnd fits = All-nil IsInLine
 
 -- no line has an end of a line in it
-line_whole : (e : Entry) → InRange e → All (λ x. x ≢ 10) (line e)
+pub line_whole : (e : Entry) → InRange e → All (λ x. x ≢ 10) (line e)
 line_whole e fits = All-weaker IsInLine (λ x. x ≢ 10) (λ x high is. omega (arith, high, is)) (line e) (by (rest_or_alone e))
   where
     by : HasRest e ⊎ ((line e ≡ codes "BELL") ⊎ (line e ≡ codes "END")) → All IsInLine (line e)

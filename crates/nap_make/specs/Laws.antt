@@ -1,4 +1,4 @@
-use Rattle.std.specs.Prelude.{ℕ, ◌≡◌, ◌≤◌, List, length}
+use Rattle.std.specs.Prelude.{ℕ, ◌≡◌, ◌≢◌, ◌≤◌, List, All, length}
 use Rattle.nap_list.specs.declared.entry.Entry.{Entry}
 use Rattle.nap_list.specs.Range.{InRange, AllInRange}
 use Rattle.nap_lines.specs.Lines.{line}
@@ -20,3 +20,7 @@ longest_line = 32112
 -- No line of a well-made entry in range is longer.
 abbrev pub LinesAreBounded : Type 0
 LinesAreBounded = (e : Entry) → IsProper e → length (line e) ≤ longest_line
+
+-- No line of a well-made entry in range has the end of a line in it.
+abbrev pub LinesHaveNoEnds : Type 0
+LinesHaveNoEnds = (e : Entry) → IsProper e → All (λ b. b ≢ 10) (line e)

@@ -7,7 +7,7 @@ ghost use Rattle.nap_make.specs.Fields.{MaskInRange, colour_field, look_field, p
 ghost use Rattle.nap_make.specs.Reading.{Reads};
 
 use crate::colour::colour;
-use crate::cut::{after, cut};
+use crate::cutting::{after, cut};
 use crate::look::look;
 use crate::number::word;
 use crate::place::{displacement, pen};

@@ -6,7 +6,7 @@ ghost use Rattle.nap_lines.specs.Lines.{grb_text, colour_text};
 ghost use Rattle.nap_make.specs.Fields.{IsNumbered};
 ghost use Rattle.nap_make.specs.Reading.{Reads};
 
-use crate::cut::cut;
+use crate::cutting::cut;
 use crate::number::{addr, number_below, two_addrs};
 use nap_list::{Colour, Origin, Preset};
 use nap_values::Grb;

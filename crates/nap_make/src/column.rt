@@ -5,7 +5,7 @@ ghost use Rattle.nap_make.specs.Entries.{BeginsLine, Extends, TellsColumn};
 use crate::attribute::{colour_field, look_field, pel_field, pen_field, texture_field};
 use crate::choice::{char_set, cursor_kind, mask, plain_step};
 use crate::colour::grb;
-use crate::cut::{after, cut, is};
+use crate::cutting::{after, cut, is};
 use crate::name::Name;
 use crate::number::{addr, code, three_words, word};
 use crate::place::point;
@@ -59,9 +59,7 @@ impl Field {
             Field::Word => word(bytes).is_some(),
         }
     }
-}
 
-impl Field {
     /// Such a field.
     fn sample(self) -> &'static str {
         match self {

@@ -12,7 +12,7 @@ ghost use Rattle.nap_make.specs.Reading.{Reads, Both, pair_text};
 use crate::attribute::{colour_field, hand, ink, pel_field, pen_field};
 use crate::choice::{char_set, cursor_kind, mask, plain_step};
 use crate::colour::grb;
-use crate::cut::{after, cut};
+use crate::cutting::{after, cut};
 use crate::name::Name;
 use crate::number::{addr, code, three_words, word};
 use crate::place::point;

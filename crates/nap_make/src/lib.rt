@@ -5,7 +5,7 @@ mod attribute;
 mod choice;
 mod colour;
 mod column;
-mod cut;
+mod cutting;
 mod entry;
 mod fault;
 mod kind;
@@ -17,5 +17,6 @@ mod place;
 mod reading;
 mod shape;
 
+pub use cutting::cut;
 pub use entry::entry_of_line;
 pub use fault::LineFault;

@@ -5,7 +5,7 @@ ghost use Rattle.nap_lines.specs.Lines.{flag_text, size_text, look_text};
 ghost use Rattle.nap_make.specs.Fields.{modes_text, size_name};
 ghost use Rattle.nap_make.specs.Reading.{Reads, Always};
 
-use crate::cut::cut;
+use crate::cutting::cut;
 use crate::number::two_words;
 use crate::place::displacement;
 use nap_codes::Size;

@@ -1,7 +1,7 @@
 //! The names of lines.
 ghost use Rattle.std.specs.Prelude.{◌≡◌, ◌≢◌, MatchOption};
 
-use crate::cut::is;
+use crate::cutting::is;
 
 /// The name that a line begins with.
 #[derive(Clone, Copy, PartialEq, Eq, Debug, Drop)]

@@ -9,7 +9,7 @@ ghost use Rattle.nap_lines.specs.Lines.{code_text};
 ghost use Rattle.nap_make.specs.Numbers.{IsShort, IsNumeralOf, IsSigned, IsNibble};
 ghost use Rattle.nap_make.specs.Reading.{WritesNone, Reads, Both, pair_text};
 
-use crate::cut::cut;
+use crate::cutting::cut;
 use nap_values::{Addr, Word};
 
 /// The most digits of a number.

@@ -5,7 +5,7 @@ ghost use Rattle.nap_list.specs.Range.{PenInRange};
 ghost use Rattle.nap_lines.specs.Lines.{point_text, move_text, pen_text};
 ghost use Rattle.nap_make.specs.Reading.{Reads, IsWritten};
 
-use crate::cut::cut;
+use crate::cutting::cut;
 use crate::number::{number_below, signed};
 use nap_list::Pen;
 use nap_values::{Move, Point};

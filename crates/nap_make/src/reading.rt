@@ -4,7 +4,7 @@ ghost use Rattle.nap_make.specs.Cutting.{Cuts};
 ghost use Rattle.nap_make.specs.Entries.{BeginsShape, ReadsLine, line_from};
 ghost use Rattle.nap_make.specs.Names.{NamesShape};
 
-use crate::cut::cut;
+use crate::cutting::cut;
 use crate::kind::{
     blink, blink_end, blink_mark, clear, cursor, dot, field, glyph, letter, line, map, mask_start,
     rect, reset, text_move, to_eol, wait,

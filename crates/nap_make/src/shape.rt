@@ -8,7 +8,7 @@ ghost use Rattle.nap_make.specs.Names.{arc_name, poly_name};
 ghost use Rattle.nap_make.specs.Reading.{Reads};
 
 use crate::attribute::ink;
-use crate::cut::cut;
+use crate::cutting::cut;
 use crate::place::point;
 use nap_list::{Entry, Ink, Points, SHAPE_POINTS};
 use nap_values::Point;

@@ -1,1 +1,3 @@
+pub mod PageLemmas
 pub mod PublicLaws
+pub mod TextLemmas

@@ -9,7 +9,8 @@ use Rattle.nap_canon.specs.Laws.{IsReadAs}
 use Rattle.nap_canon.specs.Streams.{IsAccepted, list_of}
 use Rattle.nap_canon.specs.Text.{text}
 use Rattle.nap_make.proofs.PublicLaws.{lines_tell_lists}
-use Rattle.nap_maker.specs.Making.{AreLines, IsMadeOf}
+use Rattle.nap_line_reader.specs.Lists.{AreLines}
+use Rattle.nap_maker.specs.Making.{IsMadeOf}
 use Rattle.nap_maker.specs.Laws.{ListsAgain, ListsTellStreams, MadePagesAgree}
 
 -- pages whose lists have equal lines have equal lists

@@ -1,7 +1,7 @@
 //! Pages that are made of the lines of a list.
 #![tactic(auto)]
 
-mod fault;
 pub mod laws;
+mod page;
 
-pub use fault::MakeFault;
+pub use page::{PageFault, make_page};

@@ -3,7 +3,7 @@ ghost use Rattle.std.specs.Prelude.{◌≡◌, ◌≢◌, ◌++◌, ◌↔◌, �
 ghost use Rattle.nap_make.specs.Cutting.{Cuts};
 
 /// What comes before the first such byte, and after it.
-pub(crate) fn cut(bytes: &[u8], byte: u8) -> Option<(&[u8], &[u8])>
+pub fn cut(bytes: &[u8], byte: u8) -> Option<(&[u8], &[u8])>
     ensures { MatchOption result ((front back : List ℕ) → Cuts byte bytes.now front back → ⊥) (λ parts. Cuts byte bytes.now parts.0.now parts.1.now) }
 {
     let mut at = 0;

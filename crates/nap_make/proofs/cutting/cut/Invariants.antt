@@ -1,6 +1,6 @@
 use Rattle.std.proofs.Common.{length, take, ◌-◌, ◌≢◌, ◌≤◌}
 use Rattle.std.specs.Prelude.{All}
-use Rattle.nap_make.proofs.cut.cut.Given as goal
+use Rattle.nap_make.proofs.cutting.cut.Given as goal
 
 abbrev pub invariant-loop-at : goal.invariant-loop-at
 invariant-loop-at l = (l.at ≤ length l.bytes) × All (λ b. b ≢ l.byte) (take l.at l.bytes)

@@ -2,7 +2,7 @@ use Rattle.std.proofs.Common.{List, ℕ, ◌≢◌, subst, arith}
 use Rattle.std.specs.Prelude.{All}
 use Rattle.std.proofs.lemmas.List.{take_all}
 use Rattle.nap_make.proofs.CutLemmas.{no_cut}
-use Rattle.nap_make.proofs.cut.cut.Goals as goal
+use Rattle.nap_make.proofs.cutting.cut.Goals as goal
 
 pub returns : goal.returns
 returns c front back cuts =

@@ -1,0 +1,262 @@
+-- Lines behind those of the entries that were taken.
+
+use Rattle.std.proofs.Common.{ℕ, ◌≡◌, ◌≢◌, ◌<◌, ◌≤◌, ◌∙◌, List, [], ◌∷◌, ◌++◌, ◌==◌, All, Bool, true, false, IfErr, OnOk, IsSome, None, Result, Ok, Err, length, refl, ap, sym, subst, append-nil, append_assoc, length-append, eqb-true, take, drop, take-append-drop, arith}
+use Rattle.std.proofs.lemmas.Bool.{eqb-false}
+use Rattle.std.proofs.lemmas.List.Elements.{All-append, All-cons, All-nil, All-take, All-weaker}
+use Rattle.nap_list.specs.declared.entry.Entry.{Entry}
+use Rattle.nap_list.specs.declared.sink.Sink.{Ghosts}
+use Rattle.nap_list.specs.declared.state.State.{State}
+use Rattle.nap_list.specs.Range.{InRange}
+use Rattle.nap_lines.specs.Lines.{line}
+use Rattle.nap_lines.specs.Listing.{lines}
+use Rattle.nap_make.specs.Cutting.{Cuts}
+use Rattle.nap_make.specs.Entries.{IsProper, TellsColumn}
+use Rattle.nap_make.specs.Laws.{longest_line}
+use Rattle.nap_line_reader.specs.declared.fault.MakeFault.{MakeFault}
+use Rattle.nap_line_reader.specs.declared.fault.MakeFault.TheVariants as faults
+use Rattle.nap_line_reader.specs.declared.line_reader.LineReader.{LineReader}
+use Rattle.nap_line_reader.specs.declared.maker.Maker.{Maker}
+use Rattle.nap_line_reader.specs.Lists.{BeginsNoLine, LinesSoFar}
+use Rattle.nap_line_reader.specs.Making.{Cuts as CutsOff, Ends, Feeds, Finishes, Holds, IsLine, IsReady, Keeps, Stands, Stops, Takes}
+use Rattle.nap_line_reader.proofs.EntryLemmas.{lines_more, so_far_more}
+use Rattle.nap_line_reader.proofs.LineLemmas.{column_stays, long_begins_none, no_long_line, part_begins_none, whole_begins_none}
+
+-- bytes that aren't cut have no end in them
+pub uncut : (xs : List ℕ) → ((front back : List ℕ) → Cuts 10 xs front back → ⊥) → All (λ b. b ≢ 10) xs
+uncut [] none = All-nil (λ b. b ≢ 10)
+uncut (x ∷ xs) none = by (x == 10) refl (λ other.
+    uncut xs (λ front back cuts. none (x ∷ front) back (record {
+      joins = ap (λ (ys : List ℕ). x ∷ ys) cuts.joins;
+      first = All-cons (λ b. b ≢ 10) x front other cuts.first;
+    })))
+  where
+    by : (end : Bool) → (x == 10) ≡ end → (x ≢ 10 → All (λ b. b ≢ 10) xs) → All (λ b. b ≢ 10) (x ∷ xs)
+    by true is rest = let here : x ≡ 10 = eqb-true x 10 is in absurd (none [] xs (record { joins = ap (λ (b : ℕ). b ∷ xs) here; first = All-nil (λ b. b ≢ 10) }))
+    by false is rest = let other : x ≢ 10 = eqb-false x 10 is in All-cons (λ b. b ≢ 10) x xs other (rest other)
+
+-- a line that is too long was none
+pub never_ok : (Q : Type 0) (bytes : List ℕ) (r : Result (Unit {0}) MakeFault) → OnOk r (IsLine bytes) → longest_line < length bytes → OnOk r Q
+never_ok Q bytes (Ok done) own long = absurd (no_long_line bytes own.0 own.1 long)
+never_ok Q bytes (Err f) own long = tt
+
+module _ {S : Type 0} (g : Ghosts S) where
+  -- a line that is too long
+  pub keeps_long : (old m : Maker S) (bytes front more : List ℕ) (r : Result (Unit {0}) MakeFault) → bytes ≡ front ++ more → All (λ x. x ≢ 10) front → longest_line < length front →
+      ((s : S) (es : List Entry) → Holds g s es old → Takes g s es front m r) → IfErr r (λ f. (s : S) (es : List Entry) → Holds g s es old → Keeps g s es bytes m f)
+  keeps_long old m bytes front more (Ok done) parts none long takes = tt
+  keeps_long old m bytes front more (Err (faults.Line number column)) parts none long takes = λ s es holds.
+      let h = takes s es holds in (
+        h.0,
+        (let size = ap (λ (xs : List ℕ). length xs) parts in omega (arith, size, long, length-append front more)),
+        λ rest. subst BeginsNoLine (sym (append_assoc front more rest) ∙ ap (λ (xs : List ℕ). xs ++ rest) (sym parts)) (long_begins_none front (more ++ rest) none long),
+        subst (λ (xs : List ℕ). TellsColumn xs column) (sym parts) (column_stays front more column h.2),
+        h.3,
+      )
+  keeps_long old m bytes front more (Err faults.Memory) parts none long takes = takes
+  keeps_long old m bytes front more (Err (faults.Misfit number)) parts none long takes = λ s es holds. let h = takes s es holds in absurd (no_long_line front h.0 h.1 long)
+  keeps_long old m bytes front more (Err (faults.Open number opening)) parts none long takes = λ s es holds. let h = takes s es holds in absurd (no_long_line front h.0 h.1 long)
+  keeps_long old m bytes front more (Err faults.Write) parts none long takes = λ s es holds. let h = takes s es holds in absurd (no_long_line front h.0 h.1 long)
+
+  -- no more of a line is kept than a line may have, and one byte
+  pub keeps_front : (old m : Maker S) (part bytes front : List ℕ) (kept : ℕ) (r : Result (Unit {0}) MakeFault) → front ≡ part ++ take kept bytes → All (λ x. x ≢ 10) part → All (λ x. x ≢ 10) bytes →
+      longest_line < length front → ((s : S) (es : List Entry) → Holds g s es old → Takes g s es front m r) →
+      IfErr r (λ f. (s : S) (es : List Entry) → Holds g s es old → Keeps g s es (part ++ bytes) m f)
+  keeps_front old m part bytes front kept r is none also long takes =
+      keeps_long old m (part ++ bytes) front (drop kept bytes) r
+      (sym (ap (λ (xs : List ℕ). xs ++ drop kept bytes) is ∙ append_assoc part (take kept bytes) (drop kept bytes) ∙ ap (λ (xs : List ℕ). part ++ xs) (take-append-drop kept bytes)))
+      (subst (λ (xs : List ℕ). All (λ x. x ≢ 10) xs) (sym is) (All-append (λ x. x ≢ 10) part (take kept bytes) none (All-take (λ x. x ≢ 10) kept bytes also))) long takes
+
+  -- a line that was refused before its end was read
+  pub ends_kept : (s : S) (es : List Entry) (bytes : List ℕ) (m : Maker S) (f : MakeFault) → Keeps g s es bytes m f → Ends g s es bytes m (Err f)
+  ends_kept s es bytes m (faults.Line number column) h = (h.0, λ more. h.2 (10 ∷ more), h.3, h.4)
+  ends_kept s es bytes m faults.Memory h = h
+  ends_kept s es bytes m (faults.Misfit number) h = absurd h
+  ends_kept s es bytes m (faults.Open number opening) h = absurd h
+  ends_kept s es bytes m faults.Write h = absurd h
+
+  -- a whole line that was taken, or not
+  pub ends_taken : (s : S) (es : List Entry) (bytes : List ℕ) (m : Maker S) (r : Result (Unit {0}) MakeFault) → All (λ x. x ≢ 10) bytes → Takes g s es bytes m r → Ends g s es bytes m r
+  ends_taken s es bytes m (Ok done) none h = h
+  ends_taken s es bytes m (Err (faults.Line number column)) none h = (h.0, λ more. whole_begins_none bytes more none h.1, h.2, h.3)
+  ends_taken s es bytes m (Err faults.Memory) none h = h
+  ends_taken s es bytes m (Err (faults.Misfit number)) none h = h
+  ends_taken s es bytes m (Err (faults.Open number opening)) none h = h
+  ends_taken s es bytes m (Err faults.Write) none h = h
+
+  -- what is kept behind the last end of a piece
+  pub ready_last : (old new : LineReader S) (rest : List ℕ) (r : Result (Unit {0}) MakeFault) → IsReady g old → All (λ b. b ≢ 10) rest → OnOk r (new.part.items ≡ old.part.items ++ rest) →
+      OnOk r (new.maker ≡ old.maker) → OnOk r (length new.part.items ≤ longest_line) → OnOk r (IsReady g new)
+  ready_last old new rest (Ok done) ready none part maker short = record {
+    agrees = subst (λ (m : Maker S). g.state m.sink ≡ m.state) (sym maker) ready.agrees;
+    whole = subst (λ (xs : List ℕ). All (λ b. b ≢ 10) xs) (sym part) (All-append (λ b. b ≢ 10) old.part.items rest ready.whole none);
+    short = short;
+  }
+  ready_last old new rest (Err f) ready none part maker short = tt
+
+  module _ (s : S) (es : List Entry) (old : Maker S) (holds : Holds g s es old) where
+    so_far : (q rest : List ℕ) → q ≡ lines es ++ rest → LinesSoFar q es rest
+    so_far q rest parts = record { proper = holds.proper; fit = holds.fit; parts = parts }
+
+    -- more bytes behind
+    behind : (q rest more : List ℕ) → q ≡ lines es ++ rest → q ++ more ≡ lines es ++ (rest ++ more)
+    behind q rest more parts = ap (λ (xs : List ℕ). xs ++ more) parts ∙ append_assoc (lines es) rest more
+
+    -- more bytes behind a line with its end
+    behind_line : (bytes rest more : List ℕ) → (bytes ++ 10 ∷ rest) ++ more ≡ bytes ++ 10 ∷ (rest ++ more)
+    behind_line bytes rest more = append_assoc bytes (10 ∷ rest) more
+
+    -- a whole line with its end makes no list
+    pub ends_stops : (q bytes rest : List ℕ) (m : Maker S) (f : MakeFault) → q ≡ lines es ++ (bytes ++ 10 ∷ rest) → Ends g s es bytes m (Err f) → Stops g s q m.sink f
+    ends_stops q bytes rest m (faults.Line number column) parts h = record {
+      entries = es;
+      first = (bytes ++ 10 ∷ rest, so_far q (bytes ++ 10 ∷ rest) parts);
+      why = (
+        λ more. record {
+          rest = bytes ++ 10 ∷ (rest ++ more);
+          so_far = so_far (q ++ more) (bytes ++ 10 ∷ (rest ++ more)) (behind q (bytes ++ 10 ∷ rest) more parts ∙ ap (λ (xs : List ℕ). lines es ++ xs) (behind_line bytes rest more));
+          place = h.0;
+          some = omega (arith, length-append bytes (10 ∷ (rest ++ more)));
+          none = h.1 (rest ++ more);
+          begins = column_stays bytes (10 ∷ (rest ++ more)) column h.2;
+        },
+        h.3,
+      );
+    }
+    ends_stops q bytes rest m (faults.Misfit number) parts h = record {
+      entries = es;
+      first = (bytes ++ 10 ∷ rest, so_far q (bytes ++ 10 ∷ rest) parts);
+      why = (
+        λ more. record {
+          entry = h.0;
+          rest = rest ++ more;
+          so_far = so_far (q ++ more) (line h.0 ++ 10 ∷ (rest ++ more))
+              (behind q (bytes ++ 10 ∷ rest) more parts ∙ ap (λ (xs : List ℕ). lines es ++ xs) (behind_line bytes rest more ∙ ap (λ (xs : List ℕ). xs ++ 10 ∷ (rest ++ more)) h.1.written));
+          place = h.2.0;
+          proper = h.1.fitting;
+          misfit = h.2.1;
+        },
+        h.2.2,
+      );
+    }
+    ends_stops q bytes rest m (faults.Open number opening) parts h = absurd h.2
+    ends_stops q bytes rest m faults.Memory parts h = record { entries = es; first = (bytes ++ 10 ∷ rest, so_far q (bytes ++ 10 ∷ rest) parts); why = (λ more. ((bytes ++ 10 ∷ rest) ++ more, so_far (q ++ more) ((bytes ++ 10 ∷ rest) ++ more) (behind q (bytes ++ 10 ∷ rest) more parts)), h) }
+    ends_stops q bytes rest m faults.Write parts h = record {
+      entries = es;
+      first = (bytes ++ 10 ∷ rest, so_far q (bytes ++ 10 ∷ rest) parts);
+      why = (
+        h.0,
+        λ more. (
+          rest ++ more,
+          so_far_more (q ++ more) es h.0 (rest ++ more)
+              (so_far (q ++ more) (line h.0 ++ 10 ∷ (rest ++ more))
+              (behind q (bytes ++ 10 ∷ rest) more parts ∙ ap (λ (xs : List ℕ). lines es ++ xs) (behind_line bytes rest more ∙ ap (λ (xs : List ℕ). xs ++ 10 ∷ (rest ++ more)) h.1.written))) h.1.fitting h.2.0,
+        ),
+        h.2.1,
+      );
+    }
+
+    -- a part of a line makes none
+    pub keep_stops : (q bytes : List ℕ) (m : Maker S) (f : MakeFault) → q ≡ lines es ++ bytes → Keeps g s es bytes m f → Stops g s q m.sink f
+    keep_stops q bytes m (faults.Line number column) parts h = record {
+      entries = es;
+      first = (bytes, so_far q bytes parts);
+      why = (
+        λ more. record {
+          rest = bytes ++ more;
+          so_far = so_far (q ++ more) (bytes ++ more) (behind q bytes more parts);
+          place = h.0;
+          some = omega (arith, h.1, length-append bytes more);
+          none = h.2 more;
+          begins = column_stays bytes more column h.3;
+        },
+        h.4,
+      );
+    }
+    keep_stops q bytes m (faults.Misfit number) parts h = absurd h
+    keep_stops q bytes m (faults.Open number opening) parts h = absurd h
+    keep_stops q bytes m faults.Memory parts h = record { entries = es; first = (bytes, so_far q bytes parts); why = (λ more. (bytes ++ more, so_far (q ++ more) (bytes ++ more) (behind q bytes more parts)), h) }
+    keep_stops q bytes m faults.Write parts h = absurd h
+
+    -- the lines end with a part of one
+    pub finishes_cut : (p bytes : List ℕ) (f : MakeFault) → p ≡ lines es ++ bytes → All (λ x. x ≢ 10) bytes → 0 < length bytes → CutsOff es bytes f → Finishes g s p old.sink (Err f)
+    finishes_cut p bytes (faults.Line number column) parts none some h = record {
+      entries = es;
+      first = (bytes, so_far p bytes parts);
+      own = λ is. let bad : ⊥ = cc in bad;
+      why = record { rest = bytes; so_far = so_far p bytes parts; place = h.0; some = some; none = part_begins_none bytes none; begins = h.1 };
+      kept = holds.kept;
+    }
+    finishes_cut p bytes (faults.Misfit number) parts none some h = absurd h
+    finishes_cut p bytes (faults.Open number opening) parts none some h = absurd h
+    finishes_cut p bytes faults.Memory parts none some h = record {
+      entries = es;
+      first = (bytes, so_far p bytes parts);
+      own = λ is. let bad : ⊥ = cc in bad;
+      why = (bytes, so_far p bytes parts);
+      kept = holds.kept;
+    }
+    finishes_cut p bytes faults.Write parts none some h = absurd h
+
+    -- the lines end, and the definition that is open isn't ended
+    pub finishes_open : (p : List ℕ) → p ≡ lines es ++ [] → IsSome old.state.definition → Finishes g s p old.sink (Err (faults.Open old.lines old.opening))
+    finishes_open p parts opens =
+        let here = so_far p [] parts in
+        record {
+          entries = es;
+          first = ([], here);
+          own = λ is. let bad : ⊥ = cc in bad;
+          why = record { so_far = here; place = holds.count; opened = holds.opened (subst (λ (u : State). IsSome u.definition) holds.state opens) };
+          kept = holds.kept;
+        }
+
+    -- the lines end, and no definition is open
+    pub finishes_list : (p : List ℕ) → p ≡ lines es ++ [] → old.state.definition ≡ None → Finishes g s p old.sink (Ok tt)
+    finishes_list p parts closed = record {
+      entries = es;
+      so_far = so_far p [] parts;
+      are = record {
+        legal = record { fit = holds.fit; ended = subst (λ (u : State). u.definition ≡ None) holds.state closed };
+        in_range = All-weaker IsProper InRange (λ e proper. proper.in_range) es holds.proper;
+        lines_are = parts ∙ append-nil (lines es);
+      };
+      kept = holds.kept;
+    }
+
+  -- bytes that stand behind those that were read
+  behind_part : (p done rest : List ℕ) (es : List Entry) (part : List ℕ) → p ++ done ≡ lines es ++ part → p ++ (done ++ rest) ≡ lines es ++ (part ++ rest)
+  behind_part p done rest es part is = sym (append_assoc p done rest) ∙ ap (λ (xs : List ℕ). xs ++ rest) is ∙ append_assoc (lines es) part rest
+
+  -- the last bytes of a piece were read, or make no list
+  pub fed_last : (s : S) (p done rest : List ℕ) (old new : LineReader S) (r : Result (Unit {0}) MakeFault) → Stands g s (p ++ done) old → OnOk r (new.part.items ≡ old.part.items ++ rest) →
+      OnOk r (new.maker ≡ old.maker) → IfErr r (λ f. (s : S) (es : List Entry) → Holds g s es old.maker → Keeps g s es (old.part.items ++ rest) new.maker f) → Feeds g s (p ++ (done ++ rest)) new r
+  fed_last s p done rest old new (Ok ok) stands part maker keeps = record {
+    entries = stands.entries;
+    holds = subst (λ (m : Maker S). Holds g s stands.entries m) (sym maker) stands.holds;
+    parts = behind_part p done rest stands.entries old.part.items stands.parts ∙ ap (λ (xs : List ℕ). lines stands.entries ++ xs) (sym part);
+  }
+  fed_last s p done rest old new (Err f) stands part maker keeps =
+      keep_stops s stands.entries old.maker stands.holds (p ++ (done ++ rest)) (old.part.items ++ rest) new.maker f (behind_part p done rest stands.entries old.part.items stands.parts)
+      (keeps s stands.entries stands.holds)
+
+  -- a line with its end, and more behind
+  line_behind : (p done front more : List ℕ) (es : List Entry) (part : List ℕ) → p ++ done ≡ lines es ++ part → p ++ (done ++ (front ++ 10 ∷ more)) ≡ lines es ++ ((part ++ front) ++ 10 ∷ more)
+  line_behind p done front more es part is = behind_part p done (front ++ 10 ∷ more) es part is ∙ ap (λ (xs : List ℕ). lines es ++ xs) (sym (append_assoc part front (10 ∷ more)))
+
+  -- it makes no list
+  pub line_stops : (s : S) (p done front more : List ℕ) (old : LineReader S) (m : Maker S) (f : MakeFault) (stands : Stands g s (p ++ done) old) →
+      Ends g s stands.entries (old.part.items ++ front) m (Err f) → Stops g s (p ++ (done ++ (front ++ 10 ∷ more))) m.sink f
+  line_stops s p done front more old m f stands ends =
+      ends_stops s stands.entries old.maker stands.holds (p ++ (done ++ (front ++ 10 ∷ more))) (old.part.items ++ front) more m f (line_behind p done front more stands.entries old.part.items stands.parts) ends
+
+  -- it was taken
+  pub line_taken : (s : S) (p done front : List ℕ) (old new : LineReader S) (stands : Stands g s (p ++ done) old) → Ends g s stands.entries (old.part.items ++ front) new.maker (Ok tt) →
+      new.part.items ≡ [] → Stands g s (p ++ (done ++ (front ++ 10 ∷ []))) new
+  line_taken s p done front old new stands ends empty = record {
+    entries = stands.entries ++ ends.0 ∷ [];
+    holds = ends.2;
+    parts =
+        line_behind p done front [] stands.entries old.part.items stands.parts
+        ∙ ap (λ (xs : List ℕ). lines stands.entries ++ (xs ++ 10 ∷ [])) ends.1.written
+        ∙ sym (lines_more stands.entries ends.0 [])
+        ∙ ap (λ (xs : List ℕ). lines (stands.entries ++ ends.0 ∷ []) ++ xs) (sym empty);
+  }

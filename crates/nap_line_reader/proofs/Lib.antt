@@ -1,0 +1,5 @@
+pub mod EntryLemmas
+pub mod LineLemmas
+pub mod FeedLemmas
+pub mod HoldLemmas
+pub mod MakeLemmas

@@ -1,0 +1,10 @@
+//! Reads the lines of a list, and puts their entries into a sink.
+#![tactic(auto)]
+
+mod fault;
+mod line_reader;
+mod maker;
+mod making;
+
+pub use fault::MakeFault;
+pub use making::{ListFault, make_list};

@@ -1,0 +1,113 @@
+//! Lines by the bytes of an input.
+ghost use Rattle.std.specs.Prelude.{◌≡◌, ◌≢◌, ◌≤◌, ◌++◌, ℕ, List, [], All, IfErr, OnOk, length, false};
+ghost use Rattle.nap_list.specs.declared.entry.Entry.{Entry};
+ghost use Rattle.nap_list.specs.State.{start};
+ghost use Rattle.nap_make.specs.Laws.{longest_line};
+ghost use Rattle.nap_line_reader.specs.Making.{Ends, Feeds, Finishes, Holds, IsReady, Keeps, Stands};
+
+use crate::fault::MakeFault;
+use crate::maker::Maker;
+use nap_list::Sink;
+use nap_make::cut;
+use std::alloc::Global;
+use std::cmp::min;
+
+/// The most bytes of a line.
+const LONGEST: usize = 32_112;
+
+/// Reads lines in any pieces, and puts their entries into a sink as they are read.
+#[derive(Drop)]
+pub(crate) struct LineReader<S> {
+    /// What the lines become.
+    pub(crate) maker: Maker<S>,
+    /// The bytes of a line whose end isn't read yet.
+    pub(crate) part: Vec<u8>,
+}
+
+impl<S: Sink> LineReader<S> {
+    /// A reader that has read nothing.
+    pub(crate) fn new(alloc: Global, sink: S) -> LineReader<S>
+        requires start { S.state sink ≡ start }
+        requires works { S.failed sink ≡ false }
+        ensures stands { Stands S.Sink sink [] result }
+        ensures ready { IsReady S.Sink result }
+    {
+        LineReader {
+            maker: Maker::new(sink),
+            part: Vec::new(alloc),
+        }
+    }
+
+    /// Reads bytes of a line. No more of them are kept than a line may have, and one.
+    fn keep(&mut self, alloc: Global, bytes: &[u8]) -> Result<(), MakeFault>
+        requires { IsReady S.Sink self.old × All (λ b. b ≢ 10) bytes.now }
+        ensures part { OnOk result (self.new.part.items ≡ self.old.part.items ++ bytes.now) }
+        ensures maker { OnOk result (self.new.maker ≡ self.old.maker) }
+        ensures short { OnOk result (length self.new.part.items ≤ longest_line) }
+        ensures keeps { IfErr result (λ f. (s : S) (es : List Entry) → Holds S.Sink s es self.old.maker → Keeps S.Sink s es (self.old.part.items ++ bytes.now) self.new.maker f) }
+    {
+        let room = LONGEST + 1 - self.part.len();
+        let kept = min(room, bytes.len());
+        self.part.extend_from_slice(&bytes[..kept])?;
+        if self.part.len() > LONGEST {
+            // No entry has it.
+            return self.maker.take(alloc, self.part.as_slice());
+        }
+        Ok(())
+    }
+
+    /// Reads the last bytes of a line, behind which is its end.
+    fn end_line(&mut self, alloc: Global, bytes: &[u8]) -> Result<(), MakeFault>
+        requires { IsReady S.Sink self.old × All (λ b. b ≢ 10) bytes.now }
+        ensures ready { OnOk result (IsReady S.Sink self.new) }
+        ensures part { OnOk result (self.new.part.items ≡ []) }
+        ensures ends { (s : S) (es : List Entry) → Holds S.Sink s es self.old.maker → Ends S.Sink s es (self.old.part.items ++ bytes.now) self.new.maker result }
+    {
+        self.keep(alloc, bytes)?;
+        self.maker.take(alloc, self.part.as_slice())?;
+        self.part.clear();
+        Ok(())
+    }
+
+    /// Reads the next piece of an input.
+    pub(crate) fn feed(&mut self, alloc: Global, piece: &[u8]) -> Result<(), MakeFault>
+        requires { IsReady S.Sink self.old }
+        ensures ready { OnOk result (IsReady S.Sink self.new) }
+        ensures feeds { (s : S) (p : List ℕ) → Stands S.Sink s p self.old → Feeds S.Sink s (p ++ piece.now) self.new result }
+    {
+        let mut rest = piece;
+        while let Some(next) = cut(rest, b'\n') {
+            let (front, more) = next;
+            self.end_line(alloc, front)?;
+            rest = more;
+        }
+        self.keep(alloc, rest)
+    }
+
+    /// The sink as it stands.
+    pub(crate) fn into_sink(self) -> S
+        ensures { result ≡ self.maker.sink }
+    {
+        let LineReader { maker, .. } = self;
+        let Maker { sink, .. } = maker;
+        sink
+    }
+
+    /// The input ends here.
+    pub(crate) fn finish(&self, alloc: Global) -> Result<(), MakeFault>
+        requires { IsReady S.Sink self.now }
+        ensures { (s : S) (p : List ℕ) → Stands S.Sink s p self.now → Finishes S.Sink s p self.now.maker.sink result }
+    {
+        let part = self.part.as_slice();
+        if !part.is_empty() {
+            return Err(self.maker.cut_off(alloc, part));
+        }
+        if self.maker.state.definition.is_some() {
+            return Err(MakeFault::Open {
+                line: self.maker.lines,
+                opening: self.maker.opening,
+            });
+        }
+        Ok(())
+    }
+}

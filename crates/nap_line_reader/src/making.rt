@@ -1,0 +1,90 @@
+//! Lists of the lines that an input gives.
+ghost use Rattle.std.specs.Prelude.{◌≡◌, ◌+◌, ◌^◌, ◌<◌, ◌≤◌, ℕ, List, [], OnOk, false};
+ghost use Rattle.std.specs.Io.KnownBytes.{Consumes};
+ghost use Rattle.nap_list.specs.Limits.{reads_limit};
+ghost use Rattle.nap_list.specs.Reading.{reading};
+ghost use Rattle.nap_list.specs.State.{start};
+ghost use Rattle.nap_line_reader.specs.declared.making.ListFault.TheVariants.{Lines};
+ghost use Rattle.nap_line_reader.specs.Making.{FeedsFrom, IsReady, Makes, Stands};
+
+use crate::fault::MakeFault;
+use crate::line_reader::LineReader;
+use nap_list::{Inlet, READS, Sink};
+use std::alloc::Global;
+use thiserror::Error;
+
+/// The most bytes of one read.
+const ROOM: usize = 4_096;
+
+/// Why an input gives no list.
+#[derive(Clone, Copy, PartialEq, Eq, Debug, Drop, Error)]
+pub enum ListFault {
+    /// Its lines make none.
+    #[error("{0}")]
+    Lines(MakeFault),
+    /// A read failed, or there were as many reads as one input may have.
+    #[error("the input failed")]
+    Read,
+}
+
+impl From<MakeFault> for ListFault {
+    ghost from_gives = { λ fault e. e ≡ Lines fault };
+
+    fn from(fault: MakeFault) -> Self {
+        ListFault::Lines(fault)
+    }
+}
+
+/// Feeds a reader all that an input gives. Nothing is read behind a line that is wrong, or a failed read.
+fn feed_from<I: Inlet, S: Sink>(
+    alloc: Global,
+    reader: &mut LineReader<S>,
+    input: &mut I,
+) -> Result<(), ListFault>
+    requires calls { I.calls input.old < 2 ^ 63 }
+    requires ready { IsReady S.Sink reader.old }
+    ensures few { I.calls input.new ≤ I.calls input.old + reads_limit }
+    ensures more { I.calls input.old ≤ I.calls input.new }
+    ensures ready { OnOk result (IsReady S.Sink reader.new) }
+    ensures feeds { let seen = reading I.Inlet input.old input.new in
+        (p : List ℕ) × Consumes (I.left input.old) (I.left input.new) p
+        × ((s : S) → Stands S.Sink s [] reader.old → FeedsFrom S.Sink s p seen reader.new result) }
+{
+    let mut room = [0; ROOM];
+    for _ in 0..READS {
+        let Ok(count) = input.read(&mut room) else {
+            return Err(ListFault::Read);
+        };
+        if count == 0 {
+            return Ok(());
+        }
+        reader.feed(alloc, &room[..count])?;
+    }
+    Err(ListFault::Read)
+}
+
+/// Puts the entries of the lines that an input gives into a sink, as they are read. It keeps one line at most.
+pub fn make_list<I: Inlet, S: Sink + Drop>(
+    alloc: Global,
+    input: &mut I,
+    sink: S,
+) -> (S, Result<(), ListFault>)
+    requires calls { I.calls input.old < 2 ^ 63 }
+    requires start { S.state sink ≡ start }
+    requires works { S.failed sink ≡ false }
+    ensures few { I.calls input.new ≤ I.calls input.old + reads_limit }
+    ensures more { I.calls input.old ≤ I.calls input.new }
+    ensures makes { let seen = reading I.Inlet input.old input.new in
+        (p : List ℕ) × Consumes (I.left input.old) (I.left input.new) p × Makes S.Sink sink p seen result.0 result.1 }
+{
+    let mut reader = LineReader::new(alloc, sink);
+    if let Err(fault) = feed_from(alloc, &mut reader, input) {
+        return (reader.into_sink(), Err(fault));
+    }
+    let made = reader.finish(alloc);
+    let sink = reader.into_sink();
+    match made {
+        Ok(()) => (sink, Ok(())),
+        Err(fault) => (sink, Err(ListFault::Lines(fault))),
+    }
+}

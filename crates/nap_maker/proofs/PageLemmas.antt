@@ -1,0 +1,166 @@
+-- What an output took of the page that lines make.
+
+use Rattle.std.proofs.Common.{ℕ, ◌≡◌, ◌≢◌, ◌∙◌, inl, inr, Bool, true, false, List, [], ◌∷◌, ◌++◌, Result, Ok, Err, take, drop, refl, ap, sym, subst, append-nil, append_assoc, arith}
+use Rattle.std.proofs.lemmas.List.{take-append-drop}
+use Rattle.std.proofs.lemmas.List.Elements.{All-nil}
+use Rattle.std.specs.Io.KnownBytes.{Appends, Keeps}
+use Rattle.std.proofs.KnownBytes.{Appends-kept}
+use Rattle.nap_list.specs.declared.device.outlet.Outlet as outlet
+use Rattle.nap_list.specs.declared.entry.Entry.{Entry}
+use Rattle.nap_list.specs.declared.sink.Sink.{Ghosts}
+use Rattle.nap_list.specs.Reading.{Reading, IsReadWhole}
+use Rattle.nap_list.specs.State.{start, AllFit}
+use Rattle.nap_canon.specs.declared.form.Form.TheVariants.{Two}
+use Rattle.nap_canon.specs.Converting.{IsFrontOf, count_of}
+use Rattle.nap_canon.specs.Sinking.{Begun, Broke, Canonical, Grows, Sends, Took, Writes, sending, shown}
+use Rattle.nap_canon.specs.Text.{begun_tail, header, pieces, text, written}
+use Rattle.nap_canon.proofs.PublicLaws.{sink_writes_text}
+use Rattle.nap_make.specs.Entries.{IsProper}
+use Rattle.nap_line_reader.specs.declared.fault.MakeFault.{MakeFault}
+use Rattle.nap_line_reader.specs.declared.fault.MakeFault.TheVariants as make_faults
+use Rattle.nap_line_reader.specs.declared.making.ListFault.{ListFault}
+use Rattle.nap_line_reader.specs.declared.making.ListFault.TheVariants as list_faults
+use Rattle.nap_line_reader.specs.Lists.{ComeFirst, LinesSoFar, MakesNone, ShowsNone}
+use Rattle.nap_line_reader.specs.Making.{Kept, Makes, MakesList, MakesNoList, StopsBy}
+use Rattle.nap_maker.specs.declared.page.PageFault.{PageFault}
+use Rattle.nap_maker.specs.declared.page.PageFault.TheVariants as faults
+use Rattle.nap_maker.proofs.TextLemmas.{broken_sink_writes_front}
+use Rattle.nap_maker.specs.Pages.{Concludes, MakesPage, RefusesBy, RefusesLines, StopsWriting, answer_of}
+
+-- no lines yet
+no_lines : LinesSoFar [] [] []
+unfolding AllFit
+no_lines = record { proper = All-nil IsProper; fit = tt; parts = refl }
+
+-- lines that show what is wrong with them have it
+shown_here : (p : List ℕ) (es : List Entry) (f : MakeFault) → ShowsNone p es f → MakesNone p es f
+shown_here p es f shows = subst (λ (q : List ℕ). MakesNone q es f) (append-nil p) (shows [])
+
+module _ {O : Type 0} (o : outlet.Ghosts O) (w : O) (s : Canonical O) (begins : Begun o w s) (works : o.failed s.outlet ≡ false) (g : Ghosts (Canonical O))
+    (took_is : (t : Canonical O) (d : List Entry) → g.took s d t → Took o s d t)
+    (broke_is : (t : Canonical O) (d : List Entry) (e : Entry) → g.broke s d e t → Broke o s d e t)
+    (failed_is : (t : Canonical O) → g.failed t ≡ o.failed t.outlet) (p : List ℕ) (seen : Reading) where
+  -- What went out is a front of the text of the lines.
+  record WentOut (t : Canonical O) (made : Result (Unit {0}) ListFault) (q : List ℕ) : Type 0 where
+    pub grows : Grows (sending o w 0) q (shown o t)
+    pub front : StopsWriting p q
+    pub right : t.written ≡ count_of q → o.failed t.outlet ≡ false → MakesPage p seen q false (answer_of t.written made)
+
+  -- the text of the entries that a sink kept
+  kept_text : (t : Canonical O) (es : List Entry) → Kept g s es t → Grows (sending o w 0) (text es) (shown o t)
+  kept_text t es kept = (sink_writes_text o w s t es begins works (took_is t es kept.took)).grows
+
+  whole_front : (es : List Entry) → ComeFirst p es → StopsWriting p (text es)
+  whole_front es first = record { entries = es; rest = first.0; so_far = first.1; front = ([], sym (append-nil (text es))) }
+
+  refused : (t : Canonical O) (f : MakeFault) (es : List Entry) → f ≢ make_faults.Write → RefusesLines p seen (text es) f → RefusesBy p seen (text es) f
+  refused t (make_faults.Line number column) es own h = h
+  refused t (make_faults.Misfit number) es own h = h
+  refused t (make_faults.Open number opening) es own h = h
+  refused t make_faults.Memory es own h = h
+  refused t make_faults.Write es own h = absurd (own refl)
+
+  -- the list was made
+  whole : (t : Canonical O) → IsReadWhole seen p → MakesList g s p t → (q : List ℕ) × WentOut t (Ok tt) q
+  whole t read h = (
+    text h.entries,
+    record {
+      grows = kept_text t h.entries h.kept;
+      front = whole_front h.entries ([], h.so_far);
+      right = λ count still. (count, record { read = read; made = record { entries = h.entries; are = h.are; text_is = refl } });
+    },
+  )
+
+  -- the lines make none, and all were read
+  wrong_at_end : (t : Canonical O) (f : MakeFault) → IsReadWhole seen p → MakesNoList g s p t f → (q : List ℕ) × WentOut t (Err (list_faults.Lines f)) q
+  wrong_at_end t f read h = (
+    text h.entries,
+    record {
+      grows = kept_text t h.entries h.kept;
+      front = whole_front h.entries h.first;
+      right = λ count still. (
+        count,
+        refused t f h.entries h.own (record { none_failed = read.none_failed; before = h.entries; why = h.why; text_is = refl; left = inl read }),
+      );
+    },
+  )
+
+  -- the lines show that they make none
+  shows_wrong : (t : Canonical O) (f : MakeFault) (es : List Entry) → f ≢ make_faults.Write → seen.failed ≡ seen.failed_before → ComeFirst p es → ShowsNone p es f → Kept g s es t →
+      (q : List ℕ) × WentOut t (Err (list_faults.Lines f)) q
+  shows_wrong t f es own none_failed first shows kept = (
+    text es,
+    record {
+      grows = kept_text t es kept;
+      front = whole_front es first;
+      right = λ count still. (
+        count,
+        refused t f es own (record { none_failed = none_failed; before = es; why = shown_here p es f shows; text_is = refl; left = inr shows }),
+      );
+    },
+  )
+
+  stopped : (t : Canonical O) (f : MakeFault) (es : List Entry) → seen.failed ≡ seen.failed_before → ComeFirst p es → StopsBy g s p es t f → (q : List ℕ) × WentOut t (Err (list_faults.Lines f)) q
+  stopped t (make_faults.Line number column) es none_failed first h = shows_wrong t (make_faults.Line number column) es (λ is. let bad : ⊥ = cc in bad) none_failed first h.0 h.1
+  stopped t (make_faults.Misfit number) es none_failed first h = shows_wrong t (make_faults.Misfit number) es (λ is. let bad : ⊥ = cc in bad) none_failed first h.0 h.1
+  stopped t (make_faults.Open number opening) es none_failed first h = shows_wrong t (make_faults.Open number opening) es (λ is. let bad : ⊥ = cc in bad) none_failed first h.0 h.1
+  stopped t make_faults.Memory es none_failed first h = shows_wrong t make_faults.Memory es (λ is. let bad : ⊥ = cc in bad) none_failed first h.0 h.1
+  stopped t make_faults.Write es none_failed first h =
+      let wrote = broken_sink_writes_front o w s begins works t es h.0 (broke_is t es h.0 h.2.broke) in
+      let here = subst (λ (q : List ℕ). ComeFirst q (es ++ h.0 ∷ [])) (append-nil p) (h.1 []) in (
+        wrote.0,
+        record {
+          grows = wrote.1;
+          front = record { entries = es ++ h.0 ∷ []; rest = here.0; so_far = here.1; front = wrote.2 };
+          right = λ count still. let bad = sym still ∙ sym (failed_is t) ∙ h.2.failed in cc;
+        },
+      )
+
+  went_out : (t : Canonical O) (made : Result (Unit {0}) ListFault) → Makes g s p seen t made → (q : List ℕ) × WentOut t made q
+  went_out t (Ok done) h = whole t h.0 h.1
+  went_out t (Err (list_faults.Lines f)) (inl h) = wrong_at_end t f h.0 h.1
+  went_out t (Err (list_faults.Lines f)) (inr h) = stopped t f h.2.entries h.0 h.2.first h.2.why
+  went_out t (Err list_faults.Read) h = (
+    text h.entries,
+    record {
+      grows = kept_text t h.entries h.kept;
+      front = whole_front h.entries (h.rest, h.so_far);
+      right = λ count still. (count, record { cut_off = h.cut_off; entries = h.entries; rest = h.rest; so_far = h.so_far; none = h.none; text_is = refl });
+    },
+  )
+
+  -- the output as it is given back
+  pub concluded : (t : Canonical O) (made : Result (Unit {0}) ListFault) (u : O) (answer : Result ℕ PageFault) → Makes g s p seen t made → Keeps (o.taken t.outlet) (o.taken u) →
+      (o.failed t.outlet ≡ true → o.failed u ≡ true) → Concludes t.written made (o.failed u) answer →
+      (q : List ℕ) × Appends (o.taken w) (o.taken u) q × MakesPage p seen q (o.failed u) answer × Writes (sending o w 0) (shown o t)
+  concluded t made u answer makes keeps fails ends =
+      let (q, out) = went_out t made makes in (q, Appends-kept _ _ _ q out.grows.taken keeps, at q out (o.failed u) refl ends, out.grows.writes)
+    where
+      works_on : (b : Bool) → o.failed t.outlet ≡ b → o.failed u ≡ false → b ≡ false
+      works_on false is still = refl
+      works_on true is still = let bad = sym (fails is) ∙ still in cc
+
+      counts : (q : List ℕ) → Grows (sending o w 0) q (shown o t) → t.written ≡ count_of q
+      counts q h = omega (arith, h.count)
+
+      at : (q : List ℕ) → WentOut t made q → (failed : Bool) → o.failed u ≡ failed → Concludes t.written made failed answer → MakesPage p seen q failed answer
+      at q out false is h = rw h (out.right (counts q out.grows) (works_on (o.failed t.outlet) refl is))
+      at q out true is h = rw h (counts q out.grows, out.front)
+
+-- the header was not written
+pub header_fails : {O : Type 0} (o : outlet.Ghosts O) (w : O) (s : Canonical O) → Begun o w s → o.failed s.outlet ≡ true → (seen : Reading) (u : O) (answer : Result ℕ PageFault) →
+    Keeps (o.taken s.outlet) (o.taken u) → o.failed u ≡ true → Concludes s.written (Ok tt) (o.failed u) answer →
+    (q : List ℕ) × Appends (o.taken w) (o.taken u) q × MakesPage [] seen q (o.failed u) answer × Writes (sending o w 0) (shown o s)
+header_fails o w s begins fails seen u answer keeps failed ends =
+    let sent : Sends (sending o w 0) header true (shown o s) = subst (λ (broke : Bool). Sends (sending o w 0) header broke (shown o s)) fails begins.begins in
+    let q = take sent.part header in
+    let front : IsFrontOf q (text []) = (
+      drop sent.part header ++ written begun_tail (pieces Two start []),
+      ap (λ (bytes : List ℕ). bytes ++ written begun_tail (pieces Two start [])) (sym (take-append-drop sent.part header)) ∙ append_assoc q (drop sent.part header) (written begun_tail (pieces Two start [])),
+    ) in
+    let is : answer ≡ Err (faults.Write s.written) = subst (λ (b : Bool). Concludes s.written (Ok tt) b answer) failed ends in (
+      q,
+      Appends-kept (o.taken w) (o.taken s.outlet) (o.taken u) q sent.grows.taken keeps,
+      rw (failed, is) (omega (arith, sent.grows.count), record { entries = []; rest = []; so_far = no_lines; front = front }),
+      sent.grows.writes,
+    )

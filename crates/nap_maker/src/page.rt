@@ -1,0 +1,89 @@
+//! Makes the page of the lines that an input gives.
+ghost use Rattle.std.specs.Prelude.{◌≡◌, ◌+◌, ◌^◌, ◌<◌, ◌≤◌, ℕ, List, true, false};
+ghost use Rattle.std.specs.Io.KnownBytes.{Appends, Consumes, Keeps};
+ghost use Rattle.nap_list.specs.Flushing.{FlushedOnce, flushed};
+ghost use Rattle.nap_list.specs.Limits.{reads_limit};
+ghost use Rattle.nap_list.specs.Reading.{reading};
+ghost use Rattle.nap_maker.specs.Pages.{Concludes, MakesPage};
+
+use nap_canon::CanonSink;
+use nap_line_reader::{ListFault, MakeFault, make_list};
+use nap_list::{Inlet, Outlet};
+use std::alloc::Global;
+use thiserror::Error;
+
+/// Why no page was made, and how many bytes the output took before; the count stays at the greatest `u64`.
+#[derive(Clone, Copy, PartialEq, Eq, Debug, Drop, Error)]
+pub enum PageFault {
+    /// The lines make none. The text of those before is written.
+    #[error("{fault}, once {written} bytes were written")]
+    Lines {
+        /// Why, and where.
+        fault: MakeFault,
+        /// The bytes that the output took.
+        written: u64,
+    },
+    /// A read failed, or there were as many as one input may have. The text of the lines so far is written.
+    #[error("the input failed, once {written} bytes were written")]
+    Read {
+        /// The bytes that the output took.
+        written: u64,
+    },
+    /// A write failed, or the flush.
+    #[error("the output failed, once it had taken {written} bytes")]
+    Write {
+        /// The bytes that the output took.
+        written: u64,
+    },
+}
+
+/// The output once no more is written: it is flushed, unless a write has failed.
+fn conclude<O: Outlet + Drop>(
+    sink: CanonSink<O>,
+    made: Result<(), ListFault>,
+) -> (O, Result<u64, PageFault>)
+    ensures taken { Keeps (O.taken sink.outlet) (O.taken result.0) }
+    ensures failed { O.failed sink.outlet ≡ true → O.failed result.0 ≡ true }
+    ensures sent { O.failed result.0 ≡ false → O.sent result.0 ≡ true }
+    ensures flushes { O.flushes result.0 ≡ flushed (O.failed sink.outlet) (O.flushes sink.outlet) }
+    ensures write_failed { O.write_failed result.0 ≡ O.write_failed sink.outlet }
+    ensures answer { Concludes sink.written made (O.failed result.0) result.1 }
+{
+    let written = sink.written();
+    let failed = sink.failed();
+    let mut output = sink.close();
+    if failed || output.flush().is_err() {
+        return (output, Err(PageFault::Write { written }));
+    }
+    let answer = match made {
+        Ok(()) => Ok(written),
+        Err(ListFault::Lines(fault)) => Err(PageFault::Lines { fault, written }),
+        Err(ListFault::Read) => Err(PageFault::Read { written }),
+    };
+    (output, answer)
+}
+
+/// Writes the page that the lines of an input make, as they are read, and flushes the output: the output again, and how
+/// many bytes it took. It keeps one line at most, so its memory doesn't grow with the page.
+pub fn make_page<I: Inlet, O: Outlet + Drop>(
+    alloc: Global,
+    input: &mut I,
+    output: O,
+) -> (O, Result<u64, PageFault>)
+    requires calls { I.calls input.old < 2 ^ 63 }
+    requires works { O.failed output ≡ false }
+    ensures few { I.calls input.new ≤ I.calls input.old + reads_limit }
+    ensures more { I.calls input.old ≤ I.calls input.new }
+    ensures sent { O.failed result.0 ≡ false → O.sent result.0 ≡ true }
+    ensures makes { let seen = reading I.Inlet input.old input.new in
+        (p : List ℕ) × (q : List ℕ) × Consumes (I.left input.old) (I.left input.new) p × Appends (O.taken output) (O.taken result.0) q
+        × MakesPage p seen q (O.failed result.0) result.1
+        × FlushedOnce O.Outlet output result.0 }
+{
+    let sink = CanonSink::new(output);
+    if sink.failed() {
+        return conclude(sink, Ok(()));
+    }
+    let (sink, made) = make_list(alloc, input, sink);
+    conclude(sink, made)
+}
