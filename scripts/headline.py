@@ -31,7 +31,7 @@ class Specs:
         current = None
         for line in path.read_text(encoding="utf-8").split("\n"):
             line = re.sub(r"(^|\s)--.*", "", line)
-            if line.startswith("use "):
+            if re.match(r"(?:(?:unfoldable )?pub )?use ", line):
                 self.take_import(line)
                 continue
             found = DEFINITION.match(line)
@@ -44,7 +44,7 @@ class Specs:
                 self.texts[current] += line + "\n"
 
     def take_import(self, line):
-        found = re.fullmatch(r"use (?:Rattle\.)?([\w.]+?)(?:\.\{(.*)\})?(?: as (\w+))?", line)
+        found = re.fullmatch(r"(?:(?:unfoldable )?pub )?use (?:Rattle\.)?([\w.]+?)(?:\.\{(.*)\})?(?: as (\w+))?", line)
         module = found.group(1)
         if found.group(2) is None:
             self.aliases[found.group(3) or module.split(".")[-1]] = module
@@ -72,6 +72,9 @@ class Sources:
                 found = re.fullmatch(r"(nap_\w+)\.specs\.declared\.(.+?)(\.TheVariants)?", module)
                 if found:
                     declared.add((found.group(1), found.group(2).split(".")[-1]))
+                continue
+            if name in specs.names and name not in specs.texts:
+                todo.append((specs.names[name], name))
                 continue
             name = name if name in specs.texts else specs.owners.get(name)
             if name is None or (module, name) in definitions:

@@ -2,7 +2,7 @@
 import re
 from typing import Iterator, List, NamedTuple, Tuple
 
-HEAD = re.compile(r"(?:pub(?:\([^)]*\))?\s+)?(?:ghost\s+)?(?:use|mod)\s+")
+HEAD = re.compile(r"(?:unfoldable\s+)?(?:pub(?:\([^)]*\))?\s+)?(?:ghost\s+)?(?:use|mod)\s+")
 WORD = re.compile(r"(?P<sign>(?:\s*(?<!\.)\.(?!\.)|\s*::\s*)?)(?P<word>\w+)(?:(?=\(|::\s*<)(?P<call>))?")
 TOKEN = re.compile(r"[^\s(){};,«»]+")
 SEPARATOR = re.compile(r"\s*(?:\.|::)\s*")

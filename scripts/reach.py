@@ -48,6 +48,7 @@ class Sources:
         self.parts: List[Part] = []
         self.within: Dict[Place, List[int]] = defaultdict(list)
         self.modules: Dict[Place, Dict[str, Set[int]]] = {}
+        self.handed_on: Dict[Place, Dict[str, Set[Tuple[str, ...]]]] = {}
         self._named: Dict[str, Set[int]] = defaultdict(set)
         self._behind: Dict[str, Set[int]] = defaultdict(set)
         self._renamed: Dict[str, Set[str]] = defaultdict(set)
@@ -72,6 +73,10 @@ class Sources:
                 self._behind[name].add(at)
         if file.module:
             self.modules[file.crate, file.module] = module
+            handed_on = self.handed_on[file.crate, file.module] = defaultdict(set)
+            for each in file.imports:
+                for piece in pieces(each.name):
+                    handed_on[piece].add(each.path)
         for each in file.imports:
             if each.name != each.path[-1] and not file.module:
                 self._renamed[each.name].add(each.path[-1])
@@ -122,10 +127,16 @@ class Names:
             if found and end == len(path):
                 return Target(frozenset(), frozenset(found))
             if found:
-                pieces_of = pieces(path[end])
-                parts = {at for place in found for piece in pieces_of for at in modules[place].get(piece, ())}
+                parts = {at for place in found for piece in pieces(path[end]) for at in modules[place].get(piece, ())}
+                parts = parts or self._handed_on(found, path[end])
                 return Target(frozenset(parts or self.sources.items(path[end], crate, ("definition",))))
         return Target(frozenset())
+
+    def _handed_on(self, places: Iterable[Place], name: str) -> Set[int]:
+        """What a name stands for that modules of definitions only hand on, as they import it."""
+        paths = {(place[0], path) for place in places for piece in pieces(name)
+                 for path in self.sources.handed_on[place].get(piece, ())}
+        return {at for inside, path in paths for at in self.target(path, inside).parts}
 
     def _item(self, path: Tuple[str, ...], crate: str) -> Set[int]:
         """The items that a path of a source names: its last name, outside of impls, and types before it."""
@@ -214,7 +225,7 @@ class Names:
         sources, crate = self.sources, place[0]
         for target in self.scope(place).get(use.before, ()):
             for module in target.modules:
-                yield from sources.modules[module].get(use.name, ())
+                yield from sources.modules[module].get(use.name) or self._handed_on([module], use.name)
         yield from sources.items(use.name, crate, (*ITEMS, "definition") if is_opened else ITEMS)
         kinds = ("type", "trait", "definition") if is_opened else ("trait",)
         yield from (at for at in sources.owners(use.name, crate) if sources.parts[at].kind in kinds)

@@ -257,6 +257,20 @@ class Sums(unittest.TestCase):
         self.assertTrue(self.changes(QUARTER, DEFINED, "Prelude.{ℕ, ◌/◌}", "Other.{ℕ, ◌/◌}"))
         self.assertTrue(self.changes(QUARTER, HIGHEST, "low.specs.Half as halves", "low.proofs.Half as halves"))
 
+    def test_a_name_that_is_handed_on(self) -> None:
+        """A module of definitions that hands names on leads to what each of them is, and to nothing else."""
+        crate = self.root / "crates" / "high"
+        (crate / "specs" / "Below.antt").write_text(
+            "pub use Rattle.low.specs.Half.{half}\nunfoldable pub use Rattle.low.specs.Half.{is_lonely}\n", "utf-8")
+        for handed_on in ("high.specs.Below as halves", "high.specs.Below.{half}"):
+            source = HIGH.replace("low.specs.Half as halves", handed_on)
+            if "{" in handed_on:
+                source = source.replace("halves.half", "half")
+            (crate / "src" / "lib.rt").write_text(source, "utf-8")
+            self.assertTrue(self.changes(QUARTER, DEFINED, "n / 2", "n / 3"))
+            self.assertFalse(self.changes(QUARTER, DEFINED, "n ≡ 4", "n ≡ 5"))
+            self.assertFalse(self.changes(QUARTER, LOWEST, "result ≡ number + 1", "result ≡ number + 2"))
+
     def test_a_path_that_is_not_understood(self) -> None:
         """It stands for all of its crate."""
         path = self.root / "crates" / "high" / "src" / "lib.rt"
