@@ -15,6 +15,7 @@ PROGRAM, ARCHIVE, HEAP = "naplps", "libnap_c.a", "liblibc_c.a"
 MODES = {PROGRAM: 0o755, ARCHIVE: 0o644, HEAP: 0o644}
 BUILT = TOP / "crates" / "nap_cli" / "out" / "nap_cli"
 VERDICT = re.compile(r"logic=proved functions=\d+ .*")
+LOGIC = re.compile(r".* logic (\S+)")
 
 
 class NotProved(Exception):
@@ -134,6 +135,12 @@ def archive_after_gate() -> Path:
     if len(verdicts) != 1 or not made.is_file():
         raise NotProved("rattle build told no verdict on nap_c")
     return made
+
+
+def same_logic(one: str, other: str) -> bool:
+    """Whether two toolchains, as `rt version` prints them, are the same or have the same logic."""
+    first, second = LOGIC.fullmatch(one), LOGIC.fullmatch(other)
+    return one == other or first is not None and second is not None and first[1] == second[1]
 
 
 def verdicts_of(log: str) -> Dict[str, str]:

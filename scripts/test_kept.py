@@ -137,6 +137,13 @@ class Kept(unittest.TestCase):
         self.source("nap_low", "lib", "changed")
         self.assertFalse(self.keep(EARLIER="nap_low")["nap_low"].endswith(told))
 
+    def test_a_toolchain_of_the_same_logic(self) -> None:
+        """What another toolchain made is compared by its bytes, where the logic is the same."""
+        self.keep(VERSION="kit 1 logic 5")
+        self.compares(True, VERSION="kit 2 logic 5")
+        self.assertIn("kit 1 logic 5", self.compares(False, VERSION="kit 2 logic 6"))
+        self.assertIn("kit 1 logic 5", self.compares(False, VERSION="kit 1"))
+
     def test_stale(self) -> None:
         """What was made from other sources, or by another toolchain, is found; tests and documents aren't looked at."""
         self.keep()
