@@ -44,10 +44,10 @@ _Bool naplps_is_plain(const uint8_t *page, size_t length) { return 1; }
 
 
 def library_path():
-    """The path of the library: in the folder that NAPLPS_LIBRARY names, or in that of scripts/library."""
+    """The path of the library: in the folder that NAPLPS_LIBRARY names, or in that of library/make-library."""
     path = os.path.abspath(os.path.join(NAMED, SONAME) if os.path.isdir(NAMED) else NAMED)
     if not os.path.isfile(path):
-        pytest.skip("not tried: there is no library %s (scripts/library makes it)" % path)
+        pytest.skip("not tried: there is no library %s (library/make-library makes it)" % path)
     return path
 
 

@@ -19,8 +19,8 @@ OF_THE_MODULE, OF_THE_TOOL = (sorted(glob.glob(os.path.join(folder, "**", "*.py"
                               for folder in (MODULE, TOOL))
 SOURCES = [*OF_THE_MODULE, *OF_THE_TOOL, os.path.join(TOP, "pages", "naplps-pages")]
 SCRIPTS = [os.path.join(TOP, "scripts", name)
-           for name in ("manual-refusals", "speed-module", "speed-pages", "measure-scale", "measuring.py",
-                        "speed-wall", "worst-pictures")]
+           for name in ("pages/manual-refusals", "measure/speed-module", "measure/speed-pages", "measure/scale",
+                        "measure/measuring.py", "measure/speed-wall", "measure/worst-pictures")]
 ALL = SOURCES + SCRIPTS + sorted(glob.glob(os.path.join(PACKAGES, "tests", "*.py")))
 
 
@@ -174,7 +174,7 @@ LINE = ("install -y --no-install-recommends gcc libc6-dev binutils python3-pytes
 
 @pytest.mark.parametrize("words", [[], ["--install"]])
 def test_missing_tools_are_installed_only_when_that_is_asked(tmp_path, words):
-    script, note = script_without_tools(tmp_path, "test-tools")
+    script, note = script_without_tools(tmp_path, "test/tools")
     env = dict(os.environ, PATH=os.path.dirname(script) + ":" + os.environ["PATH"])
     said = subprocess.run([script, *words], env=env, capture_output=True, text=True)
     assert said.returncode == 0

@@ -11,6 +11,7 @@ from samples import OUTSIDE, POINT, SPELLED, has
 from scans import FAKE, every_table, statuses, tree
 
 SCRIPT = os.path.join(TOP, "examples", "scan-parts.sbatch")
+SCALE = os.path.join(TOP, "scripts", "measure", "scale")
 
 
 def document(name):
@@ -123,18 +124,18 @@ def test_a_page_without_an_answer_ends_no_job(slurm, fake, monkeypatch):
 
 def test_what_the_document_on_scale_names_is_there():
     text = document("SCALE.md")
-    scripts = set(re.findall(r"scripts/([\w-]+)", text))
-    assert scripts >= {"measure-scale", "speed-pages"}
+    scripts = set(re.findall(r"scripts/([\w/-]+)", text))
+    assert scripts >= {"measure/scale", "measure/speed-pages"}
     for name in scripts:
         assert os.access(os.path.join(TOP, "scripts", name), os.X_OK), name
-    said = subprocess.run([os.path.join(TOP, "scripts", "measure-scale"), "--help"], capture_output=True, text=True)
-    for option in set(re.findall(r"measure-scale.*?(--[a-z]+)", text)):
+    said = subprocess.run([SCALE, "--help"], capture_output=True, text=True)
+    for option in set(re.findall(r"scale (--[a-z]+)", text)):
         assert option in said.stdout, option
 
 
 def test_the_figures_can_be_measured(naplps, tmp_path):
     for words in (["--rows", "2000", "--parts", "3"], ["--files", "300"], ["--sort", "1000"]):
-        said = subprocess.run([os.path.join(TOP, "scripts", "measure-scale"), *words], capture_output=True, text=True,
+        said = subprocess.run([SCALE, *words], capture_output=True, text=True,
                               env=dict(os.environ, TMPDIR=str(tmp_path)))
         assert (said.stderr, said.returncode) == ("", 0) and "NOT" not in said.stdout
         assert os.listdir(str(tmp_path)) == []

@@ -255,7 +255,7 @@ def test_treatments(run, tmp_path, store):
 def test_the_examples(run, tmp_path):
     store = os.path.join(str(tmp_path), "pages.db")
     scan(run, os.path.join(TOP, "examples", "pages"), store)
-    with open(os.path.join(TOP, "scripts", "collections.expected"), encoding="ascii") as file:
+    with open(os.path.join(TOP, "scripts", "test", "collections.expected"), encoding="ascii") as file:
         wanted = {name: (answer, None if hashed == "-" else hashed) for name, answer, hashed, _ in (
             line.rstrip("\n").split("\t") for line in file)}
     cut = len(os.path.join(TOP, "examples", "pages")) + 1

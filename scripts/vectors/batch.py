@@ -3,7 +3,7 @@ import subprocess
 import threading
 from typing import IO, Iterable, Iterator, List, NamedTuple, Sequence, Tuple
 
-from judging import PATIENCE, limit_processor
+from shared.judging import PATIENCE, limit_processor
 
 SECONDS = 1200  # a program that takes more of a processor is stopped
 

@@ -1,0 +1,74 @@
+"""The parts of the tests of naplps-pages: each is a name, and which files of python/tests it runs."""
+from typing import Dict, NamedTuple, Tuple
+
+
+class Part(NamedTuple):
+    """What a part tries; its tests, as `NAME` for python/tests/test_NAME.py; and modules that it needs beside pytest."""
+
+    tries: str
+    tests: Tuple[str, ...]
+    needs: Tuple[str, ...] = ()
+
+
+PARTS: Dict[str, Part] = {
+    "collections": Part(
+        "scans of folders, what is printed of their store, the documents and completions of that",
+        ("pipelined", "walk", "scan", "collection_tables", "collection_documents", "schemas", "equal_treated",
+         "store_files", "files"),
+    ),
+    "commands": Part(
+        "the program is asked, and the commands answer: statuses, messages, JSON, hostile names, programs that fail, "
+        "documents",
+        ("client", "commands", "documents"),
+    ),
+    "dask": Part(
+        "scans on workers of Dask's distributed: the same tables, and workers and schedulers that end",
+        ("dask",), ("distributed",),
+    ),
+    "hostile": Part(
+        "what strangers hand in runs nothing, ends nothing and hides nothing: code of the current folder, numbers, "
+        "stores, names",
+        ("interpreter", "extremes", "stores_hostile", "stores_random", "packs_random"),
+    ),
+    "house": Part(
+        "the sources of naplps-pages and the scripts: types, sizes, Python 3.9; and that the manual page says what the "
+        "tool says",
+        ("house",),
+    ),
+    "module": Part(
+        "the module naplps: its answers over the library and over the program, what it says where these fail or aren't "
+        "there, and what it makes of pages; the module and the tool as pip installs them",
+        ("module", "module_faults", "module_threads", "module_pages", "pip"),
+    ),
+    "old-files": Part(
+        "files as an old disk has them: signatures, kinds, the eight-bit form, the census, captures, pages after others",
+        ("signature", "file_kinds", "eight_bit", "census", "split", "after", "old_files", "noise"),
+    ),
+    "packs": Part(
+        "pages in tar, tar.gz and zip files: the same answers as in folders, and packs that are damaged or made to do "
+        "harm",
+        ("packs", "packs_hostile"),
+    ),
+    "parts": Part(
+        "parts of a scan, merges of stores, groups over several stores, and the recipes for many machines",
+        ("parts", "merge", "equal_over", "parts_documents"),
+    ),
+    "player": Part("players: what they show when, in a browser, and their bounds", ("player",)),
+    "reasons": Part(
+        "explanations, reasons, treatments and the text of pages",
+        ("explain", "folding", "reasons", "cures", "text"),
+    ),
+    "report": Part(
+        "reports, and words of pages: what they hold, how they look and act in a browser, and what a served one answers",
+        ("report", "report_treated", "report_browser", "report_choices", "report_hostile", "serve", "screen_text",
+         "find"),
+    ),
+    "scans": Part(
+        "scans that fail, are stopped or killed and go on, and that their table is the same however they ran",
+        ("scan_faults", "scan_same"),
+    ),
+    "sketches": Part(
+        "sketches, and the gallery",
+        ("sketch", "sketch_bounds", "letter_lines", "pels", "text_layout", "past", "sheets", "gallery", "render"),
+    ),
+}
