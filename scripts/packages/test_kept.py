@@ -97,7 +97,8 @@ class Kept(unittest.TestCase):
         self.assertFalse(self.dist.exists())
 
     def test_keeps_what_was_proved(self) -> None:
-        """dist has the bytes, their checksums come first as scripts/prove/sources-sum prints them, and then the verdicts."""
+        """dist has the bytes, their checksums come first as scripts/prove/sources-sum prints them, and then the
+        verdicts."""
         made = self.keep()
         self.assertEqual((self.dist / "naplps").read_text("ascii"), "nap_low\nnap_cli\n")
         self.assertEqual((self.dist / "libnap_c.a").read_text("ascii"), "nap_low\nnap_c\n")

@@ -3,7 +3,8 @@ from typing import Dict, NamedTuple, Tuple
 
 
 class Part(NamedTuple):
-    """What a part tries; its tests, as `NAME` for python/tests/test_NAME.py; and modules that it needs beside pytest."""
+    """What a part tries; its tests, as `NAME` for python/tests/test_NAME.py; and modules that it needs beside
+    pytest."""
 
     tries: str
     tests: Tuple[str, ...]

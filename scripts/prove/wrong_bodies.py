@@ -1,8 +1,8 @@
 """Wrong bodies: edits that break a promise, and what the prover said of each.
 
 Those in crates/NAME/must-fail/ are tried by each run of `rt ci`. Those in crates/NAME/wrong-bodies/ are tried by
-scripts/prove/wrong-bodies, which keeps its verdicts in the file `refused` beside them. With them it keeps a sum over all that
-can decide any of the crate's, and for each a sum over its text and one over what decides it: see deciding.py.
+scripts/prove/wrong-bodies, which keeps its verdicts in the file `refused` beside them. With them it keeps a sum over
+all that can decide any of the crate's, and for each a sum over its text and one over what decides it: see deciding.py.
 """
 import csv
 import hashlib

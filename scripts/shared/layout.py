@@ -111,7 +111,8 @@ class Untried(Exception):
 
 
 def find_library() -> Path:
-    """The folder of the library that NAPLPS_LIBRARY names, or the one that library/make-library makes; raises Untried."""
+    """The folder of the library that NAPLPS_LIBRARY names, or the one that library/make-library makes; raises
+    Untried."""
     named = os.environ.get("NAPLPS_LIBRARY")
     if named is None:
         words = [LIBRARY / "make-library"]

@@ -466,7 +466,8 @@ REQUESTS = Requests(
 
 
 def is_answered(out, whole):
-    """Whether each request has its own answer, or one that says that memory was wanting; if not whole, the first ones."""
+    """Whether each request has its own answer, or one that says that memory was wanting; if not whole, the first
+    ones."""
     for answered in REQUESTS.answered:
         want = re.match(rb"(refused 21 Memory at (0|[1-9][0-9]*)|no memory)\n0\n", out)
         if out.startswith(answered):

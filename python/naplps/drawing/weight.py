@@ -1,6 +1,7 @@
 """What elements cost a browser, in points: as much as it takes to draw so many corners of a filled polygon.
 
-The numbers come from times of Chromium, and are rounded up; docs/COSTS.md has the times of the worst pages.
+The numbers come from times of Chromium, and are rounded up; docs/measurements/COSTS.md has the times of the worst
+pages.
 """
 from typing import NamedTuple, Sequence, Tuple
 
