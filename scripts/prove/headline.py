@@ -211,7 +211,7 @@ def test_words(page, top, judge):
         elif re.fullmatch(rf"{WORD}(?:::{WORD})*", word):
             right = all(part in known for part in word.split("::"))
         else:
-            right = f"`{word}`" in (top / "docs" / "PROVED.md").read_text(encoding="utf-8") or all(
+            right = f"`{word}`" in (top / "docs" / "TRUST.md").read_text(encoding="utf-8") or all(
                 part in known for part in re.findall(WORD, word) if part != "rt"
             )
         if not right:

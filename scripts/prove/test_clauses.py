@@ -1,16 +1,12 @@
-"""Tests of the sums over clauses and definitions, and of what is looked for in edits, verdicts and promises."""
+"""Tests of the sums over clauses and definitions, and of what is looked for in edits and verdicts."""
 import tempfile
 import unittest
 from pathlib import Path
-from typing import List
 
 from prove.clauses import clauses_of, functions_of, sum_of
 from prove.wrong_bodies import (
-    LIST,
-    PROMISES,
     Verdict,
     Verdicts,
-    faults_of_promises,
     faults_of_verdicts,
     sum_of_edit,
     why_it_does_not_fit,
@@ -46,18 +42,6 @@ impl Half {
 }
 '''
 SPEC = "-- Halves, and what they are of.\nhalf : ℕ → ℕ\nhalf n = n / 2\n"
-LISTED = """\
-crate\tedit\tfile\tfunction\tplace\tshows
-low\thalf_is_whole\tsrc/lib.rt\tHalf::of\tgate\tHalves are exact
-low\thalf_is_none\tsrc/lib.rt\tHalf::of\tapart\tone clause of its public function
-low\ttext_is_empty\tsrc/lib.rt\tHalf::text\tapart\tone clause of its public function
-high\ttext_is_empty\tsrc/lib.rt\tHalf::text\tapart\tone clause of its public function
-"""
-TOLD = """\
-| gives the whole, or nothing | Halves are exact | gate: `half_is_whole`; apart, within: `half_is_none` |
-| says nothing of `text` | Halves are exact | apart: `low/text_is_empty`, `high/text_is_empty` |
-| says too much | Halves are exact | test |
-"""
 EDIT = "file: src/lib.rt\nold: Half { number: number / 2 }\nnew: Half { number }\n"
 
 
@@ -160,57 +144,6 @@ class Sums(unittest.TestCase):
         self.assertEqual(len([fault for fault in faults_of_verdicts(self.root, "high") if fault]), 2)
         edit.write_text(EDIT.replace("old: Half", "old: Whole"), "utf-8")
         self.assertIn("stands 0 times", str(why_it_does_not_fit(edit, crate)))
-
-
-class Promises(unittest.TestCase):
-    """What is wrong with how the promises name the wrong bodies, where there are four, two of them with one name."""
-
-    def wrong(self, old: str, new: str) -> List[str]:
-        """The faults where a text of the promises is replaced; each of the four edits is looked at."""
-        self.assertEqual(TOLD.count(old), 1)
-        with tempfile.TemporaryDirectory() as room:
-            (Path(room) / "docs").mkdir()
-            (Path(room) / LIST).write_text(LISTED, "utf-8")
-            (Path(room) / PROMISES).write_text(TOLD.replace(old, new), "utf-8")
-            found = list(faults_of_promises(Path(room)))
-        self.assertGreaterEqual(len(found), 4)
-        return [fault for fault in found if fault]
-
-    def test_each_is_named_once_behind_its_place(self) -> None:
-        self.assertEqual(self.wrong("says too much", "says too much"), [])
-
-    def test_one_that_is_not_named(self) -> None:
-        self.assertEqual(
-            self.wrong("gate: `half_is_whole`; ", ""),
-            [f"{PROMISES} names the wrong body half_is_whole 0 times"],
-        )
-
-    def test_one_that_is_named_twice(self) -> None:
-        self.assertEqual(
-            self.wrong("| test |", "| gate: `half_is_whole` |"),
-            [f"{PROMISES} names the wrong body half_is_whole 2 times"],
-        )
-
-    def test_one_behind_the_word_for_another_place(self) -> None:
-        self.assertEqual(
-            self.wrong("gate: `half", "apart: `half"),
-            [f"{PROMISES} says apart of the wrong body half_is_whole, and {LIST} says gate"],
-        )
-
-    def test_one_behind_no_word(self) -> None:
-        self.assertEqual(
-            self.wrong("apart, within: `half_is_none`", "`half_is_none`"),
-            [f"{PROMISES} says nothing of the wrong body half_is_none, and {LIST} says apart"],
-        )
-
-    def test_a_name_that_no_edit_has(self) -> None:
-        self.assertEqual(
-            self.wrong("| test |", "| apart: `half_is_two` |"),
-            [f"{PROMISES} names half_is_two, and {LIST} has no such wrong body"],
-        )
-
-    def test_a_name_of_two_without_its_crate(self) -> None:
-        self.assertEqual(len(self.wrong("`low/text_is_empty`", "`text_is_empty`")), 2)
 
 
 if __name__ == "__main__":

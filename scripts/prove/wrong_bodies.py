@@ -4,19 +4,15 @@ Those in crates/NAME/must-fail/ are tried by each run of `rt ci`. Those in crate
 scripts/prove/wrong-bodies, which keeps its verdicts in the file `refused` beside them. With them it keeps a sum over
 all that can decide any of the crate's, and for each a sum over its text and one over what decides it: see deciding.py.
 """
-import csv
 import hashlib
 import re
-from collections import Counter
 from pathlib import Path
 from typing import Dict, Iterator, List, NamedTuple, Optional
 
 from prove.clauses import crates_in, sum_of
+from prove.promises import LIST, NO_EDIT, faults_of_promises, rows_of_list
 
 HEAD = "# What the prover said of each wrong body. scripts/prove/wrong-bodies writes this file.\n"
-LIST = "docs/wrong-bodies.tsv"
-PROMISES = "docs/PROMISES.md"
-TOLD = re.compile(r"\b(?P<place>gate|apart)(?:, within)?: (?P<names>`[^`]+`(?:, `[^`]+`)*)")
 PLACES = {"gate": "must-fail", "apart": "wrong-bodies"}
 REFUSED = "refused"
 SUM = re.compile(r"[0-9a-f]{16}")
@@ -146,15 +142,10 @@ def faults_of_verdicts(root: Path, name: str) -> Iterator[Optional[str]]:
         yield f"{name}: there is a verdict on {edit}, and no such wrong body: {again}"
 
 
-def rows_of_list(root: Path) -> List[Dict[str, str]]:
-    """The rows of the list of wrong bodies."""
-    with (root / LIST).open(encoding="utf-8", newline="") as file:
-        return list(csv.DictReader(file, delimiter="\t", quoting=csv.QUOTE_NONE))
-
-
 def faults_of_list(root: Path) -> Iterator[Optional[str]]:
     """For each edit that the list of wrong bodies names, or a folder has, what differs between the two, or None."""
-    listed = {f"crates/{row['crate']}/{PLACES[row['place']]}/{row['edit']}.edit" for row in rows_of_list(root)}
+    rows = [row for row in rows_of_list(root) if row.edit != NO_EDIT]
+    listed = {f"crates/{row.crate}/{PLACES[row.place]}/{row.edit}.edit" for row in rows}
     there = {
         str(edit.relative_to(root))
         for name in crates_in(root)
@@ -166,29 +157,6 @@ def faults_of_list(root: Path) -> Iterator[Optional[str]]:
             yield f"{LIST} names {edit}, which isn't there"
         else:
             yield None if edit in listed else f"{edit} isn't in {LIST}"
-
-
-def faults_of_promises(root: Path) -> Iterator[Optional[str]]:
-    """For each edit that the list of wrong bodies names, what is wrong with how the promises name it, or None.
-
-    They name it once, in backquotes, behind the word for its place; an edit whose name another crate has too, behind
-    its crate's name. A name that no edit has is a fault as well.
-    """
-    text = (root / PROMISES).read_text("utf-8")
-    told = {name: found["place"] for found in TOLD.finditer(text) for name in found["names"].strip("`").split("`, `")}
-    rows = rows_of_list(root)
-    having = Counter(row["edit"] for row in rows)
-    for row in rows:
-        name = row["edit"] if having[row["edit"]] == 1 else f"{row['crate']}/{row['edit']}"
-        times, place = text.count(f"`{name}`"), told.pop(name, "nothing")
-        if times != 1:
-            yield f"{PROMISES} names the wrong body {name} {times} times"
-        elif place != row["place"]:
-            yield f"{PROMISES} says {place} of the wrong body {name}, and {LIST} says {row['place']}"
-        else:
-            yield None
-    for name in told:
-        yield f"{PROMISES} names {name}, and {LIST} has no such wrong body"
 
 
 def faults(root: Path) -> Iterator[Optional[str]]:

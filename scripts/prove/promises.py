@@ -1,0 +1,115 @@
+"""The page of promises: below each promise stand the wrong bodies that break it, as the list of wrong bodies has them.
+
+The list is docs/wrong-bodies.tsv. A row has the promises that a body breaks, between semicolons, and what it does, which
+it may share with others. A row without an edit, of the place `test`, is of a body that a test alone refuses.
+"""
+import csv
+import re
+import textwrap
+from collections import Counter
+from pathlib import Path
+from typing import Dict, Iterator, List, NamedTuple, Optional, Tuple
+
+LIST = "docs/wrong-bodies.tsv"
+PROMISES = "docs/PROMISES.md"
+COLUMNS = ["crate", "edit", "file", "function", "place", "shows", "breaks", "does"]
+# What the list says of an edit that no clause refuses that a caller sees.
+WITHIN = "refused within the crate alone"
+NO_EDIT = "-"
+LEAD = "Refused is a body that\n\n"
+BODIES = re.compile(rf"{LEAD}(?:- .*\n(?:  .*\n)*)+\n?")
+PROMISE = re.compile(r"^### (?P<name>.+)\n(?P<said>(?:(?!^#).*\n)*?)(?P<state>\*State\*.*\n(?:.+\n)*)", re.MULTILINE)
+WIDTH = 120
+PLACE_ORDER = ("gate", "apart", "test")
+
+
+class Row(NamedTuple):
+    """A row of the list of wrong bodies."""
+
+    crate: str
+    edit: str
+    file: str
+    function: str
+    place: str
+    shows: str
+    breaks: str
+    does: str
+
+    @property
+    def promises(self) -> List[str]:
+        """The promises that the body breaks."""
+        return self.breaks.split("; ")
+
+
+def rows_of_list(root: Path) -> List[Row]:
+    """The rows of the list of wrong bodies; one with more or fewer columns raises ValueError."""
+    with (root / LIST).open(encoding="utf-8", newline="") as file:
+        head, *lines = csv.reader(file, delimiter="\t", quoting=csv.QUOTE_NONE)
+    for number, line in enumerate([head, *lines], 1):
+        if len(line) != len(COLUMNS) or not all(line):
+            raise ValueError(f"{LIST}:{number} hasn't a text in each of the columns {', '.join(COLUMNS)}")
+    return [Row(*line) for line in lines]
+
+
+def _places(rows: List[Row], names: Dict[Row, str]) -> str:
+    """Where the bodies of some rows are refused, and their names."""
+    told: Dict[str, List[str]] = {}
+    for row in sorted(rows, key=lambda row: PLACE_ORDER.index(row.place)):
+        word = f"{row.place}, within" if row.shows == WITHIN else row.place
+        told.setdefault(word, []).extend([] if row.edit == NO_EDIT else [f"`{names[row]}`"])
+    return "; ".join(f"{word}: {', '.join(edits)}" if edits else word for word, edits in told.items())
+
+
+def _bodies(rows: List[Row], names: Dict[Row, str]) -> str:
+    """The lines on the wrong bodies of a promise, those that the gate tries first; empty where there are none."""
+    groups: Dict[str, List[Row]] = {}
+    for row in sorted(rows, key=lambda row: PLACE_ORDER.index(row.place)):
+        groups.setdefault(row.does, []).append(row)
+    if not groups:
+        return ""
+    lines = (f"{does} ({_places(group, names)})" for does, group in groups.items())
+    return LEAD + "".join(
+        textwrap.fill(line, WIDTH, initial_indent="- ", subsequent_indent="  ", break_long_words=False,
+                      break_on_hyphens=False) + "\n" for line in lines) + "\n"
+
+
+def with_bodies(text: str, rows: List[Row]) -> str:
+    """The page of promises with the wrong bodies of these rows, in place of those that stand in it."""
+    having = Counter(row.edit for row in rows)
+    names = {row: row.edit if having[row.edit] == 1 else f"{row.crate}/{row.edit}" for row in rows}
+
+    def filled(found: "re.Match[str]") -> str:
+        broken = [row for row in rows if found["name"] in row.promises]
+        return f"### {found['name']}\n{found['said']}{found['state']}\n{_bodies(broken, names)}"
+
+    bare = re.sub(r"\n{3,}", "\n\n", BODIES.sub("", text))
+    return re.sub(r"\n{3,}", "\n\n", PROMISE.sub(filled, bare))
+
+
+def promises_in(text: str) -> List[str]:
+    """The names of the promises of the page, in its order."""
+    return [found["name"] for found in PROMISE.finditer(text)]
+
+
+def faults_of_promises(root: Path) -> Iterator[Optional[str]]:
+    """For each row of the list and each line of the page, what is wrong with what it says, or None."""
+    text = (root / PROMISES).read_text("utf-8")
+    known = Counter(promises_in(text))
+    rows = rows_of_list(root)
+    for name, number in known.items():
+        yield None if number == 1 else f"{PROMISES} has the promise {name} {number} times"
+    for row in rows:
+        strange = [name for name in row.promises if name not in known]
+        yield f"{LIST}: {row.edit} breaks {strange[0]}, and {PROMISES} has no such promise" if strange else None
+    wanted = with_bodies(text, rows).splitlines()
+    yield from _differences(text.splitlines(), wanted)
+
+
+def _differences(there: List[str], wanted: List[str]) -> Iterator[Optional[str]]:
+    """The first line of the page that isn't as the list wants it, or None."""
+    pairs: Iterator[Tuple[int, Tuple[str, str]]] = enumerate(zip([*there, ""], [*wanted, ""]), 1)
+    first = next((number for number, (one, other) in pairs if one != other), 0)
+    if not first and len(there) != len(wanted):
+        first = min(len(there), len(wanted)) + 1
+    again = "run scripts/prove/write-promises"
+    yield f"{PROMISES}:{first}: the wrong bodies aren't those of {LIST}: {again}" if first else None
