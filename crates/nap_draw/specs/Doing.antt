@@ -1,6 +1,5 @@
-use Rattle.std.specs.Prelude.{ℕ, zero, suc, min, ◌≡◌, ◌++◌, IsErrOf, Bool, true, false, List, [], ◌∷◌, Option, Some, None, option_map, Result, Ok, Err}
+use Rattle.std.specs.Prelude.{ℕ, min, ◌≡◌, ◌++◌, IsErrOf, Bool, true, false, List, [], ◌∷◌, Option, Some, None, option_map, Result, Ok, Err}
 use Rattle.nap_values.specs.Coordinates.{Coordinates, Displacement}
-use Rattle.nap_list.specs.declared.attribute.Hand.{Hand}
 use Rattle.nap_list.specs.declared.attribute.Ink.{Ink}
 use Rattle.nap_list.specs.declared.attribute.Pen.{Pen}
 use Rattle.nap_list.specs.declared.attribute.Pen.TheVariants as pens
@@ -11,7 +10,6 @@ use Rattle.nap_list.specs.declared.shape.ShapeKind.TheVariants as kinds
 use Rattle.nap_list.specs.declared.state.Definition.{Definition}
 use Rattle.nap_list.specs.declared.state.Definition.TheVariants as definitions
 use Rattle.nap_list.specs.declared.state.Drawing.{Drawing}
-use Rattle.nap_list.specs.declared.state.LastChar.{LastChar}
 use Rattle.nap_list.specs.declared.state.State.{State}
 use Rattle.nap_list.specs.declared.sink.Sink.{Ghosts}
 use Rattle.nap_list.specs.declared.sink.SinkFault.{SinkFault}
@@ -89,11 +87,6 @@ pen_moved s pen = record s { drawing = with_pen pen s.drawing; last = None }
 abbrev pub landed : State → Option Coordinates → State
 landed s None = s
 landed s (Some p) = pen_moved s (pens.At p)
-
--- the character so many times in this hand, and behind the first with the pen as text leaves it
-unfoldable pub copies_in : Hand → LastChar → ℕ → List Entry
-copies_in hand last zero = []
-copies_in hand last (suc n) = shapes.Char last.set last.code hand ∷ copies_in (record hand { pen = pens.After }) last n
 
 -- the entry that opens a definition
 abbrev pub start_of : Definition → Entry

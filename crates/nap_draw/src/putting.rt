@@ -6,11 +6,11 @@ ghost use Rattle.nap_list.specs.declared.entry.Entry.TheVariants.{Wait};
 ghost use Rattle.nap_draw.specs.Operands.{operands};
 ghost use Rattle.nap_draw.specs.Geometry.{end_of};
 ghost use Rattle.nap_draw.specs.Rule.{blink};
-ghost use Rattle.nap_draw.specs.Doing.{Put, copies_in, linked, paired, stroke_on};
+ghost use Rattle.nap_draw.specs.Doing.{Put, linked, paired, stroke_on};
 
 use crate::operands::word_at;
 use crate::spans::{Figure, Span};
-use nap_list::{Drawing, Entry, Hand, LastChar, Pen, Sink, SinkFault};
+use nap_list::{Drawing, Entry, Sink, SinkFault};
 use nap_values::{Domain, Point, Word, single_bytes};
 
 /// The figure from this point to the first, and on from its end to each further one. Gives the last span.
@@ -53,28 +53,6 @@ pub(crate) fn put_paired<S: Sink>(
         last = Some(Span { from, to });
     }
     Ok(last)
-}
-
-/// The character this many times: first in this hand, then with the pen as text leaves it.
-pub(crate) fn put_copies<S: Sink>(
-    hand: Hand,
-    last: LastChar,
-    count: Word,
-    sink: &mut S,
-) -> Result<(), SinkFault>
-    requires { AllFit (S.state sink.old) (copies_in hand last count) }
-    ensures { Put S.Sink (copies_in hand last count) sink.old sink.new result }
-{
-    let mut pen = hand.pen;
-    for _ in 0..count.get() {
-        sink.put(Entry::Char {
-            set: last.set,
-            code: last.code,
-            hand: Hand { pen, ..hand },
-        })?;
-        pen = Pen::After;
-    }
-    Ok(())
 }
 
 /// A pause for each word.

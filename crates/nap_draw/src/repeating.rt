@@ -5,10 +5,12 @@ ghost use Rattle.nap_draw.specs.Codes.{code_rule};
 ghost use Rattle.nap_draw.specs.Doing.{Obeys};
 
 use crate::fault::DrawFault;
-use crate::putting::put_copies;
 use crate::work::Work;
 use nap_list::{Entry, Pen, Sink};
 use nap_values::Word;
+
+/// The most copies that REPEAT makes.
+const COPIES: usize = 63;
 
 impl Work {
     /// REPEAT: the last character again, this many times.
@@ -22,8 +24,8 @@ impl Work {
         if count.get() == 0 {
             return Ok(());
         }
-        put_copies(self.hand(), last, count, sink)?;
-        self.state.drawing.pen = Pen::After;
+        let copies = [last.code; COPIES];
+        self.characters(last.set, &copies[..usize::from(count.get())], sink)?;
         Ok(())
     }
 

@@ -1,12 +1,13 @@
-use Rattle.std.proofs.Common.{◌≡◌, ◌<◌, Ok, Option, refl, ap, ◌∙◌, subst, arith, List}
+use Rattle.std.proofs.Common.{◌≡◌, ◌<◌, Ok, Option, refl, ap, ◌∙◌, arith}
 use Rattle.std.proofs.lemmas.Bool.Decides.{nat_tests}
-use Rattle.nap_list.specs.declared.entry.Entry.{Entry}
 use Rattle.nap_list.specs.declared.state.LastChar.{LastChar}
-use Rattle.nap_list.specs.State.{AllFit, walk}
+use Rattle.nap_list.specs.PuttingLaws.{some_put}
+use Rattle.nap_list.specs.Shown.{shows_of}
+use Rattle.nap_list.specs.State.{walk}
 use Rattle.nap_draw.specs.Codes.{copies, with_last}
 use Rattle.nap_draw.specs.Rule.{drawn}
 use Rattle.nap_draw.proofs.Acting.{obeys_put, obeys_stop, obeys_quietly}
-use Rattle.nap_draw.proofs.Copies.{copies_are, copies_fit, copies_some, last_is_code, repeat_is}
+use Rattle.nap_draw.proofs.Copies.{front_some, front_typed, last_is_code, repeat_is}
 use Rattle.nap_draw.proofs.work.Work.repeat.Goals as goal
 
 pub returns-then-get-eq0 : goal.returns-then-get-eq0
@@ -17,24 +18,27 @@ returns-then-get-eq0 g c =
     let last = ap (λ (o : Option LastChar). with_last o (λ last. Ok (drawn w (copies w.state last c.args.count)))) c.in-Some.is in
     obeys_quietly g.S.Sink _ w w c.args.sink.now (g.met.S.Sink.took_none c.args.sink.now) (last ∙ rw none refl)
 
-pub put_copies-requires : goal.put_copies-requires
-put_copies-requires g c =
-    let s = c.args.self.now.state in
+pub characters-requires-clause-made : goal.characters-requires-clause-made
+characters-requires-clause-made g c =
     let last = c.in-Some.last in
-    let shown = g.S.Sink.state c.args.sink.now in
-    let fit = (copies_fit last s shown c.args.count c.requires (last_is_code s shown last c.requires c.in-Some.is)).0 in
-    rw c.hand.ensures (subst (λ (list : List Entry). AllFit shown list) (copies_are last s c.args.count c.requires.drawing.mode) fit)
+    let few : c.args.count < 64 = omega (arith, c.get.ensures.value, c.get.ensures.below) in
+    front_typed last c.args.count c.from.result (c.from.ensures ∙ c.get-2.ensures.value) few (last_is_code c.args.self.now.state _ last c.requires c.in-Some.is)
 
-pub returns-in_err-put_copies : goal.returns-in_err-put_copies
-returns-in_err-put_copies g c =
+pub returns-in_err-characters : goal.returns-in_err-characters
+returns-in_err-characters g c =
     let w = c.args.self.now in
     let last = c.in-Some.last in
     let some : 0 < c.args.count = grind (arith, nat_tests) in
-    obeys_stop g.S.Sink _ w _ _ _ _ _ c.from_residual.ensures.1 (g.met.S.Sink.took_none _) g.met.S.Sink.wants_more (repeat_is last w c.hand.result c.args.count c.hand.ensures c.in-Some.is c.requires.drawing.mode some) (copies_some last c.hand.result c.args.count some) c.in_err-put_copies.ensures
+    let few : c.args.count < 64 = omega (arith, c.get.ensures.value, c.get.ensures.below) in
+    let by = repeat_is last c.args.count c.from.result (c.from.ensures ∙ c.get-2.ensures.value) few w c.in-Some.is (last_is_code w.state _ last c.requires c.in-Some.is) in
+    let entries = front_some last c.args.count c.from.result (c.from.ensures ∙ c.get-2.ensures.value) few w.state some in
+    rw c.in_err-characters.ensures.work (obeys_stop g.S.Sink _ w _ _ _ _ _ c.from_residual.ensures.1 (g.met.S.Sink.took_none _) g.met.S.Sink.wants_more by entries
+    (some_put (shows_of g.S.Sink) (Unit {0}) _ _ _ _ _ c.in_err-characters.ensures.put))
 
 pub returns : goal.returns
 returns g c =
     let w = c.args.self.now in
     let last = c.in-Some.last in
-    let some : 0 < c.args.count = grind (arith, nat_tests) in
-    obeys_put g.S.Sink _ w _ _ _ _ (repeat_is last w c.hand.result c.args.count c.hand.ensures c.in-Some.is c.requires.drawing.mode some) c.in_ok-put_copies.ensures
+    let few : c.args.count < 64 = omega (arith, c.get.ensures.value, c.get.ensures.below) in
+    let by = repeat_is last c.args.count c.from.result (c.from.ensures ∙ c.get-2.ensures.value) few w c.in-Some.is (last_is_code w.state _ last c.requires c.in-Some.is) in
+    rw c.in_ok-characters.ensures.work (obeys_put g.S.Sink _ w _ _ _ _ by c.in_ok-characters.ensures.put)
