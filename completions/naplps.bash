@@ -3,15 +3,16 @@ _naplps() {
     local word=${COMP_WORDS[COMP_CWORD]} before=${COMP_WORDS[COMP_CWORD - 1]} command='' words='' index
     for ((index = 1; index < COMP_CWORD; index++)); do
         case ${COMP_WORDS[index]} in
-            list | check | canon | batch | help)
+            list | check | canon | make | batch | help)
                 command=${COMP_WORDS[index]}
                 break
                 ;;
         esac
     done
     case $command in
-        '') words='list check canon batch help --help --version' ;;
-        help) words='list check canon batch' ;;
+        '') words='list check canon make batch help --help --version' ;;
+        help) words='list check canon make batch' ;;
+        make) words='--stream --help' ;;
         batch) words='--help' ;;
         *)
             # (the number behind --budget is for the user to say)

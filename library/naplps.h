@@ -1,6 +1,6 @@
 /* naplps.h: reads pages of NAPLPS (ANSI X3.110-1983, CSA T500-1983) that are in memory.
 
-   Each call is given a page and a budget. Most are given a room too, into which they put a text:
+   Each call but naplps_make is given a page and a budget. Most are given a room too, into which they put a text:
 
    page, length  the bytes of the page, which are only read, and mustn't change before the call returns. Any byte may
                  stand in it, NUL too.
@@ -116,6 +116,32 @@ struct naplps_answer naplps_canon_form1(uint32_t budget, const uint8_t *page, si
    is theirs. Where the room is too small for them, number, place and name tell of the refusal too. With NAPLPS_MEMORY
    there is no line. */
 struct naplps_answer naplps_places(uint32_t budget, const uint8_t *page, size_t length, uint8_t *room, size_t size);
+
+/* Why lines make no page. */
+enum naplps_line_fault {
+    NAPLPS_NO_LINE = 1,  /* a line is none that naplps_list gives; what is before the column begins one */
+    NAPLPS_MISFIT = 2,   /* the entry of a line can't come behind those of the lines before */
+    NAPLPS_UNCLOSED = 3, /* the lines end, and the definition that one of them opens isn't ended */
+    NAPLPS_NO_MEMORY = 4 /* there was no memory, which says nothing of the lines */
+};
+
+/* What comes of lines. It has 48 bytes and is aligned to 8: status is at 0, fault at 4, line at 8, column at 16,
+   opening at 24, length at 32 and count at 40. */
+struct naplps_made {
+    uint32_t status;  /* NAPLPS_ACCEPTED, NAPLPS_REFUSED or NAPLPS_SMALL_ROOM */
+    uint32_t fault;   /* one of enum naplps_line_fault where they make no page, else 0 */
+    uint64_t line;    /* the first line that is wrong, counted from 1; the last one with NAPLPS_UNCLOSED; else 0 */
+    uint64_t column;  /* with NAPLPS_NO_LINE the column, counted from 1 in bytes; else 0 */
+    uint64_t opening; /* with NAPLPS_UNCLOSED the line that opens the definition, counted from 1; else 0 */
+    uint64_t length;  /* how many bytes the page has, whatever the room; 0 where they make none */
+    uint64_t count;   /* how many entries the page has; 0 where they make none */
+};
+
+/* Gives the page that lines make, as `naplps make` prints it: its canonical stream, of which naplps_list gives these
+   lines again. They are taken exactly as naplps_list gives them, each ended by LF; there may be none. Where they make
+   no page, the status is NAPLPS_REFUSED, and the room is as it was. The room must not overlap the lines. No budget is
+   needed: a canonical stream calls no macro. */
+struct naplps_made naplps_make(const uint8_t *lines, size_t length, uint8_t *room, size_t size);
 
 /* Whether a page is plain, as each canonical stream is: it has no part in macros and no displacement from the pen, and
    reads its operands under the lengths eight and four, which it sets first. That says nothing of whether the page is

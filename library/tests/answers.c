@@ -7,6 +7,9 @@ _Static_assert(sizeof(struct naplps_answer) == 56, "the size of an answer");
 _Static_assert(offsetof(struct naplps_answer, place) == 8, "where the place is");
 _Static_assert(offsetof(struct naplps_answer, length) == 16, "where the length is");
 _Static_assert(offsetof(struct naplps_answer, name) == 24, "where the name is");
+_Static_assert(sizeof(struct naplps_made) == 48, "the size of what is made");
+_Static_assert(offsetof(struct naplps_made, line) == 8, "where the line is");
+_Static_assert(offsetof(struct naplps_made, length) == 32, "where the length of a page is");
 _Static_assert(sizeof(struct naplps_checking) == sizeof(void *), "the size of a page that is begun");
 
 #define BYTES(text) (const uint8_t *)(text), sizeof(text) - 1
@@ -28,6 +31,16 @@ static int says(struct naplps_answer answer, uint32_t status, uint32_t number, u
     memcpy(padded, name, strlen(name));
     return answer.status == status && answer.number == number && answer.place == place && answer.length == length &&
            memcmp(answer.name, padded, sizeof padded) == 0;
+}
+
+static int is_made(struct naplps_made made, uint32_t status, uint64_t length, uint64_t count) {
+    return made.status == status && made.fault == 0 && made.line == 0 && made.column == 0 && made.opening == 0 &&
+           made.length == length && made.count == count;
+}
+
+static int is_unmade(struct naplps_made made, uint32_t fault, uint64_t line, uint64_t column, uint64_t opening) {
+    return made.status == NAPLPS_REFUSED && made.fault == fault && made.line == line && made.column == column &&
+           made.opening == opening && made.length == 0 && made.count == 0;
 }
 
 static void gives(text_call *call, const uint8_t *page, size_t length, const void *text, size_t size,
@@ -78,6 +91,24 @@ static void try_refused(void) {
           "a refusal and a small room");
     check(says(naplps_check(0, BYTES("\x18")), NAPLPS_REFUSED, NAPLPS_LEFT_OUT, 0, "LeftOut CAN", 0),
           "the name of what is left out");
+}
+
+// Lines that make a page, with rooms of each kind; and lines that make none.
+static void try_lines(void) {
+    const char point[] = "\x0E\x21\x5F\x26\x52\x40\x40\x40\x40\x40\x40\x40";
+    uint8_t room[64];
+    memset(room, UNTOUCHED, sizeof room);
+    check(is_made(naplps_make(BYTES(POINT_LINE), NULL, 0), NAPLPS_SMALL_ROOM, 12, 1), "no room for a page");
+    check(is_made(naplps_make(BYTES(POINT_LINE), room, 11), NAPLPS_SMALL_ROOM, 12, 1), "a small room for a page");
+    check(is_unmade(naplps_make(BYTES(POINT_LINE "END\n"), room, 64), NAPLPS_MISFIT, 2, 0, 0), "a stray END");
+    check(is_unmade(naplps_make(BYTES("BELL\nGLYPH 41\n" POINT_LINE), room, 64), NAPLPS_UNCLOSED, 3, 0, 2), "no END");
+    check(is_unmade(naplps_make(BYTES("BELL\nBELL\r\n"), room, 64), NAPLPS_NO_LINE, 2, 1, 0), "a line with CR");
+    check(is_unmade(naplps_make(BYTES("WAIT 63\nWAIT 64\n"), room, 64), NAPLPS_NO_LINE, 2, 6, 0), "a number too large");
+    check(is_unmade(naplps_make(BYTES("BELL"), room, 64), NAPLPS_NO_LINE, 1, 5, 0), "a line without its end");
+    check(is_untouched(room, 0, sizeof room), "a room of lines that make no page");
+    check(is_made(naplps_make(BYTES(POINT_LINE), room, 12), NAPLPS_ACCEPTED, 12, 1), "a point from its line");
+    check(memcmp(room, point, 12) == 0 && is_untouched(room, 12, sizeof room), "the page of a point");
+    check(is_made(naplps_make(NULL, 0, room, 64), NAPLPS_ACCEPTED, 3, 0), "a page of no lines");
 }
 
 static void try_budgets(void) {
@@ -141,6 +172,7 @@ int main(void) {
     try_accepted();
     try_empty();
     try_refused();
+    try_lines();
     try_budgets();
     try_begun();
     try_cuts(BYTES(POINT));

@@ -85,10 +85,38 @@ static void try_page(size_t length) {
     }
 }
 
+// The lines of a page, made into one again; with each call of the allocator refused.
+static void try_lines(size_t length) {
+    static uint8_t lines[1 << 20];
+    struct naplps_answer list = naplps_list(1000, page, length, lines, sizeof lines);
+    if (list.status != NAPLPS_ACCEPTED) return;
+    calls = 0;
+    struct naplps_made whole = naplps_make(lines, list.length, kept, sizeof kept);
+    long all = calls;
+    must(live == 0 && whole.status == NAPLPS_ACCEPTED, "the lines themselves");
+    for (long i = 0; i < 2 * all; i++) {
+        memset(room, UNTOUCHED, whole.length + 1);
+        calls = 0, first = 1 + i / 2, last = i % 2 == 0 ? first : all + 1000;
+        struct naplps_made made = naplps_make(lines, list.length, room, sizeof room);
+        first = last = 0;
+        runs++;
+        must(live == 0, "a block was left of lines");
+        if (made.status == NAPLPS_ACCEPTED) {
+            must(memcmp(room, kept, whole.length) == 0, "another page of lines");
+            continue;
+        }
+        wanting++;
+        must(made.status == NAPLPS_REFUSED && made.fault == NAPLPS_NO_MEMORY && made.line == 0 && made.length == 0,
+             "another answer to lines than for want of memory");
+        must(is_untouched(room, 0, whole.length + 1), "a room was written for want of memory for lines");
+    }
+}
+
 int main(int count, char **names) {
     for (int i = 1; i < count; i++) {
         size_t length = read_page(names[i]);
         try_page(length);
+        try_lines(length);
         page[length] = 0x80;
         try_page(length + 1);
     }

@@ -96,12 +96,64 @@ static void try_pieces(uint32_t budget, const uint8_t *page, size_t length, stru
     }
 }
 
+static int make_the_same(struct naplps_made a, struct naplps_made b) {
+    return a.fault == b.fault && a.line == b.line && a.column == b.column && a.opening == b.opening &&
+           a.length == b.length && a.count == b.count;
+}
+
+static void print_made(struct naplps_made made) {
+    unsigned long long line = made.line;
+    if (made.fault == NAPLPS_NO_LINE) {
+        printf("line %llu: no line of a list, at column %llu\n", line, (unsigned long long)made.column);
+    } else if (made.fault == NAPLPS_MISFIT) {
+        printf("line %llu: can't come here\n", line);
+    } else if (made.fault == NAPLPS_UNCLOSED) {
+        printf("line %llu: the definition of line %llu isn't ended\n", line, (unsigned long long)made.opening);
+    } else {
+        must(made.fault == 0, "there is no memory for the test");
+        printf("accepted %llu entries\n", (unsigned long long)made.count);
+    }
+}
+
+// The lines of a page that was made are those that it was made of, and it is its own canonical stream.
+static void try_made(const uint8_t *lines, size_t length, const uint8_t *page, size_t size) {
+    struct text again = ask(naplps_list, 0, page, size), canon = ask(naplps_canon, 0, page, size);
+    must(again.answer.length == length && (length == 0 || memcmp(again.bytes, lines, length) == 0), "other lines");
+    must(canon.answer.length == size && memcmp(canon.bytes, page, size) == 0, "a made page isn't canonical");
+    free(again.bytes);
+    free(canon.bytes);
+}
+
+static void answer_lines(const uint8_t *lines, size_t length) {
+    struct naplps_made made = naplps_make(lines, length, NULL, 0);
+    size_t need = made.length;
+    uint8_t *page = new_room(need + 1);
+    if (need > 0) {
+        must(made.status == NAPLPS_SMALL_ROOM, "no room has another status");
+        struct naplps_made small = naplps_make(lines, length, page, need - 1);
+        must(small.status == NAPLPS_SMALL_ROOM && make_the_same(small, made), "a small room has another answer");
+        must(is_untouched(page, 0, need + 1), "a small room was written");
+        struct naplps_made large = naplps_make(lines, length, page, need + 1);
+        must(large.status == NAPLPS_ACCEPTED && make_the_same(large, made), "a large room has another answer");
+        try_made(lines, length, page, need);
+    }
+    must(page[need] == UNTOUCHED, "a byte behind the page was written");
+    print_made(made);
+    printf("%zu\n", need);
+    fwrite(page, 1, need, stdout);
+    free(page);
+}
+
 static void answer_request(const char *command, uint32_t budget, const uint8_t *page, size_t length) {
     for (int i = 0; i < TEXT_CALLS; i++) {
         if (strcmp(command, text_calls[i].name) == 0) {
             answer_text(text_calls[i].call, budget, page, length);
             return;
         }
+    }
+    if (strcmp(command, "make") == 0) {
+        answer_lines(page, length);
+        return;
     }
     if (strcmp(command, "check") == 0) {
         struct naplps_answer answer = naplps_check(budget, page, length);

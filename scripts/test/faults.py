@@ -118,6 +118,23 @@ PAGES = [
 POINTS = [CENTRE if number % 2048 == 0 else CENTRE[1:] for number in range(30000)]
 LONG = Page("thirty thousand points", b"\x0e" + b"&R@@" * 30000, POINTS, [CENTRE_LINE] * 30000)
 
+MAKES = [["make"], ["make", "--stream"]]
+
+
+class Lines(Page):
+    """The lines of a page, which `make` makes again; or lines that are none's, which are told."""
+
+    def __init__(self, page, more=b"", refusal=None):
+        super().__init__(f"lines of {page.name}, {len(more)} bytes more", page.lines + more, refusal=refusal)
+        self.pieces = page.pieces
+        self.canonical = page.canonical
+
+    def answer(self, words):
+        if self.refusal is not None:
+            return Answer(1, self.canonical if "--stream" in words else b"", self.refusal.encode() + b"\n")
+        return Answer(0, self.canonical)
+
+
 program, folder, *tests = sys.argv[1:]
 judge = Judge()
 runs = {"all": 0, "faulty": 0}
@@ -264,6 +281,8 @@ WRITTEN = {"point": [0], "glyph": [0] * 8 + [1] * 5 + [2] + [3]}
 
 
 def read_text(page, count):
+    if isinstance(page, Lines):
+        return b"".join(page.pieces[: 1 + page.stream[:count].count(b"\n")])
     written = WRITTEN[page.name]
     return b"".join(page.pieces[: 1 + written[min(count, len(written) - 1)]])
 
@@ -537,6 +556,30 @@ def test_batch_writes():
     judge.close(f"writes: batch: each write fails in turn: {runs['faulty'] - before} faults")
 
 
+def test_make():
+    """Memory that is refused, reads and writes that fail, and short ones, where lines make a page."""
+    made = [Lines(POINT), Lines(GLYPH)]
+    wrong = Lines(GLYPH, b"WAIT 64\n", "line 5: no line of a list, at column 6")
+    polygon = Lines(next(page for page in PAGES if page.name == "polygon"))
+    before = runs["faulty"]
+    for words in MAKES:
+        for page in (*made, polygon, wrong):
+            for once in (1, 0):
+                test_memory(page, words, once)
+        for page in made:
+            for most in (65536, 7, 1):
+                for error in (errno.EIO, errno.EINTR, errno.EAGAIN):
+                    for once in (1, 0):
+                        test_reads(page, words, most, error, once)
+                        test_writes(page, words, page.answer(words), most, errno.EIO, once)
+                test_interrupted(page, words, most)
+        for page in (*made, polygon, wrong):
+            for most in (1, 2, 3, 1000):
+                got, _ = run_faulty(page, words, read_most=most, write_most=most)
+                judge.same(page.answer(words), got, f"short: {' '.join(words)}, {page.name}, {most} bytes at a time")
+    judge.close(f"make: memory, reads and writes that fail in turn: {runs['faulty'] - before} faults")
+
+
 FAULT_LINES = {"read": b"read fault\n", "write": rb"write fault after (0|[1-9][0-9]*) bytes\n"}
 
 
@@ -586,6 +629,7 @@ def main():
         test_errors,
         test_short,
         test_many_reads,
+        test_make,
         test_batch_memory,
         test_batch_reads,
         test_batch_writes,

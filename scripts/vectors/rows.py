@@ -63,8 +63,8 @@ def _more(case: Case, answer: Answer) -> Iterator[str]:
 
 
 def files() -> List[Path]:
-    """The files of vectors, in the order of their names."""
-    return sorted(FOLDER.glob("*.rows"))
+    """The files of vectors of streams, in the order of their names."""
+    return sorted(set(FOLDER.glob("*.rows")) - {FOLDER / "lines.rows"})
 
 
 def vectors_of(file: Path) -> Iterator[Vector]:

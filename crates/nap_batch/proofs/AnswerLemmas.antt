@@ -13,7 +13,7 @@ use Rattle.nap_canon.specs.Streams.{IsAccepted, list_of}
 use Rattle.nap_command.specs.Commands.{count_line}
 use Rattle.nap_batch.specs.declared.request.Question.{Question}
 use Rattle.nap_batch.specs.declared.request.Question.TheVariants as question
-use Rattle.nap_batch.specs.Answers.{IsAnswer, IsPlaced, ShowsText, body_of, ended_line, refused_body_of, refused_line}
+use Rattle.nap_batch.specs.Answers.{AnswersPage, IsAnswer, IsPlaced, ShowsText, body_of, ended_line, refused_body_of, refused_line}
 
 -- What is read of a page makes the answer to its request.
 
@@ -34,28 +34,28 @@ answers_placed budget p text (Err r) line h is =
 
 -- A page is accepted, and its entries were counted.
 pub answers_accepted : (q : Question) (budget : ℕ) (p line body : List ℕ) (count : Option ℕ) → IsAccepted budget p → IsCount count (length (list_of budget p)) →
-    IfSome count (λ n. line ≡ count_line n) × IsSome count → body ≡ body_of q budget p → IsAnswer q budget p line body
+    IfSome count (λ n. line ≡ count_line n) × IsSome count → body ≡ body_of q budget p → AnswersPage q budget p line body
 answers_accepted q budget p line body (Some n) accepted is shows same = inl (record { accepted = accepted; line_is = shows.0 ∙ ap count_line is; body_is = same })
 answers_accepted q budget p line body None accepted is shows same = cc
 
 -- A page is refused, to another question than `check`, and there is no body.
 module _ (q : Question) (apart : q ≢ question.Check) (budget : ℕ) (p : List ℕ) (none : refused_body_of q budget p ≡ []) where
-  lacking : (line body : List ℕ) (place : ℕ) → BreaksWithin budget p place → line ≡ refused_line (record { fault = fault.Memory; place = place }) → body ≡ [] → IsAnswer q budget p line body
+  lacking : (line body : List ℕ) (place : ℕ) → BreaksWithin budget p place → line ≡ refused_line (record { fault = fault.Memory; place = place }) → body ≡ [] → AnswersPage q budget p line body
   lacking line body place h is empty =
       inr (inr (record { place = place; breaks = h; counting = λ check. absurd (apart check); line_is = is; body_is = empty }))
 
-  refusing : (line body : List ℕ) (r : Refusal) → r.fault ≢ fault.Memory → (means budget p).refusal ≡ Some r → line ≡ refused_line r → body ≡ [] → IsAnswer q budget p line body
+  refusing : (line body : List ℕ) (r : Refusal) → r.fault ≢ fault.Memory → (means budget p).refusal ≡ Some r → line ≡ refused_line r → body ≡ [] → AnswersPage q budget p line body
   refusing line body r own h is empty = inr (inl (record { refusal = r; own = own; refused = h; line_is = is; body_is = empty ∙ sym none }))
 
   -- its sink can't fail
   pub answers_refused : {S : Type 0} (g : Ghosts S) (s : S) (f : Fault) (place : ℕ) → IsCounted g s budget p (Err (record { fault = f; place = place })) →
-      (sound : (t : S) → g.failed t ≡ false) (line body : List ℕ) → (line ≡ refused_line (record { fault = f; place = place })) × (body ≡ []) → IsAnswer q budget p line body
+      (sound : (t : S) → g.failed t ≡ false) (line body : List ℕ) → (line ≡ refused_line (record { fault = f; place = place })) × (body ≡ []) → AnswersPage q budget p line body
   answers_refused g s fault.Memory place h sound line body is = lacking line body place h.counts.0 is.0 is.1
   answers_refused g s fault.Sink place h sound line body is = let (breaks, (t, failed)) = h.counts in cc (sound t)
   answers_refused g s f place h sound line body is = refusing line body (record { fault = f; place = place }) (λ wants. let bad : ⊥ = cc in absurd bad) h.counts is.0 is.1
 
   -- so is one whose canonical text was to be made
-  answers_unspelled : (r : Refusal) → RefusesPage budget p r → (line body : List ℕ) → (line ≡ refused_line r) × (body ≡ []) → IsAnswer q budget p line body
+  answers_unspelled : (r : Refusal) → RefusesPage budget p r → (line body : List ℕ) → (line ≡ refused_line r) × (body ≡ []) → AnswersPage q budget p line body
   answers_unspelled r h line body is =
       elim (is_memory r.fault) [
         | inl wanting ↦ lacking line body r.place (h.memory wanting) (is.0 ∙ ap (λ (f : Fault). refused_line (record { fault = f; place = r.place })) wanting) is.1

@@ -153,6 +153,7 @@ name_short question.Check = omega arith
 name_short question.List = omega arith
 name_short question.Canon = omega arith
 name_short question.Places = omega arith
+name_short question.Make = omega arith
 
 line_short : (line : List ℕ) (h : RequestLine) → IsLine line h → length line ≤ 24
 line_short line h is =
@@ -172,7 +173,7 @@ long_line held none long more asked rest c budget page is same =
 -- Requests are cut in one way.
 
 abbrev named : List ℕ → Question
-named (x ∷ y ∷ xs) = if y == 105 then question.List else (if y == 108 then question.Places else (if y == 97 then question.Canon else question.Check))
+named (x ∷ y ∷ xs) = if x == 109 then question.Make else (if y == 105 then question.List else (if y == 108 then question.Places else (if y == 97 then question.Canon else question.Check)))
 named _ = question.Check
 
 named_is : (c : Question) → named (name_of c) ≡ c

@@ -66,6 +66,7 @@ name_above question.Check = omega arith
 name_above question.List = omega arith
 name_above question.Canon = omega arith
 name_above question.Places = omega arith
+name_above question.Make = omega arith
 
 pub digits_above : (ds : List ℕ) → AllDigits 10 ds → Above ds
 digits_above [] all = tt

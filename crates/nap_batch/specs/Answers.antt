@@ -9,12 +9,16 @@ use Rattle.nap_canon.specs.Streams.{IsAccepted, list_of}
 use Rattle.nap_canon.specs.Text.{text}
 use Rattle.nap_lines.specs.Lines.{line}
 use Rattle.nap_lines.specs.Listing.{lines}
+use Rattle.nap_line_reader.specs.declared.fault.MakeFault.{MakeFault}
+use Rattle.nap_maker.specs.Making.{IsMadeOf}
+use Rattle.nap_maker.specs.Texts.{DeniesLines}
 use Rattle.nap_command.specs.declared.command.Action.{Action}
 use Rattle.nap_command.specs.declared.command.Action.TheVariants as action
 use Rattle.nap_command.specs.declared.command.Command.{Command}
 use Rattle.nap_command.specs.declared.failure.Failure.{Failure}
 use Rattle.nap_command.specs.Commands.{Denies, count_line}
-use Rattle.nap_command.specs.Failures.{refusal_text}
+use Rattle.nap_command.specs.Failures.{failure_text, refusal_text}
+use Rattle.nap_command.specs.Making.{failure_of}
 use Rattle.nap_batch.specs.declared.request.Question.{Question}
 use Rattle.nap_batch.specs.declared.request.Question.TheVariants as question
 
@@ -76,6 +80,7 @@ body_of question.Check budget p = []
 body_of question.List budget p = lines (list_of budget p)
 body_of question.Canon budget p = text (list_of budget p)
 body_of question.Places budget p = places budget p
+body_of question.Make budget p = []
 
 -- the body of an answer where the page is refused
 abbrev pub refused_body_of : Question → ℕ → List ℕ → List ℕ
@@ -105,9 +110,35 @@ pub record Lacks (q : Question) (budget : ℕ) (p line body : List ℕ) : Type 0
   pub line_is : line ≡ refused_line (refusal fault.Memory place)
   pub body_is : body ≡ []
 
--- the line and the body of an answer
+-- the line and the body of an answer to a question on a page
+abbrev pub AnswersPage : Question → ℕ → List ℕ → List ℕ → List ℕ → Type 0
+AnswersPage q budget p line body = Accepts q budget p line body ⊎ (Refuses q budget p line body ⊎ Lacks q budget p line body)
+
+-- The page that lines make.
+
+-- the line of an answer where lines make no page: what `make` tells
+abbrev pub unmade_line : MakeFault → List ℕ
+unmade_line fault = failure_text (failure_of fault) ++ 10 ∷ []
+
+-- the lines make the page that is the body, and the line says how many entries that has
+pub record MakesPage (p line body : List ℕ) : Type 0 where
+  pub made : IsMadeOf body p
+  pub line_is : line ≡ count_line (length made.entries)
+
+-- the lines make none, and the line says why
+pub record MakesNoPage (p line body : List ℕ) : Type 0 where
+  pub fault : MakeFault
+  pub denied : DeniesLines p fault
+  pub line_is : line ≡ unmade_line fault
+  pub body_is : body ≡ []
+
+abbrev pub AnswersLines : List ℕ → List ℕ → List ℕ → Type 0
+AnswersLines p line body = MakesPage p line body ⊎ MakesNoPage p line body
+
+-- the line and the body of an answer; lines are charged nothing
 abbrev pub IsAnswer : Question → ℕ → List ℕ → List ℕ → List ℕ → Type 0
-IsAnswer q budget p line body = Accepts q budget p line body ⊎ (Refuses q budget p line body ⊎ Lacks q budget p line body)
+IsAnswer question.Make budget p line body = AnswersLines p line body
+IsAnswer q budget p line body = AnswersPage q budget p line body
 
 -- an answer as it goes out
 abbrev pub answer_text : List ℕ → List ℕ → List ℕ

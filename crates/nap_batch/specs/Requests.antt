@@ -25,6 +25,7 @@ name_of question.Check = codes "check"
 name_of question.List = codes "list"
 name_of question.Canon = codes "canon"
 name_of question.Places = codes "places"
+name_of question.Make = codes "make"
 
 -- the line of a request, without its end
 pub record IsLine (line : List ℕ) (r : RequestLine) : Type 0 where

@@ -2,14 +2,18 @@
 ghost use Rattle.std.specs.Prelude.{◌≡◌, [], IfOk, IfSome, IsSome};
 ghost use Rattle.nap_command.specs.declared.command.Action.TheVariants.{Check};
 ghost use Rattle.nap_command.specs.Commands.{PrintsBy, count_line};
-ghost use Rattle.nap_batch.specs.Answers.{IsAnswer, ShowsText, answer_text, ended_line, page_command, refused_line};
+ghost use Rattle.nap_batch.specs.Answers.{AnswersLines, IsAnswer, ShowsText, answer_text, ended_line, page_command, refused_line, unmade_line};
 
 use crate::places::read_places;
 use crate::request::Question;
 use itoa::Buffer;
 use nap_canon::{PageText, page_text};
-use nap_command::{Action, Command, Printout, answer_stream, count_line, refusal_line};
+use nap_command::{
+    Action, Command, Printout, answer_stream, count_line, lines_failure, refusal_line,
+};
+use nap_line_reader::MakeFault;
 use nap_lines::LineSink;
+use nap_maker::page_of_lines;
 use nap_reader::{Budget, Refusal, read_counted};
 use std::alloc::{AllocError, Global};
 
@@ -129,6 +133,30 @@ fn placed(alloc: Global, budget: Budget, page: &[u8]) -> Result<Answer, AllocErr
     })
 }
 
+/// The answer that tells why lines make no page.
+fn unmade(alloc: Global, fault: MakeFault) -> Result<Answer, AllocError>
+    ensures { IfOk result (λ a. (a.line.items ≡ unmade_line fault) × (a.body.items ≡ [])) }
+{
+    let line = lines_failure(fault).line();
+    Ok(Answer {
+        line: Vec::from_slice(alloc, line.as_bytes())?,
+        body: Vec::new(alloc),
+    })
+}
+
+/// The answer that shows the page that lines make.
+fn made(alloc: Global, lines: &[u8]) -> Result<Answer, AllocError>
+    ensures { IfOk result (λ a. AnswersLines lines.now a.line.items a.body.items) }
+{
+    match page_of_lines(alloc, lines) {
+        Ok(page) => Ok(Answer {
+            line: count_line(alloc, page.count as u64)?,
+            body: page.text,
+        }),
+        Err(fault) => unmade(alloc, fault),
+    }
+}
+
 /// The answer to a page, or that there was no memory for it, other than in a reading.
 pub fn answer_page(
     alloc: Global,
@@ -149,5 +177,6 @@ pub fn answer_page(
         Question::List => listed(alloc, budget, page),
         Question::Canon => spelled(alloc, budget, page),
         Question::Places => placed(alloc, budget, page),
+        Question::Make => made(alloc, page),
     }
 }

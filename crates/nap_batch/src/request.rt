@@ -16,6 +16,8 @@ pub enum Question {
     Canon,
     /// A line for each entry, after the place of the byte with which it came.
     Places,
+    /// The page that its lines make.
+    Make,
 }
 
 /// The most bytes of a page.
@@ -45,6 +47,7 @@ impl Question {
             b"list" => Some(Question::List),
             b"canon" => Some(Question::Canon),
             b"places" => Some(Question::Places),
+            b"make" => Some(Question::Make),
             _ => None,
         }
     }

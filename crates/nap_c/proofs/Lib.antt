@@ -2,4 +2,5 @@ mod AnswerLemmas
 mod CheckLemmas
 mod KeptLemmas
 mod LooseLemmas
+mod MadeLemmas
 mod TextLemmas

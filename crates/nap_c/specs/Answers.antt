@@ -1,4 +1,4 @@
-use Rattle.std.specs.Prelude.{ℕ, ◌≡◌, ◌≢◌, ◌⊎◌, ◌-◌, ◌<◌, ◌≤◌, List, [], ◌++◌, Some, Result, Ok, Err, drop, length}
+use Rattle.std.specs.Prelude.{ℕ, ◌≡◌, ◌≢◌, ◌⊎◌, ◌-◌, ◌<◌, ◌≤◌, Bool, true, false, List, [], ◌++◌, Some, Result, Ok, Err, drop, length}
 use lib.ListN.{replicate}
 use Rattle.nap_reader.specs.declared.fault.Fault.TheVariants as fault
 use Rattle.nap_reader.specs.declared.fault.Refusal.{Refusal}
@@ -47,6 +47,11 @@ ending (Ok n) size = accepting size
 ending (Err r) size = refusing r size
 
 -- A text and a room.
+
+-- a text was put in front in the room, of which nothing else changed; or the room is too small, and nothing changed
+abbrev pub IsGiven : List ℕ → List ℕ → List ℕ → Bool → Type 0
+IsGiven text old new true = (length text ≤ length old) × (new ≡ text ++ drop (length text) old)
+IsGiven text old new false = (length old < length text) × (new ≡ old)
 
 -- the text stands in front in the room, of which nothing else changed
 pub record Gives (text old new : List ℕ) (whole a : Answer) : Type 0 where

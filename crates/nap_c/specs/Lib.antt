@@ -1,5 +1,6 @@
 pub mod Answers
 pub mod Checks
 pub mod Kept
+pub mod Lines
 pub mod Pieces
 pub mod Texts

@@ -1,19 +1,19 @@
 //! What comes of a page, as it is answered to C.
 ghost use Rattle.std.specs.Prelude.{◌≡◌, length, MatchResult};
-ghost use Rattle.nap_c.specs.Answers.{Offers, accepting, denying, ending, missing, refusing};
+ghost use Rattle.nap_c.specs.Answers.{IsGiven, Offers, accepting, denying, ending, missing, refusing};
 
 use crate::name::{NAME, padded_name};
 use nap_batch::Placed;
 use nap_reader::Refusal;
 
 /// The page is accepted.
-const ACCEPTED: u32 = 0;
+pub(crate) const ACCEPTED: u32 = 0;
 
 /// The page is refused.
-const REFUSED: u32 = 1;
+pub(crate) const REFUSED: u32 = 1;
 
 /// The room is too small for the text.
-const SMALL: u32 = 2;
+pub(crate) const SMALL: u32 = 2;
 
 /// There is no such budget.
 const NO_BUDGET: u32 = 3;
@@ -95,17 +95,27 @@ impl Answer {
     }
 }
 
+/// Copies a text to the front of a room, if it is as large; says whether it is.
+pub(crate) fn give(text: &[u8], room: &mut [u8]) -> bool
+    ensures { IsGiven text.now room.old room.new result }
+{
+    if text.len() > room.len() {
+        return false;
+    }
+    room[..text.len()].copy_from_slice(text);
+    true
+}
+
 /// Copies a text to the front of a room, and gives its answer; or says that the room is too small for it.
 pub(crate) fn offer(text: &[u8], room: &mut [u8], answer: Answer) -> Answer
     ensures { Offers text.now room.old room.new answer result }
 {
-    if text.len() > room.len() {
+    if !give(text, room) {
         return Answer {
             status: SMALL,
             ..answer
         };
     }
-    room[..text.len()].copy_from_slice(text);
     answer
 }
 

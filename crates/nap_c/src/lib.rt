@@ -6,6 +6,7 @@ mod call;
 mod check;
 mod checking;
 mod loose;
+mod made;
 mod name;
 mod pieces;
 mod text;
@@ -15,4 +16,5 @@ pub use call::{
     naplps_canon, naplps_canon_form1, naplps_check, naplps_is_plain, naplps_list, naplps_places,
 };
 pub use checking::Checking;
+pub use made::{Made, naplps_make};
 pub use pieces::{naplps_check_begin, naplps_check_drop, naplps_check_feed, naplps_check_finish};

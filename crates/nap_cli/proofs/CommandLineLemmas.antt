@@ -1,7 +1,7 @@
 use Rattle.std.proofs.Common.{◌≡◌, ◌⊎◌, ◌∙◌, inl, inr, List, Option, Some, None, true, refl, sym, ap, ap₂, subst, codes, option_map}
 use Rattle.std.specs.Box.{box_value}
 use Rattle.std.specs.Prelude.{Box, MatchOption, []}
-use Rattle.clap.specs.Words.{HasKind, HasMatchesOf, Row, Text, fault_of, is_simple, is_simple_and_free, kind_of, subcommand_name_of, subcommand_of, subcommand_rows}
+use Rattle.clap.specs.Words.{HasKind, HasMatchesOf, Row, Text, fault_of, is_simple, is_simple_and_free, kind_of, one_of, subcommand_name_of, subcommand_of, subcommand_rows}
 use Rattle.clap.specs.declared.error.kind.ErrorKind.{ErrorKind}
 use Rattle.clap.specs.declared.error.kind.ErrorKind.TheVariants as kind
 use Rattle.clap.specs.declared.parser.matches.ArgMatches.{ArgMatches}
@@ -11,7 +11,7 @@ use Rattle.clap.specs.declared.error.Error.{Error}
 use Rattle.clap.proofs.OnLiterals.{clap_on_literals}
 use Rattle.nap_cli.specs.declared.words.Job.{Job}
 use Rattle.nap_cli.specs.declared.words.Job.TheVariants as job
-use Rattle.nap_cli.specs.CommandLine.{Chooses, ChoosesJob, IsFault, SaysJob, action_name, command_line, job_name}
+use Rattle.nap_cli.specs.CommandLine.{Chooses, ChoosesJob, IsFault, SaysJob, action_name, command_line, flag_text, job_name}
 
 pub line_is_simple : is_simple command_line ≡ true
 unfolding clap_on_literals
@@ -70,12 +70,16 @@ pub nothing_chosen : (words : List Text) (name : Text) (rows : List Row) → sub
 nothing_chosen words name rows entered none (job.Page c) says =
     let same = some_pair (action_name c.action) name says.rows rows (sym says.entered ∙ entered) in
     none (job.Page c) same.0 (subst (λ (x : List Row). Chooses x c) same.1 says.chooses)
+nothing_chosen words name rows entered none (job.Make stream) says =
+    let same = some_pair (codes "make") name says.rows rows (sym says.entered ∙ entered) in
+    none (job.Make stream) same.0 (subst (λ (x : List Row). one_of (codes "stream") x ≡ Some (flag_text stream)) same.1 says.chooses)
 nothing_chosen words name rows entered none job.Batch says =
     let same = some_pair (codes "batch") name says.rows rows (sym says.entered ∙ entered) in
     none job.Batch same.0 tt
 
 pub nothing_entered : (words : List Text) → subcommand_of command_line words ≡ None → (j : Job) → SaysJob words j → ⊥
 nothing_entered words entered (job.Page c) says = none_or_some (action_name c.action, says.rows) (sym entered ∙ says.entered)
+nothing_entered words entered (job.Make stream) says = none_or_some (codes "make", says.rows) (sym entered ∙ says.entered)
 nothing_entered words entered job.Batch says = none_or_some (codes "batch", says.rows) (sym entered ∙ says.entered)
 
 -- a job, or none, that has the options that clap found
@@ -89,6 +93,7 @@ module _ (words : List Text) (m : ArgMatches) (name : Text) (rows : List Row) (h
 
   made : (j : Job) → fault_of command_line words ≡ [] → job_name j ≡ name → ChoosesJob rows j → SaysJob words j
   made (job.Page c) right same chosen = record { right = right; rows = rows; entered = found ∙ ap (λ (t : Text). Some (t, rows)) (sym same); chooses = chosen }
+  made (job.Make stream) right same chosen = record { right = right; rows = rows; entered = found ∙ ap (λ (t : Text). Some (t, rows)) (sym same); chooses = chosen }
   made job.Batch right same chosen = record { right = right; rows = rows; entered = found ∙ ap (λ (t : Text). Some (t, rows)) (sym same) }
 
   pub says_job : (r : Option Job) (j : Job) → fault_of command_line words ≡ [] → IsJob r → r ≡ Some j → SaysJob words j

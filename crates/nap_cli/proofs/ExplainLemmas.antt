@@ -40,4 +40,7 @@ shows_failing before after text failure.Excluded h e once = absurd h
 shows_failing before after text failure.Read h e once = absurd h
 shows_failing before after text failure.Hex h e once = absurd h
 shows_failing before after text (failure.Refused r) h e once = absurd h
+shows_failing before after text (failure.Line number column) h e once = absurd h
+shows_failing before after text (failure.Misfit number) h e once = absurd h
+shows_failing before after text (failure.Open number opening) h e once = absurd h
 shows_failing before after text failure.Memory h e once = absurd h

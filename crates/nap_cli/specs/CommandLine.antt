@@ -12,6 +12,7 @@ use Rattle.nap_command.specs.declared.command.Command.{Command}
 use Rattle.nap_command.specs.Devices.{Devices}
 use Rattle.nap_list.specs.declared.device.inlet.Inlet as inlet
 use Rattle.nap_command.specs.Commands.{Ran}
+use Rattle.nap_command.specs.Making.{Made}
 use Rattle.nap_batch.specs.Sessions.{Served}
 use Rattle.nap_cli.specs.declared.words.Job.{Job}
 use Rattle.nap_cli.specs.declared.words.Job.TheVariants as job
@@ -56,9 +57,13 @@ page_commands usual =
     with_subcommand (with_subcommand (with_subcommand program_app (command_app usual (codes "list")).top) (command_app usual (codes "check")).top)
     (canon_app usual).top
 
+-- `make`, which reads lines and may print as it reads
+abbrev pub make_app : App
+make_app = with_rule (new_app (codes "make")) stream_rule
+
 -- and `batch`, which has no option
 abbrev pub command_line_by : Text → App
-command_line_by usual = with_subcommand (page_commands usual) (new_app (codes "batch")).top
+command_line_by usual = with_subcommand (with_subcommand (page_commands usual) make_app.top) (new_app (codes "batch")).top
 
 -- the command line, with the usual budget where none is given
 abbrev pub command_line : App
@@ -105,18 +110,28 @@ pub record SaysBatch (words : List Text) : Type 0 where
   pub rows : List Row
   pub entered : subcommand_of command_line words ≡ Some (codes "batch", rows)
 
--- words say a command of one page, or `batch`
+-- words that clap takes, and reads as `make`, with `--stream` or without
+pub record SaysMake (words : List Text) (stream : Bool) : Type 0 where
+  pub right : fault_of command_line words ≡ []
+  pub rows : List Row
+  pub entered : subcommand_of command_line words ≡ Some (codes "make", rows)
+  pub chooses : one_of (codes "stream") rows ≡ Some (flag_text stream)
+
+-- words say a command of one page, `make` or `batch`
 abbrev pub SaysJob : List Text → Job → Type 0
 SaysJob words (job.Page c) = Says words c
+SaysJob words (job.Make stream) = SaysMake words stream
 SaysJob words job.Batch = SaysBatch words
 
 abbrev pub job_name : Job → Text
 job_name (job.Page c) = action_name c.action
+job_name (job.Make stream) = codes "make"
 job_name job.Batch = codes "batch"
 
 -- what clap found of the options is that of this job
 abbrev pub ChoosesJob : List Row → Job → Type 0
 ChoosesJob rows (job.Page c) = Chooses rows c
+ChoosesJob rows (job.Make stream) = one_of (codes "stream") rows ≡ Some (flag_text stream)
 ChoosesJob rows job.Batch = Unit {0}
 
 -- what clap finds in words that say no command: this kind of fault, or want of memory
@@ -124,9 +139,10 @@ abbrev pub IsFault : List Text → ErrorKind → Type 0
 IsFault words k =
     (k ≡ kind.OutOfMemory) ⊎ (IsAmong k (fault_of command_line words) ⊎ ((k ≡ kind.MissingSubcommand) × ((j : Job) → SaysJob words j → ⊥)))
 
--- The program ran on an input, from the devices before to those after: the command that the words say, of one page or
--- `batch`; or none, and then nothing was read, and what clap finds in the words was told.
+-- The program ran on an input, from the devices before to those after: the command that the words say, of one page,
+-- `make` or `batch`; or none, and then nothing was read, and what clap finds in the words was told.
 abbrev pub Answers : {I : Type 0} → inlet.Ghosts I → List Text → I → I → Devices → Devices → ℕ → Type 0
 Answers i words start end before after status =
     ((c : Command) × Says words c × Ran i c start end before after status)
-    ⊎ ((SaysBatch words × Served before after status) ⊎ ((k : ErrorKind) × IsFault words k × Unread before after × Explains k (outputs_of before) (outputs_of after) status))
+    ⊎ (((stream : Bool) × SaysMake words stream × Made stream before after status)
+    ⊎ ((SaysBatch words × Served before after status) ⊎ ((k : ErrorKind) × IsFault words k × Unread before after × Explains k (outputs_of before) (outputs_of after) status)))

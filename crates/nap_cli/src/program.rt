@@ -10,7 +10,7 @@ use crate::wrong::text_of;
 use clap::Error;
 use clap::error::ErrorKind;
 use nap_batch::batch;
-use nap_command::{Failure, execute, tell, write_whole};
+use nap_command::{Failure, execute, execute_make, tell, write_whole};
 use nap_list::{Inlet, Outlet};
 use std::alloc::Global;
 
@@ -60,6 +60,7 @@ pub fn run<I: Inlet, O: Outlet + Drop, E: Outlet>(
 {
     match parse(alloc, words) {
         Ok(Job::Page(command)) => execute(alloc, &command, input, output, errors),
+        Ok(Job::Make(stream)) => execute_make(alloc, stream, input, output, errors),
         Ok(Job::Batch) => {
             let mut output = output;
             let status = batch(alloc, input, &mut output, errors);

@@ -1,9 +1,9 @@
 //! How the words of a command line say a command.
-ghost use Rattle.std.specs.Prelude.{◌≡◌, ◌≢◌, ◌⊎◌, Bool, false, IfErr, IfOk, MatchOption, decimal, map, string_bytes};
-ghost use Rattle.clap.specs.Words.{app_of, found_of, kind_of, rows_of};
+ghost use Rattle.std.specs.Prelude.{◌≡◌, ◌≢◌, ◌⊎◌, Bool, false, IfErr, IfOk, MatchOption, Some, codes, decimal, map, string_bytes};
+ghost use Rattle.clap.specs.Words.{app_of, found_of, kind_of, one_of, rows_of};
 ghost use Rattle.clap.specs.declared.builder.command.Command.TheViews.{out-Command as fields_of};
 ghost use Rattle.nap_reader.specs.Budgets.{usual_budget};
-ghost use Rattle.nap_cli.specs.CommandLine.{Chooses, ChoosesJob, ChoosesStream, IsFault, SaysJob, action_name, canon_app, command_app, command_line_by, job_name};
+ghost use Rattle.nap_cli.specs.CommandLine.{Chooses, ChoosesJob, ChoosesStream, IsFault, SaysJob, action_name, canon_app, command_app, command_line_by, flag_text, job_name, make_app};
 
 use clap::error::ErrorKind;
 use clap::{Arg, ArgAction, ArgMatches, Error, value_parser};
@@ -24,6 +24,8 @@ const LIST: &str = "list";
 const CHECK: &str = "check";
 
 const CANON: &str = "canon";
+
+const MAKE: &str = "make";
 
 const BATCH: &str = "batch";
 
@@ -93,6 +95,20 @@ Example:
 prints
   0e215f265240404040404040";
 
+const MAKE_USAGE: &str = "naplps make [--stream] < LINES";
+
+const MAKE_HELP: &str = "Makes the page of lines as 'list' prints them: its canonical stream";
+
+const MAKE_EXAMPLE: &str =
+    "Lines that are no page's print nothing; standard error says the first that is wrong, with the
+status 1. With --stream the canonical text of the lines before it is printed.
+Statuses are those of 'naplps --help'.
+
+Example:
+  echo 'POINT 4194304,4194304 pel=0,0 colour=own-start' | naplps make | naplps list
+prints
+  POINT 4194304,4194304 pel=0,0 colour=own-start";
+
 const BATCH_USAGE: &str = "naplps batch < REQUESTS";
 
 const BATCH_HELP: &str = "Answers requests, one after another: many pages through one process";
@@ -115,6 +131,8 @@ prints
 pub enum Job {
     /// A command on one page.
     Page(Command),
+    /// `make`, which prints as it reads or at the end.
+    Make(bool),
     /// `batch`.
     Batch,
 }
@@ -184,6 +202,23 @@ fn canon_command<'a>(alloc: Global, texts: &'a BudgetTexts) -> Result<clap::Comm
     subcommand(alloc, texts, CANON, CANON_USAGE, CANON_HELP, CANON_EXAMPLE)?.arg(stream)
 }
 
+/// `make`, which has one option.
+fn make_command<'a>(alloc: Global) -> Result<clap::Command<'a>, AllocError>
+    ensures { IfOk result (λ c. (app_of c ≡ make_app) × ((fields_of c).has_globals ≡ false)) }
+{
+    let stream = Arg::new(alloc, STREAM)
+        .long(STREAM)
+        .action(ArgAction::SetTrue)
+        .help(
+            "Prints while it reads, and keeps one line at most,\nso memory doesn't grow with the page",
+        );
+    clap::Command::new(alloc, MAKE)
+        .override_usage(MAKE_USAGE)
+        .about(MAKE_HELP)
+        .after_help(MAKE_EXAMPLE)
+        .arg(stream)
+}
+
 /// The whole command line.
 fn program<'a>(alloc: Global, texts: &'a BudgetTexts) -> Result<clap::Command<'a>, AllocError>
     ensures { IfOk result (λ c. app_of c ≡ command_line_by (string_bytes texts.entry.now.usual)) }
@@ -199,6 +234,7 @@ fn program<'a>(alloc: Global, texts: &'a BudgetTexts) -> Result<clap::Command<'a
         .subcommand(subcommand(alloc, texts, LIST, LIST_USAGE, LIST_HELP, LIST_EXAMPLE)?)?
         .subcommand(subcommand(alloc, texts, CHECK, CHECK_USAGE, CHECK_HELP, CHECK_EXAMPLE)?)?
         .subcommand(canon_command(alloc, texts)?)?
+        .subcommand(make_command(alloc)?)?
         .subcommand(
             // It has no option.
             clap::Command::new(alloc, BATCH)
@@ -245,6 +281,10 @@ fn job_named(name: &str, options: &ArgMatches<'_>) -> Option<Job>
     if name == BATCH {
         return Some(Job::Batch);
     }
+    if name == MAKE {
+        let stream = stream_chosen(options)?;
+        return Some(Job::Make(stream));
+    }
     let command = command_named(name, options)?;
     Some(Job::Page(command))
 }
@@ -276,16 +316,22 @@ fn action_named(name: &str) -> Option<Action>
     }
 }
 
+/// Whether `--stream` is among these options.
+fn stream_chosen(options: &ArgMatches<'_>) -> Option<bool>
+    ensures { MatchOption result ((stream : Bool) → one_of (codes "stream") (rows_of (found_of options.now)) ≡ Some (flag_text stream) → ⊥)
+        (λ stream. one_of (codes "stream") (rows_of (found_of options.now)) ≡ Some (flag_text stream)) }
+{
+    let stream = options.get_one(STREAM)?;
+    Some(stream)
+}
+
 /// Whether an action prints as it reads, by these options of its command.
 fn streams(action: Action, options: &ArgMatches<'_>) -> Option<bool>
     ensures { MatchOption result ((stream : Bool) → ChoosesStream action (rows_of (found_of options.now)) stream → ⊥)
         (λ stream. ChoosesStream action (rows_of (found_of options.now)) stream) }
 {
     match action {
-        Action::Canon => {
-            let stream = options.get_one(STREAM)?;
-            Some(stream)
-        }
+        Action::Canon => stream_chosen(options),
         _ => Some(false),
     }
 }

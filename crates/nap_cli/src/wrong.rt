@@ -6,7 +6,7 @@ use nap_reader::Budget;
 use std::alloc::{AllocError, Global};
 
 /// Behind what clap says of a word that is no command.
-const COMMANDS: &str = "The commands are list, check, canon and batch.\n";
+const COMMANDS: &str = "The commands are list, check, canon, make and batch.\n";
 
 /// Behind what clap says, where a word may be meant for the file of a page.
 const HINT: &str = "A page is read from standard input: naplps check < FILE\n";

@@ -2,3 +2,4 @@ pub mod CommandLemmas
 pub mod DeviceLemmas
 pub mod AnswerLemmas
 pub mod TellLemmas
+pub mod MakeLemmas

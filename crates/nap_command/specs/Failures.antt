@@ -40,12 +40,18 @@ failure_text failure.Excluded = codes "--hex and --stream exclude each other"
 failure_text failure.Read = codes "read fault"
 failure_text failure.Hex = codes "hex fault"
 failure_text (failure.Refused r) = refusal_text r
+failure_text (failure.Line number column) = codes "line " ++ decimal number ++ codes ": no line of a list, at column " ++ decimal column
+failure_text (failure.Misfit number) = codes "line " ++ decimal number ++ codes ": can't come here"
+failure_text (failure.Open number opening) = codes "line " ++ decimal number ++ codes ": the definition of line " ++ decimal opening ++ codes " isn't ended"
 failure_text (failure.Write taken) = codes "write fault after " ++ decimal taken ++ codes " bytes"
 failure_text failure.Memory = codes "no memory"
 
 -- the exit status
 abbrev pub status_of : Failure → ℕ
 status_of (failure.Refused r) = 1
+status_of (failure.Line number column) = 1
+status_of (failure.Misfit number) = 1
+status_of (failure.Open number opening) = 1
 status_of failure.Excluded = 2
 status_of _ = 3
 

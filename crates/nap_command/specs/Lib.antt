@@ -1,3 +1,4 @@
 pub mod Failures
 pub mod Devices
 pub mod Commands
+pub mod Making

@@ -25,7 +25,7 @@ pub fn tell<E: Outlet>(failure: Failure, errors: &mut E) -> u8
 }
 
 /// Tells of a failure, if a command ended with one, and answers the exit status.
-fn conclude<E: Outlet>(ended: Result<Verdict, Failure>, errors: &mut E) -> u8
+pub(crate) fn conclude<E: Outlet>(ended: Result<Verdict, Failure>, errors: &mut E) -> u8
     ensures { (e : List ℕ) × Appends (E.taken errors.old) (E.taken errors.new) e × Tells e (E.failed errors.new) ended result }
 {
     match ended {

@@ -1,5 +1,5 @@
 //! Why a command fails.
-ghost use Rattle.std.specs.Prelude.{◌≡◌, ◌≤◌, ◌+◌, ◌++◌, ◌∷◌, [], decimal, length};
+ghost use Rattle.std.specs.Prelude.{◌≡◌, ◌≤◌, ◌+◌, ◌++◌, ◌∷◌, [], codes, decimal, length};
 ghost use Rattle.nap_command.specs.declared.failure.Failure.TheVariants.{Memory, Read, Refused, Write};
 ghost use Rattle.nap_command.specs.Failures.{failure_text, refusal_text, status_of};
 
@@ -23,6 +23,12 @@ pub enum Failure {
     Hex,
     /// The stream was refused.
     Refused(Refusal),
+    /// The line of this number is no line of a list, from this column on.
+    Line(u64, u64),
+    /// The entry of the line with this number can't come there.
+    Misfit(u64),
+    /// The lines end with this number, and the definition of the second isn't ended.
+    Open(u64, u64),
     /// The output failed once it had taken this many bytes.
     Write(u64),
     /// A growth was refused, other than in a reading.
@@ -60,6 +66,7 @@ impl Failure {
     {
         match self {
             Failure::Refused(_) => 1,
+            Failure::Line(..) | Failure::Misfit(_) | Failure::Open(..) => 1,
             Failure::Excluded => 2,
             _ => 3,
         }
@@ -75,6 +82,21 @@ impl Failure {
             Failure::Read => line.push_str("read fault"),
             Failure::Hex => line.push_str("hex fault"),
             Failure::Refused(refusal) => push_refusal(&mut line, refusal),
+            Failure::Line(number, column) => {
+                line = numbered(number);
+                line.push_str(": no line of a list, at column ");
+                push_number(&mut line, column);
+            }
+            Failure::Misfit(number) => {
+                line = numbered(number);
+                line.push_str(": can't come here");
+            }
+            Failure::Open(number, opening) => {
+                line = numbered(number);
+                line.push_str(": the definition of line ");
+                push_number(&mut line, opening);
+                line.push_str(" isn't ended");
+            }
             Failure::Write(taken) => push_write(&mut line, taken),
             Failure::Memory => line.push_str("no memory"),
         }
@@ -116,4 +138,15 @@ fn push_write(line: &mut ArrayString<LINE>, taken: u64)
     line.push_str("write fault after ");
     push_number(line, taken);
     line.push_str(" bytes");
+}
+
+/// How a line of a list begins that is told of.
+fn numbered(number: u64) -> ArrayString<LINE>
+    ensures text { result.bytes ≡ codes "line " ++ decimal number }
+    ensures few { length result.bytes ≤ 25 }
+{
+    let mut line = ArrayString::new();
+    line.push_str("line ");
+    push_number(&mut line, number);
+    line
 }

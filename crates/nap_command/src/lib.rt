@@ -6,6 +6,7 @@ mod command;
 mod device;
 mod execution;
 mod failure;
+mod make;
 mod name;
 
 pub use answer::{
@@ -15,4 +16,5 @@ pub use command::{Action, Command};
 pub use device::{read_whole, write_whole};
 pub use execution::{execute, tell};
 pub use failure::{Failure, LINE};
+pub use make::{execute_make, lines_failure};
 pub use name::fault_name;

@@ -210,17 +210,20 @@ module _ {S : Type 0} (g : Ghosts S) where
         }
 
     -- the lines end, and no definition is open
-    pub finishes_list : (p : List ℕ) → p ≡ lines es ++ [] → old.state.definition ≡ None → Finishes g s p old.sink (Ok tt)
-    finishes_list p parts closed = record {
-      entries = es;
-      so_far = so_far p [] parts;
-      are = record {
-        legal = record { fit = holds.fit; ended = subst (λ (u : State). u.definition ≡ None) holds.state closed };
-        in_range = All-weaker IsProper InRange (λ e proper. proper.in_range) es holds.proper;
-        lines_are = parts ∙ append-nil (lines es);
-      };
-      kept = holds.kept;
-    }
+    pub finishes_list : (p : List ℕ) → p ≡ lines es ++ [] → old.state.definition ≡ None → Finishes g s p old.sink (Ok old.lines)
+    finishes_list p parts closed = (
+      record {
+        entries = es;
+        so_far = so_far p [] parts;
+        are = record {
+          legal = record { fit = holds.fit; ended = subst (λ (u : State). u.definition ≡ None) holds.state closed };
+          in_range = All-weaker IsProper InRange (λ e proper. proper.in_range) es holds.proper;
+          lines_are = parts ∙ append-nil (lines es);
+        };
+        kept = holds.kept;
+      },
+      holds.count,
+    )
 
   -- bytes that stand behind those that were read
   behind_part : (p done rest : List ℕ) (es : List Entry) (part : List ℕ) → p ++ done ≡ lines es ++ part → p ++ (done ++ rest) ≡ lines es ++ (part ++ rest)

@@ -128,10 +128,15 @@ pub record MakesNoList {S : Type 0} (g : Ghosts S) (s : S) (p : List ℕ) (t : S
   pub why : MakesNone p entries fault
   pub kept : Kept g s entries t
 
--- the lines ended
-abbrev pub Finishes : {S : Type 0} → Ghosts S → S → List ℕ → S → Result (Unit {0}) MakeFault → Type 0
-Finishes g s p t (Ok done) = MakesList g s p t
+-- the lines ended, which are so many
+abbrev pub Finishes : {S : Type 0} → Ghosts S → S → List ℕ → S → Result ℕ MakeFault → Type 0
+Finishes g s p t (Ok n) = (made : MakesList g s p t) × (n ≡ length made.entries)
 Finishes g s p t (Err fault) = MakesNoList g s p t fault
+
+-- the entries of lines in memory were put into a sink that was s, so many; or the lines are no list's, or it failed
+abbrev pub PutsLines : {S : Type 0} → Ghosts S → S → List ℕ → S → Result ℕ MakeFault → Type 0
+PutsLines g s p t (Err faults.Write) = Stops g s p t faults.Write
+PutsLines g s p t result = Finishes g s p t result
 
 -- The input failed or was read too often. A sink that was s took the entries of the lines so far.
 pub record StopsReading {S : Type 0} (g : Ghosts S) (s : S) (p : List ℕ) (seen : Reading) (t : S) : Type 0 where

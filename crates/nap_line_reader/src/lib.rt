@@ -5,6 +5,8 @@ mod fault;
 mod line_reader;
 mod maker;
 mod making;
+mod memory;
 
 pub use fault::MakeFault;
 pub use making::{ListFault, make_list};
+pub use memory::put_lines;

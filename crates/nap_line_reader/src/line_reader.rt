@@ -93,8 +93,8 @@ impl<S: Sink> LineReader<S> {
         sink
     }
 
-    /// The input ends here.
-    pub(crate) fn finish(&self, alloc: Global) -> Result<(), MakeFault>
+    /// The input ends here. Returns how many lines there were.
+    pub(crate) fn finish(&self, alloc: Global) -> Result<usize, MakeFault>
         requires { IsReady S.Sink self.now }
         ensures { (s : S) (p : List ℕ) → Stands S.Sink s p self.now → Finishes S.Sink s p self.now.maker.sink result }
     {
@@ -108,6 +108,6 @@ impl<S: Sink> LineReader<S> {
                 opening: self.maker.opening,
             });
         }
-        Ok(())
+        Ok(self.maker.lines)
     }
 }

@@ -84,7 +84,7 @@ pub fn make_list<I: Inlet, S: Sink + Drop>(
     let made = reader.finish(alloc);
     let sink = reader.into_sink();
     match made {
-        Ok(()) => (sink, Ok(())),
+        Ok(_) => (sink, Ok(())),
         Err(fault) => (sink, Err(ListFault::Lines(fault))),
     }
 }

@@ -1,3 +1,4 @@
 pub mod PageLemmas
 pub mod PublicLaws
 pub mod TextLemmas
+pub mod DenyLemmas

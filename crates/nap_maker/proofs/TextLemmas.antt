@@ -1,7 +1,8 @@
 -- What a sink of canonical text wrote that failed amid an entry, and how often its output was flushed.
 
-use Rattle.std.proofs.Common.{ℕ, ◌≡◌, ◌||◌, ◌∙◌, Bool, true, false, List, [], ◌∷◌, ◌++◌, take, drop, refl, ap, sym, subst, append-nil, append_assoc, take-append-drop}
+use Rattle.std.proofs.Common.{ℕ, ◌≡◌, ◌||◌, ◌∙◌, Bool, true, false, List, [], ◌∷◌, ◌++◌, Option, Some, take, drop, refl, ap, sym, subst, append-nil, append_assoc, take-append-drop}
 use Rattle.std.proofs.lemmas.Bool.{false≢true}
+use Rattle.std.specs.Io.KnownBytes.{Appends}
 use Rattle.nap_list.specs.declared.device.outlet.Outlet as outlet
 use Rattle.nap_list.specs.declared.entry.Entry.{Entry}
 use Rattle.nap_list.specs.declared.state.State.{State}
@@ -11,7 +12,7 @@ use Rattle.nap_canon.specs.declared.form.Form.{Form}
 use Rattle.nap_canon.specs.declared.form.Form.TheVariants.{Two}
 use Rattle.nap_canon.specs.declared.tail.Tail.{Tail}
 use Rattle.nap_canon.specs.Converting.{IsFrontOf}
-use Rattle.nap_canon.specs.Sinking.{Begun, Broke, Canonical, Grows, Writes, bytes_behind, bytes_of, sending, shown}
+use Rattle.nap_canon.specs.Sinking.{Begun, Broke, Canonical, Grows, Took, Writes, bytes_behind, bytes_of, sending, shown}
 use Rattle.nap_canon.specs.SinkLaws.{grows_more, took_none}
 use Rattle.nap_canon.specs.Spelling.{Piece}
 use Rattle.nap_canon.specs.Text.{begun_tail, entry_pieces, header, pieces, tail_after, text, written}
@@ -68,6 +69,15 @@ module _ {O : Type 0} (o : outlet.Ghosts O) (w : O) (s : Canonical O) (begins : 
           text_more d e ∙ ap (λ (bs : List ℕ). text d ++ bs) (sym (take-append-drop broke.part bytes)) ∙ sym (append_assoc (text d) part (drop broke.part bytes)),
         ),
       )
+
+-- the text that a sink wrote to an output that tells its bytes and had none
+pub text_written : {O : Type 0} (o : outlet.Ghosts O) (w : O) (s t : Canonical O) → Begun o w s → o.failed s.outlet ≡ false → (items : O → List ℕ) →
+    ((u : O) → o.taken u ≡ Some (items u)) → items w ≡ [] → (d : List Entry) → Took o s d t → items t.outlet ≡ text d
+text_written o w s t begins works items tells empty d took =
+    let taken : Appends (o.taken w) (o.taken t.outlet) (text d) = (sink_writes_text o w s t d begins works took).grows.taken in
+    let told : Appends (Some (items w)) (Some (items t.outlet)) (text d) =
+    subst (λ (a : Option (List ℕ)). Appends a (Some (items t.outlet)) (text d)) (tells w) (subst (λ (b : Option (List ℕ)). Appends (o.taken w) b (text d)) (tells t.outlet) taken) in
+    told ∙ ap (λ (bytes : List ℕ). bytes ++ text d) empty
 
 -- An output that was written to the end is flushed once, where no write failed.
 module _ {O : Type 0} (o : outlet.Ghosts O) (law : (x : O) → o.write_failed x ≡ true → o.failed x ≡ true) (w : O) (works : o.failed w ≡ false) where

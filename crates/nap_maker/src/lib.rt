@@ -3,5 +3,7 @@
 
 pub mod laws;
 mod page;
+mod text;
 
 pub use page::{PageFault, make_page};
+pub use text::{MadePage, page_of_lines};

@@ -42,3 +42,13 @@ pub use Rattle.nap_canon.specs.Text
 pub use Rattle.nap_canon.specs.Plain
 pub use Rattle.nap_canon.specs.Converting
 pub use Rattle.nap_canon.specs.Laws as CanonicalLaws
+-- lines that are read back, and the pages that they make
+pub use Rattle.nap_make.specs.Entries
+pub use Rattle.nap_make.specs.Reading as LineReading
+pub use Rattle.nap_make.specs.Laws as LineLaws
+pub use Rattle.nap_line_reader.specs.Lists
+pub use Rattle.nap_line_reader.specs.Making as ListMaking
+pub use Rattle.nap_maker.specs.Making
+pub use Rattle.nap_maker.specs.Pages
+pub use Rattle.nap_maker.specs.Texts
+pub use Rattle.nap_maker.specs.Laws as MakingLaws

@@ -6,8 +6,9 @@
 //!
 //! A list is a `Vec<Entry>`. An entry is one act of drawing, with all that it depends on, and `line_of` gives its line.
 //! `normalise` gives the canonical stream of a page, and `convert` writes it while the page is read. A `Reader` takes a
-//! page in pieces, and puts its entries into a `Sink`: one of those in `sink`, or your own. docs/LIBRARY.md teaches it by
-//! examples, and `specs` has the definitions that the contracts are written in.
+//! page in pieces, and puts its entries into a `Sink`: one of those in `sink`, or your own. What is in `lines` makes
+//! pages of such lines again. docs/LIBRARY.md teaches it by examples, and `specs` has the definitions that the contracts
+//! are written in.
 #![tactic(auto)]
 
 /// Read a page: whole, or in pieces into a sink.
@@ -29,6 +30,19 @@ pub use nap_canon::{CanonFault, ConvertFault, canon, canon_form1, convert, norma
 
 /// Whether a stream is plain.
 pub use nap_canon::is_plain;
+
+/// Lines of a list, read back.
+pub mod lines {
+    /// The entry of a line, and why there is none.
+    pub use nap_make::{LineFault, entry_of_line};
+
+    /// The page that lines make, in memory or as they come from an inlet; and why there is none.
+    pub use nap_line_reader::MakeFault;
+    pub use nap_maker::{MadePage, PageFault, make_page, page_of_lines};
+
+    /// The entries of lines, put into a sink; and why there are none.
+    pub use nap_line_reader::{ListFault, make_list, put_lines};
+}
 
 /// What an entry holds.
 pub mod entry {
@@ -88,6 +102,9 @@ pub mod laws {
     pub use nap_canon::laws as canonical;
     /// Of lists, states and batches.
     pub use nap_list::laws as list;
+    /// Of lines, and of what they say of two pages.
+    pub use nap_make::laws as lines;
+    pub use nap_maker::laws as making;
     /// Of what a page means.
     pub use nap_reader::laws as reading;
 }

@@ -3,7 +3,7 @@ use Rattle.std.proofs.lemmas.Result.{IfOk-weaker}
 use Rattle.clap.specs.Words.{App, app_of, new_app, with_subcommand}
 use Rattle.clap.specs.Simple.{app_of_fields}
 use Rattle.clap.specs.declared.builder.command.Command.TheViews.{out-Command as fields_of}
-use Rattle.nap_cli.specs.CommandLine.{command_app, page_commands, program_app}
+use Rattle.nap_cli.specs.CommandLine.{command_app, make_app, page_commands, program_app}
 use Rattle.nap_cli.proofs.words.program.Goals as goal
 
 -- there is a version, a command is required, and the words begin with it
@@ -27,6 +27,8 @@ returns c =
     c.in_ok-subcommand-4.ensures.shape c.in_ok-subcommand-3.ensures.local ∙ ap₂ with_subcommand one (ap (λ (a : App). a.top) c.in_ok-subcommand-3.ensures.app) in
     let three : app_of c.in_ok-subcommand-5.field-0 ≡ page_commands usual =
     c.in_ok-subcommand-5.ensures.shape c.in_ok-canon_command.ensures.local ∙ ap₂ with_subcommand two (ap (λ (a : App). a.top) c.in_ok-canon_command.ensures.app) in
+    let four : app_of c.in_ok-subcommand-6.field-0 ≡ with_subcommand (page_commands usual) make_app.top =
+    c.in_ok-subcommand-6.ensures.shape c.in_ok-make_command.ensures.1 ∙ ap₂ with_subcommand three (ap (λ (a : App). a.top) c.in_ok-make_command.ensures.0) in
     let batch_is : app_of c.after_help-2.result ≡ new_app (codes "batch") = ap app_of_fields c.after_help-2.ensures ∙ (ap app_of_fields c.about-2.ensures ∙ (ap app_of_fields c.override_usage-2.ensures ∙ c.new-2.ensures.app)) in
     let local : (fields_of c.after_help-2.result).has_globals ≡ false = ap (λ f. f.has_globals) c.after_help-2.ensures ∙ (ap (λ f. f.has_globals) c.about-2.ensures ∙ (ap (λ f. f.has_globals) c.override_usage-2.ensures ∙ c.new-2.ensures.local)) in
-    IfOk-weaker c.subcommand-6.result _ _ (λ r h. h.shape local ∙ ap₂ with_subcommand three (ap (λ (a : App). a.top) batch_is)) c.subcommand-6.ensures
+    IfOk-weaker c.subcommand-7.result _ _ (λ r h. h.shape local ∙ ap₂ with_subcommand four (ap (λ (a : App). a.top) batch_is)) c.subcommand-7.ensures

@@ -21,5 +21,5 @@ returns-in-Ok-clause-makes g c =
     let h = feeds c.args.sink c.new-reader.ensures.stands in (
       p,
       read,
-      (h.0, subst (λ t. MakesList g.S.Sink c.args.sink p t) (sym c.into_sink-sink.ensures) (c.in-Ok.ensures c.args.sink p h.1)),
+      (h.0, subst (λ t. MakesList g.S.Sink c.args.sink p t) (sym c.into_sink-sink.ensures) (c.in-Ok.ensures c.args.sink p h.1).0),
     )

@@ -1,7 +1,10 @@
-use Rattle.std.proofs.Common.{◌∙◌, List, ℕ, ap, length, sym, subst, arith}
-use Rattle.std.proofs.lemmas.Bool.{eqb-false}
+use Rattle.std.proofs.Common.{◌≡◌, ◌++◌, ◌∙◌, [], false, None, Some, Option, refl, List, ℕ, ap, eqb-true, length, sym, subst, arith}
+use Rattle.std.specs.Option.{is_some}
+use Rattle.std.proofs.lemmas.Bool.{eqb-false, false≢true}
+use Rattle.std.proofs.lemmas.List.{nil_from_length}
+use Rattle.nap_lines.specs.Listing.{lines}
 use Rattle.nap_line_reader.specs.Making.{Cuts}
-use Rattle.nap_line_reader.proofs.FeedLemmas.{finishes_cut}
+use Rattle.nap_line_reader.proofs.FeedLemmas.{finishes_cut, finishes_list}
 use Rattle.nap_line_reader.proofs.line_reader.LineReader.finish.Goals as goal
 
 pub returns-then-not-is_empty : goal.returns-then-not-is_empty
@@ -11,3 +14,16 @@ returns-then-not-is_empty g c s p stands =
     finishes_cut g.S.Sink s stands.entries c.args.self.now.maker stands.holds p part c.cut_off.result stands.parts c.requires.whole
     (omega (arith, eqb-false _ 0 (sym c.is_empty.ensures ∙ c.if-not-is_empty.true), ap length same))
     (subst (λ (xs : List ℕ). Cuts stands.entries xs c.cut_off.result) same (c.cut_off.ensures s stands.entries stands.holds))
+
+none_there : {A : Type 0} (o : Option A) → is_some o ≡ false → o ≡ None
+none_there None h = refl
+none_there (Some x) h = absurd (false≢true (sym h))
+
+pub returns : goal.returns
+returns g c s p stands =
+    let part = c.args.self.now.part.items in
+    let same = c.as_slice-part.ensures.value in
+    let short : length part ≡ 0 = omega (arith, eqb-true _ 0 (sym c.is_empty.ensures ∙ c.if-not-is_empty.false), ap length same) in
+    let empty : part ≡ [] = nil_from_length part short in
+    finishes_list g.S.Sink s stands.entries c.args.self.now.maker stands.holds p (stands.parts ∙ ap (λ (xs : List ℕ). lines stands.entries ++ xs) empty)
+    (none_there c.args.self.now.maker.state.definition (sym c.is_some.ensures ∙ c.if-is_some.false))
