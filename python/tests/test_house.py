@@ -18,10 +18,7 @@ MODULE = os.path.join(PACKAGES, "naplps")
 OF_THE_MODULE, OF_THE_TOOL = (sorted(glob.glob(os.path.join(folder, "**", "*.py"), recursive=True))
                               for folder in (MODULE, TOOL))
 SOURCES = [*OF_THE_MODULE, *OF_THE_TOOL, os.path.join(TOP, "pages", "naplps-pages")]
-SCRIPTS = [os.path.join(TOP, "scripts", name)
-           for name in ("pages/manual-refusals", "measure/speed-module", "measure/speed-pages", "measure/scale",
-                        "measure/measuring.py", "measure/speed-wall", "measure/worst-pictures")]
-ALL = SOURCES + SCRIPTS + sorted(glob.glob(os.path.join(PACKAGES, "tests", "*.py")))
+ALL = SOURCES + sorted(glob.glob(os.path.join(PACKAGES, "tests", "*.py")))
 
 
 def parsed(path):
@@ -143,8 +140,7 @@ def test_a_check_goes_through_few_functions(naplps, tmp_path):
 @pytest.mark.skipif(not has("mypy"), reason="there is no mypy")
 def test_types(tmp_path):
     words = ["mypy", "--strict", "--scripts-are-modules", "--python-version", "3.9", "--cache-dir", str(tmp_path)]
-    said = subprocess.run([*words, MODULE, TOOL, *SCRIPTS], capture_output=True, text=True, cwd=PACKAGES,
-                          env=dict(os.environ, MYPYPATH=os.path.join(TOP, "scripts")))
+    said = subprocess.run([*words, MODULE, TOOL], capture_output=True, text=True, cwd=PACKAGES)
     assert said.returncode == 0, said.stdout
 
 

@@ -32,7 +32,7 @@ PARTS: Dict[str, Part] = {
         ("interpreter", "extremes", "stores_hostile", "stores_random", "packs_random"),
     ),
     "house": Part(
-        "the sources of naplps-pages and the scripts: types, sizes, Python 3.9; and that the manual page says what the "
+        "the sources of naplps-pages: types, sizes, Python 3.9; and that the manual page says what the "
         "tool says",
         ("house",),
     ),
@@ -42,7 +42,8 @@ PARTS: Dict[str, Part] = {
         ("module", "module_faults", "module_threads", "module_pages", "pip"),
     ),
     "old-files": Part(
-        "files as an old disk has them: signatures, kinds, the eight-bit form, the census, captures, pages after others",
+        "files as an old disk has them: signatures, kinds, the eight-bit form, the census, captures, pages after "
+        "others",
         ("signature", "file_kinds", "eight_bit", "census", "split", "after", "old_files", "noise"),
     ),
     "packs": Part(
@@ -60,7 +61,8 @@ PARTS: Dict[str, Part] = {
         ("explain", "folding", "reasons", "cures", "text"),
     ),
     "report": Part(
-        "reports, and words of pages: what they hold, how they look and act in a browser, and what a served one answers",
+        "reports, and words of pages: what they hold, how they look and act in a browser, and what a served one "
+        "answers",
         ("report", "report_treated", "report_browser", "report_choices", "report_hostile", "serve", "screen_text",
          "find"),
     ),

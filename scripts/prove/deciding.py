@@ -10,8 +10,8 @@ from pathlib import Path
 from typing import Dict, Iterator, List, NamedTuple, Optional, Set, Tuple
 
 from prove.clauses import sum_of
-from prove.parts import File, Part, cut_source
-from prove.reach import ITEMS, OF_ANY, OF_TRAIT, ROOTS, Reach, Sources, Target
+from prove.parts import OF_TRAIT, File, Part, cut_source
+from prove.reach import ITEMS, OF_ANY, ROOTS, Reach, Sources, Target
 from prove.wrong_bodies import changes_of
 
 

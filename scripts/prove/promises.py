@@ -1,7 +1,7 @@
 """The page of promises: below each promise stand the wrong bodies that break it, as the list of wrong bodies has them.
 
-The list is docs/wrong-bodies.tsv. A row has the promises that a body breaks, between semicolons, and what it does, which
-it may share with others. A row without an edit, of the place `test`, is of a body that a test alone refuses.
+The list is docs/wrong-bodies.tsv. A row has the promises that a body breaks, between semicolons, and what it does,
+which it may share with others. A row without an edit, of the place `test`, is of a body that a test alone refuses.
 """
 import csv
 import re

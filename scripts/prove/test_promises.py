@@ -82,7 +82,8 @@ class Promises(unittest.TestCase):
     def test_a_page_without_bodies_is_filled(self) -> None:
         """What is written into a page that has none is what stands in one that has them."""
         bare = PAGE
-        for start in ("Refused is a body that\n\n- gives", "Refused is a body that\n\n- says nothing (apart: `low/text_is_empty`, "):
+        lead = "Refused is a body that\n\n"
+        for start in (f"{lead}- gives", f"{lead}- says nothing (apart: `low/text_is_empty`, "):
             at = bare.index(start)
             bare = bare[:at] + bare[bare.index("###", at):]
         with tempfile.TemporaryDirectory() as room:

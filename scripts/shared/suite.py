@@ -125,6 +125,7 @@ class Suite:
 OF_SOURCES = (
     "scripts/prove/test-wrong-bodies", "scripts/prove/test-citations", "scripts/prove/test-repeated-clauses",
     "scripts/prove/test-headline", "scripts/test/test-launcher", "scripts/prove/test-trying",
+    "scripts/shared/test-scripts",
 )
 NO_PARTS = ("scripts/packages/test-kept", "scripts/vectors/test-rows")
 # Those that take longest, longest first.

@@ -9,6 +9,7 @@ import threading
 import time
 from concurrent.futures import ThreadPoolExecutor
 from pathlib import Path
+from typing import Any, Callable, Iterable, Iterator, List, Optional, Set, Tuple
 
 sys.path.insert(0, str(Path(__file__).resolve().parents[1]))
 from shared.judging import PATIENCE, Answer, Judge, fault, limit_processor, run
@@ -30,23 +31,25 @@ program, folder = sys.argv[1:]
 judge = Judge()
 
 
-def path_of(name):
+def path_of(name: str) -> str:
+    """Where a file of the run stands."""
     return os.path.join(folder, name)
 
 
-def centres(count):
+def centres(count: int) -> bytes:
     """The canonical text of so many points in the middle: runs as long as they may be."""
     runs, rest = divmod(count, RUN_POINTS)
     return RUN * runs + (RUN[: 1 + 8 * rest] if rest else b"")
 
 
-def put(name, pieces):
+def put(name: str, pieces: Iterable[bytes]) -> None:
+    """Writes a file of pieces."""
     with open(path_of(name), "wb") as file:
         for piece in pieces:
             file.write(piece)
 
 
-def answer_of(words, refused):
+def answer_of(words: List[str], refused: bool) -> Answer:
     """What a command answers to the point, or to the point with a line behind it that leads outside."""
     if words == ["check"]:
         return Answer(1, REFUSAL) if refused else Answer(0, b"accepted 1 entries\n")
@@ -56,26 +59,28 @@ def answer_of(words, refused):
     return Answer(1, out if "--stream" in words else b"", REFUSAL)
 
 
-def write_fault(count):
+def write_fault(count: int) -> Answer:
+    """The answer where a write failed behind so many bytes."""
     return fault(b"write fault after %d bytes" % count)
 
 
-def shut(*files):
+def shut(*files: int) -> Callable[[], None]:
     """Closes files in the child, before it becomes the program."""
 
-    def close():
+    def close() -> None:
         for file in files:
             os.close(file)
 
     return close
 
 
-def run_page(words, refused, **options):
+def run_page(words: List[str], refused: bool, **options: Any) -> Answer:
+    """Runs a command on the point, or on the page that is refused."""
     with open(path_of("refused.nap" if refused else "point.nap"), "rb") as source:
         return run([program, *words], stdin=source, **options)
 
 
-def test_outputs():
+def test_outputs() -> None:
     """Outputs that fail, with pages that are accepted and refused. The output is flushed also where it is empty."""
     for words in COMMANDS:
         for refused in (False, True):
@@ -109,7 +114,8 @@ def test_outputs():
     judge.close("outputs: help")
 
 
-def test_inputs():
+def test_inputs() -> None:
+    """Inputs that fail."""
     for words in COMMANDS:
         failed = fault(b"read fault", HEADER if "--stream" in words else b"")
         what = " ".join(words)
@@ -132,7 +138,7 @@ def test_inputs():
 EMPTY = {"list": b"", "check": b"accepted 0 entries\n", "canon": HEADER}
 
 
-def run_terminal(words, typed):
+def run_terminal(words: List[str], typed: bytes) -> Answer:
     """Runs a command whose input is a terminal on which this is typed."""
     master, slave = pty.openpty()
     modes = termios.tcgetattr(slave)
@@ -145,7 +151,8 @@ def run_terminal(words, typed):
     return got
 
 
-def test_terminal():
+def test_terminal() -> None:
+    """Terminals as inputs."""
     for words in COMMANDS:
         what = " ".join(words)
         judge.same(Answer(0, EMPTY[words[0]]), run_terminal(words, b"\x04"), f"terminal that ends at once: {what}")
@@ -162,7 +169,7 @@ def test_terminal():
     judge.close("terminals: one that ends at once, one with a page, one that is gone")
 
 
-def pieces_of(piece, size):
+def pieces_of(piece: bytes, size: int) -> Iterator[bytes]:
     """So many bytes of equal pieces, in blocks."""
     count = size // len(piece)
     block = piece * 65536
@@ -175,7 +182,8 @@ def pieces_of(piece, size):
 POINTS = (LONG - 4) // 4
 
 
-def put_long():
+def put_long() -> None:
+    """Writes the two long pages."""
     put("points.nap", [b"\x0e", *pieces_of(b"&R@@", POINTS * 4), b"\x00" * 3])
     put("fill.nap", [bytes(MEBIBYTE)] * 64)
 
@@ -183,7 +191,7 @@ def put_long():
 class Comparer(threading.Thread):
     """Reads a pipe to its end, and compares what comes with equal pieces behind a header, of which none is kept."""
 
-    def __init__(self, source, header, piece):
+    def __init__(self, source: int, header: bytes, piece: bytes) -> None:
         super().__init__()
         self.source = source
         self.header = header
@@ -191,7 +199,8 @@ class Comparer(threading.Thread):
         self.count = 0
         self.same = True
 
-    def run(self):
+    def run(self) -> None:
+        """Reads and compares."""
         rest = self.header
         with os.fdopen(self.source, "rb", buffering=0) as source:
             while True:
@@ -210,12 +219,13 @@ class Comparer(threading.Thread):
 class Gauge(threading.Thread):
     """Looks from time to time how much memory a process has held at most, in KiB."""
 
-    def __init__(self, number):
+    def __init__(self, number: int) -> None:
         super().__init__()
         self.number = number
         self.most = 0
 
-    def run(self):
+    def run(self) -> None:
+        """Looks until the process is gone."""
         while True:
             try:
                 with open(f"/proc/{self.number}/status", encoding="ascii") as status:
@@ -228,17 +238,18 @@ class Gauge(threading.Thread):
             time.sleep(0.02)
 
 
-def run_long(words, name, header, piece, limit=None):
+def run_long(words: List[str], name: str, header: bytes, piece: bytes,
+             limit: Optional[int] = None) -> Tuple[int, bytes, Comparer, int, float]:
     """Runs a command on a long page: its status, what it said of errors, the comparison of its output, the most memory
     that it held, and the seconds that it took."""
-    before = None if limit is None else lambda: resource.setrlimit(resource.RLIMIT_AS, (limit, limit))
+    most = (limit or 0, limit or 0)
+    before = None if limit is None else lambda: resource.setrlimit(resource.RLIMIT_AS, most)
     ending, beginning = os.pipe()
     comparer = Comparer(ending, header, piece)
     comparer.start()
     begun = time.monotonic()
     with open(path_of(name), "rb") as source, open(path_of("errors"), "w+b") as errors:
-        files = {"stdin": source, "stdout": beginning, "stderr": errors}
-        process = subprocess.Popen([program, *words], preexec_fn=before, **files)
+        process = subprocess.Popen([program, *words], preexec_fn=before, stdin=source, stdout=beginning, stderr=errors)
         os.close(beginning)
         gauge = Gauge(process.pid)
         gauge.start()
@@ -265,7 +276,8 @@ LONG_ANSWERS = [
 ]
 
 
-def test_long(limit):
+def test_long(limit: Optional[int]) -> None:
+    """Long pages, in so much memory."""
     for words, name, header, piece, more in LONG_ANSWERS:
         status, told, comparer, peak, seconds = run_long(words, name, header, piece, limit)
         room = f", in {limit // MEBIBYTE} MiB" if limit else ""
@@ -279,7 +291,7 @@ def test_long(limit):
         judge.close(f"{what}: {peak} KiB at most, {seconds:.1f} s, {comparer.count} bytes")
 
 
-def test_limit():
+def test_limit() -> None:
     """Lists and texts that don't fit: want of memory, with nothing printed."""
     texts = ((["list"], CENTRE_LINE, POINTS * len(CENTRE_LINE)), (["canon"], RUN, len(centres(POINTS))))
     for words, piece, size in texts:
@@ -295,13 +307,13 @@ def test_limit():
         judge.close(f"{what}: {told.decode().strip() or 'accepted'}, {peak} KiB at most, {seconds:.1f} s")
 
 
-def is_unloaded(got, lessen):
+def is_unloaded(got: Answer, lessen: Callable[[], None]) -> bool:
     """Whether the system couldn't load the program into so little memory, so that it can't where it only loads it."""
     only_loading = {"LD_TRACE_LOADED_OBJECTS": "1"}
     return got.out == b"" and run([program], env=only_loading, preexec_fn=lessen).status != 0
 
 
-def test_little():
+def test_little() -> None:
     """From no room for data to enough of it: each answer is right, or want of memory."""
     count = 3000
     put("middle.nap", [b"\x0e" + b"&R@@" * count])
@@ -314,7 +326,7 @@ def test_little():
     for words in COMMANDS:
         for kibibytes in range(4, 644, 4):
 
-            def lessen(limit=kibibytes * 1024):
+            def lessen(limit: int = kibibytes * 1024) -> None:
                 resource.setrlimit(resource.RLIMIT_DATA, (limit, limit))
 
             with open(path_of("middle.nap"), "rb") as source:
@@ -336,11 +348,10 @@ def test_little():
                 kind = "not loaded"
                 judge.take(is_unloaded(got, lessen), f"little memory: {' '.join(words)}, {kibibytes} KiB: {got}")
             counts[kind] += 1
-    told = ", ".join(f"{number} {kind}" for kind, number in counts.items())
-    judge.close(f"little memory: {told}")
+    judge.close("little memory: " + ", ".join(f"{number} {kind}" for kind, number in counts.items()))
 
 
-def start(number):
+def start(number: int) -> Tuple[int, Answer, Answer]:
     """A start with a page of its own: so many points, and behind some a byte that is refused."""
     words = COMMANDS[number % 4]
     count = number // 4 % 97
@@ -357,8 +368,9 @@ def start(number):
     return number, wanted, run([program, *words], page, stdin=subprocess.PIPE)
 
 
-def test_starts():
-    answered = set()
+def test_starts() -> None:
+    """Many starts, eight at a time."""
+    answered: Set[int] = set()
     begun = time.monotonic()
     with ThreadPoolExecutor(8) as pool:
         for number, wanted, got in pool.map(start, range(STARTS)):
@@ -368,7 +380,8 @@ def test_starts():
     judge.close(f"starts: {len(answered)} of {STARTS}, eight at a time, {time.monotonic() - begun:.0f} s")
 
 
-def main():
+def main() -> int:
+    """Tries all, and answers the status."""
     put("point.nap", [POINT])
     put("refused.nap", [REFUSED])
     put_long()

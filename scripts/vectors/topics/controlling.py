@@ -335,7 +335,8 @@ def lengths() -> Iterator[Case]:
         stream = f"0E 21 {0x40 + word:02X} 26 49*{multi + 1} 3E 41*{single + 1} 26 40"
         yield Case(
             "DOMAIN",
-            f"{0x40 + word:02X}: lengths of {multi} and {single}, by a point and a word of a second, an address and a word.",
+            f"{0x40 + word:02X}: lengths of {multi} and {single}, by a point and a word of a second, an address and "
+            "a word.",
             stream,
         )
     for word in range(32, 64, 5):
