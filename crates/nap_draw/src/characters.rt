@@ -18,7 +18,7 @@ use nap_list::{Batch, BatchFault, Entry, LastChar, Pen, Sink, last_typed};
 impl Work {
     /// Puts characters of a set and the format effectors of one byte among them in turn, as `text` and `control` do each.
     /// An error tells how many of them were put, and leaves the work as it was.
-    #[inline]
+    #[inline(always)]
     pub fn characters<S: Sink>(
         &mut self,
         set: CharSet,
