@@ -7,6 +7,7 @@ import subprocess
 import sys
 import time
 from pathlib import Path
+from typing import BinaryIO, Dict, Iterable, List, Optional, Sequence, Tuple, Union
 
 sys.path.insert(0, str(Path(__file__).resolve().parents[1]))
 from shared.judging import Answer, Judge, fault, run
@@ -22,7 +23,7 @@ COMMANDS = [
     ["canon", "--hex"],
 ]
 HELPS = [["--help"], ["list", "--help"], ["canon", "--help"]]
-WRONG = [[], ["frob"], ["list", "--what"], ["list", "--budget", "x"]]
+WRONG: List[List[str]] = [[], ["frob"], ["list", "--what"], ["list", "--budget", "x"]]
 CENTRE = bytes.fromhex("2652") + b"@" * 7
 CENTRE_LINE = "POINT 4194304,4194304 pel=0,0 colour=own-start"
 CIRCLE = bytes.fromhex("2e") + b"@" * 8 + b"\x49" + b"@" * 7 + b"\x7f" + b"@" * 7
@@ -34,7 +35,8 @@ GATHERED = 65536
 class Page:
     """A page, and its answers: canonical pieces and lines, an entry each, or a refusal."""
 
-    def __init__(self, name, stream, pieces=(), lines=(), refusal=None):
+    def __init__(self, name: str, stream: Union[str, bytes], pieces: Iterable[Union[str, bytes]] = (),
+                 lines: Sequence[str] = (), refusal: Optional[str] = None) -> None:
         self.name = name
         self.stream = bytes.fromhex(stream) if isinstance(stream, str) else stream
         self.hex = self.stream.hex().encode() + b"\n"
@@ -44,11 +46,11 @@ class Page:
         self.count = len(lines)
         self.refusal = refusal
 
-    def beginnings(self):
+    def beginnings(self) -> List[bytes]:
         """The canonical text of the first entries, of each number of them."""
         return [b"".join(self.pieces[:count]) for count in range(1, len(self.pieces) + 1)]
 
-    def answer(self, words):
+    def answer(self, words: List[str]) -> Answer:
         """What the command answers where nothing fails."""
         if self.refusal is not None:
             line = self.refusal.encode() + b"\n"
@@ -124,12 +126,13 @@ MAKES = [["make"], ["make", "--stream"]]
 class Lines(Page):
     """The lines of a page, which `make` makes again; or lines that are none's, which are told."""
 
-    def __init__(self, page, more=b"", refusal=None):
+    def __init__(self, page: Page, more: bytes = b"", refusal: Optional[str] = None) -> None:
         super().__init__(f"lines of {page.name}, {len(more)} bytes more", page.lines + more, refusal=refusal)
         self.pieces = page.pieces
         self.canonical = page.canonical
 
-    def answer(self, words):
+    def answer(self, words: List[str]) -> Answer:
+        """The page of the lines, or what is told of them."""
         if self.refusal is not None:
             return Answer(1, self.canonical if "--stream" in words else b"", self.refusal.encode() + b"\n")
         return Answer(0, self.canonical)
@@ -141,14 +144,15 @@ runs = {"all": 0, "faulty": 0}
 report = open(os.path.join(folder, "report"), "w+b", buffering=0)
 
 
-def put(name, text):
+def put(name: str, text: bytes) -> str:
+    """Writes a file of the folder, and tells where it stands."""
     path = os.path.join(folder, name)
     with open(path, "wb") as file:
         file.write(text)
     return path
 
 
-def open_page(page, words):
+def open_page(page: Page, words: List[str]) -> BinaryIO:
     """Standard input with a page, which is written to the folder once."""
     hexadecimal = "--hex" in words
     path = os.path.join(folder, page.name + (".hex" if hexadecimal else ".nap"))
@@ -157,13 +161,14 @@ def open_page(page, words):
     return open(path, "rb")
 
 
-def run_faulty(page, words, **faults):
+def run_faulty(page: Page, words: List[str], **faults: int) -> Tuple[Answer, str]:
     """Runs a command on a page with these faults: its answer, and the letters of the faults that were met."""
     with open_page(page, words) as source:
         return run_with([program, *words], source, faults)
 
 
-def run_with(words, source, faults):
+def run_with(words: List[str], source: Union[int, BinaryIO], faults: Dict[str, int]) -> Tuple[Answer, str]:
+    """Runs a command with these faults: its answer, and the letters of the faults that were met."""
     report.seek(0)
     report.truncate()
     # (by a path from the folder, since a library's name may have no space)
@@ -179,7 +184,7 @@ def run_with(words, source, faults):
     return answer, letters
 
 
-def is_want(page, words, got):
+def is_want(page: Page, words: List[str], got: Answer) -> bool:
     """Whether an answer says that memory was wanting, as it should."""
     streams = "--stream" in words
     if got.status == 3:
@@ -191,7 +196,8 @@ def is_want(page, words, got):
     return got.status == 1 and said is not None and int(said[1]) <= len(page.stream) and other in outputs
 
 
-def test_memory(page, words, once):
+def test_memory(page: Page, words: List[str], once: int) -> Tuple[int, int]:
+    """Each growth is refused in turn: how many were told, and how many done without."""
     ample = page.answer(words)
     number, wants, without = 1, 0, 0
     while number < 10000:
@@ -213,7 +219,8 @@ def test_memory(page, words, once):
     return wants, without
 
 
-def test_all_memory():
+def test_all_memory() -> None:
+    """Growths that are refused, of each command on each page."""
     for once in (1, 0):
         kind = "each alone" if once else "each with all behind it"
         for words in COMMANDS:
@@ -232,7 +239,7 @@ LIBRARY = [
 ]
 
 
-def test_library():
+def test_library() -> None:
     """The library's own calls, by tests that are built."""
     before = runs["faulty"]
     for name in LIBRARY if tests else []:
@@ -249,9 +256,10 @@ def test_library():
     judge.close(f"library: growths refused: {runs['faulty'] - before}" if tests else "library: its tests aren't built")
 
 
-def test_words():
+def test_words() -> None:
     """Help, and command lines that are wrong."""
-    lines = [(words, 0) for words in HELPS] + [(words, 2) for words in WRONG]
+    lines: List[Tuple[List[str], int]] = [(words, 0) for words in HELPS]
+    lines += [(words, 2) for words in WRONG]
     lines.append((["canon", "--hex", "--stream"], 2))
     wants = without = 0
     for words, status in lines:
@@ -280,14 +288,16 @@ def test_words():
 WRITTEN = {"point": [0], "glyph": [0] * 8 + [1] * 5 + [2] + [3]}
 
 
-def read_text(page, count):
+def read_text(page: Page, count: int) -> bytes:
+    """What stands written once so many bytes were read."""
     if isinstance(page, Lines):
         return b"".join(page.pieces[: 1 + page.stream[:count].count(b"\n")])
     written = WRITTEN[page.name]
     return b"".join(page.pieces[: 1 + written[min(count, len(written) - 1)]])
 
 
-def test_reads(page, words, most, error, once):
+def test_reads(page: Page, words: List[str], most: int, error: int, once: int) -> None:
+    """Each read fails in turn."""
     size = len(page.hex if "--hex" in words else page.stream)
     number = 1
     while number < 10000:
@@ -303,7 +313,8 @@ def test_reads(page, words, most, error, once):
     judge.take(number == -(-size // most) + 2, f"{what}: {number - 1} reads")
 
 
-def test_all_reads():
+def test_all_reads() -> None:
+    """Reads that fail, of each command."""
     before = runs["faulty"]
     for page in (POINT, GLYPH):
         for words in COMMANDS:
@@ -314,11 +325,13 @@ def test_all_reads():
     judge.close(f"reads: each read fails in turn: {runs['faulty'] - before} faults")
 
 
-def write_fault(count):
+def write_fault(count: int) -> bytes:
+    """The line of a write that failed behind so many bytes."""
     return b"write fault after %d bytes" % count
 
 
-def test_writes(page, words, ample, most, error, once):
+def test_writes(page: Page, words: List[str], ample: Answer, most: int, error: int, once: int) -> None:
+    """Each write fails in turn."""
     number = 1
     while number < 10000:
         got, letters = run_faulty(page, words, write=number, write_most=most, errno=error, once=once)
@@ -333,7 +346,7 @@ def test_writes(page, words, ample, most, error, once):
     judge.take(number == -(-len(ample.out) // most) + 1, f"{what}: {number - 1} writes")
 
 
-def test_interrupted(page, words, most):
+def test_interrupted(page: Page, words: List[str], most: int) -> None:
     """Gathered output goes on behind a signal."""
     ample = page.answer(words)
     for number in range(1, -(-len(ample.out) // most) + 1):
@@ -343,7 +356,8 @@ def test_interrupted(page, words, most):
         judge.take(letters == "w", f"{what}: faults {letters}")
 
 
-def test_all_writes():
+def test_all_writes() -> None:
+    """Writes that fail or are interrupted, of each command."""
     before = runs["faulty"]
     refused = [words for words in COMMANDS if words[0] == "check" or "--stream" in words]
     for page, commands in ((POINT, COMMANDS), (GLYPH, COMMANDS), (MANY, refused)):
@@ -366,7 +380,7 @@ def test_all_writes():
     judge.close(f"writes: each write is interrupted in turn: {runs['faulty'] - before} faults, none of them told")
 
 
-def is_cut(got, ample):
+def is_cut(got: Answer, ample: Answer) -> bool:
     """Whether an answer tells of a failed write. Its count may be ahead of what went out, by what was gathered."""
     said = re.fullmatch(rb"write fault after (0|[1-9][0-9]*) bytes\n", got.err)
     if got.status != 3 or said is None or not ample.out.startswith(got.out):
@@ -374,7 +388,7 @@ def is_cut(got, ample):
     return len(got.out) <= int(said[1]) <= min(len(got.out) + GATHERED, len(ample.out))
 
 
-def test_long_write(words, most, error):
+def test_long_write(words: List[str], most: int, error: int) -> int:
     """A long output, of which each write in turn fails, or is interrupted once."""
     ample = LONG.answer(words)
     interrupted = error == errno.EINTR
@@ -394,7 +408,8 @@ def test_long_write(words, most, error):
     return told
 
 
-def test_long_writes():
+def test_long_writes() -> None:
+    """Writes of a long output."""
     for error, kind in ((errno.EIO, "fails"), (errno.EINTR, "is interrupted")):
         before, told = runs["faulty"], 0
         for words in COMMANDS:
@@ -405,7 +420,7 @@ def test_long_writes():
         judge.close(f"writes: each write of a long output {kind} in turn: {count} faults, {told} told")
 
 
-def test_error(words, ample, most, error):
+def test_error(words: List[str], ample: Answer, most: int, error: int) -> None:
     """Of what is told goes out what was written before; output and status stay."""
     for number in range(1, -(-len(ample.err) // most) + 1):
         got, letters = run_faulty(MANY, words, error=number, write_most=most, errno=error)
@@ -415,7 +430,7 @@ def test_error(words, ample, most, error):
         judge.take(letters != "", f"{what}: no fault was met")
 
 
-def test_errors():
+def test_errors() -> None:
     """A failed write to standard error changes nothing."""
     before = runs["faulty"]
     told = [(words, MANY.answer(words), 1) for words in COMMANDS]
@@ -427,7 +442,8 @@ def test_errors():
     judge.close(f"errors: each write to standard error fails in turn: {runs['faulty'] - before} faults")
 
 
-def test_short():
+def test_short() -> None:
+    """Reads and writes of few bytes."""
     before = runs["all"]
     for page in PAGES:
         for words in COMMANDS:
@@ -437,7 +453,7 @@ def test_short():
     judge.close(f"short: reads and writes of few bytes: {runs['all'] - before} runs")
 
 
-def test_many_reads():
+def test_many_reads() -> None:
     """A command makes 1048576 reads, the one that finds the end among them."""
     most = Page("most reads", bytes(1048575))
     more = Page("more reads", bytes(1048576))
@@ -453,15 +469,16 @@ def test_many_reads():
 class Requests(Page):
     """Requests to `batch`, one after another, and what is answered to each."""
 
-    def __init__(self, name, exchanges):
+    def __init__(self, name: str, exchanges: Sequence[Tuple[str, bytes, str, bytes]]) -> None:
         self.asked = [f"{command} 1048576 {len(text)}\n".encode() + text for command, text, _, _ in exchanges]
         self.answered = [f"{line}\n{len(body)}\n".encode() + body for _, _, line, body in exchanges]
         super().__init__(name, b"".join(self.asked))
 
-    def answer(self, words):
+    def answer(self, words: List[str]) -> Answer:
+        """The answers to all requests."""
         return Answer(0, b"".join(self.answered))
 
-    def answered_to(self, count):
+    def answered_to(self, count: int) -> bytes:
         """The answers to the requests that stand whole in so many bytes."""
         out = b""
         for asked, answered in zip(self.asked, self.answered):
@@ -484,7 +501,7 @@ REQUESTS = Requests(
 )
 
 
-def is_answered(out, whole):
+def is_answered(out: bytes, whole: bool) -> bool:
     """Whether each request has its own answer, or one that says that memory was wanting; if not whole, the first
     ones."""
     for answered in REQUESTS.answered:
@@ -498,7 +515,8 @@ def is_answered(out, whole):
     return out == b""
 
 
-def test_batch_memory():
+def test_batch_memory() -> None:
+    """Growths that are refused to `batch`."""
     told = 0
     for once in (1, 0):
         number = 1
@@ -516,7 +534,8 @@ def test_batch_memory():
     judge.close(f"memory: batch: growths refused: {told} told")
 
 
-def test_batch_reads():
+def test_batch_reads() -> None:
+    """Reads of `batch` that fail."""
     before = runs["faulty"]
     for most in (65536, 7, 1):
         for error in (errno.EIO, errno.EINTR, errno.EAGAIN):
@@ -534,7 +553,7 @@ def test_batch_reads():
     judge.close(f"reads: batch: each read fails in turn: {runs['faulty'] - before} faults")
 
 
-def test_batch_writes():
+def test_batch_writes() -> None:
     """Each answer is sent on by itself, so a failed write tells the bytes of all answers up to its own."""
     before = runs["faulty"]
     for most in (65536, 7, 1):
@@ -556,7 +575,7 @@ def test_batch_writes():
     judge.close(f"writes: batch: each write fails in turn: {runs['faulty'] - before} faults")
 
 
-def test_make():
+def test_make() -> None:
     """Memory that is refused, reads and writes that fail, and short ones, where lines make a page."""
     made = [Lines(POINT), Lines(GLYPH)]
     wrong = Lines(GLYPH, b"WAIT 64\n", "line 5: no line of a list, at column 6")
@@ -583,10 +602,11 @@ def test_make():
 FAULT_LINES = {"read": b"read fault\n", "write": rb"write fault after (0|[1-9][0-9]*) bytes\n"}
 
 
-def test_lines():
+def test_lines() -> None:
     """A read or a write that fails is told as that, whatever growth is refused, and all behind it."""
     told = 0
-    for words, page in [*((words, POINT) for words in COMMANDS), (["batch"], REQUESTS)]:
+    pages: List[Tuple[List[str], Page]] = [*((words, POINT) for words in COMMANDS), (["batch"], REQUESTS)]
+    for words, page in pages:
         for kind, line in FAULT_LINES.items():
             number, letters = 0, "m"
             while "m" in letters:
@@ -595,18 +615,20 @@ def test_lines():
                 if kind[0] in letters:
                     told += 1
                     is_told = got.status == 3 and re.fullmatch(line, got.err) is not None
-                    judge.take(is_told, f"lines: {' '.join(words)}, first {kind}, growth {number}: {got}, faults {letters}")
+                    what = f"lines: {' '.join(words)}, first {kind}, growth {number}"
+                    judge.take(is_told, f"{what}: {got}, faults {letters}")
     judge.close(f"lines: a read or a write fails beside growths that are refused: {told} faults")
 
 
-def test_batch_short():
+def test_batch_short() -> None:
+    """`batch` by reads and writes of few bytes."""
     for most in (1, 2, 3, 1000):
         got, _ = run_faulty(REQUESTS, ["batch"], read_most=most, write_most=most)
         judge.same(REQUESTS.answer([]), got, f"short: batch, {most} bytes at a time")
     judge.close("short: batch: reads and writes of few bytes")
 
 
-def test_batch_many_reads():
+def test_batch_many_reads() -> None:
     """The reads are counted anew for each request: one of 1048576 bytes may come in single ones."""
     longest = ("check", bytes(1048554), "accepted 0 entries", b"")
     longer = ("check", bytes(1048555), "accepted 0 entries", b"")
@@ -618,7 +640,8 @@ def test_batch_many_reads():
     judge.close("many reads: batch: 1048576 are made for each request, and no more")
 
 
-def main():
+def main() -> int:
+    """Tries all, and answers the status."""
     for test in (
         test_all_memory,
         test_library,
