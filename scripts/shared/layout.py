@@ -143,6 +143,11 @@ def library_files(folder: Path, version: str, places: Places = TOGETHER) -> Dict
     }
 
 
+def manual_page(text: bytes) -> bytes:
+    """A manual page as it is installed: its last line tells the version."""
+    return text.replace(b"\n.Os\n", f"\n.Os naplps {sources_version()}\n".encode(), 1)
+
+
 def files_of(program: Path) -> Dict[str, File]:
     """Each file by its path under the prefix."""
     found = {"bin/naplps": File(program.read_bytes(), 0o755)}
@@ -151,7 +156,10 @@ def files_of(program: Path) -> Dict[str, File]:
         for path in base.glob(rule.pattern):
             if not path.is_file() or path.suffix == ".pyc":
                 continue
-            found[f"{rule.to}/{path.relative_to(base).as_posix()}"] = File(path.read_bytes(), rule.mode)
+            data = path.read_bytes()
+            if rule.base == "man":
+                data = manual_page(data)
+            found[f"{rule.to}/{path.relative_to(base).as_posix()}"] = File(data, rule.mode)
     for name, to in COMPLETIONS.items():
         found[to] = File((TOP / "completions" / name).read_bytes(), 0o644)
     return found
