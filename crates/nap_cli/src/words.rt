@@ -115,7 +115,7 @@ const BATCH_HELP: &str = "Answers requests, one after another: many pages throug
 
 const BATCH_EXAMPLE: &str =
     "A request is a line 'COMMAND BUDGET LENGTH' and then LENGTH bytes, the page.
-COMMAND is check, list, canon or places.
+COMMAND is check, list, canon or places; or make, with lines in place of a page.
 An answer is the line of 'check', a line with a number, and so many bytes.
 The manual page has all of it.
 The status is 0 where the input ends between two requests, else 3.
