@@ -8,6 +8,7 @@ mod known;
 mod lines;
 mod lists;
 mod pairs;
+mod read_back;
 mod rows;
 mod sinks;
 mod states;
