@@ -3,6 +3,7 @@
     import naplps
     for entry in naplps.entries(page):
         print(entry)
+    page = naplps.make(["CLEAR pen=start", "BELL"])
 
 A page is bytes, bytearray or memoryview; each function takes one, and a budget: how many bytes of macro bodies the page
 may be charged with, from 0 to MOST_BUDGET. The functions ask the library libnaplps where that is there, and else the
@@ -26,8 +27,9 @@ if TYPE_CHECKING:
         ONE, Arc, Bell, Blink, BlinkEnd, BlinkMark, Char, Clear, Colour, Cursor, DefEnd, Entry, Field, GlyphStart,
         Line, Look, Map, MaskStart, Pen, Point, Poly, Position, Rect, Reset, TextMove, Texture, ToEol, Wait,
     )
-    from .faults import Error, NeedsLibrary, NoAnswer, NoMemory, Refused, Unavailable, WrongLibrary
+    from .faults import Error, NeedsLibrary, NoAnswer, NoMemory, NotMade, Refused, Unavailable, WrongLibrary
     from .limits import MOST_BUDGET, USUAL_BUDGET
+    from .making import make
     from .pages import (
         Places, backend, canon, canon_form1, check, entries, is_plain, lines, places, svg, text, treatments,
     )
@@ -38,10 +40,10 @@ if TYPE_CHECKING:
 __all__ = [
     "MOST_BUDGET", "ONE", "USUAL_BUDGET", "Arc", "Backend", "Bell", "Blink", "BlinkEnd", "BlinkMark", "Change",
     "Char", "Checker", "Clear", "Colour", "Cure", "Cursor", "Data", "DefEnd", "Edit", "Entry", "Error", "Field",
-    "GlyphStart", "Line", "Look", "Map", "MaskStart", "NeedsLibrary", "NoAnswer", "NoMemory", "Pen", "Places",
-    "Point", "Poly", "Position", "Rect", "Refused", "Reset", "TextMove", "Texture", "ToEol", "Unavailable", "Wait",
-    "WrongLibrary", "__version__", "backend", "canon", "canon_form1", "check", "entries", "is_plain", "lines",
-    "places", "svg", "text", "treatments",
+    "GlyphStart", "Line", "Look", "Map", "MaskStart", "NeedsLibrary", "NoAnswer", "NoMemory", "NotMade", "Pen",
+    "Places", "Point", "Poly", "Position", "Rect", "Refused", "Reset", "TextMove", "Texture", "ToEol",
+    "Unavailable", "Wait", "WrongLibrary", "__version__", "backend", "canon", "canon_form1", "check", "entries",
+    "is_plain", "lines", "make", "places", "svg", "text", "treatments",
 ]
 __version__ = VERSION
 # Where the names stand. A module is imported once the first of them is asked for, as few programs need them all.
@@ -51,8 +53,8 @@ _NAMES = {
         "ONE", "Arc", "Bell", "Blink", "BlinkEnd", "BlinkMark", "Char", "Clear", "Colour", "Cursor", "DefEnd", "Entry",
         "Field", "GlyphStart", "Line", "Look", "Map", "MaskStart", "Pen", "Point", "Poly", "Position", "Rect", "Reset",
         "TextMove", "Texture", "ToEol", "Wait"),
-    "faults": ("Error", "NeedsLibrary", "NoAnswer", "NoMemory", "Refused", "Unavailable", "WrongLibrary"),
-    "limits": ("MOST_BUDGET", "USUAL_BUDGET"),
+    "faults": ("Error", "NeedsLibrary", "NoAnswer", "NoMemory", "NotMade", "Refused", "Unavailable", "WrongLibrary"),
+    "limits": ("MOST_BUDGET", "USUAL_BUDGET"), "making": ("make",),
     "pages": (
         "Places", "backend", "canon", "canon_form1", "check", "entries", "is_plain", "lines", "places", "svg", "text",
         "treatments"),

@@ -7,6 +7,8 @@ from typing import Callable, List, NamedTuple, Optional, Sequence, Union
 # (Numbers of 18 digits are kept in a store.)
 ACCEPTED = re.compile(rb"accepted (0|[1-9][0-9]{0,17}) entries")
 REFUSED = re.compile(rb"refused ([1-9][0-9]?) ([A-Za-z]+)(?: ([A-Z0-9-]+))? at (0|[1-9][0-9]{0,17})")
+WRONG_LINE = re.compile(rb"line ([1-9][0-9]{0,17}): (?:no line of a list, at column ([1-9][0-9]{0,17})|can't come here|"
+                        rb"the definition of line ([1-9][0-9]{0,17}) isn't ended)")
 NO_MEMORY = "the program had no memory for it"
 NONSENSE = "the program answered something that is no answer"
 # Refusals that say nothing of the page.
@@ -59,7 +61,28 @@ class Unanswered:
     too_much: bool = False
 
 
+@dataclass(frozen=True)
+class WrongLine:
+    """Lines make no page: the first one that is wrong, from 1, and the reason as the program tells it.
+
+    `column`, from 1, is that of a line that is no entry's: before it the line could be one's. `opening` is the line of
+    the definition that isn't ended at the last line.
+    """
+
+    number: int
+    reason: str
+    column: Optional[int] = None
+    opening: Optional[int] = None
+
+    @property
+    def line(self) -> str:
+        """The answer as `naplps make` prints it."""
+        behind = "" if self.column is None else f", at column {self.column}"
+        return f"line {self.number}: {self.reason}{behind}"
+
+
 Answer = Union[Accepted, Refusal, Unanswered]
+MakeAnswer = Union[Accepted, WrongLine, Unanswered]
 
 
 class HashedAnswer(NamedTuple):
@@ -113,13 +136,22 @@ def read_line(line: bytes, length: Optional[int]) -> Answer:
     return refusal
 
 
+def read_wrong_line(line: bytes) -> Optional[WrongLine]:
+    """The wrong line that the answer to `make` tells of, if it tells of one."""
+    found = WRONG_LINE.fullmatch(line)
+    if not found:
+        return None
+    number, reason = int(found[1]), line.decode("ascii").partition(": ")[2].partition(",")[0]
+    return WrongLine(number, reason, *(None if each is None else int(each) for each in (found[2], found[3])))
+
+
 def with_body(call: str, answer: Answer, body: bytes) -> Answer:
     """The answer with the body that the call gives with it. Raises Nonsense for another body."""
     if isinstance(answer, Unanswered) or call == "check" or (isinstance(answer, Refusal) and call != "places"):
         if body:
             raise Nonsense
         return answer
-    if call == "canon":
+    if call in ("canon", "make"):
         fits = bool(body)
     else:
         fits = body.isascii() and (isinstance(answer, Refusal) or body.count(b"\n") == answer.entries)
@@ -141,6 +173,8 @@ class AnswerParser:
     # Called behind a piece that ended an answer, where more answers are to come.
     goes_on: Callable[[], None] = lambda: None
     answers: List[HashedAnswer] = field(default_factory=list)
+    # Of `make`, the line that is wrong, where one is; no page is answered then.
+    wrong_line: Optional[WrongLine] = None
     # What came of a head that isn't whole yet; the answer of a head, the length of its body, and what lacks of that.
     _rest: bytes = b""
     _answer: Optional[Answer] = None
@@ -198,9 +232,24 @@ class AnswerParser:
         self._length = self._lacks = int(number)
         if self.most is not None and self._length > self.most:
             raise AnswerTooLong(self._length)
-        self._answer = read_line(come[at:first], len(self.pages[len(self.answers)]))
+        self._answer = self._read(come[at:first], self.pages[len(self.answers)])
         if self.most is None:
             self._hash = hashlib.sha256()
             if isinstance(self._answer, Accepted) != bool(self._length):
                 raise Nonsense
         return second + 1
+
+    def _read(self, line: bytes, page: bytes) -> Answer:
+        """The answer of a line; `make` tells of its lines as of entries, or of one that is wrong. Raises Nonsense."""
+        if self.call != "make":
+            return read_line(line, len(page))
+        count = page.count(b"\n")
+        self.wrong_line = read_wrong_line(line)
+        if self.wrong_line:
+            if self.wrong_line.number > count or (self.wrong_line.opening or 0) > count:
+                raise Nonsense
+            return Unanswered(self.wrong_line.line)
+        answer = read_line(line, None)
+        if isinstance(answer, Refusal) or (isinstance(answer, Accepted) and answer.entries != count):
+            raise Nonsense
+        return answer

@@ -1,14 +1,15 @@
 """The one client of `naplps batch`: it asks about one page or about many ahead, within limits; and a page that is too
 long for a request by a process of its own."""
 import hashlib
+import tempfile
 from dataclasses import dataclass
-from typing import IO, Callable, List, Optional, Protocol, Sequence, Union
+from typing import IO, Callable, List, NamedTuple, Optional, Protocol, Sequence, Union
 
 from .answers import (
-    Accepted, Answer, AnswerParser, AnswerTooLong, HashedAnswer, Nonsense, NotAnswered, Unanswered, read_line,
-    with_body,
+    Accepted, Answer, AnswerParser, AnswerTooLong, HashedAnswer, MakeAnswer, Nonsense, NotAnswered, Refusal,
+    Unanswered, read_line, read_wrong_line, with_body,
 )
-from .limits import USUAL_BUDGET, Limits
+from .limits import MOST_PAGE, USUAL_BUDGET, Limits
 from .program import ChildProcess
 
 
@@ -22,6 +23,13 @@ class Asked(Protocol):
     @property
     def file(self) -> Optional[IO[bytes]]:
         """The file, which can go back."""
+
+
+class RunEnd(NamedTuple):
+    """How a command ended: why its output is no answer, where it is none, and what it said on standard error then."""
+
+    failure: Optional[Unanswered] = None
+    complaint: bytes = b""
 
 
 @dataclass(eq=False)
@@ -45,6 +53,18 @@ class Client:
             return self._answers(AnswerParser(call, (data,), self.limits.answer))[0].answer
         assert not isinstance(page, bytes) and page.file
         return self.ask_file(call, page.file)
+
+    def make(self, lines: bytes) -> MakeAnswer:
+        """The page that lines make, each of which has its end; or the line that is wrong."""
+        if len(lines) > MOST_PAGE:
+            with tempfile.TemporaryFile() as file:
+                file.write(lines)
+                file.flush()
+                return self._make_of_file(file, lines.count(b"\n"))
+        parser = AnswerParser("make", (lines,), self.limits.answer)
+        answer = self._answers(parser)[0].answer
+        assert not isinstance(answer, Refusal)
+        return parser.wrong_line or answer
 
     def hash_canon(self, pages: Sequence[bytes]) -> List[HashedAnswer]:
         """The answers to `canon` on each of these pages. The requests are written ahead, and canonical bytes hashed.
@@ -87,7 +107,7 @@ class Client:
         if call == "check" or not isinstance(checked, Accepted):
             return checked
         output = WholeOutput(self.limits.answer)
-        failure = self._run([call], file, output.take)
+        failure = self._run([call, *self._budget], file, output.take).failure
         try:
             return failure or with_body(call, checked, output.whole)
         except NotAnswered as nonsense:
@@ -107,13 +127,13 @@ class Client:
             hashed.update(piece)
             length += len(piece)
             return not piece
-        failure = self._run(["canon", "--stream"], file, take)
+        failure = self._run(["canon", "--stream", *self._budget], file, take).failure
         return HashedAnswer(failure) if failure else HashedAnswer(checked, hashed.digest(), length)
 
     def _checked(self, file: IO[bytes]) -> Answer:
         """The answer to `check` on such a page; a refusal has a status of its own, and is an answer too."""
         output = WholeOutput(self.limits.answer)
-        failure = self._run(["check"], file, output.take)
+        failure = self._run(["check", *self._budget], file, output.take).failure
         if not output.whole.endswith(b"\n"):
             return failure or Nonsense().answer
         try:
@@ -121,18 +141,31 @@ class Client:
         except NotAnswered as nonsense:
             return nonsense.answer
 
-    def _run(self, words: Sequence[str], file: IO[bytes], take: Callable[[bytes], bool]) -> Optional[Unanswered]:
-        """Runs a command on a file; why its output is no answer, where it is none."""
+    def _make_of_file(self, file: IO[bytes], count: int) -> MakeAnswer:
+        """The same of lines that are too many for a request; the command tells of a wrong one on standard error."""
+        output = WholeOutput(self.limits.answer)
+        ended = self._run(["make"], file, output.take)
+        if ended.failure is None:
+            return Accepted(count, output.whole) if output.whole else Nonsense().answer
+        return read_wrong_line(ended.complaint.rstrip(b"\n")) or ended.failure
+
+    @property
+    def _budget(self) -> List[str]:
+        return ["--budget", str(self.budget)]
+
+    def _run(self, words: Sequence[str], file: IO[bytes], take: Callable[[bytes], bool]) -> RunEnd:
+        """Runs a command on a file."""
         process: Optional[ChildProcess] = None
         file.seek(0)
         try:
-            process = ChildProcess([self.path, *words, "--budget", str(self.budget)], self.limits, file)
+            process = ChildProcess([self.path, *words], self.limits, file)
             process.talk(b"", take)
             if process.status(self.limits.seconds) != 0:
-                return Unanswered(process.how_it_ended())
-            return None
+                reason = process.how_it_ended()
+                return RunEnd(Unanswered(reason), process.complaint)
+            return RunEnd()
         except NotAnswered as failure:
-            return failure.answer
+            return RunEnd(failure.answer)
         finally:
             if process:
                 process.end()

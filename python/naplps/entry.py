@@ -2,16 +2,29 @@
 
 A position is a pair, x and y, in steps of which ONE are the side of the square. A displacement or a size is such a pair
 too, and may be negative. Colours have 16 bits each of green, red and blue, in this order. docs/PROFILE.md says what
-each kind is, and what its parts mean. `kind` is the first word of the line.
+each kind is, and what its parts mean. `kind` is the first word of the line, and `str(entry)` is the line, without its
+end: of every entry whose parts are in their ranges, the one that `naplps list` prints and `naplps make` takes.
 """
 from dataclasses import dataclass
-from typing import ClassVar, Optional, Tuple, Union
+from typing import ClassVar, Iterable, Optional, Tuple, Union
 
 Position = Tuple[int, int]
 # "start", where nothing has set it yet; "after", where nobody knows, as behind text; or a position.
 Pen = Union[str, Position]
 # The side of the square, in steps.
 ONE = 1 << 23
+
+
+def _pair(it: Position) -> str:
+    return f"{it[0]},{it[1]}"
+
+
+def _joined(numbers: Iterable[int]) -> str:
+    return ",".join(map(str, numbers))
+
+
+def _pen(it: Pen) -> str:
+    return it if isinstance(it, str) else _pair(it)
 
 
 @dataclass(frozen=True)
@@ -21,6 +34,9 @@ class Colour:
     kind: str
     parts: Tuple[int, ...] = ()
 
+    def __str__(self) -> str:
+        return f"{self.kind}:{_joined(self.parts)}" if self.parts else self.kind
+
 
 @dataclass(frozen=True)
 class Texture:
@@ -28,6 +44,9 @@ class Texture:
 
     word: int
     mask: Optional[Position]
+
+    def __str__(self) -> str:
+        return f"{self.word}/{'none' if self.mask is None else _pair(self.mask)}"
 
 
 @dataclass(frozen=True)
@@ -41,6 +60,19 @@ class Look:
     underline: bool
     wrap: bool
     scroll: bool
+
+    def __str__(self) -> str:
+        on = zip("ruws", (self.reverse, self.underline, self.wrap, self.scroll))
+        flags = "".join(letter if is_on else "-" for letter, is_on in on)
+        return f"{self.first},{self.second}/{_pen(self.size)}/{flags}"
+
+
+def _ink(pel: Position, colour: Colour, texture: Texture) -> str:
+    return f"pel={_pair(pel)} colour={colour} texture={texture}"
+
+
+def _hand(pen: Pen, colour: Colour, text: Look) -> str:
+    return f"pen={_pen(pen)} colour={colour} text={text}"
 
 
 @dataclass(frozen=True)
@@ -57,6 +89,9 @@ class Point:
     def points(self) -> Tuple[Position, ...]:
         """The point."""
         return (self.at,)
+
+    def __str__(self) -> str:
+        return f"POINT {_pair(self.at)} pel={_pair(self.pel)} colour={self.colour}"
 
 
 @dataclass(frozen=True)
@@ -76,6 +111,9 @@ class Line:
         """Its ends."""
         return (self.start, self.end)
 
+    def __str__(self) -> str:
+        return f"LINE {_pair(self.start)} {_pair(self.end)} {_ink(self.pel, self.colour, self.texture)}"
+
 
 @dataclass(frozen=True)
 class Arc:
@@ -91,6 +129,9 @@ class Arc:
     def kind(self) -> str:
         """The first word of its line."""
         return "ARC-FILLED" if self.filled else "ARC-OUTLINED"
+
+    def __str__(self) -> str:
+        return f"{self.kind} {' '.join(map(_pair, self.points))} {_ink(self.pel, self.colour, self.texture)}"
 
 
 @dataclass(frozen=True)
@@ -114,6 +155,9 @@ class Rect:
         """The corners."""
         return (self.start, self.end)
 
+    def __str__(self) -> str:
+        return f"{self.kind} {_pair(self.start)} {_pair(self.end)} {_ink(self.pel, self.colour, self.texture)}"
+
 
 @dataclass(frozen=True)
 class Poly:
@@ -129,6 +173,9 @@ class Poly:
     def kind(self) -> str:
         """The first word of its line."""
         return "POLY-FILLED" if self.filled else "POLY-OUTLINED"
+
+    def __str__(self) -> str:
+        return f"{self.kind} {' '.join(map(_pair, self.points))} {_ink(self.pel, self.colour, self.texture)}"
 
 
 @dataclass(frozen=True)
@@ -146,6 +193,9 @@ class Char:
     colour: Colour
     text: Look
 
+    def __str__(self) -> str:
+        return f"CHAR {self.set} {self.code:02x} {_hand(self.pen, self.colour, self.text)}"
+
 
 @dataclass(frozen=True)
 class TextMove:
@@ -159,6 +209,10 @@ class TextMove:
     colour: Colour
     text: Look
 
+    def __str__(self) -> str:
+        bytes_ = "".join(f" {each:02x}" for each in self.bytes)
+        return f"MOVE {self.move}{bytes_} {_hand(self.pen, self.colour, self.text)}"
+
 
 @dataclass(frozen=True)
 class ToEol:
@@ -170,6 +224,9 @@ class ToEol:
     colour: Colour
     text: Look
 
+    def __str__(self) -> str:
+        return f"TO-EOL {_hand(self.pen, self.colour, self.text)}"
+
 
 @dataclass(frozen=True)
 class Map:
@@ -179,6 +236,9 @@ class Map:
 
     address: int
     value: Tuple[int, ...]
+
+    def __str__(self) -> str:
+        return f"MAP {self.address} {_joined(self.value)}"
 
 
 @dataclass(frozen=True)
@@ -193,6 +253,9 @@ class Blink:
     delay: int
     colour: Colour
 
+    def __str__(self) -> str:
+        return f"BLINK {self.address} {self.on},{self.off},{self.delay} colour={self.colour}"
+
 
 @dataclass(frozen=True)
 class BlinkEnd:
@@ -201,6 +264,9 @@ class BlinkEnd:
     kind: ClassVar[str] = "BLINK-END"
 
     colour: Colour
+
+    def __str__(self) -> str:
+        return f"BLINK-END colour={self.colour}"
 
 
 @dataclass(frozen=True)
@@ -215,6 +281,9 @@ class BlinkMark:
         """The first word of its line."""
         return "BLINK-START" if self.on else "BLINK-STOP"
 
+    def __str__(self) -> str:
+        return f"{self.kind} colour={self.colour}"
+
 
 @dataclass(frozen=True)
 class Wait:
@@ -224,12 +293,18 @@ class Wait:
 
     tenths: int
 
+    def __str__(self) -> str:
+        return f"WAIT {self.tenths}"
+
 
 @dataclass(frozen=True)
 class Bell:
     """The bell."""
 
     kind: ClassVar[str] = "BELL"
+
+    def __str__(self) -> str:
+        return "BELL"
 
 
 @dataclass(frozen=True)
@@ -239,6 +314,9 @@ class Cursor:
     kind: ClassVar[str] = "CURSOR"
 
     state: str
+
+    def __str__(self) -> str:
+        return f"CURSOR {self.state}"
 
 
 @dataclass(frozen=True)
@@ -255,6 +333,10 @@ class Field:
         """The corners, or none."""
         return self.corners or ()
 
+    def __str__(self) -> str:
+        where = "whole" if self.corners is None else " ".join(map(_pair, self.corners))
+        return f"FIELD {where} pen={_pen(self.pen)}"
+
 
 @dataclass(frozen=True)
 class Reset:
@@ -266,6 +348,9 @@ class Reset:
     second: int
     pen: Pen
 
+    def __str__(self) -> str:
+        return f"RESET {self.first} {self.second} pen={_pen(self.pen)}"
+
 
 @dataclass(frozen=True)
 class Clear:
@@ -274,6 +359,9 @@ class Clear:
     kind: ClassVar[str] = "CLEAR"
 
     pen: Pen
+
+    def __str__(self) -> str:
+        return f"CLEAR pen={_pen(self.pen)}"
 
 
 @dataclass(frozen=True)
@@ -284,6 +372,9 @@ class GlyphStart:
 
     code: int
 
+    def __str__(self) -> str:
+        return f"GLYPH {self.code:02x}"
+
 
 @dataclass(frozen=True)
 class MaskStart:
@@ -293,12 +384,18 @@ class MaskStart:
 
     mask: str
 
+    def __str__(self) -> str:
+        return f"MASK {self.mask}"
+
 
 @dataclass(frozen=True)
 class DefEnd:
     """A glyph or a mask ends."""
 
     kind: ClassVar[str] = "END"
+
+    def __str__(self) -> str:
+        return "END"
 
 
 Entry = Union[Point, Line, Arc, Rect, Poly, Char, TextMove, ToEol, Map, Blink, BlinkEnd, BlinkMark, Wait, Bell, Cursor,

@@ -1,4 +1,5 @@
 """What the functions of naplps raise."""
+from typing import Optional
 
 
 class Error(Exception):
@@ -19,6 +20,23 @@ class Refused(Error):
 
     def __str__(self) -> str:
         return "refused %d %s at %d" % (self.number, self.name, self.place)
+
+
+class NotMade(Error):
+    """The lines make no page, and `line`, from 1, is the first that is wrong.
+
+    `reason` says why, as the program does: "no line of a list", and then `column`, from 1, is one before which the line
+    could be an entry's; "can't come here"; or, at the last line, "the definition of line 5 isn't ended". Else `column`
+    is None. Its text is the line that the program prints, as "line 3: no line of a list, at column 17".
+    """
+
+    def __init__(self, line: int, column: Optional[int], reason: str) -> None:
+        super().__init__(line, column, reason)
+        self.line, self.column, self.reason = line, column, reason
+
+    def __str__(self) -> str:
+        behind = "" if self.column is None else f", at column {self.column}"
+        return f"line {self.line}: {self.reason}{behind}"
 
 
 class NoMemory(Error, MemoryError):

@@ -1,6 +1,6 @@
 """The letters of the character sets, for text and for sketches: ASCII, and the supplementary set as ISO 6937 has it."""
 import unicodedata
-from typing import Dict
+from typing import Dict, Iterator, Tuple
 
 BLOCK = "\u2588"
 UNKNOWN = "\u25a1"
@@ -34,3 +34,32 @@ def composed(accent: int, base: str) -> str:
     if base == " ":
         return ALONE[accent]
     return unicodedata.normalize("NFC", base + MARKS[accent])
+
+
+# The signs of the supplementary set by their codes; of the accents that are signs of their own those that ASCII lacks.
+_CODES = {unicodedata.normalize("NFC", sign): code for code, sign in SUPPLEMENTARY.items() if sign != UNKNOWN}
+_MARKED = {mark: code for code, mark in sorted(MARKS.items(), reverse=True)}
+_ALONE = {sign: code for code, sign in sorted(ALONE.items(), reverse=True) if not sign.isascii()}
+
+
+def signs(text: str) -> Iterator[Tuple[int, str]]:
+    """The signs of a text, each with the marks behind it, and where it begins."""
+    start = 0
+    for at in range(1, len(text) + 1):
+        if at == len(text) or not unicodedata.combining(text[at]):
+            yield start, text[start:at]
+            start = at
+
+
+def codes(sign: str) -> Tuple[Tuple[str, int], ...]:
+    """The characters that write a sign, each by its set and code: an accent comes first. None where no set has it."""
+    whole = unicodedata.normalize("NFC", sign)
+    if whole.isascii() and whole.isprintable() and len(whole) == 1:
+        return (("primary", ord(whole)),)
+    if whole in _CODES:
+        return (("supplementary", _CODES[whole]),)
+    if whole in _ALONE:
+        return (("supplementary", _ALONE[whole]), ("primary", 0x20))
+    bare = unicodedata.normalize("NFD", sign)
+    base = codes(bare[:-1]) if len(bare) == 2 and bare[-1] in _MARKED else ()
+    return (("supplementary", _MARKED[bare[-1]]), *base) if base else ()

@@ -88,6 +88,10 @@ class LibraryBackend:
         lent, length = _lent(page)
         return bool(self._is_plain(lent, length))
 
+    def make(self, lines: bytes) -> bytes:
+        """The page that lines make. Raises NotMade, NoMemory."""
+        raise self._wrong("it has no call that makes pages")
+
     def begin(self, budget: int, lock: threading.Lock) -> "LibraryPieces":
         """A page that comes in pieces, whose methods are called with the lock held. Raises NoMemory."""
         return LibraryPieces(self, budget, lock)

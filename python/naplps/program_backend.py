@@ -4,10 +4,11 @@ import os
 import sys
 import tempfile
 import threading
-from typing import List
+from contextlib import contextmanager
+from typing import Iterator, List
 
 from . import faults
-from .answers import Accepted, Answer, Refusal
+from .answers import Accepted, Answer, Refusal, WrongLine
 from .client import Client
 from .library_backend import SONAME
 from .limits import MOST_PAGE, Limits
@@ -39,11 +40,25 @@ class ProgramBackend:
         data = bytes(page)
         if len(data) > MOST_PAGE and call == "places":
             raise faults.NeedsLibrary("a page above 16 MiB has no places without the library")
+        with self._client() as client:
+            client.budget = budget
+            return _reply(client.ask(call, data) if len(data) <= MOST_PAGE else _ask_file(client, call, data))
+
+    def make(self, lines: bytes) -> bytes:
+        """The page that lines make. Raises NotMade, NoMemory, NoAnswer."""
+        with self._client() as client:
+            answer = client.make(lines)
+        if isinstance(answer, WrongLine):
+            raise faults.NotMade(answer.number, answer.column, answer.reason)
+        return _reply(answer).text
+
+    @contextmanager
+    def _client(self) -> Iterator[Client]:
+        """A client that answers nobody else meanwhile."""
         with self._lock:
             client = self._idle.pop() if self._idle else Client(self.backend.path, limits=UNLIMITED)
         try:
-            client.budget = budget
-            return _reply(client.ask(call, data) if len(data) <= MOST_PAGE else _ask_file(client, call, data))
+            yield client
         finally:
             with self._lock:
                 self._idle.append(client)

@@ -47,6 +47,10 @@ class Answerer(Protocol):
         """Whether a page is plain. Raises NeedsLibrary."""
         ...
 
+    def make(self, lines: bytes) -> bytes:
+        """The page that lines make, each of which has its end. Raises NotMade, NoMemory, NoAnswer."""
+        ...
+
     def begin(self, budget: int, lock: threading.Lock) -> Pieces:
         """A page that comes in pieces, and is checked. Whoever calls its methods holds the lock. Raises NoMemory."""
         ...

@@ -1,184 +1,218 @@
-"""Writes NAPLPS pages: operands, opcodes, controls and text.
+"""Writes pages: shapes, text and colours, as lines of `naplps list`, of which the program makes the bytes.
 
     from naplps.writer import PageWriter
-    page = PageWriter().clear().domain().at(0.1, 0.5, "HELLO").made()
+    page = PageWriter().clear().rgb(1, 0.8, 0.2).at(0.1, 0.5, "HELLO").made()
 
-Places and sizes are in sides of the square. A page says what it is told: whether the program accepts it is for `check`.
+Places and sizes are in sides of the square. What is drawn with stays until it is set again: the colour, the pel, the
+texture and the look of text.
 """
 import math
-from typing import Iterable, List, Sequence, Tuple
+from contextlib import contextmanager
+from dataclasses import replace
+from typing import Iterable, Iterator, List, Optional, Sequence, Tuple
+
+from . import letters
+from .entry import (
+    ONE, Arc, Bell, Blink, Char, Clear, Colour, DefEnd, Entry, GlyphStart, Line, Look, Map, MaskStart, Pen, Point, Poly,
+    Position, Rect, TextMove, Texture, Wait,
+)
+from .making import make
+from .page_state import PageState
 
 Place = Tuple[float, float]
-PRIMARY, PDI = 0, 1
-SIZES = {"small": 0x4A, "medium": 0x4B, "normal": 0x4C, "tall": 0x4D, "double": 0x4F}
-ACCENTS = {"grave": 0x41, "acute": 0x42, "circumflex": 0x43, "tilde": 0x44, "diaeresis": 0x48, "cedilla": 0x4B}
+# An address of a map of sixteen colours is so many of those of the lines.
+SIXTEENTH = 1 << 20
+
+
+def units(value: float) -> int:
+    """A coordinate in the steps that lines have; a whole side is the last of them."""
+    return min(round(value * ONE), ONE - 1)
+
+
+def position(place: Place) -> Position:
+    """A place or a size in steps."""
+    return units(place[0]), units(place[1])
 
 
 class PageWriter:
-    """Bytes of a page, made piece by piece. Operands of points have `words` words."""
+    """The entries of a page, one after another. Each method gives the writer again."""
 
-    def __init__(self, words: int = 4, gl: int = PRIMARY) -> None:
-        self.words = words
-        self.gl = gl
-        self.bytes = bytearray()
+    def __init__(self) -> None:
+        self.entries: List[Entry] = []
+        self._state = PageState()
+        # What was set; None where what stands is drawn with.
+        self._pen: Optional[Pen] = None
+        self._pel: Optional[Position] = None
+        self._colour: Optional[Colour] = None
+        self._texture: Optional[Texture] = None
+        self._look: Optional[Look] = None
 
-    def raw(self, *codes: int) -> "PageWriter":
-        """These bytes as they are."""
-        self.bytes += bytes(codes)
+    def add(self, *entries: Entry) -> "PageWriter":
+        """These entries as they are, but those that set a colour of the map to what it is."""
+        for entry in entries:
+            if not self._state.repeats(entry):
+                self.entries.append(entry)
+                self._state.take(entry)
         return self
 
-    def escape(self, *codes: int) -> "PageWriter":
-        """ESC and these bytes."""
-        return self.raw(0x1B, *codes)
+    def lines(self) -> List[str]:
+        """The lines of the page, without their ends."""
+        return list(map(str, self.entries))
 
-    # -- operands
+    def made(self) -> bytes:
+        """The page, as the program makes it. Raises NotMade."""
+        return make(self.entries)
 
-    def units(self, value: float) -> int:
-        """A coordinate as a whole number of the smallest steps that the operands have."""
-        return round(value * (1 << (3 * self.words - 1)))
-
-    def spelled(self, x: int, y: int) -> bytes:
-        """A point or displacement in steps."""
-        bits = 3 * self.words
-        x, y = x % (1 << bits), y % (1 << bits)
-        return bytes(0x40 | (x >> at & 7) << 3 | (y >> at & 7) for at in range(bits - 3, -1, -3))
-
-    def place(self, x: float, y: float) -> bytes:
-        """A point or displacement in sides of the square."""
-        return self.spelled(self.units(x), self.units(y))
-
-    def moves(self, places: Sequence[Place]) -> bytes:
-        """The first place and the displacements from each to the next, which add up exactly."""
-        steps = [(self.units(x), self.units(y)) for x, y in places]
-        out = self.spelled(*steps[0])
-        for (a, b), (c, d) in zip(steps, steps[1:]):
-            out += self.spelled(c - a, d - b)
-        return out
-
-    def colour(self, red: float, green: float, blue: float) -> bytes:
-        """A colour of parts from 0 to 1."""
-        top = (1 << (2 * self.words)) - 1
-        parts = [round(value * top) for value in (green, red, blue)]
-        out = bytearray()
-        for at in range(2 * self.words - 2, -1, -2):
-            word = 0
-            for half in (1, 0):
-                for part in parts:
-                    word = word << 1 | (part >> (at + half) & 1)
-            out.append(0x40 | word)
-        return bytes(out)
-
-    # -- picture codes
-
-    def code(self, opcode: int, operands: bytes = b"") -> "PageWriter":
-        """An opcode of the PDI set with its operands, and SO before it where it is needed."""
-        if self.gl != PDI:
-            self.raw(0x0E)
-            self.gl = PDI
-        self.bytes.append(opcode)
-        self.bytes += operands
-        return self
-
-    def domain(self, pel: Place = (0.0, 0.0)) -> "PageWriter":
-        """The lengths of operands, and the pel."""
-        return self.code(0x21, bytes([0x40 | (self.words - 1) << 2]) + self.place(*pel))
-
-    def clear(self) -> "PageWriter":
-        """CS."""
-        return self.raw(0x0C)
+    # -- what is drawn with
 
     def rgb(self, red: float, green: float, blue: float) -> "PageWriter":
-        """SET COLOR: a direct colour, or that of the map where an address is selected."""
-        return self.code(0x3C, self.colour(red, green, blue))
+        """A colour of parts from 0 to 1."""
+        self._colour = Colour("direct", _parts(red, green, blue))
+        return self
 
-    def select(self, *numbers: int) -> "PageWriter":
-        """SELECT COLOR with addresses of a map of sixteen; none goes back to direct colours."""
-        return self.code(0x3E, bytes(0x40 | number << 2 for number in numbers))
+    def select(self, front: int, back: Optional[int] = None) -> "PageWriter":
+        """A colour of a map of sixteen, or two, in front and behind."""
+        numbers = (front,) if back is None else (front, back)
+        self._colour = Colour("front" if back is None else "pair", tuple(number * SIXTEENTH for number in numbers))
+        return self
+
+    def map(self, number: int, red: float, green: float, blue: float) -> "PageWriter":
+        """Sets a colour of a map of sixteen."""
+        return self.add(Map(number * SIXTEENTH, _parts(red, green, blue)))
+
+    def pel(self, wide: float = 0.0, high: float = 0.0) -> "PageWriter":
+        """The size of the pel."""
+        self._pel = position((wide, high))
+        return self
 
     def texture(self, line: int = 0, fill: int = 0, edge: bool = False) -> "PageWriter":
-        """The texture word."""
-        return self.code(0x23, bytes([0x40 | fill << 3 | edge << 2 | line]))
+        """The texture of lines, from 0 to 3, and that of areas, from 0 to 7; and whether these have an edge."""
+        self._texture = Texture(fill << 3 | edge << 2 | line, self._state.drawing.texture.mask)
+        return self
 
-    def to(self, x: float, y: float) -> "PageWriter":
-        """The pen goes to a place."""
-        return self.code(0x24, self.place(x, y))
+    def size(self, name: str) -> "PageWriter":
+        """The size of text: small, medium, normal, tall or double."""
+        self._look = replace(self._text, size=name)
+        return self
+
+    def flags(self, reverse: bool = False, underline: bool = False, wrap: bool = False,
+              scroll: bool = False) -> "PageWriter":
+        """The flags of text: those that aren't named are off."""
+        self._look = replace(self._text, reverse=reverse, underline=underline, wrap=wrap, scroll=scroll)
+        return self
+
+    @property
+    def _text(self) -> Look:
+        return self._look or self._state.drawing.text
+
+    @property
+    def _ink(self) -> Tuple[Position, Colour, Texture]:
+        now = self._state.drawing
+        return self._pel or now.pel, self._colour or now.colour, self._texture or now.texture
+
+    def _hand(self) -> Tuple[Pen, Colour, Look]:
+        """What the next character is written with; the place is used up."""
+        now, pen, self._pen = self._state.drawing, self._pen, None
+        return now.pen if pen is None else pen, self._colour or now.colour, self._text
+
+    # -- shapes
+
+    def points(self, *places: Place) -> "PageWriter":
+        """Points."""
+        pel, colour, _ = self._ink
+        return self.add(*(Point(position(place), pel, colour) for place in places))
 
     def line(self, *places: Place) -> "PageWriter":
         """Lines from place to place."""
-        self.to(*places[0])
-        return self.code(0x28, b"".join(self.place(*each) for each in places[1:]))
+        ends = list(map(position, places))
+        return self.add(*(Line(start, end, *self._ink) for start, end in zip(ends, ends[1:])))
 
     def polygon(self, places: Sequence[Place], filled: bool = True) -> "PageWriter":
         """A polygon."""
-        return self.code(0x37 if filled else 0x36, self.moves(places))
+        return self.add(Poly(filled, tuple(map(position, places)), *self._ink))
 
     def rectangle(self, x: float, y: float, wide: float, high: float, filled: bool = True) -> "PageWriter":
         """A rectangle."""
-        return self.code(0x33 if filled else 0x32, self.moves([(x, y), (x + wide, y + high)]))
+        return self.add(Rect(filled, position((x, y)), position((x + wide, y + high)), *self._ink))
 
     def circle(self, x: float, y: float, radius: float, filled: bool = True) -> "PageWriter":
-        """A circle around a place: the ends of a diameter."""
-        return self.code(0x2F if filled else 0x2E, self.moves([(x - radius, y), (x + radius, y)]))
+        """A circle around a place."""
+        return self.arc([(x - radius, y), (x + radius, y), (x - radius, y)], filled)
 
     def arc(self, places: Sequence[Place], filled: bool = False) -> "PageWriter":
         """An arc through three places, or a curve through more."""
-        return self.code(0x2F if filled else 0x2E, self.moves(places))
-
-    def blink(self, number: int, on: int, off: int, delay: int = 0) -> "PageWriter":
-        """A blink of an address of the map, in tenths of a second."""
-        return self.code(0x3F, bytes([0x40 | number << 2, 0x40 | on, 0x40 | off, 0x40 | delay]))
+        return self.add(Arc(filled, tuple(map(position, places)), *self._ink))
 
     # -- text
 
-    def text(self, words: str) -> "PageWriter":
-        """Characters of the primary set, from where the page is."""
-        if self.gl != PRIMARY:
-            self.raw(0x0F)
-            self.gl = PRIMARY
-        self.bytes += words.encode("ascii")
+    def to(self, x: float, y: float) -> "PageWriter":
+        """The next character stands at a place."""
+        self._pen = position((x, y))
         return self
 
     def at(self, x: float, y: float, words: str, size: str = "") -> "PageWriter":
         """Text at a place, in a size."""
-        self.to(x, y)
         if size:
-            self.escape(SIZES[size])
-        return self.text(words)
+            self.size(size)
+        return self.to(x, y).text(words)
 
-    def sign(self, code: int) -> "PageWriter":
-        """A character of the supplementary set."""
-        return self.raw(0x19, code)
-
-    def accent(self, name: str, letter: str) -> "PageWriter":
-        """A letter with an accent."""
-        return self.sign(ACCENTS[name]).text(letter)
-
-    def mosaic(self, codes: Iterable[int]) -> "PageWriter":
-        """Characters of the mosaic set."""
-        for code in codes:
-            self.raw(0x1D, code)
+    def text(self, words: str) -> "PageWriter":
+        """Text: ASCII, the signs of the supplementary set and letters with an accent. Raises ValueError for others."""
+        for _, sign in letters.signs(words):
+            codes = letters.codes(sign)
+            if not codes:
+                raise ValueError(f"no set of characters has {sign!r}")
+            for set_name, code in codes:
+                self.character(set_name, code)
         return self
 
-    # -- definitions
+    def character(self, set_name: str, *codes: int) -> "PageWriter":
+        """Characters of a set, primary, supplementary, mosaic or drcs, by their codes."""
+        for code in codes:
+            self.add(Char(set_name, code, *self._hand()))
+        return self
 
-    def macro(self, name: int, body: "PageWriter") -> "PageWriter":
-        """Defines a macro. Its body begins with PDI in use."""
-        return self.escape(0x40, name).raw(*body.bytes).escape(0x45)
+    def move(self, name: str, *codes: int) -> "PageWriter":
+        """A move of the cursor: APB, APF, APD, APU, APR or APH; or APS with its two bytes."""
+        return self.add(TextMove(name, codes, *self._hand()))
 
-    def call(self, name: int) -> "PageWriter":
-        """Calls a macro; G2 has to hold the macro set."""
-        return self.raw(0x19, name)
+    # -- the rest
 
-    def glyph(self, code: int, drawing: "PageWriter") -> "PageWriter":
-        """Defines a glyph of the DRCS set, drawn with PDI in use."""
-        if self.gl != PDI:
-            self.raw(0x0E)
-            self.gl = PDI
-        return self.escape(0x43, code).raw(*drawing.bytes).escape(0x45)
+    def clear(self) -> "PageWriter":
+        """The screen is cleared."""
+        return self.add(Clear(self._state.drawing.pen))
 
-    def made(self) -> bytes:
-        """The page."""
-        return bytes(self.bytes)
+    def bell(self) -> "PageWriter":
+        """The bell."""
+        return self.add(Bell())
+
+    def wait(self, tenths: int) -> "PageWriter":
+        """A wait, in tenths of a second; one longer than 63 is several."""
+        while tenths > 63:
+            self.add(Wait(63))
+            tenths -= 63
+        return self.add(Wait(tenths))
+
+    def blink(self, number: int, on: int, off: int, delay: int = 0) -> "PageWriter":
+        """The colour blinks to one of a map of sixteen; on, off and delay are in tenths of a second."""
+        return self.add(Blink(number * SIXTEENTH, on, off, delay, self._colour or self._state.drawing.colour))
+
+    @contextmanager
+    def glyph(self, code: int) -> Iterator["PageWriter"]:
+        """What is drawn inside is the glyph of a code of the set drcs."""
+        yield self.add(GlyphStart(code))
+        self.add(DefEnd())
+
+    @contextmanager
+    def mask(self, name: str) -> Iterator["PageWriter"]:
+        """What is drawn inside is the mask of a name, A, B, C or D."""
+        yield self.add(MaskStart(name))
+        self.add(DefEnd())
+
+
+def _parts(red: float, green: float, blue: float) -> Tuple[int, ...]:
+    """Green, red and blue of 16 bits each."""
+    return tuple(round(part * 65535) for part in (green, red, blue))
 
 
 def star(x: float, y: float, radius: float, points: int = 5) -> List[Place]:

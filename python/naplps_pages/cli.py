@@ -25,14 +25,14 @@ AFTER = ("check", "list", "canon", "explain", "look", "play", "text")
 NO_CANON = ("not for canon: a canonical stream begins where nothing stands, so a page after others has none; `cat` "
             "joins pages to one that has")
 # The options that a session has.
-OPTIONS = ("json", "into", "svg", "full", "past", "png", "sheet")
+OPTIONS = ("json", "into", "svg", "full", "past", "png", "sheet", "look")
 # The commands on pages whose answers may be as long as they are.
-AT_LENGTH = ("list", "canon")
+AT_LENGTH = ("list", "canon", "make")
 # The functions that are the commands on pages, by their modules.
 ON_PAGES = {
     "check": "answering.check", "list": "answering.list_entries", "canon": "answering.canon",
     "explain": "explaining.explain", "look": "showing.look", "play": "playing.play", "text": "showing.text",
-    "cures": "curing.cures", "split": "splitting.split", "census": "census.census"}
+    "cures": "curing.cures", "split": "splitting.split", "census": "census.census", "make": "making.make"}
 # The commands on pages that take a store too.
 OF_STORES = ("look", "cures", "census")
 # The commands of reports.
@@ -40,6 +40,9 @@ REPORTING = ("report", "serve")
 EPILOG = ("No file is overwritten. Status: 0 all pages are accepted, 1 some are refused, 2 the command line is wrong, "
           "3 something couldn't be read, asked or written. The program that is asked is the one that NAPLPS names, or "
           "naplps next to this command, or on PATH.")
+OF_SOURCES = ("No file is overwritten. docs/MAKING.md teaches what stands in a source. Status: 0 all pages are made, "
+              "1 something in a source is wrong, 2 the command line is wrong, 3 something couldn't be read, asked or "
+              "written.")
 OF_COLLECTIONS = ("Status: 0, or 1 if something couldn't be read, got no answer or has changed, 2 the command line is "
                   "wrong, 3 the store, the program or the output failed.")
 OF_REPORTS = ("Status: 0, or 1 if a page in the report has changed since it was scanned, 2 the command line is wrong, "
@@ -164,6 +167,17 @@ def _asking_options(one: Parser, budget: bool = True) -> None:
                          f"{MOST_BUDGET}; the default is {USUAL_BUDGET}")
     one.add_argument("--seconds", metavar="N", type=seconds, default=20.0,
                      help="how many seconds the program may take for a page; the default is 20")
+
+
+def _make_options(one: Parser) -> None:
+    one.add_argument("pages", metavar="FILE", nargs="+", type=name,
+                     help="a page as people write it, PACK!MEMBER for a member of a pack, or - for standard input")
+    one.add_argument("--into", metavar="FOLDER", type=name,
+                     help="make a file for each page in this folder, with the ending .nap")
+    one.add_argument("--look", action="store_true",
+                     help="print the sketch of the page in its place; with --into, put it beside the page")
+    one.set_defaults(budget=USUAL_BUDGET)
+    _asking_options(one, budget=False)
 
 
 def _scan_options(one: Parser) -> None:
@@ -299,6 +313,7 @@ COMMANDS = {
     "cures": Command("try treatments that make a refused page readable", EPILOG, _page_options),
     "split": Command("cut a capture into its pages, each a file in a folder", EPILOG, _page_options),
     "census": Command("count the codes that stop pages", EPILOG, _page_options),
+    "make": Command("make pages of text that people write, or of lines of list", OF_SOURCES, _make_options),
     "scan": Command("ask about all pages in folders, and keep the answers in a store", OF_COLLECTIONS,
                     _scan_options),
     "merge": Command("join stores, as those of the parts of a scan, in a new one", OF_COLLECTIONS, _merge_options),
@@ -332,7 +347,7 @@ def _given(words: List[str]) -> argparse.Namespace:
     given = parser(words[0] if words else "").parse_args(words)
     if given.command in ON_PAGES:
         pages: List[str] = given.pages
-        if given.command in ("canon", "look"):
+        if given.command in ("canon", "look", "make"):
             _check_output(given, pages)
         after: List[str] = getattr(given, "after", [])
         if given.command == "canon" and after:

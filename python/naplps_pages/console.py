@@ -21,8 +21,13 @@ class OutputLost(NotWritten):
 
 def tell(text: str) -> None:
     """A line on standard error. Whatever a terminal wouldn't show as itself has an escape."""
+    tell_line(f"{TOOL}: {printable(text)}")
+
+
+def tell_line(text: str) -> None:
+    """A line on standard error as it stands, without the name of the tool: editors find the places of such lines."""
     try:
-        sys.stderr.write(f"{TOOL}: {printable(text)}\n")
+        sys.stderr.write(text + "\n")
         sys.stderr.flush()
     except (OSError, AttributeError):
         pass  # there is nobody left to tell

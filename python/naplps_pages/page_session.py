@@ -32,6 +32,7 @@ class Session:
     past: bool = False
     png: bool = False
     sheet: Optional[str] = None
+    look: bool = False
     earlier: Earlier = field(default_factory=Earlier)
     output: Output = field(default_factory=lambda: Output(sys.stdout.buffer))
     status: int = ACCEPTED

@@ -116,6 +116,12 @@ def _drawn(session: Session, page: Page, heard: Heard) -> drawing.Sketch:
     return drawing.draw(told.entries, f"then {answer.line}" if isinstance(answer, Refusal) else "", told.guess)
 
 
+def sketch(session: Session, page: Page) -> Optional[str]:
+    """The sketch of a page that was made; None where there is no answer to it, which is told."""
+    heard = session.heard(page)
+    return _drawn(session, page, heard).svg if session.answered(page, heard.last.answer) else None
+
+
 def text(session: Session) -> int:
     """The text of each page."""
     def work(page: Page) -> None:

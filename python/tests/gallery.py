@@ -4,14 +4,15 @@ import os
 import sys
 from typing import Dict, List, Tuple
 
-from naplps.writer import PDI, PageWriter, blocks, star
+from naplps.writer import blocks, star
+from stream_writer import PDI, StreamWriter
 
 WHITE = (1.0, 1.0, 1.0)
 
 
 def logo() -> bytes:
     """A service's logo: circles, a star and arcs."""
-    page = PageWriter().clear().domain()
+    page = StreamWriter().clear().domain()
     page.rgb(0.08, 0.2, 0.55).rectangle(0, 0, 0.999, 0.78)
     page.rgb(1, 0.84, 0.1).circle(0.5, 0.46, 0.24)
     page.rgb(0.08, 0.2, 0.55).circle(0.5, 0.46, 0.19)
@@ -25,9 +26,9 @@ def logo() -> bytes:
     return page.made()
 
 
-def _sun() -> PageWriter:
+def _sun() -> StreamWriter:
     """A sun around the pen, which ends where it began."""
-    body = PageWriter(gl=PDI)
+    body = StreamWriter(gl=PDI)
     body.code(0x3C, body.colour(1, 0.85, 0.1))
     body.code(0x25, body.place(-0.032, 0)).code(0x2D, body.place(0.064, 0)).code(0x25, body.place(0.032, 0))
     for i in range(8):
@@ -39,9 +40,9 @@ def _sun() -> PageWriter:
     return body
 
 
-def _cloud() -> PageWriter:
+def _cloud() -> StreamWriter:
     """A cloud around the pen, which ends where it began."""
-    body = PageWriter(gl=PDI)
+    body = StreamWriter(gl=PDI)
     body.code(0x3C, body.colour(0.86, 0.88, 0.93))
     for x, y, wide in ((-0.05, 0.0, 0.04), (-0.028, 0.012, 0.056), (0.012, 0.0, 0.042)):
         body.code(0x25, body.place(x, y)).code(0x2D, body.place(wide, 0)).code(0x25, body.place(-x, -y))
@@ -51,7 +52,7 @@ def _cloud() -> PageWriter:
 
 def weather() -> bytes:
     """A weather map, with macros for its signs."""
-    page = PageWriter().clear().domain()
+    page = StreamWriter().clear().domain()
     page.macro(0x53, _sun()).macro(0x43, _cloud()).escape(0x2A, 0x7A)
     page.rgb(0.04, 0.13, 0.36).rectangle(0, 0, 0.999, 0.78)
     land = [(0.04, 0.3), (0.1, 0.24), (0.3, 0.22), (0.44, 0.2), (0.52, 0.14), (0.58, 0.2), (0.7, 0.18), (0.78, 0.24),
@@ -75,7 +76,7 @@ def weather() -> bytes:
 
 def index() -> bytes:
     """An index page: a title bar, lines with numbers, a bar in reverse."""
-    page = PageWriter(3).clear().domain()
+    page = StreamWriter(3).clear().domain()
     page.select(9).rectangle(0, 0.69, 0.996, 0.085)
     page.select(7).at(0.03, 0.7, "NEWS INDEX", "tall")
     rows = ("CITY COUNCIL VOTES ON BUS FARES", "HARBOUR FERRY: WINTER TIMES", "WHEAT AND CANOLA PRICES",
@@ -90,20 +91,20 @@ def index() -> bytes:
     return page.made()
 
 
-def _house() -> PageWriter:
-    drawing = PageWriter(gl=PDI)
+def _house() -> StreamWriter:
+    drawing = StreamWriter(gl=PDI)
     drawing.polygon([(0.1, 0.05), (0.9, 0.05), (0.9, 0.5), (0.5, 0.95), (0.1, 0.5)])
     return drawing
 
 
-def _tree() -> PageWriter:
-    drawing = PageWriter(gl=PDI)
+def _tree() -> StreamWriter:
+    drawing = StreamWriter(gl=PDI)
     return drawing.rectangle(0.42, 0.02, 0.16, 0.3).circle(0.5, 0.6, 0.35)
 
 
 def glyphs() -> bytes:
     """Glyphs of the page's own: a street of houses and trees."""
-    page = PageWriter().clear().domain()
+    page = StreamWriter().clear().domain()
     page.glyph(0x21, _house()).glyph(0x22, _tree())
     page.rgb(0.1, 0.12, 0.3).rectangle(0, 0.3, 0.999, 0.48)
     page.rgb(0.12, 0.35, 0.15).rectangle(0, 0, 0.999, 0.3)
@@ -143,7 +144,7 @@ SHIP = ("                 #                      ",
 
 def mosaics() -> bytes:
     """A ship of mosaic blocks."""
-    page = PageWriter().clear().domain()
+    page = StreamWriter().clear().domain()
     page.rgb(0.45, 0.8, 1)
     for row, codes in enumerate(blocks(SHIP)):
         if row == 4:
@@ -158,7 +159,7 @@ def mosaics() -> bytes:
 
 def palette() -> bytes:
     """Colours set in the map, bars in them, and one that blinks."""
-    page = PageWriter().clear().domain()
+    page = StreamWriter().clear().domain()
     for number in range(1, 15):
         share = (number - 1) / 13
         page.select(number).rgb(share, 0.5 + 0.5 * math.sin(share * math.pi), 1 - share)
@@ -172,7 +173,7 @@ def palette() -> bytes:
 
 def chart() -> bytes:
     """A chart of bars with fills, a line over them, and two axes."""
-    page = PageWriter().clear().domain()
+    page = StreamWriter().clear().domain()
     page.rgb(0.12, 0.12, 0.16).rectangle(0, 0, 0.999, 0.78)
     page.rgb(0.35, 0.35, 0.4).texture(1)
     for i in range(1, 6):
@@ -196,7 +197,7 @@ def chart() -> bytes:
 
 def accents() -> bytes:
     """Accented text, in several lines from one place."""
-    page = PageWriter().clear().domain()
+    page = StreamWriter().clear().domain()
     page.rgb(0.4, 0.1, 0.3).rectangle(0, 0.67, 0.999, 0.11)
     page.rgb(1, 0.9, 0.6).at(0.05, 0.69, "M", "tall").accent("acute", "e").text("t").accent("acute", "e")
     page.text("o et caf").accent("acute", "e").text("s")
@@ -216,7 +217,7 @@ TOWERS: Roofs = ((0.06, 0.1, 0.3), (0.18, 0.08, 0.45), (0.28, 0.14, 0.24), (0.44
                  (0.7, 0.08, 0.42), (0.8, 0.14, 0.28))
 
 
-def _windows(page: PageWriter, x: float, y: float) -> List[Tuple[int, int]]:
+def _windows(page: StreamWriter, x: float, y: float) -> List[Tuple[int, int]]:
     """The places of four windows, in steps, from a corner."""
     left, low = page.units(x), page.units(y)
     return [(left + page.units(dx), low + page.units(dy)) for dx, dy in ((0, 0), (0.03, 0), (0, 0.05), (0.03, 0.05))]
@@ -224,7 +225,7 @@ def _windows(page: PageWriter, x: float, y: float) -> List[Tuple[int, int]]:
 
 def skyline_absolute() -> bytes:
     """A city at night, with each window named by its place."""
-    page = PageWriter().clear().domain()
+    page = StreamWriter().clear().domain()
     page.rgb(0.05, 0.05, 0.2).rectangle(0, 0.1, 0.999, 0.68)
     for x, wide, high in TOWERS:
         page.rgb(0.3, 0.32, 0.4).rectangle(x, 0.1, wide, high)
@@ -239,8 +240,8 @@ def skyline_absolute() -> bytes:
 
 def skyline_relative() -> bytes:
     """The same city: the windows are a macro that draws them from the pen, and a rectangle a relative move."""
-    page = PageWriter().clear().domain()
-    body = PageWriter(gl=PDI)
+    page = StreamWriter().clear().domain()
+    body = StreamWriter(gl=PDI)
     side = body.spelled(body.units(0.015), body.units(0.03))
     for here, (x, y) in zip([(0, 0)] + _windows(body, 0, 0), _windows(body, 0, 0)):
         dx, dy = x - here[0], y - here[1]
@@ -262,7 +263,7 @@ def skyline_relative() -> bytes:
 
 def signature() -> bytes:
     """A letter that is signed by INCREMENTAL LINE, a code that isn't read: it is refused there, amid the page."""
-    page = PageWriter().clear().domain()
+    page = StreamWriter().clear().domain()
     page.rgb(0.93, 0.9, 0.8).rectangle(0.1, 0.05, 0.8, 0.68)
     page.rgb(0.15, 0.15, 0.3).at(0.15, 0.64, "DEAR READERS,", "normal")
     rows = ("from Monday the library", "is open until nine.", "Yours,")

@@ -2,14 +2,15 @@
 import math
 from random import Random
 
-from naplps.writer import SIZES, PageWriter, star
+from naplps.writer import star
+from stream_writer import SIZES, StreamWriter
 
 WORDS = ("NEWS", "WEATHER", "SPORT", "INDEX", "MAP", "PRICES", "TRAINS", "THEATRE", "CLOSED", "TODAY")
 
 
 def picture(chance: Random, number: int) -> bytes:
     """A page of shapes and text, with its number in its title."""
-    page = PageWriter(chance.choice((2, 3, 3, 3, 4, 6)))
+    page = StreamWriter(chance.choice((2, 3, 3, 3, 4, 6)))
     if chance.random() < 0.7:
         page.clear()
     page.domain()
@@ -23,17 +24,17 @@ def _place(chance: Random) -> "tuple[float, float]":
     return chance.random() * 0.7, chance.random() * 0.6
 
 
-def _star(page: PageWriter, chance: Random) -> None:
+def _star(page: StreamWriter, chance: Random) -> None:
     page.polygon(star(0.2 + chance.random() * 0.5, 0.3, 0.15, chance.randrange(3, 8)), chance.random() < 0.5)
 
 
-def _wave(page: PageWriter, chance: Random) -> None:
+def _wave(page: StreamWriter, chance: Random) -> None:
     page.arc([(0.1 + 0.1 * i, 0.3 + 0.1 * math.sin(i + chance.random())) for i in range(chance.randrange(3, 7))])
 
 
-def _glyph(page: PageWriter, chance: Random) -> None:
+def _glyph(page: StreamWriter, chance: Random) -> None:
     """A glyph of one polygon, and the glyph itself."""
-    code, drawing = chance.randrange(0x21, 0x7F), PageWriter(page.words, gl=1)
+    code, drawing = chance.randrange(0x21, 0x7F), StreamWriter(page.words, gl=1)
     drawing.polygon([(0, 0), (0.5, 0.25 + chance.random() / 2), (0.75, 0.1)])
     page.glyph(code, drawing).escape(0x2B, 0x7B).raw(0x1D, code).escape(0x2B, 0x7D)
 

@@ -5,9 +5,9 @@ import os
 import re
 import zlib
 
-from naplps.writer import PageWriter
 from samples import OUTSIDE, POINT
 from scans import tree
+from stream_writer import StreamWriter
 
 # Another spelling of the point.
 SPELLED = bytes.fromhex("0E 27 52 40 40")
@@ -21,7 +21,7 @@ HOSTILE = ["<img src=x onerror=hacked=1>.nap", "\"'><svg onload=hacked=1>.nap", 
 
 def words(text):
     """A page that writes a text."""
-    return PageWriter().clear().domain().at(0.1, 0.5, text, "normal").made()
+    return StreamWriter().clear().domain().at(0.1, 0.5, text, "normal").made()
 
 
 def collection(folder):

@@ -2,7 +2,7 @@
 from hypothesis import strategies as st
 
 from naplps.entry import ONE
-from naplps.writer import SIZES, PageWriter
+from stream_writer import SIZES, StreamWriter
 
 UNIT = st.floats(0, 0.999)
 COORDINATE = st.integers(0, ONE - 1)
@@ -39,7 +39,7 @@ PARTS = (
 @st.composite
 def pages(draw):
     """A page of shapes, text and controls, which the program accepts."""
-    page = PageWriter(draw(st.integers(1, 8)))
+    page = StreamWriter(draw(st.integers(1, 8)))
     page.domain((draw(UNIT) / 8, draw(UNIT) / 8))
     some = st.tuples(st.sampled_from(PARTS), st.lists(st.tuples(UNIT, UNIT), min_size=2, max_size=6))
     top = 1 - 2.0 ** (1 - 3 * page.words)

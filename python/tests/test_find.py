@@ -10,17 +10,17 @@ import sys
 import pytest
 
 from conftest import PACKAGES
-from naplps.writer import PageWriter
 from naplps_pages.collection import scan, word_index
 from naplps_pages.collection.store import StoreFailed, open_to_write
 from samples import OUTSIDE, with_parity
 from scans import rows, tree
 from stores import earlier
+from stream_writer import StreamWriter
 
 
 def page(*some):
     """A page that writes texts at places."""
-    writer = PageWriter().clear().domain()
+    writer = StreamWriter().clear().domain()
     for x, y, text in some:
         writer.at(x, y, text, "normal")
     return writer.made()

@@ -14,9 +14,10 @@ from naplps.library_backend import LibraryBackend
 from naplps.limits import MOST_LISTED
 from naplps.program_backend import ProgramBackend
 from naplps.reading import read_line
-from naplps.writer import PageWriter, blocks, star
+from naplps.writer import blocks, star
 from samples import BOMB, OUTSIDE, POINT, with_parity
 from strategies import pages
+from stream_writer import StreamWriter
 
 GALLERY = os.path.join(TOP, "examples", "gallery")
 
@@ -49,11 +50,11 @@ def test_a_page_with_too_many_entries_has_a_sketch_that_says_so(kind):
 
 
 def test_texts_are_those_of_the_command(kind, run, tmp_path):
-    for page in (b"", POINT, logo(), PageWriter().domain().at(0.1, 0.5, "ONE").at(0.1, 0.4, "TWO").made()):
+    for page in (b"", POINT, logo(), StreamWriter().domain().at(0.1, 0.5, "ONE").at(0.1, 0.4, "TWO").made()):
         said = run(["text", file(tmp_path, "page", page)]).stdout.decode("utf-8")
         text = nap.text(page)
         assert said == (text + "\n" if text else "")
-    assert nap.text(PageWriter().accent("acute", "e").text("st").made()) == "ést"
+    assert nap.text(StreamWriter().accent("acute", "e").text("st").made()) == "ést"
 
 
 def test_refused_pages_have_no_sketch_and_no_text(kind):
@@ -90,12 +91,12 @@ def test_entries_say_what_their_lines_say(kind, page):
 
 
 def test_written_pages_draw_what_they_were_told(kind):
-    page = PageWriter(words=4).clear().domain().rgb(1, 0, 0).polygon(star(0.5, 0.4, 0.2)).made()
+    page = StreamWriter(words=4).clear().domain().rgb(1, 0, 0).polygon(star(0.5, 0.4, 0.2)).made()
     clear, shape = nap.entries(page)
     assert isinstance(clear, nap.Clear) and isinstance(shape, nap.Poly) and shape.filled
     assert shape.colour.kind == "direct" and [part >> 8 for part in shape.colour.parts] == [0, 255, 0]
     assert len(shape.points) == 10
     x, y = shape.points[0]
     assert (x / nap.ONE, y / nap.ONE) == pytest.approx((0.5, 0.6), abs=2 ** -11)
-    signs = nap.entries(PageWriter().mosaic(blocks(["##", "..", ".#"])[0]).made())
+    signs = nap.entries(StreamWriter().mosaic(blocks(["##", "..", ".#"])[0]).made())
     assert [(each.set, each.code) for each in signs] == [("mosaic", 0x20 | 1 | 2 | 64)]

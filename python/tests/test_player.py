@@ -14,13 +14,13 @@ from naplps.drawing.timeline import timeline
 from naplps.drawing.walk import MOST_DRAWN
 from naplps.entry import ONE
 from naplps.reading import placed
-from naplps.writer import PageWriter
 from naplps_pages.listing import listed
 from naplps_pages.player import limits
 from naplps_pages.player.played import played
 from naplps_pages.source import Page
 from players import how_like, like, play, want
 from samples import has
+from stream_writer import StreamWriter
 from test_sketch_bounds import bomb
 
 pytestmark = pytest.mark.skipif(not has("chromium"), reason="there is no chromium")
@@ -125,7 +125,7 @@ def test_at_each_moment_what_has_come_is_shown(shown, program, name):
 
 
 def test_a_wait_is_kept_and_a_byte_takes_its_time(shown):
-    page = shown(PageWriter().clear().domain().rectangle(0.1, 0.1, 0.2, 0.2).code(0x3D, b"\x54")
+    page = shown(StreamWriter().clear().domain().rectangle(0.1, 0.1, 0.2, 0.2).code(0x3D, b"\x54")
                  .rectangle(0.5, 0.5, 0.2, 0.2).made())
     places, lines = page.run("player.data.places"), page.run("player.data.lines")
     assert lines[2] == "WAIT 20"
@@ -140,7 +140,7 @@ def test_a_wait_is_kept_and_a_byte_takes_its_time(shown):
 
 
 def test_the_map_is_live_and_a_blink_changes_what_stands(shown):
-    writer = PageWriter().clear().domain().select(5).rectangle(0.1, 0.1, 0.5, 0.5)
+    writer = StreamWriter().clear().domain().select(5).rectangle(0.1, 0.1, 0.5, 0.5)
     blink = b"\x7c" + bytes((0x45, 0x45, 0x40))
     page = shown(writer.code(0x3C, writer.colour(0, 1, 0)).code(0x3F, blink).made())
     lines = page.run("player.data.lines")
@@ -161,7 +161,7 @@ def test_the_map_is_live_and_a_blink_changes_what_stands(shown):
 
 def flashing(number):
     """A page of areas as large as the screen, dark and light in turn."""
-    page = PageWriter().clear().domain()
+    page = StreamWriter().clear().domain()
     for at in range(number):
         page.rgb(*[at % 2] * 3).rectangle(0, 0, 0.999, 0.78)
     return page.made()
@@ -193,7 +193,7 @@ def test_nothing_flashes_above_three_a_second_unless_that_is_wanted(shown, wante
 
 
 def test_a_guard_counts_flashes_of_any_colour(shown):
-    page = shown(PageWriter().clear().made())
+    page = shown(StreamWriter().clear().made())
     taken = page.run("""(() => {
       const of = (levels, number) => {
         const guard = new FlashGuard(), taken = [];
@@ -277,8 +277,8 @@ def test_a_keyboard_alone_reaches_each_control(shown):
 
 
 def test_what_earlier_pages_drew_is_there_at_the_start(shown, program, tmp_path):
-    first = PageWriter().clear().domain().select(5).rectangle(0.1, 0.1, 0.3, 0.3).code(0x3D, b"\x54").made()
-    last = PageWriter().domain().rectangle(0.6, 0.5, 0.3, 0.2).made()
+    first = StreamWriter().clear().domain().select(5).rectangle(0.1, 0.1, 0.3, 0.3).code(0x3D, b"\x54").made()
+    last = StreamWriter().domain().rectangle(0.6, 0.5, 0.3, 0.2).made()
     path = file(tmp_path, "menu.nap", first)
     page = shown(last, bypass=True, words=["--after", path])
     assert "It comes after menu.nap: " in page.run("document.querySelector('header').textContent")
@@ -342,7 +342,7 @@ def test_nothing_is_wider_than_the_window(shown, width):
 
 def test_what_a_page_says_is_never_markup(shown):
     text = "</script><img src=x onerror=hacked=1>"
-    page = shown(PageWriter().clear().at(0.0, 0.5, text).made())
+    page = shown(StreamWriter().clear().at(0.0, 0.5, text).made())
     assert page.run("document.querySelectorAll('img, iframe, object, link').length") == 0
     page.run("player.chooseRow(player.codes.starts.length - 1); player.chooseRow(3)")
     assert page.run("document.scripts.length") == 2
@@ -350,14 +350,14 @@ def test_what_a_page_says_is_never_markup(shown):
 
 def test_the_name_of_a_file_is_never_markup(shown, tmp_path):
     name = "<img src=x onerror=hacked=1> @DATA@.nap"
-    page = shown(file(tmp_path, name, PageWriter().clear().made()))
+    page = shown(file(tmp_path, name, StreamWriter().clear().made()))
     assert page.run("document.querySelector('h1').textContent").endswith(name + ", as it came down the line")
 
 
 def hostile():
     """Pages that would cost much, each with a word that says of what."""
-    letters = PageWriter(3).clear().at(0.0, 0.5, "A").raw(*[0x41] * 30_000).made()
-    clears = PageWriter(3).domain().rgb(1, 1, 1)
+    letters = StreamWriter(3).clear().at(0.0, 0.5, "A").raw(*[0x41] * 30_000).made()
+    clears = StreamWriter(3).domain().rgb(1, 1, 1)
     for _ in range(9000):
         clears.rectangle(0, 0, 0.5, 0.5).raw(0x0F, 0x0C, 0x0E)
     return {"glyph": bomb("glyph", 400), "mask": bomb("mask", 400), "letters": letters, "clears": clears.made()}

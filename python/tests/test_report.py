@@ -9,7 +9,6 @@ import zlib
 import pytest
 
 from conftest import file
-from naplps.writer import PageWriter
 from naplps_pages.collection.store import open_to_read
 from naplps_pages.report import choices, making
 from naplps_pages.report.drawing import Drawing
@@ -21,9 +20,10 @@ from naplps_pages.report.sketch_workers import ENDED
 from reports import SPELLED, collection, held, words
 from samples import OUTSIDE, POINT
 from scans import FAKE, tree
+from stream_writer import StreamWriter
 
 
-WIDE = PageWriter(1).domain().code(0x37, b"R" + b"Oy" * 1000).made()
+WIDE = StreamWriter(1).domain().code(0x37, b"R" + b"Oy" * 1000).made()
 
 
 @pytest.fixture

@@ -2,8 +2,8 @@
 import pytest
 
 from naplps.screen_text import lines_of
-from naplps.writer import PageWriter
 from naplps_pages.page_words import NoWords, first_words, lines_with, match_of, wanted
+from stream_writer import StreamWriter
 
 LOOK = "colour=own-start text=0,0/%s/----"
 
@@ -68,7 +68,7 @@ def test_places_make_no_difference():
 
 
 def test_a_page_of_the_program(run, tmp_path):
-    page = PageWriter().clear().domain().at(0.1, 0.2, "BELOW").at(0.1, 0.6, "ABOVE").made()
+    page = StreamWriter().clear().domain().at(0.1, 0.2, "BELOW").at(0.1, 0.6, "ABOVE").made()
     listed = tmp_path / "page"
     listed.write_bytes(page)
     assert lines_of(run(["list", str(listed)]).stdout.decode()) == ["ABOVE", "BELOW"]

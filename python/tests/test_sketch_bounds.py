@@ -12,7 +12,7 @@ from naplps import drawing
 from naplps.drawing import paper
 from naplps.drawing.walk import MOST_DRAWN, MOST_POINTS
 from naplps.entry import ONE
-from naplps.writer import PageWriter
+from stream_writer import StreamWriter
 from test_sketch import HAND, INK, elements, harmless
 
 MOST_BYTES = 16 << 20
@@ -23,13 +23,13 @@ FULL = "0,0 %d,%d" % (ONE - 1, ONE - 1)
 
 def zigzag(points):
     """A filled polygon of so many points side by side, as a page has it."""
-    return PageWriter(3).code(0x37, b"RZc" + bytes(0x40 | value for at in range(points) for value in (
+    return StreamWriter(3).code(0x37, b"RZc" + bytes(0x40 | value for at in range(points) for value in (
         (0, 0, 0o17) if at % 2 else (0o77, 0o77, 0o71))))
 
 
 def bomb(kind, uses):
     """A page of some 10 KB: a mask or a glyph of 95 polygons with 2,001 points each, in many colours or places."""
-    page = PageWriter(3).escape(0x2A, 0x7A).macro(0x41, zigzag(2000)).domain()
+    page = StreamWriter(3).escape(0x2A, 0x7A).macro(0x41, zigzag(2000)).domain()
     page.escape(0x44 if kind == "mask" else 0x43, 0x41).raw(*[0x19, 0x41] * 95).escape(0x45)
     if kind == "mask":
         page.code(0x23, b"\x60")

@@ -2,8 +2,8 @@
 from conftest import file
 from naplps.page_text import lines_of
 from naplps.reading import read
-from naplps.writer import PageWriter
 from samples import OUTSIDE
+from stream_writer import StreamWriter
 
 HAND = "colour=own-start text=0,0/normal/----"
 
@@ -13,7 +13,7 @@ def lines(*rows):
 
 
 def test_lines_end_where_the_text_goes_on_elsewhere(run, tmp_path):
-    page = PageWriter().domain().at(0.1, 0.5, "ONE").at(0.5, 0.5, "TWO").at(0.1, 0.4, "THREE")
+    page = StreamWriter().domain().at(0.1, 0.5, "ONE").at(0.5, 0.5, "TWO").at(0.1, 0.4, "THREE")
     page.raw(0x0D, 0x0A).text("FOUR")
     said = run(["text", file(tmp_path, "page", page.made())])
     assert said.stdout.decode() == "ONE TWO\nTHREE\nFOUR\n"

@@ -1,0 +1,141 @@
+"""The lines that sources have, by their first words: what stands in them, and the entry that each makes."""
+from difflib import get_close_matches
+from typing import Any, Callable, Dict, NamedTuple, Sequence, Tuple
+
+from naplps.entry import (
+    Arc, Bell, Blink, BlinkEnd, BlinkMark, Char, Clear, Colour, Cursor, DefEnd, Entry, Field, GlyphStart, Line, Look,
+    Map, MaskStart, Pen, Point, Poly, Position, Rect, Reset, TextMove, Texture, ToEol, Wait,
+)
+
+from . import values
+from .mistakes import expected, quoted
+
+# The most points of a shape.
+MOST_POINTS = 2001
+SETS, MASKS = ("primary", "supplementary", "mosaic", "drcs"), ("A", "B", "C", "D")
+STEPS = ("APB", "APF", "APD", "APU", "APR", "APH", "APS")
+INK, HAND = ("pel", "colour", "texture"), ("pen", "colour", "text")
+SET, TEXT = "SET", "TEXT"
+LONGEST_NAME = 20
+
+
+class Attributed(NamedTuple):
+    """What an entry is made with: what is given, and what is left out as it stands."""
+
+    pen: Pen
+    pel: Position
+    colour: Colour
+    texture: Texture
+    text: Look
+
+
+class Operand(NamedTuple):
+    """A word of a line that is no field: what it is, and what reads it."""
+
+    what: str
+    read: Callable[[str], Any]
+
+
+class LineKind(NamedTuple):
+    """A kind of lines: how such a line looks, its operands, of which the last may repeat, its fields and its entry."""
+
+    form: str
+    operands: Tuple[Operand, ...]
+    fields: Tuple[str, ...]
+    make: Callable[[Sequence[Any], Attributed], Entry]
+    most: int = 0
+
+    def operand(self, number: int) -> Operand:
+        """The operand with a number, from 0 on."""
+        return self.operands[min(number, len(self.operands) - 1)]
+
+    @property
+    def shown(self) -> str:
+        """How such a line looks, with its fields."""
+        return " ".join([self.form, *(name + "=.." for name in self.fields)])
+
+
+def _one_of(*choices: str) -> Operand:
+    what = ", ".join(choices[:-1]) + " or " + choices[-1] if len(choices) > 1 else choices[0]
+
+    def read(text: str) -> str:
+        if text not in choices:
+            raise expected(what, text)
+        return text
+    return Operand(what, read)
+
+
+POINT, CODE = Operand(values.A_POINT, values.point), Operand("a code, two hexadecimal digits", values.code)
+ADDRESS = Operand(values.AN_ADDRESS, values.address)
+WORD = Operand(f"a number from 0 to {values.MOST_WORD}", values.word)
+VALUE = Operand("a colour by its name, #rrggbb or g,r,b", values.map_value)
+ON_OFF_DELAY = Operand("three words on,off,delay", values.words)
+
+
+def _shape(name: str, least: int, make: Callable[[Tuple[Position, ...], Attributed], Entry]) -> LineKind:
+    return LineKind(name + " x,y" * least + " ..", (POINT,) * least, INK, lambda it, by: make(tuple(it), by),
+                    MOST_POINTS)
+
+
+def _rect(name: str, filled: bool) -> LineKind:
+    return LineKind(name + " x,y x,y", (POINT, POINT), INK,
+                    lambda it, by: Rect(filled, it[0], it[1], by.pel, by.colour, by.texture))
+
+
+# A second word stands in a name where it says what follows.
+KINDS: Dict[str, LineKind] = {
+    "POINT": LineKind("POINT x,y", (POINT,), INK[:2], lambda it, by: Point(it[0], by.pel, by.colour)),
+    "LINE": LineKind("LINE x,y x,y", (POINT, POINT), INK,
+                     lambda it, by: Line(it[0], it[1], by.pel, by.colour, by.texture)),
+    "ARC-OUTLINED": _shape("ARC-OUTLINED", 3, lambda it, by: Arc(False, it, by.pel, by.colour, by.texture)),
+    "ARC-FILLED": _shape("ARC-FILLED", 3, lambda it, by: Arc(True, it, by.pel, by.colour, by.texture)),
+    "RECT-OUTLINED": _rect("RECT-OUTLINED", False),
+    "RECT-FILLED": _rect("RECT-FILLED", True),
+    "POLY-OUTLINED": _shape("POLY-OUTLINED", 2, lambda it, by: Poly(False, it, by.pel, by.colour, by.texture)),
+    "POLY-FILLED": _shape("POLY-FILLED", 2, lambda it, by: Poly(True, it, by.pel, by.colour, by.texture)),
+    "CHAR": LineKind("CHAR SET XX", (_one_of(*SETS), CODE), HAND,
+                     lambda it, by: Char(it[0], it[1], by.pen, by.colour, by.text)),
+    "MOVE": LineKind("MOVE APB", (_one_of(*STEPS),), HAND,
+                     lambda it, by: TextMove(it[0], (), by.pen, by.colour, by.text)),
+    "MOVE APS": LineKind("MOVE APS XX XX", (_one_of("APS"), CODE, CODE), HAND,
+                         lambda it, by: TextMove(it[0], tuple(it[1:]), by.pen, by.colour, by.text)),
+    "TO-EOL": LineKind("TO-EOL", (), HAND, lambda _, by: ToEol(by.pen, by.colour, by.text)),
+    "MAP": LineKind("MAP A COLOUR", (ADDRESS, VALUE), (), lambda it, _: Map(it[0], it[1])),
+    "BLINK": LineKind("BLINK A on,off,delay", (ADDRESS, ON_OFF_DELAY), ("colour",),
+                      lambda it, by: Blink(it[0], it[1][0], it[1][1], it[1][2], by.colour)),
+    "BLINK-END": LineKind("BLINK-END", (), ("colour",), lambda _, by: BlinkEnd(by.colour)),
+    "BLINK-START": LineKind("BLINK-START", (), ("colour",), lambda _, by: BlinkMark(True, by.colour)),
+    "BLINK-STOP": LineKind("BLINK-STOP", (), ("colour",), lambda _, by: BlinkMark(False, by.colour)),
+    "WAIT": LineKind("WAIT N", (WORD,), (), lambda it, _: Wait(it[0])),
+    "BELL": LineKind("BELL", (), (), lambda *_: Bell()),
+    "CURSOR": LineKind("CURSOR flash", (_one_of("flash", "steady", "off"),), (), lambda it, _: Cursor(it[0])),
+    "FIELD": LineKind("FIELD x,y x,y", (POINT, POINT), ("pen",), lambda it, by: Field((it[0], it[1]), by.pen)),
+    "FIELD whole": LineKind("FIELD whole", (_one_of("whole"),), ("pen",), lambda _, by: Field(None, by.pen)),
+    "RESET": LineKind("RESET N N", (WORD, WORD), ("pen",), lambda it, by: Reset(it[0], it[1], by.pen)),
+    "CLEAR": LineKind("CLEAR", (), ("pen",), lambda _, by: Clear(by.pen)),
+    "GLYPH": LineKind("GLYPH XX", (CODE,), (), lambda it, _: GlyphStart(it[0])),
+    "MASK": LineKind("MASK A", (_one_of(*MASKS),), (), lambda it, _: MaskStart(it[0])),
+    "END": LineKind("END", (), (), lambda *_: DefEnd())}
+NAMES = tuple(sorted({name.split()[0] for name in KINDS} | {SET, TEXT}))
+
+
+def kind_of(name: str, second: str) -> LineKind:
+    """The kind of lines with these first words. Raises NotUnderstood for a name that none has."""
+    kind = KINDS.get(f"{name} {second}") or KINDS.get(name)
+    if kind is None:
+        raise unknown(name)
+    return kind
+
+
+def unknown(name: str) -> Exception:
+    """The fault of a first word that no line has, with the one that may be meant."""
+    if name.startswith("#"):
+        return expected("a space behind the # of a comment", name)
+    near = get_close_matches(name.upper()[:LONGEST_NAME], NAMES, 1)
+    what = f"what a line begins with, as {near[0]}" if near else "what a line begins with, one of " + ", ".join(NAMES)
+    return expected(what, name)
+
+
+def surplus(word: str, shown: str) -> str:
+    """What is said of a word behind the last that a line has."""
+    return f"{quoted(word)} is too much: the line is {shown}"

@@ -1,0 +1,76 @@
+"""Cuts a line of a source into its parts, each with its column."""
+import re
+from typing import List, NamedTuple, Tuple
+
+from .mistakes import NotUnderstood
+
+# A longer line is none.
+MOST_LINE = 1 << 16
+_BLANKS = re.compile(r"[ \t]*")
+_WORD = re.compile(r'[^ \t"]+')
+_CONTROL = re.compile(r"[\x00-\x08\x0a-\x1f\x7f]")
+_PLAIN = re.compile(r'[^"\\]+')
+COMMENT, QUOTE, ESCAPE = "#", '"', "\\"
+
+
+class Piece(NamedTuple):
+    """A word as it stands; or the letters of a text between quotes, each with its column. Columns count from 0."""
+
+    column: int
+    word: str
+    letters: Tuple[Tuple[int, str], ...] = ()
+    is_quoted: bool = False
+
+
+def pieces(line: str) -> List[Piece]:
+    """The parts of a line without its comment. Raises NotUnderstood."""
+    if len(line) > MOST_LINE:
+        raise NotUnderstood(MOST_LINE, f"a line has {MOST_LINE} characters at most")
+    control = _CONTROL.search(line)
+    if control:
+        raise NotUnderstood(control.start(), f"a control character (U+{ord(control[0]):04X}) can't stand in a line")
+    found: List[Piece] = []
+    at = _blanks(line, 0)
+    while at < len(line):
+        piece, end = _quoted(line, at) if line[at] == QUOTE else _word(line, at)
+        if piece.word == COMMENT and not piece.is_quoted:
+            break
+        found.append(piece)
+        at = _blanks(line, end)
+    return found
+
+
+def _blanks(line: str, at: int) -> int:
+    found = _BLANKS.match(line, at)
+    return found.end() if found else at
+
+
+def _word(line: str, at: int) -> Tuple[Piece, int]:
+    found = _WORD.match(line, at)
+    assert found
+    if line[found.end():found.end() + 1] == QUOTE:
+        raise NotUnderstood(found.end(), 'a text between quotes is a word of its own, as in TEXT "OPEN"')
+    return Piece(at, found[0]), found.end()
+
+
+def _quoted(line: str, start: int) -> Tuple[Piece, int]:
+    """The text between quotes that begins there, and where it ends. A backslash stands before a quote or another."""
+    letters: List[Tuple[int, str]] = []
+    at = start + 1
+    while at < len(line) and line[at] != QUOTE:
+        if line[at] == ESCAPE:
+            if line[at + 1:at + 2] not in (QUOTE, ESCAPE):
+                raise NotUnderstood(at, 'behind a backslash stands " or another backslash')
+            at += 1
+            letters.append((at - 1, line[at]))
+            at += 1
+            continue
+        plain = _PLAIN.match(line, at)
+        assert plain
+        letters.extend(enumerate(plain[0], at))
+        at = plain.end()
+    if at == len(line):
+        raise NotUnderstood(start, "the text isn't ended: expected a quote behind it")
+    if line[at + 1:at + 2] not in ("", " ", "\t"):
+        raise NotUnderstood(at + 1, "expected a space behind the text")
+    return Piece(start, "", tuple(letters), True), at + 1

@@ -1,0 +1,221 @@
+"""Translates a source into the lines of a list, each with the place in the source that it comes from."""
+from array import array
+from dataclasses import dataclass, field
+from io import StringIO
+from typing import Any, Callable, Dict, Iterator, List, NamedTuple, Optional, Tuple
+
+from naplps import letters
+from naplps.entry import Char, Colour, Entry, Pen, Position
+from naplps.page_state import PageState
+
+from . import values
+from .kinds import HAND, SET, TEXT, Attributed, LineKind, kind_of, surplus
+from .mistakes import Mistake, NotUnderstood, expected, quoted
+from .scanning import Piece, pieces
+from .values import LookParts, TextureParts, inner
+
+# So many mistakes are told; and the lines of a list have so many bytes at most.
+MOST_MISTAKES, MOST_BYTES = 20, 16 << 20
+BYTE_ORDER_MARK = "\ufeff"
+BLANK = ("\n", "\r\n")
+TEXT_FORM = 'TEXT pen=x,y colour=.. text=.. "LETTERS"'
+OF_SET = ("pel", "colour", "texture", "text")
+SET_FORM = "SET pel=.. colour=.. texture=.. text=.."
+READERS: Dict[str, Callable[[str], Any]] = {
+    "pen": values.pen, "pel": values.size, "colour": values.colour, "texture": values.texture, "text": values.look}
+
+
+class Fields(NamedTuple):
+    """What the fields of a line say, or those of `SET`."""
+
+    pen: Optional[Pen] = None
+    pel: Optional[Position] = None
+    colour: Optional[Colour] = None
+    texture: TextureParts = TextureParts()
+    text: LookParts = LookParts()
+
+
+class Made(NamedTuple):
+    """An entry that a source makes, and the line and the column of what makes it, both from 1."""
+
+    entry: Entry
+    line: int
+    column: int
+
+
+class Translator:
+    """Reads a source line by line. What lines leave out is what `SET` says, or what stands."""
+
+    def __init__(self) -> None:
+        self.state = PageState()
+        self.presets = Fields()
+        self.mistakes: List[Mistake] = []
+
+    def entries(self, source: str) -> Iterator[Made]:
+        """The entries of a source. While one is handed out, `state` is what it finds."""
+        for number, line in enumerate(StringIO(source.removeprefix(BYTE_ORDER_MARK), newline="\n"), 1):
+            if line in BLANK:
+                continue
+            try:
+                for column, entry in self._entries(line.removesuffix("\n").removesuffix("\r")):
+                    if not self.state.repeats(entry):
+                        yield Made(entry, number, column + 1)
+                        self.state.take(entry)
+            except NotUnderstood as error:
+                self.mistakes.append(Mistake(number, error.offset + 1, error.message))
+                if len(self.mistakes) == MOST_MISTAKES:
+                    return
+
+    def _entries(self, line: str) -> Iterator[Tuple[int, Entry]]:
+        """The entries of a line, each behind its column, from 0. Raises NotUnderstood."""
+        found = pieces(line)
+        if not found:
+            return
+        first, rest = found[0], found[1:]
+        if first.word == SET:
+            self._set(rest)
+        elif first.word == TEXT:
+            yield from self._text(first, rest)
+        else:
+            kind = self._kind(first, rest)
+            operands, given = _parted(rest, kind.fields, kind.shown)
+            end = _end(rest[-1] if rest else first)
+            yield first.column, kind.make(_read(kind, operands, end), self._attributed(given))
+
+    def _kind(self, first: Piece, rest: List[Piece]) -> LineKind:
+        try:
+            return kind_of(first.word, next((each.word for each in rest if "=" not in each.word), ""))
+        except NotUnderstood as error:
+            raise NotUnderstood(first.column, error.message) from None
+
+    def _attributed(self, given: Fields) -> Attributed:
+        """What is given; else what was set; else what stands."""
+        now, preset = self.state.drawing, self.presets
+        return Attributed(
+            now.pen if given.pen is None else given.pen, given.pel or preset.pel or now.pel,
+            given.colour or preset.colour or now.colour, given.texture.over(preset.texture.over(now.texture)),
+            given.text.over(preset.text.over(now.text)))
+
+    def _set(self, rest: List[Piece]) -> None:
+        """Sets what stands for fields that are left out; nothing forgets what was set."""
+        operands, given = _parted(rest, OF_SET, SET_FORM)
+        if operands:
+            raise NotUnderstood(operands[0].column, surplus(operands[0].word, SET_FORM))
+        named = {piece.word.partition("=")[0] for piece in rest}
+        self.presets = self.presets._replace(**{name: getattr(given, name) for name in named}) if named else Fields()
+
+    def _text(self, first: Piece, rest: List[Piece]) -> Iterator[Tuple[int, Entry]]:
+        """A character for each letter, and one in front of it for its accent."""
+        texts = [piece for piece in rest if piece.is_quoted]
+        operands, given = _parted([piece for piece in rest if not piece.is_quoted], HAND, TEXT_FORM)
+        if operands:
+            raise NotUnderstood(operands[0].column, surplus(operands[0].word, TEXT_FORM))
+        if not texts:
+            raise NotUnderstood(_end(rest[-1] if rest else first), f"expected a text between quotes: {TEXT_FORM}")
+        if len(texts) > 1 or not texts[0].letters:
+            raise NotUnderstood(texts[-1].column, "expected one text between quotes, of a letter at least")
+        by = self._attributed(given)
+        for column, set_name, code in _characters(texts[0].letters):
+            yield column, Char(set_name, code, by.pen, by.colour, by.text)
+            by = by._replace(pen="after")
+
+
+def _end(piece: Piece) -> int:
+    return piece.column + len(piece.word)
+
+
+def _parted(rest: List[Piece], allowed: Tuple[str, ...], shown: str) -> Tuple[List[Piece], Fields]:
+    """The operands and the fields of a line. Raises NotUnderstood."""
+    operands: List[Piece] = []
+    given: Dict[str, Any] = {}
+    for piece in rest:
+        name, equals, value = piece.word.partition("=")
+        if not equals:
+            operands.append(piece)
+        elif name not in allowed:
+            raise NotUnderstood(piece.column, f"{quoted(name)} is no field here: the line is {shown}")
+        elif name in given:
+            raise NotUnderstood(piece.column, f"{name}= stands twice")
+        else:
+            given[name] = inner(READERS[name], piece.column + len(name) + 1, value)
+    return operands, Fields(**given)
+
+
+def _read(kind: LineKind, operands: List[Piece], end: int) -> List[Any]:
+    """The values of the operands. Raises NotUnderstood."""
+    least = len(kind.operands)
+    if len(operands) > max(least, kind.most):
+        extra = operands[max(least, kind.most)]
+        raise NotUnderstood(extra.column, f"{kind.most} points are the most of a shape" if kind.most else surplus(
+            extra.word, kind.shown))
+    found = [_value(kind, number, piece) for number, piece in enumerate(operands)]
+    if len(found) < least:
+        missing = kind.operand(len(found)).what
+        raise NotUnderstood(end, f"expected {missing} here: the line is {kind.shown}")
+    return found
+
+
+def _value(kind: LineKind, number: int, piece: Piece) -> Any:
+    operand = kind.operand(number)
+    if piece.is_quoted:
+        raise NotUnderstood(piece.column, f"expected {operand.what}, not a text" if kind.operands else surplus(
+            "a text", kind.shown))
+    return inner(operand.read, piece.column, piece.word)
+
+
+def _characters(quoted_letters: Tuple[Tuple[int, str], ...]) -> List[Tuple[int, str, int]]:
+    """The characters of a text: column, set and code. Raises NotUnderstood."""
+    found: List[Tuple[int, str, int]] = []
+    for at, sign in letters.signs("".join(letter for _, letter in quoted_letters)):
+        column = quoted_letters[at][0]
+        codes = letters.codes(sign)
+        if not codes:
+            raise expected("letters of ASCII and of the supplementary set, with one accent at most", sign, column)
+        found.extend((column, set_name, code) for set_name, code in codes)
+    return found
+
+
+@dataclass
+class Translation:
+    """The lines of a list, each with its end; what of the source each comes from; and what is wrong with the source."""
+
+    text: bytearray = field(default_factory=bytearray)
+    mistakes: List[Mistake] = field(default_factory=list)
+    # (a source may make millions of lines)
+    _lines: "array[int]" = field(default_factory=lambda: array("L"))
+    _columns: "array[int]" = field(default_factory=lambda: array("L"))
+
+    def add(self, made: Made) -> None:
+        """Takes the line of an entry. What comes behind a mistake isn't kept."""
+        if self.mistakes:
+            return
+        self.text += str(made.entry).encode("ascii") + b"\n"
+        self._lines.append(made.line)
+        self._columns.append(made.column)
+        if len(self.text) > MOST_BYTES:
+            self.mistakes.append(Mistake(*self.origin(len(self._lines)), f"the lines that the source makes have "
+                                         f"{MOST_BYTES} bytes at most, and pass that here"))
+
+    def origin(self, number: int) -> Tuple[int, int]:
+        """The line and the column of the source that a line, from 1, comes from."""
+        return self._lines[number - 1], self._columns[number - 1]
+
+
+def translate(source: str) -> Translation:
+    """The lines that a source makes, or what is wrong with it."""
+    translator = Translator()
+    made = Translation(mistakes=translator.mistakes)
+    for entry in translator.entries(source):
+        made.add(entry)
+        if len(made.text) > MOST_BYTES:
+            break
+    return made
+
+
+def misfit(source: str, number: int) -> Optional[str]:
+    """Why the line of that number, from 1, of those that a source makes can't come; None where that isn't known."""
+    translator = Translator()
+    for count, made in enumerate(translator.entries(source), 1):
+        if count == number:
+            return translator.state.misfit(made.entry)
+    return None

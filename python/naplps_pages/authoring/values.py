@@ -1,0 +1,254 @@
+"""Values as sources have them: numbers, positions, colours, looks. Each reader raises NotUnderstood."""
+import re
+from functools import lru_cache
+from typing import Callable, Dict, List, NamedTuple, Optional, Tuple, TypeVar, Union
+
+from naplps.entry import ONE, Colour, Look, Pen, Position, Texture
+
+from .mistakes import NotUnderstood, expected
+
+MOST_WORD, MOST_PART, ADDRESSES = 63, 65535, 1 << 24
+# Digits of a whole number, and of a fraction.
+MOST_DIGITS, MOST_FRACTION = 9, 30
+SIZES = ("small", "medium", "normal", "tall", "double")
+FLAGS = "ruws"
+# The parts red, green and blue of the colours that have a name, of 255.
+NAMED: Dict[str, Tuple[int, int, int]] = {
+    "black": (0, 0, 0), "white": (255, 255, 255), "red": (255, 0, 0), "green": (0, 255, 0), "blue": (0, 0, 255),
+    "yellow": (255, 255, 0), "cyan": (0, 255, 255), "magenta": (255, 0, 255), "grey": (128, 128, 128),
+    "gray": (128, 128, 128)}
+_WHOLE = re.compile("[0-9]+")
+_FRACTION = re.compile(r"(-?)([0-9]*)\.([0-9]+)")
+_SIGNED = re.compile("-?[0-9]+")
+_SIX = re.compile("#[0-9a-fA-F]{6}")
+_CODE = re.compile("[0-9a-fA-F]{2}")
+A_POINT = f"a point x,y, each from 0 to {ONE - 1} or a fraction from 0.0 to 1.0"
+A_SIZE = f"a size x,y, each from {-ONE} to {ONE - 1} or a fraction from -1.0 to 1.0"
+A_COLOUR = ("a colour (" + ", ".join(sorted(set(NAMED) - {"gray"})) + ", #rrggbb, front:A, pair:A,A, direct:G,R,B, "
+            "own-start, own-reset, reset-2 or reset-3)")
+AN_ADDRESS = f"an address of the colour map, from 0 to {ADDRESSES - 1} or as 1/16"
+A_LOOK = "a size (small, medium, normal, tall, double or x,y), SIZE/FLAGS or W,W/SIZE/FLAGS, as 0,0/double/-u--"
+A_TEXTURE = "a texture word from 0 to 63, WORD/none or WORD/x,y"
+Kept = TypeVar("Kept")
+
+
+def _split(text: str, between: str, count: int, what: str) -> List[Tuple[int, str]]:
+    """So many parts, each behind its offset."""
+    parts, at = [], 0
+    for part in text.split(between):
+        parts.append((at, part))
+        at += len(part) + 1
+    if len(parts) != count:
+        raise expected(what, text)
+    return parts
+
+
+def inner(read: Callable[[str], Kept], offset: int, text: str) -> Kept:
+    """A value that begins at an offset of another."""
+    try:
+        return read(text)
+    except NotUnderstood as error:
+        raise NotUnderstood(offset + error.offset, error.message) from None
+
+
+def whole(text: str, most: int) -> int:
+    """A whole number from 0 to `most`."""
+    what = f"a whole number from 0 to {most}"
+    if not text.isascii() or not _WHOLE.fullmatch(text) or len(text) > MOST_DIGITS or int(text) > most:
+        raise expected(what, text)
+    return int(text)
+
+
+@lru_cache(maxsize=1 << 16)
+def _coordinate(text: str, least: int, what: str) -> int:
+    """A coordinate in units, or as a fraction of the square; the greatest fraction, 1, is the last unit."""
+    found = _FRACTION.fullmatch(text) if text.isascii() else None
+    if found:
+        if len(found[2]) + len(found[3]) > MOST_FRACTION:
+            raise NotUnderstood(0, f"a fraction has {MOST_FRACTION} digits at most")
+        number, base = int(found[2] + found[3]), int(10 ** len(found[3]))
+        units = (2 * number * ONE + base) // (2 * base)
+        if number > base or (found[1] and units and least == 0):
+            raise expected(what, text)
+        return -units if found[1] else min(units, ONE - 1)
+    if not text.isascii() or not _SIGNED.fullmatch(text) or len(text) > MOST_DIGITS or not least <= int(text) < ONE:
+        raise expected(what, text)
+    return int(text)
+
+
+def _position(text: str, least: int, what: str) -> Position:
+    def read(part: str) -> int:
+        return _coordinate(part, least, what)
+    (_, x), (at, y) = _split(text, ",", 2, what)
+    return read(x), inner(read, at, y)
+
+
+def point(text: str) -> Position:
+    """A point of the square."""
+    return _position(text, 0, A_POINT)
+
+
+def size(text: str) -> Position:
+    """A size or a displacement."""
+    return _position(text, -ONE, A_SIZE)
+
+
+def pen(text: str) -> Pen:
+    """A pen: a point, start or after."""
+    return text if text in ("start", "after") else _position(text, 0, "start, after or " + A_POINT)
+
+
+def word(text: str) -> int:
+    """A word of six bits."""
+    return whole(text, MOST_WORD)
+
+
+def words(text: str) -> Tuple[int, ...]:
+    """Three words, on,off,delay."""
+    return tuple(inner(word, at, part) for at, part in _split(text, ",", 3, "three words on,off,delay"))
+
+
+def code(text: str) -> int:
+    """A code of a set, 20 to 7f, in hexadecimal digits."""
+    if not text.isascii() or not _CODE.fullmatch(text) or not 0x20 <= int(text, 16) <= 0x7F:
+        raise expected("a code of a set, two hexadecimal digits from 20 to 7f", text)
+    return int(text, 16)
+
+
+def address(text: str) -> int:
+    """An address of the colour map: of 24 bits, or as K/M, the colour K of a map of M colours."""
+    if "/" not in text:
+        return _whole_as(text, ADDRESSES - 1, AN_ADDRESS)
+    (_, number), (at, count) = _split(text, "/", 2, AN_ADDRESS)
+    colours = inner(lambda part: _whole_as(part, ADDRESSES, "how many colours the map has, a power of two"), at, count)
+    if colours == 0 or colours & (colours - 1):
+        raise expected("how many colours the map has, a power of two", count, at)
+    return _whole_as(number, colours - 1, f"a colour of that map, from 0 to {colours - 1}") * (ADDRESSES // colours)
+
+
+def _whole_as(text: str, most: int, what: str) -> int:
+    try:
+        return whole(text, most)
+    except NotUnderstood as error:
+        raise expected(what, text) from error
+
+
+def _parts(text: str) -> Tuple[int, ...]:
+    """Green, red and blue of 16 bits each."""
+    what = f"green, red and blue as g,r,b, each from 0 to {MOST_PART}"
+    return tuple(inner(lambda part: _whole_as(part, MOST_PART, what), at, part)
+                 for at, part in _split(text, ",", 3, what))
+
+
+def _direct(red: int, green: int, blue: int) -> Colour:
+    """A colour of parts from 0 to 255."""
+    return Colour("direct", (green * 257, red * 257, blue * 257))
+
+
+def _shown_colour(text: str) -> Optional[Colour]:
+    """A colour by its name or as #rrggbb; None for other words."""
+    if text in NAMED:
+        return _direct(*NAMED[text])
+    if text.startswith("#"):
+        if not text.isascii() or not _SIX.fullmatch(text):
+            raise expected("# and six hexadecimal digits, two each of red, green and blue", text)
+        return _direct(*bytes.fromhex(text[1:]))
+    return None
+
+
+@lru_cache(maxsize=4096)
+def colour(text: str) -> Colour:
+    """A colour by its name, as #rrggbb, or as lines have it."""
+    shown = _shown_colour(text)
+    if shown is not None:
+        return shown
+    kind, _, rest = text.partition(":")
+    at = len(kind) + 1
+    if text in ("own-start", "own-reset", "reset-2", "reset-3"):
+        return Colour(text)
+    if kind == "front":
+        return Colour(kind, (inner(address, at, rest),))
+    if kind == "pair":
+        both = _split(rest, ",", 2, "pair:A,A with two addresses of the colour map")
+        return Colour(kind, tuple(inner(address, at + offset, part) for offset, part in both))
+    if kind == "direct":
+        return Colour(kind, inner(_parts, at, rest))
+    raise expected(A_COLOUR, text)
+
+
+def map_value(text: str) -> Tuple[int, ...]:
+    """The value of a colour of the map: a colour by its name or as #rrggbb, or green, red and blue as lines have it."""
+    shown = _shown_colour(text)
+    if shown is not None:
+        return shown.parts
+    if "," not in text:
+        raise expected("a colour by its name, #rrggbb or g,r,b", text)
+    return _parts(text)
+
+
+class TextureParts(NamedTuple):
+    """The parts of a texture that are given; of the mask, whether it is, since none is a mask too."""
+
+    word: Optional[int] = None
+    has_mask: bool = False
+    mask: Optional[Position] = None
+
+    def over(self, texture: Texture) -> Texture:
+        """The texture with these parts."""
+        return Texture(texture.word if self.word is None else self.word, self.mask if self.has_mask else texture.mask)
+
+
+@lru_cache(maxsize=4096)
+def texture(text: str) -> TextureParts:
+    """A texture, whose mask may be left out."""
+    number, between, mask = text.partition("/")
+    value = _whole_as(number, MOST_WORD, A_TEXTURE)
+    if not between:
+        return TextureParts(value)
+    return TextureParts(value, True, None if mask == "none" else inner(size, len(number) + 1, mask))
+
+
+class LookParts(NamedTuple):
+    """The parts of a look that are given: both words, the size, the flags."""
+
+    words: Optional[Tuple[int, int]] = None
+    size: Union[str, Position, None] = None
+    flags: Optional[Tuple[bool, ...]] = None
+
+    def over(self, look: Look) -> Look:
+        """The look with these parts."""
+        first, second = self.words or (look.first, look.second)
+        flags = self.flags or (look.reverse, look.underline, look.wrap, look.scroll)
+        return Look(first, second, look.size if self.size is None else self.size, *flags)
+
+
+@lru_cache(maxsize=4096)
+def look(text: str) -> LookParts:
+    """The look of text: its size; its size and flags; or its words, size and flags."""
+    parts = text.split("/")
+    if len(parts) > 3:
+        raise expected(A_LOOK, text)
+    at, both = 0, None
+    if len(parts) == 3:
+        both, at = _two_words(parts.pop(0)), text.index("/") + 1
+    flags = _flags(parts[1], at + len(parts[0]) + 1) if len(parts) == 2 else None
+    return LookParts(both, _size_of_text(parts[0], at), flags)
+
+
+def _size_of_text(text: str, at: int) -> Union[str, Position]:
+    if text in SIZES:
+        return text
+    if "," not in text:
+        raise expected(A_LOOK, text, at)
+    return inner(size, at, text)
+
+
+def _two_words(text: str) -> Tuple[int, int]:
+    (_, first), (at, second) = _split(text, ",", 2, "the two words of TEXT, w,w")
+    return word(first), inner(word, at, second)
+
+
+def _flags(text: str, at: int) -> Tuple[bool, ...]:
+    if len(text) != len(FLAGS) or any(each not in (letter, "-") for each, letter in zip(text, FLAGS)):
+        raise expected("four flags, r u w s for reverse, underline, wrap and scroll, each - where it is off", text, at)
+    return tuple(each != "-" for each in text)

@@ -1,0 +1,88 @@
+"""The command make: pages of sources, and what is wrong with these."""
+import os
+from typing import List, Optional, Tuple
+
+from naplps.answers import Accepted, Unanswered, WrongLine
+from naplps.names import printable, shown
+
+from .authoring.mistakes import Mistake, quoted
+from .authoring.translating import MOST_MISTAKES, Translation, misfit, translate
+from .console import REFUSED, tell, tell_line
+from .new_files import make_folder, put_inside
+from .page_session import Session
+from .showing import sketch
+from .source import Page
+
+ENDING, PICTURE = ".nap", ".svg"
+TOO_LONG = "a source has 16 MiB at most; longer lines of a list are for `naplps make`"
+
+
+def make(session: Session) -> int:
+    """The page of each source, or its sketch: printed, or put into a folder."""
+    if session.into is not None:
+        make_folder(session.into)
+
+    def work(page: Page) -> None:
+        if page.data is None:
+            session.complain(page.name, TOO_LONG)
+            return
+        text, mistakes = _decoded(page.data)
+        made = Translation(mistakes=mistakes) if mistakes else translate(text)
+        if made.mistakes:
+            _tell(session, page.name, made.mistakes)
+            return
+        answer = session.program.make(bytes(made.text))
+        if isinstance(answer, Unanswered):
+            session.complain(page.name, answer.reason)
+        elif isinstance(answer, WrongLine):
+            _tell(session, page.name, [_mistake(text, made, answer)])
+        else:
+            _put(session, page.name, answer)
+    return session.each(work)
+
+
+def _put(session: Session, name: str, answer: Accepted) -> None:
+    """Prints the page, or with --look its sketch; or puts the page into the folder, and its sketch beside it."""
+    picture = sketch(session, Page(name, answer.body)) if session.look else None
+    if session.into is None:
+        if not session.look:
+            session.output.bytes(answer.body)
+        elif picture is not None:
+            session.output.text(picture)
+        return
+    path = os.path.splitext(session.path_for(name))[0] + ENDING
+    put_inside(path, answer.body)
+    if picture is not None:
+        put_inside(path + PICTURE, picture.encode("utf-8"))
+
+
+def _decoded(data: bytes) -> Tuple[str, List[Mistake]]:
+    """The text of a source, and where it isn't UTF-8."""
+    try:
+        return data.decode("utf-8"), []
+    except UnicodeDecodeError as error:
+        before = data[data.rfind(b"\n", 0, error.start) + 1:error.start]
+        return "", [Mistake(data.count(b"\n", 0, error.start) + 1, len(before.decode("utf-8")) + 1,
+                            f"expected UTF-8, not the byte {data[error.start]:02X}")]
+
+
+def _mistake(source: str, made: Translation, wrong: WrongLine) -> Mistake:
+    """What the program found, at what of the source it comes from."""
+    if wrong.opening is not None:
+        return Mistake(*made.origin(wrong.opening), "expected END for the definition that begins here")
+    where = made.origin(wrong.number)
+    if wrong.column is None:
+        why: Optional[str] = misfit(source, wrong.number)
+        return Mistake(*where, wrong.reason + (f": {why}" if why else ""))
+    line = bytes(made.text).split(b"\n")[wrong.number - 1].decode("ascii")
+    return Mistake(*where, f"the program doesn't take the line that this makes, {quoted(line)}, at {wrong.column}")
+
+
+def _tell(session: Session, name: str, mistakes: List[Mistake]) -> None:
+    """Tells what is wrong with a source, as compilers do."""
+    session.output.flush()
+    for line, column, message in mistakes:
+        tell_line(f"{shown(name)}:{line}:{column}: {printable(message)}")
+    if len(mistakes) >= MOST_MISTAKES:
+        tell(f"{shown(name)}: no more than {MOST_MISTAKES} mistakes are told")
+    session.fail(REFUSED)
