@@ -1,29 +1,32 @@
-"""The pages of examples/gallery, which were made here. Run by itself it writes them into a folder."""
+"""The pages of examples/gallery, which were made here. Run by itself it writes them into a folder.
+
+Some are made of sources, as people write them, in examples/gallery/sources. Some are printed as lines by Python, where
+there are loops. And some are spelled byte by byte, since their spelling is what they show.
+"""
 import math
 import os
+import subprocess
 import sys
-from typing import Dict, List, Tuple
+from typing import Callable, Dict, List, Tuple
 
-from naplps.writer import blocks, star
+from conftest import COMMAND, TOP
+from naplps.writer import PageWriter, blocks
 from stream_writer import PDI, StreamWriter
 
 WHITE = (1.0, 1.0, 1.0)
+FOLDER = os.path.join(TOP, "examples", "gallery")
+SOURCES = os.path.join(FOLDER, "sources")
+
+
+def stored(name: str) -> bytes:
+    """A file of the gallery."""
+    with open(os.path.join(FOLDER, name), "rb") as file:
+        return file.read()
 
 
 def logo() -> bytes:
-    """A service's logo: circles, a star and arcs."""
-    page = StreamWriter().clear().domain()
-    page.rgb(0.08, 0.2, 0.55).rectangle(0, 0, 0.999, 0.78)
-    page.rgb(1, 0.84, 0.1).circle(0.5, 0.46, 0.24)
-    page.rgb(0.08, 0.2, 0.55).circle(0.5, 0.46, 0.19)
-    page.rgb(*WHITE).polygon(star(0.5, 0.46, 0.17))
-    page.rgb(0.92, 0.2, 0.15).domain((0.008, 0.008))
-    page.arc([(0.12, 0.56), (0.5, 0.765), (0.88, 0.56)])
-    page.arc([(0.08 + i * 0.105, 0.19 + 0.01 * (-1) ** i) for i in range(9)])
-    page.domain()
-    page.rgb(*WHITE).at(0.325, 0.085, "POLARIS", "double")
-    page.rgb(0.75, 0.85, 1).at(0.225, 0.03, "VIDEOTEX SERVICE  1984", "normal")
-    return page.made()
+    """A service's logo."""
+    return stored("logo.nap")
 
 
 def _sun() -> StreamWriter:
@@ -74,52 +77,23 @@ def weather() -> bytes:
     return page.made()
 
 
-def index() -> bytes:
-    """An index page: a title bar, lines with numbers, a bar in reverse."""
-    page = StreamWriter(3).clear().domain()
-    page.select(9).rectangle(0, 0.69, 0.996, 0.085)
-    page.select(7).at(0.03, 0.7, "NEWS INDEX", "tall")
-    rows = ("CITY COUNCIL VOTES ON BUS FARES", "HARBOUR FERRY: WINTER TIMES", "WHEAT AND CANOLA PRICES",
-            "HOCKEY: LATE SCORES", "SNOW: ROADS AND SCHOOLS", "LIBRARY OPENS ON SUNDAYS", "RADIO AND TELEVISION TODAY",
-            "LETTERS FROM READERS", "WHAT IS VIDEOTEX?")
-    for number, row in enumerate(rows, 1):
-        page.select(11 if number % 2 else 7).at(0.05, 0.66 - number * 0.055, "%2d  %s" % (number, row),
-                                                "normal" if number == 1 else "")
-        if number == 4:
-            page.escape(0x59).text(" NEW").escape(0x5A)
-    page.select(5).at(0.05, 0.03, "", "normal").escape(0x48).text(" PRESS A NUMBER, 0 FOR HELP ").escape(0x49)
-    return page.made()
-
-
-def _house() -> StreamWriter:
-    drawing = StreamWriter(gl=PDI)
-    drawing.polygon([(0.1, 0.05), (0.9, 0.05), (0.9, 0.5), (0.5, 0.95), (0.1, 0.5)])
-    return drawing
-
-
-def _tree() -> StreamWriter:
-    drawing = StreamWriter(gl=PDI)
-    return drawing.rectangle(0.42, 0.02, 0.16, 0.3).circle(0.5, 0.6, 0.35)
-
-
-def glyphs() -> bytes:
+def glyphs() -> PageWriter:
     """Glyphs of the page's own: a street of houses and trees."""
-    page = StreamWriter().clear().domain()
-    page.glyph(0x21, _house()).glyph(0x22, _tree())
-    page.rgb(0.1, 0.12, 0.3).rectangle(0, 0.3, 0.999, 0.48)
-    page.rgb(0.12, 0.35, 0.15).rectangle(0, 0, 0.999, 0.3)
+    page = PageWriter().clear()
+    with page.glyph(0x21):
+        page.polygon([(0.1, 0.05), (0.9, 0.05), (0.9, 0.5), (0.5, 0.95), (0.1, 0.5)])
+    with page.glyph(0x22):
+        page.rectangle(0.42, 0.02, 0.16, 0.3).circle(0.5, 0.6, 0.35)
+    page.rgb(0.1, 0.12, 0.3).rectangle(0, 0.3, 1, 0.48)
+    page.rgb(0.12, 0.35, 0.15).rectangle(0, 0, 1, 0.3)
     page.rgb(0.95, 0.95, 0.8).circle(0.84, 0.66, 0.05)
-    page.escape(0x2A, 0x7B)
     for row, (y, size, count) in enumerate(((0.3, "tall", 18), (0.18, "double", 9))):
         for i in range(count):
-            x = 0.05 + i * 0.9 / count
             tree = i % 3 == 2
             page.rgb(*((0.2, 0.65, 0.3) if tree else ((0.9, 0.75, 0.4), (0.85, 0.4, 0.3))[(i + row) % 2]))
-            page.to(x, y).escape({"tall": 0x4D, "double": 0x4F}[size]).raw(0x19, 0x22 if tree else 0x21)
-    page.escape(0x2A, 0x7C)
+            page.to(0.05 + i * 0.9 / count, y).size(size).character("drcs", 0x22 if tree else 0x21)
     page.rgb(*WHITE).at(0.05, 0.7, "HOMES FOR SALE", "tall")
-    page.at(0.05, 0.05, "MAPLE STREET  4 TO 22", "normal")
-    return page.made()
+    return page.at(0.05, 0.05, "MAPLE STREET  4 TO 22", "normal")
 
 
 SHIP = ("                 #                      ",
@@ -142,74 +116,51 @@ SHIP = ("                 #                      ",
         "## ## ## ## ## ## ## ## ## ## ## ## ## #")
 
 
-def mosaics() -> bytes:
+def mosaics() -> PageWriter:
     """A ship of mosaic blocks."""
-    page = StreamWriter().clear().domain()
-    page.rgb(0.45, 0.8, 1)
+    page = PageWriter().clear().size("double").rgb(0.45, 0.8, 1)
     for row, codes in enumerate(blocks(SHIP)):
         if row == 4:
             page.rgb(0.9, 0.55, 0.3)
         if row == 5:
-            page.rgb(0.25, 0.45, 0.95).escape(0x59)
-        page.to(0.0, 0.5 - row * 5 / 64).escape(0x4F).mosaic(codes)
-    page.escape(0x5A)
-    page.rgb(*WHITE).at(0.25, 0.68, "HARBOUR NEWS", "double")
-    return page.made()
+            page.rgb(0.25, 0.45, 0.95).flags(underline=True)
+        page.to(0.0, 0.5 - row * 5 / 64).character("mosaic", *codes)
+    return page.flags().rgb(*WHITE).at(0.25, 0.68, "HARBOUR NEWS")
 
 
-def palette() -> bytes:
+def palette() -> PageWriter:
     """Colours set in the map, bars in them, and one that blinks."""
-    page = StreamWriter().clear().domain()
+    page = PageWriter().clear()
     for number in range(1, 15):
         share = (number - 1) / 13
-        page.select(number).rgb(share, 0.5 + 0.5 * math.sin(share * math.pi), 1 - share)
+        page.map(number, share, 0.5 + 0.5 * math.sin(share * math.pi), 1 - share)
     for number in range(1, 15):
         page.select(number).rectangle(0.02 + (number - 1) * 0.069, 0.2, 0.06, 0.4)
     page.select(0, 15).blink(15, 5, 5)
-    page.select(15).rgb(1, 0.9, 0.2).at(0.25, 0.66, "COLOURS OF THE MAP", "normal")
-    page.select(15, 1).at(0.2, 0.08, " TWO COLOURS AT ONCE ")
-    return page.made()
+    page.map(15, 1, 0.9, 0.2).select(15).at(0.25, 0.66, "COLOURS OF THE MAP", "normal")
+    return page.select(15, 1).at(0.2, 0.08, " TWO COLOURS AT ONCE ")
 
 
-def chart() -> bytes:
+def chart() -> PageWriter:
     """A chart of bars with fills, a line over them, and two axes."""
-    page = StreamWriter().clear().domain()
-    page.rgb(0.12, 0.12, 0.16).rectangle(0, 0, 0.999, 0.78)
+    page = PageWriter().clear()
+    page.rgb(0.12, 0.12, 0.16).rectangle(0, 0, 1, 0.78)
     page.rgb(0.35, 0.35, 0.4).texture(1)
     for i in range(1, 6):
         page.line((0.12, 0.12 + i * 0.1), (0.95, 0.12 + i * 0.1))
-    page.texture()
     values = (0.12, 0.2, 0.17, 0.3, 0.38, 0.33, 0.45, 0.42)
     for i, value in enumerate(values):
         x = 0.15 + i * 0.1
         page.rgb(0.2 + 0.08 * i, 0.55, 0.9 - 0.08 * i).texture(0, i % 4).rectangle(x, 0.12, 0.06, value)
         page.texture().rgb(*WHITE).rectangle(x, 0.12, 0.06, value, filled=False)
-    page.rgb(1, 0.8, 0.2).domain((0.006, 0.006))
+    page.rgb(1, 0.8, 0.2).pel(0.006, 0.006)
     page.line(*[(0.18 + i * 0.1, 0.17 + value) for i, value in enumerate(values)])
-    page.domain().rgb(*WHITE).line((0.12, 0.68), (0.12, 0.12), (0.95, 0.12))
+    page.pel().rgb(*WHITE).line((0.12, 0.68), (0.12, 0.12), (0.95, 0.12))
     for i in range(6):
-        page.at(0.03, 0.11 + i * 0.1, "%3d" % (i * 20), "normal" if i == 0 else "")
+        page.at(0.03, 0.11 + i * 0.1, "%3d" % (i * 20))
     for i, month in enumerate("JFMAMJJA"):
         page.at(0.168 + i * 0.1, 0.06, month)
-    page.rgb(1, 0.8, 0.2).at(0.12, 0.71, "FERRY PASSENGERS, THOUSANDS", "normal")
-    return page.made()
-
-
-def accents() -> bytes:
-    """Accented text, in several lines from one place."""
-    page = StreamWriter().clear().domain()
-    page.rgb(0.4, 0.1, 0.3).rectangle(0, 0.67, 0.999, 0.11)
-    page.rgb(1, 0.9, 0.6).at(0.05, 0.69, "M", "tall").accent("acute", "e").text("t").accent("acute", "e")
-    page.text("o et caf").accent("acute", "e").text("s")
-    page.rgb(*WHITE).at(0.05, 0.6, "", "normal").text("A Qu").accent("acute", "e").text("bec, le soleil dispara")
-    page.accent("circumflex", "i").text("t.").raw(0x0D, 0x0A, 0x0A)
-    page.text("  Fran").accent("cedilla", "c").text("ais, o").accent("grave", "u").text(" est la for")
-    page.accent("circumflex", "e").text("t?").raw(0x0D, 0x0A, 0x0A).text("  Gr")
-    page.accent("diaeresis", "u").sign(0x7B).text("e aus K").accent("diaeresis", "o").text("ln, ma")
-    page.accent("tilde", "n").text("ana en Espa").accent("tilde", "n").text("a.")
-    page.raw(0x0D, 0x0A, 0x0A).text("  Th").accent("acute", "e").text(" ").sign(0x23).text("2  caf")
-    page.accent("acute", "e").text(" 15").sign(0x24).text("  10").sign(0x30).text(" C  ").sign(0x3D).text(" heure")
-    return page.made()
+    return page.rgb(1, 0.8, 0.2).at(0.12, 0.71, "FERRY PASSENGERS, THOUSANDS")
 
 
 Roofs = Tuple[Tuple[float, float, float], ...]
@@ -274,21 +225,41 @@ def signature() -> bytes:
     return page.made()
 
 
+PRINTED: Dict[str, Callable[[], PageWriter]] = {
+    "chart.nap": chart, "glyphs.nap": glyphs, "mosaics.nap": mosaics, "palette.nap": palette}
+SPELLED: Dict[str, Callable[[], bytes]] = {
+    "signature.nap": signature, "skyline, absolute.nap": skyline_absolute, "skyline, relative.nap": skyline_relative,
+    "weather.nap": weather}
+# Those that a source makes, by its name.
+AUTHORED: Dict[str, str] = {os.path.splitext(name)[0] + ".nap": name for name in sorted(os.listdir(SOURCES))}
+NAMES = sorted([*PRINTED, *SPELLED, *AUTHORED])
+
+
+def authored(name: str) -> bytes:
+    """The page that a source makes."""
+    return subprocess.run([COMMAND, "make", os.path.join(SOURCES, AUTHORED[name])], stdout=subprocess.PIPE,
+                          check=True).stdout
+
+
+def made(name: str) -> bytes:
+    """A page as it is made."""
+    if name in AUTHORED:
+        return authored(name)
+    return PRINTED[name]().made() if name in PRINTED else SPELLED[name]()
+
+
 def pages() -> Dict[str, bytes]:
-    """All pages by the names of their files."""
-    return {"accents.nap": accents(), "chart.nap": chart(), "glyphs.nap": glyphs(), "index.nap": index(),
-            "logo.nap": logo(), "mosaics.nap": mosaics(), "palette.nap": palette(), "signature.nap": signature(),
-            "skyline, absolute.nap": skyline_absolute(), "skyline, relative.nap": skyline_relative(),
-            "weather.nap": weather()}
+    """The pages that stand in the gallery, by the names of their files."""
+    return {name: stored(name) for name in NAMES}
 
 
 def main() -> None:
     """Writes the pages into the folder that is named."""
     folder = sys.argv[1]
     os.makedirs(folder, exist_ok=True)
-    for name, data in pages().items():
+    for name in NAMES:
         with open(os.path.join(folder, name), "wb") as file:
-            file.write(data)
+            file.write(made(name))
 
 
 if __name__ == "__main__":
