@@ -1,7 +1,7 @@
 # Completion of naplps-pages for bash.
 _naplps_pages() {
     local word=${COMP_WORDS[COMP_CWORD]} before=${COMP_WORDS[COMP_CWORD - 1]} command='' words index
-    local commands='check list canon explain look play text cures split census scan merge equal refused convert status files find report serve'
+    local commands='check list canon explain look play text cures split census make scan merge equal refused convert status files find report serve'
     for ((index = 1; index < COMP_CWORD; index++)); do
         if [[ " $commands " = *" ${COMP_WORDS[index]} "* ]]; then
             command=${COMP_WORDS[index]}
@@ -28,6 +28,7 @@ _naplps_pages() {
         look) words='--svg --sheet --into --png --past --after --budget --seconds --help' ;;
         play) words='--into --after --budget --seconds --help' ;;
         cures | split) words='--json --into --budget --seconds --help' ;;
+        make) words='--into --look --seconds --help' ;;
         scan) words='--into --processes --on --part --most --again --cures --words --budget --seconds --help' ;;
         merge) words='--unfinished --help' ;;
         equal) words='--copies --treated --guesses --verify --null --json --csv --seconds --help' ;;

@@ -10,6 +10,7 @@ complete -c naplps-pages -n __fish_use_subcommand -a text -d 'Print the text of 
 complete -c naplps-pages -n __fish_use_subcommand -a cures -d 'Try treatments that make a refused page readable'
 complete -c naplps-pages -n __fish_use_subcommand -a split -d 'Cut a capture into its pages, each a file'
 complete -c naplps-pages -n __fish_use_subcommand -a census -d 'Count the codes that stop pages'
+complete -c naplps-pages -n __fish_use_subcommand -a make -d 'Make pages of text that people write, or of lines of list'
 complete -c naplps-pages -n __fish_use_subcommand -a scan -d 'Ask about all pages in folders, and keep the answers'
 complete -c naplps-pages -n __fish_use_subcommand -a merge -d 'Join stores, as those of the parts of a scan'
 complete -c naplps-pages -n __fish_use_subcommand -a equal -d 'Print groups of pages that draw the same'
@@ -24,7 +25,7 @@ complete -c naplps-pages -n '__fish_seen_subcommand_from check list cures split 
     -d 'Print JSON, an object on each line'
 complete -c naplps-pages -n '__fish_seen_subcommand_from equal refused convert status files find' -l csv -d 'Print the table as CSV'
 complete -c naplps-pages -n '__fish_seen_subcommand_from equal refused files find' -l null -d 'Print only names, each ended by NUL'
-complete -c naplps-pages -n '__fish_seen_subcommand_from canon look play cures split scan convert report' -l into -r \
+complete -c naplps-pages -n '__fish_seen_subcommand_from canon look play cures split make scan convert report' -l into -r \
     -d 'The folder or file to write into, or the store of a scan'
 complete -c naplps-pages -n '__fish_seen_subcommand_from explain report serve' -l full -d 'A row for each character'
 complete -c naplps-pages -n '__fish_seen_subcommand_from check list explain look play text' -l after -r \
@@ -33,6 +34,7 @@ complete -c naplps-pages -n '__fish_seen_subcommand_from look' -l sheet -r -d 'W
 complete -c naplps-pages -n '__fish_seen_subcommand_from look' -l png -d 'Make PNG instead of SVG'
 complete -c naplps-pages -n '__fish_seen_subcommand_from look' -l past -d 'Draw also what stands behind a refusal, by guess'
 complete -c naplps-pages -n '__fish_seen_subcommand_from look' -l svg -r -d 'Write the sketch to this file'
+complete -c naplps-pages -n '__fish_seen_subcommand_from make' -l look -d 'Make a sketch of the page, too'
 complete -c naplps-pages -n '__fish_seen_subcommand_from scan report' -l processes -x -d 'How many processes work'
 complete -c naplps-pages -n '__fish_seen_subcommand_from scan' -l on -r -d 'Work on Dask: the address or file of its scheduler'
 complete -c naplps-pages -n '__fish_seen_subcommand_from scan' -l part -x -d 'Take one of N parts of the files'
@@ -53,7 +55,7 @@ complete -c naplps-pages -n '__fish_seen_subcommand_from refused' -l number -x -
 complete -c naplps-pages -n '__fish_seen_subcommand_from refused' -l reason -x -d 'Only this refusal or code'
 complete -c naplps-pages -n '__fish_seen_subcommand_from check list canon explain look play text cures split census scan' -l budget -x \
     -d 'How many bytes of macro bodies a page may be charged'
-complete -c naplps-pages -n '__fish_seen_subcommand_from check list canon explain look play text cures split census scan equal convert report serve' \
+complete -c naplps-pages -n '__fish_seen_subcommand_from check list canon explain look play text cures split census make scan equal convert report serve' \
     -l seconds -x \
     -d 'How many seconds the program may take for a page'
 complete -c naplps-pages -n '__fish_seen_subcommand_from report' -l sketches -x -d 'How many pages have a sketch'

@@ -64,7 +64,8 @@ class Client:
         parser = AnswerParser("make", (lines,), self.limits.answer)
         answer = self._answers(parser)[0].answer
         assert not isinstance(answer, Refusal)
-        return parser.wrong_line or answer
+        wrong = parser.wrong_line
+        return wrong if wrong is not None and answer == Unanswered(wrong.line) else answer
 
     def hash_canon(self, pages: Sequence[bytes]) -> List[HashedAnswer]:
         """The answers to `canon` on each of these pages. The requests are written ahead, and canonical bytes hashed.

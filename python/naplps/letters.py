@@ -62,4 +62,4 @@ def codes(sign: str) -> Tuple[Tuple[str, int], ...]:
         return (("supplementary", _ALONE[whole]), ("primary", 0x20))
     bare = unicodedata.normalize("NFD", sign)
     base = codes(bare[:-1]) if len(bare) == 2 and bare[-1] in _MARKED else ()
-    return (("supplementary", _MARKED[bare[-1]]), *base) if base else ()
+    return (("supplementary", _MARKED[bare[-1]]), *base) if len(base) == 1 else ()

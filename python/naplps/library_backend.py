@@ -5,11 +5,14 @@ import weakref
 from typing import Any, Callable, Optional, Tuple
 
 from .answers import MEMORY
-from .faults import NoMemory, Refused, WrongLibrary
+from .faults import NoMemory, NotMade, Refused, WrongLibrary
 from .protocols import Backend, Data, Reply
 
 SONAME = "libnaplps.so.0"
 ACCEPTED, REFUSED, SMALL_ROOM, NO_BUDGET = range(4)
+# Why lines make no page, by the numbers of naplps.h, as the program tells it.
+LINE_FAULTS = {1: "no line of a list", 2: "can't come here", 3: "the definition of line {opening} isn't ended"}
+WANT_OF_MEMORY = 4
 TEXTS = ("list", "canon", "canon_form1", "places")
 # The room that most texts find place in; it is asked again with what another one needs.
 FIRST = 1 << 16
@@ -21,6 +24,14 @@ class AnswerStruct(ctypes.Structure):
 
     _fields_ = [("status", ctypes.c_uint32), ("number", ctypes.c_uint32), ("place", ctypes.c_uint64),
                 ("length", ctypes.c_uint64), ("name", ctypes.c_char * 32)]
+
+
+class MadeStruct(ctypes.Structure):
+    """struct naplps_made of naplps.h."""
+
+    _fields_ = [("status", ctypes.c_uint32), ("fault", ctypes.c_uint32), ("line", ctypes.c_uint64),
+                ("column", ctypes.c_uint64), ("opening", ctypes.c_uint64), ("length", ctypes.c_uint64),
+                ("count", ctypes.c_uint64)]
 
 
 class CheckingStruct(ctypes.Structure):
@@ -52,6 +63,8 @@ class LibraryBackend:
         self._is_plain = self._function("is_plain", ctypes.c_bool, *PAGE)
         self._check = self._function("check", AnswerStruct, ctypes.c_uint32, *PAGE)
         self._texts = {name: self._function(name, AnswerStruct, ctypes.c_uint32, *PAGE, *ROOM) for name in TEXTS}
+        # (a library before 0.3 has none, and answers all else)
+        self._make: Optional[Callable[..., Any]] = None
         self._begin = self._function("check_begin", AnswerStruct, BEGUN, ctypes.c_uint32)
         self._feed = self._function("check_feed", AnswerStruct, BEGUN, *PAGE)
         self._finish = self._function("check_finish", AnswerStruct, BEGUN)
@@ -90,7 +103,24 @@ class LibraryBackend:
 
     def make(self, lines: bytes) -> bytes:
         """The page that lines make. Raises NotMade, NoMemory."""
-        raise self._wrong("it has no call that makes pages")
+        if self._make is None:
+            self._make = self._function("make", MadeStruct, *PAGE, *ROOM)
+        room, size = self._room(len(lines) + FIRST), len(lines) + FIRST
+        made: MadeStruct = self._make(lines, len(lines), room, size)
+        if made.status == SMALL_ROOM:
+            size = made.length
+            room = self._room(size)
+            made = self._make(lines, len(lines), room, size)
+        if made.status == ACCEPTED and made.length <= size:
+            return ctypes.string_at(room, made.length)
+        if made.status != REFUSED:
+            raise self._wrong("its answer has the status %d" % made.status)
+        if made.fault == WANT_OF_MEMORY:
+            raise NoMemory("the library had no memory for it")
+        reason = LINE_FAULTS.get(made.fault)
+        if reason is None:
+            raise self._wrong("its answer has the fault %d" % made.fault)
+        raise NotMade(made.line, made.column or None, reason.replace("{opening}", str(made.opening)))
 
     def begin(self, budget: int, lock: threading.Lock) -> "LibraryPieces":
         """A page that comes in pieces, whose methods are called with the lock held. Raises NoMemory."""

@@ -7,8 +7,8 @@ from dataclasses import dataclass, field
 from typing import Dict, List, NamedTuple, Optional, Tuple
 
 from .entry import (
-    Arc, Char, Clear, Colour, DefEnd, Entry, Field, GlyphStart, Line, Look, Map, MaskStart, Pen, Point, Poly, Position,
-    Rect, Reset, TextMove, Texture, ToEol,
+    Arc, Blink, BlinkEnd, BlinkMark, Char, Clear, Colour, DefEnd, Entry, Field, GlyphStart, Line, Look, Map, MaskStart,
+    Pen, Point, Poly, Position, Rect, Reset, TextMove, Texture, ToEol,
 )
 
 # So many colours of the map are known at most.
@@ -16,8 +16,12 @@ MOST_KNOWN = 16
 OWN, OWN_AFTER_RESET = Colour("own-start"), Colour("own-reset")
 PLAIN_LOOK = Look(0, 0, "normal", False, False, False, False)
 PLAIN_TEXTURE = Texture(0, None)
-# What entries hold.
-HELD = ("pen", "pel", "colour", "texture", "text")
+# What entries hold, by their classes.
+_INK, _HAND = ("pel", "colour", "texture"), ("pen", "colour", "text")
+HELD: Dict[type, Tuple[str, ...]] = {
+    Point: ("pel", "colour"), Line: _INK, Arc: _INK, Rect: _INK, Poly: _INK, Char: _HAND, TextMove: _HAND, ToEol: _HAND,
+    Blink: ("colour",), BlinkEnd: ("colour",), BlinkMark: ("colour",), Field: ("pen",), Reset: ("pen",),
+    Clear: ("pen",)}
 # Bits of the words of RESET: the first has a colour code above that of the domain.
 RESET_DOMAIN, RESET_TEXT, RESET_TEXTURE = 1, 1, 8
 
@@ -51,10 +55,11 @@ class PageState:
 
     def take(self, entry: Entry) -> None:
         """An entry comes."""
-        held = {name: getattr(entry, name) for name in HELD if hasattr(entry, name)}
-        if "colour" in held and held["colour"].kind == "direct":
-            held["base"] = held["colour"]
-        self.drawing = self.drawing._replace(**held)
+        held = {name: getattr(entry, name) for name in HELD.get(type(entry), ())}
+        if held:
+            if "colour" in held and held["colour"].kind == "direct":
+                held["base"] = held["colour"]
+            self.drawing = self.drawing._replace(**held)
         self.is_behind_character = isinstance(entry, Char)
         if isinstance(entry, Map):
             self._map(entry)
@@ -65,7 +70,7 @@ class PageState:
             self.drawing = self.drawing._replace(pen="start")
         elif isinstance(entry, DefEnd):
             self.drawing, self.saved = self.saved or self.drawing, None
-        else:
+        elif held:
             self.drawing = self.drawing._replace(pen=_pen_behind(entry, self.drawing.pen))
 
     def _map(self, entry: Map) -> None:

@@ -1,4 +1,4 @@
-"""The gallery: its pages are those that the writer makes, and its sketches those of its pages."""
+"""The gallery: its pages are those that are made here, and its sketches those of its pages."""
 import os
 import subprocess
 import xml.etree.ElementTree as ET
@@ -7,25 +7,47 @@ import pytest
 
 import gallery
 from conftest import COMMAND, TOP
+from gallery import AUTHORED, FOLDER, PRINTED, SPELLED, stored
+from naplps import backends
+from naplps.program_backend import ProgramBackend
 from samples import has
 
-FOLDER = os.path.join(TOP, "examples", "gallery")
-PAGES = gallery.pages()
+PAGES = gallery.NAMES
 
 
-def stored(name):
-    with open(os.path.join(FOLDER, name), "rb") as file_:
-        return file_.read()
+@pytest.fixture(autouse=True)
+def asked(naplps, monkeypatch):
+    """The module and the tool ask the program."""
+    program = ProgramBackend(naplps)
+    monkeypatch.setattr(backends, "_found", program)
+    monkeypatch.setenv("NAPLPS", naplps)
+    yield
+    program.close()
 
 
 def test_the_folder_has_these_pages_and_their_sketches():
     assert sorted(os.listdir(FOLDER)) == sorted(
-        ["README.md", *PAGES, *[name.replace(".nap", ".nap.svg") for name in PAGES]])
+        ["README.md", "sources", *PAGES, *[name.replace(".nap", ".nap.svg") for name in PAGES]])
+    assert len(AUTHORED) + len(PRINTED) + len(SPELLED) == len(PAGES) and len(AUTHORED) > 4
 
 
 @pytest.mark.parametrize("name", PAGES)
 def test_pages_are_as_they_are_made(name):
-    assert stored(name) == PAGES[name]
+    assert stored(name) == gallery.made(name)
+
+
+@pytest.mark.parametrize("name", [*AUTHORED, *PRINTED])
+def test_pages_of_lines_are_their_canonical_streams(run, name):
+    assert run(["canon", os.path.join(FOLDER, name)]).stdout == stored(name)
+
+
+def test_the_readme_names_each_page():
+    with open(os.path.join(FOLDER, "README.md"), encoding="utf-8") as file:
+        text = file.read()
+    for name in PAGES:
+        assert name.replace(" ", "%20") + ".svg" in text or "skyline" in name
+    for source in AUTHORED.values():
+        assert f"(sources/{source})" in text
 
 
 @pytest.mark.parametrize("name", PAGES)

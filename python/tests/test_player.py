@@ -25,7 +25,7 @@ from test_sketch_bounds import bomb
 
 pytestmark = pytest.mark.skipif(not has("chromium"), reason="there is no chromium")
 FOLDER = os.path.join(TOP, "examples", "gallery")
-PAGES = [name for name in gallery.pages() if "relative" not in name]
+PAGES = [name for name in gallery.NAMES if "relative" not in name]
 SIZE = (1024, 800)
 # Shapes are told by the entries that they came with; a run of letters is one.
 STEPS = "player.screen.table.steps.map((step, at) => step.draw ? at : -1).filter((at) => at >= 0)"

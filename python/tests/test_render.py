@@ -56,7 +56,7 @@ def asked_for(log):
     return {each["url"] for each in requests if each["initiator"] != "not an origin"}
 
 
-@pytest.mark.parametrize("name", [name for name in gallery.pages() if "relative" not in name])
+@pytest.mark.parametrize("name", [name for name in gallery.NAMES if "relative" not in name])
 def test_both_draw_the_same_and_ask_for_nothing(name, tmp_path):
     svg = os.path.join(FOLDER, name + ".svg")
     with open(svg, "rb") as source:

@@ -36,6 +36,11 @@ PARTS: Dict[str, Part] = {
         "tool says",
         ("house",),
     ),
+    "making": Part(
+        "pages of lines and of what people write: what each line makes, mistakes and hostile sources, the writer, and "
+        "the documents of that",
+        ("make", "authoring", "authoring_hostile", "making", "writer", "making_documents"),
+    ),
     "module": Part(
         "the module naplps: its answers over the library and over the program, what it says where these fail or aren't "
         "there, and what it makes of pages; the module and the tool as pip installs them",

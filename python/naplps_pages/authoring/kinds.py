@@ -3,9 +3,10 @@ from difflib import get_close_matches
 from typing import Any, Callable, Dict, NamedTuple, Sequence, Tuple
 
 from naplps.entry import (
-    Arc, Bell, Blink, BlinkEnd, BlinkMark, Char, Clear, Colour, Cursor, DefEnd, Entry, Field, GlyphStart, Line, Look,
-    Map, MaskStart, Pen, Point, Poly, Position, Rect, Reset, TextMove, Texture, ToEol, Wait,
+    Arc, Bell, Blink, BlinkEnd, BlinkMark, Char, Clear, Cursor, DefEnd, Entry, Field, GlyphStart, Line, Map, MaskStart,
+    Point, Poly, Position, Rect, Reset, TextMove, ToEol, Wait,
 )
+from naplps.page_state import Attributes
 
 from . import values
 from .mistakes import expected, quoted
@@ -17,16 +18,6 @@ STEPS = ("APB", "APF", "APD", "APU", "APR", "APH", "APS")
 INK, HAND = ("pel", "colour", "texture"), ("pen", "colour", "text")
 SET, TEXT = "SET", "TEXT"
 LONGEST_NAME = 20
-
-
-class Attributed(NamedTuple):
-    """What an entry is made with: what is given, and what is left out as it stands."""
-
-    pen: Pen
-    pel: Position
-    colour: Colour
-    texture: Texture
-    text: Look
 
 
 class Operand(NamedTuple):
@@ -42,7 +33,7 @@ class LineKind(NamedTuple):
     form: str
     operands: Tuple[Operand, ...]
     fields: Tuple[str, ...]
-    make: Callable[[Sequence[Any], Attributed], Entry]
+    make: Callable[[Sequence[Any], Attributes], Entry]
     most: int = 0
 
     def operand(self, number: int) -> Operand:
@@ -72,7 +63,7 @@ VALUE = Operand("a colour by its name, #rrggbb or g,r,b", values.map_value)
 ON_OFF_DELAY = Operand("three words on,off,delay", values.words)
 
 
-def _shape(name: str, least: int, make: Callable[[Tuple[Position, ...], Attributed], Entry]) -> LineKind:
+def _shape(name: str, least: int, make: Callable[[Tuple[Position, ...], Attributes], Entry]) -> LineKind:
     return LineKind(name + " x,y" * least + " ..", (POINT,) * least, INK, lambda it, by: make(tuple(it), by),
                     MOST_POINTS)
 

@@ -6,13 +6,13 @@ from typing import Any, Callable, Dict, Iterator, List, NamedTuple, Optional, Tu
 
 from naplps import letters
 from naplps.entry import Char, Colour, Entry, Pen, Position
-from naplps.page_state import PageState
+from naplps.page_state import Attributes, PageState
 
 from . import values
-from .kinds import HAND, SET, TEXT, Attributed, LineKind, kind_of, surplus
+from .kinds import HAND, SET, TEXT, LineKind, kind_of, surplus
 from .mistakes import Mistake, NotUnderstood, expected, quoted
 from .scanning import Piece, pieces
-from .values import LookParts, TextureParts, inner
+from .values import NO_LOOK_PARTS, NO_TEXTURE_PARTS, LookParts, TextureParts, inner
 
 # So many mistakes are told; and the lines of a list have so many bytes at most.
 MOST_MISTAKES, MOST_BYTES = 20, 16 << 20
@@ -31,8 +31,11 @@ class Fields(NamedTuple):
     pen: Optional[Pen] = None
     pel: Optional[Position] = None
     colour: Optional[Colour] = None
-    texture: TextureParts = TextureParts()
-    text: LookParts = LookParts()
+    texture: TextureParts = NO_TEXTURE_PARTS
+    text: LookParts = NO_LOOK_PARTS
+
+
+NO_FIELDS = Fields()
 
 
 class Made(NamedTuple):
@@ -48,7 +51,7 @@ class Translator:
 
     def __init__(self) -> None:
         self.state = PageState()
-        self.presets = Fields()
+        self.presets = NO_FIELDS
         self.mistakes: List[Mistake] = []
 
     def entries(self, source: str) -> Iterator[Made]:
@@ -80,7 +83,7 @@ class Translator:
             kind = self._kind(first, rest)
             operands, given = _parted(rest, kind.fields, kind.shown)
             end = _end(rest[-1] if rest else first)
-            yield first.column, kind.make(_read(kind, operands, end), self._attributed(given))
+            yield first.column, kind.make(_read(kind, operands, end), self._attributes(given))
 
     def _kind(self, first: Piece, rest: List[Piece]) -> LineKind:
         try:
@@ -88,11 +91,13 @@ class Translator:
         except NotUnderstood as error:
             raise NotUnderstood(first.column, error.message) from None
 
-    def _attributed(self, given: Fields) -> Attributed:
+    def _attributes(self, given: Fields) -> Attributes:
         """What is given; else what was set; else what stands."""
         now, preset = self.state.drawing, self.presets
-        return Attributed(
-            now.pen if given.pen is None else given.pen, given.pel or preset.pel or now.pel,
+        if given is NO_FIELDS and preset is NO_FIELDS:
+            return now
+        return Attributes(
+            now.pen if given.pen is None else given.pen, given.pel or preset.pel or now.pel, now.base,
             given.colour or preset.colour or now.colour, given.texture.over(preset.texture.over(now.texture)),
             given.text.over(preset.text.over(now.text)))
 
@@ -102,7 +107,7 @@ class Translator:
         if operands:
             raise NotUnderstood(operands[0].column, surplus(operands[0].word, SET_FORM))
         named = {piece.word.partition("=")[0] for piece in rest}
-        self.presets = self.presets._replace(**{name: getattr(given, name) for name in named}) if named else Fields()
+        self.presets = self.presets._replace(**{name: getattr(given, name) for name in named}) if named else NO_FIELDS
 
     def _text(self, first: Piece, rest: List[Piece]) -> Iterator[Tuple[int, Entry]]:
         """A character for each letter, and one in front of it for its accent."""
@@ -114,7 +119,7 @@ class Translator:
             raise NotUnderstood(_end(rest[-1] if rest else first), f"expected a text between quotes: {TEXT_FORM}")
         if len(texts) > 1 or not texts[0].letters:
             raise NotUnderstood(texts[-1].column, "expected one text between quotes, of a letter at least")
-        by = self._attributed(given)
+        by = self._attributes(given)
         for column, set_name, code in _characters(texts[0].letters):
             yield column, Char(set_name, code, by.pen, by.colour, by.text)
             by = by._replace(pen="after")
@@ -138,7 +143,7 @@ def _parted(rest: List[Piece], allowed: Tuple[str, ...], shown: str) -> Tuple[Li
             raise NotUnderstood(piece.column, f"{name}= stands twice")
         else:
             given[name] = inner(READERS[name], piece.column + len(name) + 1, value)
-    return operands, Fields(**given)
+    return operands, Fields(**given) if given else NO_FIELDS
 
 
 def _read(kind: LineKind, operands: List[Piece], end: int) -> List[Any]:

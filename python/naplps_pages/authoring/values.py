@@ -140,6 +140,10 @@ def _parts(text: str) -> Tuple[int, ...]:
                  for at, part in _split(text, ",", 3, what))
 
 
+def _addresses(text: str) -> Tuple[int, ...]:
+    return tuple(inner(address, at, part) for at, part in _split(text, ",", 2, "two addresses of the colour map, A,A"))
+
+
 def _direct(red: int, green: int, blue: int) -> Colour:
     """A colour of parts from 0 to 255."""
     return Colour("direct", (green * 257, red * 257, blue * 257))
@@ -169,8 +173,7 @@ def colour(text: str) -> Colour:
     if kind == "front":
         return Colour(kind, (inner(address, at, rest),))
     if kind == "pair":
-        both = _split(rest, ",", 2, "pair:A,A with two addresses of the colour map")
-        return Colour(kind, tuple(inner(address, at + offset, part) for offset, part in both))
+        return Colour(kind, inner(_addresses, at, rest))
     if kind == "direct":
         return Colour(kind, inner(_parts, at, rest))
     raise expected(A_COLOUR, text)
@@ -195,7 +198,12 @@ class TextureParts(NamedTuple):
 
     def over(self, texture: Texture) -> Texture:
         """The texture with these parts."""
+        if self is NO_TEXTURE_PARTS:
+            return texture
         return Texture(texture.word if self.word is None else self.word, self.mask if self.has_mask else texture.mask)
+
+
+NO_TEXTURE_PARTS = TextureParts()
 
 
 @lru_cache(maxsize=4096)
@@ -217,9 +225,14 @@ class LookParts(NamedTuple):
 
     def over(self, look: Look) -> Look:
         """The look with these parts."""
+        if self is NO_LOOK_PARTS:
+            return look
         first, second = self.words or (look.first, look.second)
         flags = self.flags or (look.reverse, look.underline, look.wrap, look.scroll)
         return Look(first, second, look.size if self.size is None else self.size, *flags)
+
+
+NO_LOOK_PARTS = LookParts()
 
 
 @lru_cache(maxsize=4096)
