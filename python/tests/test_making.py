@@ -145,6 +145,8 @@ def test_a_line_that_the_program_does_not_take(run, fake):
 def test_a_program_without_make(run, fake):
     said = run(["make", "-"], NOTICE, fake("sys.stderr.write('request fault\\n')\nsys.exit(3)\n"))
     assert said.returncode == 3 and b"the program ended with status 3: request fault" in said.stderr
+    said = run(["make", "-"], NOTICE, fake("sys.stderr.write('error: no command make\\n')\nsys.exit(2)\n"))
+    assert said.returncode == 3 and b"the program ended with status 2: error: no command make" in said.stderr
 
 
 def test_a_page_whose_picture_has_no_answer(run, fake, tmp_path):
