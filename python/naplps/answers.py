@@ -232,17 +232,16 @@ class AnswerParser:
         self._length = self._lacks = int(number)
         if self.most is not None and self._length > self.most:
             raise AnswerTooLong(self._length)
-        self._answer = self._read(come[at:first], self.pages[len(self.answers)])
+        page, line = self.pages[len(self.answers)], come[at:first]
+        self._answer = self._read_made(line, page) if self.call == "make" else read_line(line, len(page))
         if self.most is None:
             self._hash = hashlib.sha256()
             if isinstance(self._answer, Accepted) != bool(self._length):
                 raise Nonsense
         return second + 1
 
-    def _read(self, line: bytes, page: bytes) -> Answer:
-        """The answer of a line; `make` tells of its lines as of entries, or of one that is wrong. Raises Nonsense."""
-        if self.call != "make":
-            return read_line(line, len(page))
+    def _read_made(self, line: bytes, page: bytes) -> Answer:
+        """The answer to `make`: that the lines are entries, or that one of them is wrong. Raises Nonsense."""
         count = page.count(b"\n")
         self.wrong_line = read_wrong_line(line)
         if self.wrong_line:

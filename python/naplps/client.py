@@ -25,10 +25,6 @@ class Asked(Protocol):
         """The file, which can go back."""
 
 
-# What `batch` says of a request that it doesn't have.
-NO_REQUEST = ": request fault"
-
-
 class RunEnd(NamedTuple):
     """How a command ended: why its output is no answer, where it is none, and what it said on standard error then."""
 
@@ -49,7 +45,6 @@ class Client:
     beat: Callable[[], None] = lambda: None
     process: Optional[ChildProcess] = None
     started: int = 0
-    makes_by_request: bool = True
 
     def ask(self, call: str, page: Union[bytes, Asked]) -> Answer:
         """The answer to check, list, canon or places on a page; one above 16 MiB has no places."""
@@ -61,17 +56,11 @@ class Client:
 
     def make(self, lines: bytes) -> MakeAnswer:
         """The page that lines make, each of which has its end; or the line that is wrong."""
-        if len(lines) <= MOST_PAGE and self.makes_by_request:
-            answer = self._make_by_request(lines)
-            if not isinstance(answer, Unanswered) or not answer.reason.endswith(NO_REQUEST):
-                return answer
-            self.makes_by_request = False  # (a program whose `batch` has no such request)
-        with tempfile.TemporaryFile() as file:
-            file.write(lines)
-            file.flush()
-            return self._make_of_file(file, lines.count(b"\n"))
-
-    def _make_by_request(self, lines: bytes) -> MakeAnswer:
+        if len(lines) > MOST_PAGE:
+            with tempfile.TemporaryFile() as file:
+                file.write(lines)
+                file.flush()
+                return self._make_of_file(file, lines.count(b"\n"))
         parser = AnswerParser("make", (lines,), self.limits.answer)
         answer = self._answers(parser)[0].answer
         assert not isinstance(answer, Refusal)

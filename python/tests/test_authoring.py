@@ -1,4 +1,4 @@
-"""The form in which people write pages: what each line makes, by docs/MAKING.md and docs/PROFILE.md, and what is wrong."""
+"""Pages as people write them: what each line makes, by docs/MAKING.md and docs/PROFILE.md, and what is wrong."""
 import unicodedata
 from random import Random
 
@@ -71,8 +71,9 @@ def test_numbers(written, line):
 
 
 @pytest.mark.parametrize("written, line", [
-    ("text=double", "0,0/double/----"), ("text=small/r-w-", "0,0/small/r-w-"), ("text=0.5,-0.5", "0,0/4194304,-4194304/----"),
-    ("text=1,63/tall/-u-s", "1,63/tall/-u-s"), ("text=1,2/3,4/----", "1,2/3,4/----")])
+    ("text=double", "0,0/double/----"), ("text=small/r-w-", "0,0/small/r-w-"),
+    ("text=0.5,-0.5", "0,0/4194304,-4194304/----"), ("text=1,63/tall/-u-s", "1,63/tall/-u-s"),
+    ("text=1,2/3,4/----", "1,2/3,4/----")])
 def test_looks(written, line):
     assert made(f"TO-EOL {written}") == [f"TO-EOL pen=start colour=own-start text={line}"]
 
@@ -153,31 +154,36 @@ def test_lists_in_other_words_come_out_as_they_are(chance, length):
 
 @pytest.mark.parametrize("source, column, said", [
     ("LIEN 0,0 1,1", 1, "as LINE, not 'LIEN'"), ("  \"A\"", 3, "expected what a line begins with"),
-    ("#x", 1, "a space behind the #"), ("LINE 0,0", 9, "expected a point x,y"), ("LINE 0,0 1,1 2,2", 14, "is too much"),
-    ("LINE 0,0 0.5;0.5", 10, "expected a point"), ("LINE 0,0 0.5,1.5", 14, "not '1.5'"), ("LINE 0,0 -1,0", 10, "not '-1'"),
+    ("#x", 1, "a space behind the #"), ("LINE 0,0", 9, "expected a point x,y"),
+    ("LINE 0,0 1,1 2,2", 14, "is too much"), ("LINE 0,0 0.5;0.5", 10, "expected a point"),
+    ("LINE 0,0 0.5,1.5", 14, "not '1.5'"), ("LINE 0,0 -1,0", 10, "not '-1'"),
     ("LINE 0,0 0,8388608", 12, "not '8388608'"), ("LINE 0,0 1,1 pel=1", 18, "expected a size x,y"),
     ("LINE 0,0 1,1 pel=0,-1.1", 20, "not '-1.1'"), ("LINE 0,0 1,1 pel=0,0 pel=0,0", 22, "stands twice"),
     ("LINE 0,0 1,1 pen=0,0", 14, "'pen' is no field here"), ("LINE 0,0 1,1 colour=rde", 21, "expected a colour"),
-    ("LINE 0,0 1,1 colour=#fff", 21, "six hexadecimal digits"), ("LINE 0,0 1,1 colour=direct:1,2", 28, "green, red and blue"),
-    ("LINE 0,0 1,1 colour=direct:1,2,65536", 32, "not '65536'"), ("LINE 0,0 1,1 colour=front:16/16", 27, "from 0 to 15"),
-    ("LINE 0,0 1,1 colour=front:1/15", 29, "a power of two"), ("LINE 0,0 1,1 colour=pair:1", 26, "two addresses"),
-    ("LINE 0,0 1,1 texture=64", 22, "from 0 to 63"), ("LINE 0,0 1,1 texture=1/x", 24, "expected a size"),
-    ("POLY-FILLED 0,0", 16, "expected a point"), ("ARC-FILLED 0,0 0,0", 19, "expected a point"),
-    ("ARC-FILLED" + " 0,0" * 2002, 8016, "2001 points are the most"), ("CHAR first 41", 6, "primary, supplementary"),
-    ("CHAR drcs 1f", 11, "from 20 to 7f"), ("CHAR drcs 80", 11, "from 20 to 7f"), ("CHAR drcs 041", 11, "two hexadecimal"),
-    ("MOVE APX", 6, "APB, APF"), ("MOVE APS 41", 12, "expected a code"), ("MAP 1", 6, "expected a colour"),
-    ("MAP 16777216 red", 5, "an address"), ("MAP 1 red colour=red", 11, "no field"), ("BLINK 1 1,2", 9, "on,off,delay"),
+    ("LINE 0,0 1,1 colour=#fff", 21, "six hexadecimal digits"),
+    ("LINE 0,0 1,1 colour=direct:1,2", 28, "green, red and blue"),
+    ("LINE 0,0 1,1 colour=direct:1,2,65536", 32, "not '65536'"),
+    ("LINE 0,0 1,1 colour=front:16/16", 27, "from 0 to 15"), ("LINE 0,0 1,1 colour=front:1/15", 29, "a power of two"),
+    ("LINE 0,0 1,1 colour=pair:1", 26, "two addresses"), ("LINE 0,0 1,1 texture=64", 22, "from 0 to 63"),
+    ("LINE 0,0 1,1 texture=1/x", 24, "expected a size"), ("POLY-FILLED 0,0", 16, "expected a point"),
+    ("ARC-FILLED 0,0 0,0", 19, "expected a point"), ("ARC-FILLED" + " 0,0" * 2002, 8016, "2001 points are the most"),
+    ("CHAR first 41", 6, "primary, supplementary"), ("CHAR drcs 1f", 11, "from 20 to 7f"),
+    ("CHAR drcs 80", 11, "from 20 to 7f"), ("CHAR drcs 041", 11, "two hexadecimal"), ("MOVE APX", 6, "APB, APF"),
+    ("MOVE APS 41", 12, "expected a code"), ("MAP 1", 6, "expected a colour"), ("MAP 16777216 red", 5, "an address"),
+    ("MAP 1 red colour=red", 11, "no field"), ("BLINK 1 1,2", 9, "on,off,delay"),
     ("BLINK 1 1,64,1", 11, "from 0 to 63"), ("WAIT", 5, "from 0 to 63"), ("WAIT 64", 6, "from 0 to 63"),
     ("WAIT +5", 6, "not '+5'"), ("CURSOR on", 8, "flash, steady or off"), ("FIELD 0,0", 10, "expected a point"),
-    ("FIELD whole 0,0", 13, "too much"), ("RESET 1", 8, "from 0 to 63"), ("GLYPH", 6, "a code"), ("MASK E", 6, "A, B, C or D"),
-    ("BELL 1", 6, "too much"), ("BELL \"a\"", 6, "too much"), ("SET red", 5, "too much"), ("SET pen=0,0", 5, "no field"),
-    ("SET \"a\"", 5, "too much"), ("TEXT", 5, "a text between quotes"), ("TEXT \"\"", 6, "of a letter at least"),
+    ("FIELD whole 0,0", 13, "too much"), ("RESET 1", 8, "from 0 to 63"), ("GLYPH", 6, "a code"),
+    ("MASK E", 6, "A, B, C or D"), ("BELL 1", 6, "too much"), ("BELL \"a\"", 6, "too much"),
+    ("SET red", 5, "too much"), ("SET pen=0,0", 5, "no field"), ("SET \"a\"", 5, "too much"),
+    ("TEXT", 5, "a text between quotes"), ("TEXT \"\"", 6, "of a letter at least"),
     ("TEXT \"a\" \"b\"", 10, "one text"), ("TEXT \"a", 6, "isn't ended"), ("TEXT \"a\\", 8, "behind a backslash"),
-    ("TEXT \"a\\n\"", 8, "behind a backslash"), ("TEXT \"a\"b", 9, "a space"), ("TEXT x\"a\"", 7, "a word of its own"),
-    ("TEXT \"a\u0416\"", 8, "not '\u0416'"), ("TEXT \"a\\\"e\u0301\u0301\"", 10, "with one accent at most"),
-    ("TEXT text=big \"a\"", 11, "expected a size"), ("TEXT text=0,0/tall/---- \"a\" x", 29, "too much"),
-    ("TEXT text=0,0/tall/uuuu \"a\"", 20, "four flags"), ("TEXT text=0,64/tall/---- \"a\"", 13, "from 0 to 63"),
-    ("TEXT text=1/tall/---- \"a\"", 11, "two words"), ("TEXT text=////// \"a\"", 11, "expected a size")])
+    ("TEXT \"a\\n\"", 8, "behind a backslash"), ("TEXT \"a\"b", 9, "a space"),
+    ("TEXT x\"a\"", 7, "a word of its own"), ("TEXT \"a\u0416\"", 8, "not '\u0416'"),
+    ("TEXT \"a\\\"e\u0301\u0301\"", 10, "with one accent at most"), ("TEXT text=big \"a\"", 11, "expected a size"),
+    ("TEXT text=0,0/tall/---- \"a\" x", 29, "too much"), ("TEXT text=0,0/tall/uuuu \"a\"", 20, "four flags"),
+    ("TEXT text=0,64/tall/---- \"a\"", 13, "from 0 to 63"), ("TEXT text=1/tall/---- \"a\"", 11, "two words"),
+    ("TEXT text=////// \"a\"", 11, "expected a size")])
 def test_mistakes(source, column, said):
     line, found, message = wrong("BELL\n" + source)
     assert (line, found) == (2, column) and said in message

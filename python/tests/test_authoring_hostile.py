@@ -12,9 +12,9 @@ from naplps_pages.authoring.scanning import MOST_LINE
 from naplps_pages.authoring.translating import MOST_BYTES, MOST_MISTAKES, translate
 
 MILLION = 1_000_000
-WORDS = ("LINE", "TEXT", "SET", "MAP", "0,0", "0.5,0.5", "colour=", "red", "#", "#1b4f72", '"', "\\", "=", ",", "/", ":",
-         "front:1/16", "text=double", "pel=1", "-", ".", "\t", " ", "\n", "\r", "\x00", "\x1b", "é", "\u0301", "\ufeff",
-         "\u202e", "\U0001f600", "9" * 50, "ARC-FILLED", "CHAR primary 41", "END", "GLYPH 41")
+WORDS = ("LINE", "TEXT", "SET", "MAP", "0,0", "0.5,0.5", "colour=", "red", "#", "#1b4f72", '"', "\\", "=", ",", "/",
+         ":", "front:1/16", "text=double", "pel=1", "-", ".", "\t", " ", "\n", "\r", "\x00", "\x1b", "é", "\u0301",
+         "\ufeff", "\u202e", "\U0001f600", "9" * 50, "ARC-FILLED", "CHAR primary 41", "END", "GLYPH 41")
 
 
 def places(source):
@@ -32,9 +32,10 @@ def places(source):
     "0." + "3" * 60000, "1/" + "0" * 60000, "#" * 60000, "," * 60000, "/" * 60000, "0,0/" * 15000, "\u0663" * 60000,
     "\u0663", "\u00bd", "1_000", "0x10", "nan", "inf", "1e5", "+5", "--5", "5-", "½,½"])
 def test_numbers_of_any_size(value):
-    for row in ("WAIT %s", "LINE 0,0 %s,0", "LINE 0,0 0,%s", "LINE 0,0 0,0 pel=%s,0", "BELL\n MAP %s red", "MAP 1/%s red",
-                "MAP 1 %s", "MAP 1 1,2,%s", "RESET 1 %s", "CHAR primary %s", "BLINK 1 1,2,%s", "TO-EOL colour=front:%s",
-                "TO-EOL colour=direct:%s,1,1", "TO-EOL text=%s", "TO-EOL text=%s,1/small/----", "TO-EOL pen=%s",
+    for row in ("WAIT %s", "LINE 0,0 %s,0", "LINE 0,0 0,%s", "LINE 0,0 0,0 pel=%s,0", "BELL\n MAP %s red",
+                "MAP 1/%s red", "MAP 1 %s", "MAP 1 1,2,%s", "RESET 1 %s", "CHAR primary %s", "BLINK 1 1,2,%s",
+                "TO-EOL colour=front:%s", "TO-EOL colour=direct:%s,1,1", "TO-EOL text=%s", "TO-EOL text=%s,1/small/----",
+                "TO-EOL pen=%s",
                 "LINE 0,0 0,0 texture=%s", "LINE 0,0 0,0 texture=1/%s", "TO-EOL colour=%s", "%s", "%s=1", "SET %s=1"):
         assert len(places(row % value)) == 1, row
 
@@ -42,9 +43,9 @@ def test_numbers_of_any_size(value):
 @pytest.mark.parametrize("source", [
     '"' * MILLION, 'TEXT ' + '"' * 60000, 'TEXT "' + "\\" * 60000, 'TEXT "' + '\\"' * 30000, "TEXT " + '"a" ' * 15000,
     'TEXT "' + "\u0301" * 60000 + '"', 'TEXT "e' + "\u0301" * 60000 + '"', "(" * MILLION, "LINE " + "0,0 " * 16000,
-    "LINE " + "a=b " * 16000, "\t" * MILLION, " " * MILLION + "x", "X" * MILLION, "\x00" * MILLION, "A\x07", "\x7f", "\x1b[2J",
-    "LINE\x0b0,0", "BELL \x85", "BELL\u2028BELL", "\ud800", "TEXT \"\ud800\"", "TEXT \"\u202e\"", "TEXT \"\U0010ffff\"",
-    "POLY-FILLED" + " 0,0" * 2002])
+    "LINE " + "a=b " * 16000, "\t" * MILLION, " " * MILLION + "x", "X" * MILLION, "\x00" * MILLION, "A\x07", "\x7f",
+    "\x1b[2J", "LINE\x0b0,0", "BELL \x85", "BELL\u2028BELL", "\ud800", "TEXT \"\ud800\"", "TEXT \"\u202e\"",
+    "TEXT \"\U0010ffff\"", "POLY-FILLED" + " 0,0" * 2002])
 def test_long_lines_and_deep_quotes(source):
     assert len(places(source)) == 1
 

@@ -135,22 +135,6 @@ def test_answers_of_programs(fake):
     assert making(fake, "answer(b'no memory')").too_much
 
 
-def test_a_program_whose_batch_has_no_such_request(fake):
-    client = Client(fake("""
-if sys.argv[1] == "batch":
-    sys.stderr.write("request fault\\n")
-    sys.exit(3)
-lines = sys.stdin.buffer.read()
-assert sys.argv[1:] == ["make"]
-if b"END" in lines:
-    sys.stderr.write("line 2: can't come here\\n")
-    sys.exit(1)
-sys.stdout.write("page")
-"""))
-    assert client.make(b"BELL\nBELL\n") == Accepted(2, b"page")
-    assert client.make(b"BELL\nEND\n") == WrongLine(2, "can't come here") and client.started == 1
-
-
 @pytest.mark.parametrize("answer", [
     "answer(b'accepted 1 entries', b'page')", "answer(b'accepted 2 entries')", "answer(b'refused 10 Outside at 3')",
     "answer(b'line 3: can\\'t come here')", "answer(b'line 0: can\\'t come here')", "answer(b'line 1: can\\'t')",

@@ -90,8 +90,8 @@ def test_the_end_of_a_definition_is_told_where_it_begins(run):
 def test_names_and_words_are_shown_without_harm(run, tmp_path):
     path = file(tmp_path, "a\nb\x1b[2J.txt", "LINE \u202e".encode())
     said = run(["make", path])
-    assert said.stderr.decode().endswith("a\\nb\\x1b[2J.txt:1:6: expected a point x,y, each from 0 to 8388607 or a fraction "
-                                         "from 0.0 to 1.0, not '\\u202e'\n")
+    assert said.stderr.decode().endswith("a\\nb\\x1b[2J.txt:1:6: expected a point x,y, each from 0 to 8388607 or a "
+                                         "fraction from 0.0 to 1.0, not '\\u202e'\n")
 
 
 def test_many_mistakes(run):
@@ -103,7 +103,8 @@ def test_many_mistakes(run):
 def test_wrong_words(run, tmp_path):
     path = file(tmp_path, "notice.txt", NOTICE)
     assert b"several pages need --into FOLDER" in run(["make", path, path]).stderr
-    for words in (["make"], ["make", "-", "-", "--into", "x"], ["make", path, "--budget", "5"], ["make", path, "--json"]):
+    for words in (["make"], ["make", "-", "-", "--into", "x"], ["make", path, "--budget", "5"],
+                  ["make", path, "--json"]):
         assert run(words).returncode == 2
 
 
@@ -151,7 +152,8 @@ def test_a_program_without_make(run, fake):
 
 def test_a_page_whose_picture_has_no_answer(run, fake, tmp_path):
     lines = "for command, budget, page in requests():\n    if command == 'make': answer(b'accepted 2 entries', b'AB')\n"
-    said = run(["make", "-", "--into", str(tmp_path / "out"), "--look"], NOTICE, fake(BATCH + lines + "    else: sys.exit(4)\n"))
+    program = fake(BATCH + lines + "    else: sys.exit(4)\n")
+    said = run(["make", "-", "--into", str(tmp_path / "out"), "--look"], NOTICE, program)
     assert said.returncode == 3 and os.listdir(str(tmp_path / "out")) == ["page.nap"] and b"status 4" in said.stderr
 
 

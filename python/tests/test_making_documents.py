@@ -1,4 +1,4 @@
-"""What docs/MAKING.md shows: each source, what it makes or what is wrong with it, the commands, git and the converter."""
+"""What docs/MAKING.md shows: sources, what they make or what is wrong with them, commands, git and the converter."""
 import html
 import os
 import re
@@ -56,7 +56,8 @@ def test_the_notice_is_that_of_the_gallery(folder):
 
 
 def test_the_commands(folder):
-    shown = re.findall(r"^    ((?:naplps-pages|python3) .*)\n((?:    # .*\n)*)", TEXT, re.MULTILINE)
+    text = re.sub(r"^```.*?^```", "", TEXT, flags=re.MULTILINE | re.DOTALL)
+    shown = re.findall(r"^    ((?:naplps-pages|python3) .*)\n((?:    # .*\n)*)", text, re.MULTILINE)
     assert len(shown) == 5
     os.unlink(folder / "wrong.txt")
     os.unlink(folder / "glyph.txt")
@@ -92,7 +93,8 @@ def test_the_tables_and_the_letters_are_whole():
     for name in set(values.NAMED) - {"gray"}:
         assert re.search(r"\b%s\b" % name, TEXT)
     signs = re.search(r"supplementary set:\n\n    (.*)\n", TEXT)[1].replace(" ", "")
-    assert set(signs) == {sign for sign in letters.SUPPLEMENTARY.values() if sign != letters.UNKNOWN and not sign.isascii()}
+    known = {sign for sign in letters.SUPPLEMENTARY.values() if not sign.isascii()}
+    assert set(signs) == known - {letters.UNKNOWN}
     for name, (wide, high) in SIZES.items():
         row = re.search(rf"^\| `{name}` \| (\S+) \| (\S+) \| (\S+) \|$", TEXT, re.MULTILINE)
         assert [float(row[1]), float(row[2]), int(row[3])] == [wide, round(high, 3), round(1 / wide)]
@@ -135,7 +137,8 @@ def test_a_page_of_svg(folder):
     shell(folder, f"{sys.executable} examples/svg_outline.py page.svg > page.nap")
     assert shell(folder, "naplps-pages list page.nap").splitlines() == [
         "CLEAR pen=start",
-        "POLY-FILLED 4194304,3271557 6291456,3271557 6291456,0 4194304,0 pel=0,0 colour=direct:0,65535,0 texture=0/none",
+        "POLY-FILLED 4194304,3271557 6291456,3271557 6291456,0 4194304,0 pel=0,0 colour=direct:0,65535,0 "
+        "texture=0/none",
         "LINE 0,0 8388607,4194304 pel=0,0 colour=direct:65535,0,0 texture=0/none",
         "POLY-OUTLINED 0,0 3145728,0 0,3145728 pel=2097152,2097152 colour=direct:65535,65535,65535 texture=0/none"]
     with open(os.path.join(EXAMPLES, "svg_outline.py"), encoding="utf-8") as source:

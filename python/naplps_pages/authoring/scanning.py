@@ -13,7 +13,7 @@ _PLAIN = re.compile(r'[^"\\]+')
 COMMENT, QUOTE, ESCAPE = "#", '"', "\\"
 
 
-class Piece(NamedTuple):
+class LinePart(NamedTuple):
     """A word as it stands; or the letters of a text between quotes, each with its column. Columns count from 0."""
 
     column: int
@@ -22,20 +22,20 @@ class Piece(NamedTuple):
     is_quoted: bool = False
 
 
-def pieces(line: str) -> List[Piece]:
+def parts_of(line: str) -> List[LinePart]:
     """The parts of a line without its comment. Raises NotUnderstood."""
     if len(line) > MOST_LINE:
         raise NotUnderstood(MOST_LINE, f"a line has {MOST_LINE} characters at most")
     control = _CONTROL.search(line)
     if control:
         raise NotUnderstood(control.start(), f"a control character (U+{ord(control[0]):04X}) can't stand in a line")
-    found: List[Piece] = []
+    found: List[LinePart] = []
     at = _blanks(line, 0)
     while at < len(line):
-        piece, end = _quoted(line, at) if line[at] == QUOTE else _word(line, at)
-        if piece.word == COMMENT and not piece.is_quoted:
+        part, end = _quoted(line, at) if line[at] == QUOTE else _word(line, at)
+        if part.word == COMMENT and not part.is_quoted:
             break
-        found.append(piece)
+        found.append(part)
         at = _blanks(line, end)
     return found
 
@@ -45,15 +45,15 @@ def _blanks(line: str, at: int) -> int:
     return found.end() if found else at
 
 
-def _word(line: str, at: int) -> Tuple[Piece, int]:
+def _word(line: str, at: int) -> Tuple[LinePart, int]:
     found = _WORD.match(line, at)
     assert found
     if line[found.end():found.end() + 1] == QUOTE:
         raise NotUnderstood(found.end(), 'a text between quotes is a word of its own, as in TEXT "OPEN"')
-    return Piece(at, found[0]), found.end()
+    return LinePart(at, found[0]), found.end()
 
 
-def _quoted(line: str, start: int) -> Tuple[Piece, int]:
+def _quoted(line: str, start: int) -> Tuple[LinePart, int]:
     """The text between quotes that begins there, and where it ends. A backslash stands before a quote or another."""
     letters: List[Tuple[int, str]] = []
     at = start + 1
@@ -73,4 +73,4 @@ def _quoted(line: str, start: int) -> Tuple[Piece, int]:
         raise NotUnderstood(start, "the text isn't ended: expected a quote behind it")
     if line[at + 1:at + 2] not in ("", " ", "\t"):
         raise NotUnderstood(at + 1, "expected a space behind the text")
-    return Piece(start, "", tuple(letters), True), at + 1
+    return LinePart(start, "", tuple(letters), True), at + 1

@@ -11,7 +11,7 @@ from naplps.page_state import Attributes, PageState
 from . import values
 from .kinds import HAND, SET, TEXT, LineKind, kind_of, surplus
 from .mistakes import Mistake, NotUnderstood, expected, quoted
-from .scanning import Piece, pieces
+from .scanning import LinePart, parts_of
 from .values import NO_LOOK_PARTS, NO_TEXTURE_PARTS, LookParts, TextureParts, inner
 
 # So many mistakes are told; and the lines of a list have so many bytes at most.
@@ -38,7 +38,7 @@ class Fields(NamedTuple):
 NO_FIELDS = Fields()
 
 
-class Made(NamedTuple):
+class MadeEntry(NamedTuple):
     """An entry that a source makes, and the line and the column of what makes it, both from 1."""
 
     entry: Entry
@@ -54,7 +54,7 @@ class Translator:
         self.presets = NO_FIELDS
         self.mistakes: List[Mistake] = []
 
-    def entries(self, source: str) -> Iterator[Made]:
+    def entries(self, source: str) -> Iterator[MadeEntry]:
         """The entries of a source. While one is handed out, `state` is what it finds."""
         for number, line in enumerate(StringIO(source.removeprefix(BYTE_ORDER_MARK), newline="\n"), 1):
             if line in BLANK:
@@ -62,7 +62,7 @@ class Translator:
             try:
                 for column, entry in self._entries(line.removesuffix("\n").removesuffix("\r")):
                     if not self.state.repeats(entry):
-                        yield Made(entry, number, column + 1)
+                        yield MadeEntry(entry, number, column + 1)
                         self.state.take(entry)
             except NotUnderstood as error:
                 self.mistakes.append(Mistake(number, error.offset + 1, error.message))
@@ -71,7 +71,7 @@ class Translator:
 
     def _entries(self, line: str) -> Iterator[Tuple[int, Entry]]:
         """The entries of a line, each behind its column, from 0. Raises NotUnderstood."""
-        found = pieces(line)
+        found = parts_of(line)
         if not found:
             return
         first, rest = found[0], found[1:]
@@ -85,7 +85,7 @@ class Translator:
             end = _end(rest[-1] if rest else first)
             yield first.column, kind.make(_read(kind, operands, end), self._attributes(given))
 
-    def _kind(self, first: Piece, rest: List[Piece]) -> LineKind:
+    def _kind(self, first: LinePart, rest: List[LinePart]) -> LineKind:
         try:
             return kind_of(first.word, next((each.word for each in rest if "=" not in each.word), ""))
         except NotUnderstood as error:
@@ -101,18 +101,18 @@ class Translator:
             given.colour or preset.colour or now.colour, given.texture.over(preset.texture.over(now.texture)),
             given.text.over(preset.text.over(now.text)))
 
-    def _set(self, rest: List[Piece]) -> None:
+    def _set(self, rest: List[LinePart]) -> None:
         """Sets what stands for fields that are left out; nothing forgets what was set."""
         operands, given = _parted(rest, OF_SET, SET_FORM)
         if operands:
             raise NotUnderstood(operands[0].column, surplus(operands[0].word, SET_FORM))
-        named = {piece.word.partition("=")[0] for piece in rest}
+        named = {part.word.partition("=")[0] for part in rest}
         self.presets = self.presets._replace(**{name: getattr(given, name) for name in named}) if named else NO_FIELDS
 
-    def _text(self, first: Piece, rest: List[Piece]) -> Iterator[Tuple[int, Entry]]:
+    def _text(self, first: LinePart, rest: List[LinePart]) -> Iterator[Tuple[int, Entry]]:
         """A character for each letter, and one in front of it for its accent."""
-        texts = [piece for piece in rest if piece.is_quoted]
-        operands, given = _parted([piece for piece in rest if not piece.is_quoted], HAND, TEXT_FORM)
+        texts = [part for part in rest if part.is_quoted]
+        operands, given = _parted([part for part in rest if not part.is_quoted], HAND, TEXT_FORM)
         if operands:
             raise NotUnderstood(operands[0].column, surplus(operands[0].word, TEXT_FORM))
         if not texts:
@@ -125,47 +125,47 @@ class Translator:
             by = by._replace(pen="after")
 
 
-def _end(piece: Piece) -> int:
-    return piece.column + len(piece.word)
+def _end(part: LinePart) -> int:
+    return part.column + len(part.word)
 
 
-def _parted(rest: List[Piece], allowed: Tuple[str, ...], shown: str) -> Tuple[List[Piece], Fields]:
+def _parted(rest: List[LinePart], allowed: Tuple[str, ...], shown: str) -> Tuple[List[LinePart], Fields]:
     """The operands and the fields of a line. Raises NotUnderstood."""
-    operands: List[Piece] = []
+    operands: List[LinePart] = []
     given: Dict[str, Any] = {}
-    for piece in rest:
-        name, equals, value = piece.word.partition("=")
+    for part in rest:
+        name, equals, value = part.word.partition("=")
         if not equals:
-            operands.append(piece)
+            operands.append(part)
         elif name not in allowed:
-            raise NotUnderstood(piece.column, f"{quoted(name)} is no field here: the line is {shown}")
+            raise NotUnderstood(part.column, f"{quoted(name)} is no field here: the line is {shown}")
         elif name in given:
-            raise NotUnderstood(piece.column, f"{name}= stands twice")
+            raise NotUnderstood(part.column, f"{name}= stands twice")
         else:
-            given[name] = inner(READERS[name], piece.column + len(name) + 1, value)
+            given[name] = inner(READERS[name], part.column + len(name) + 1, value)
     return operands, Fields(**given) if given else NO_FIELDS
 
 
-def _read(kind: LineKind, operands: List[Piece], end: int) -> List[Any]:
+def _read(kind: LineKind, operands: List[LinePart], end: int) -> List[Any]:
     """The values of the operands. Raises NotUnderstood."""
     least = len(kind.operands)
     if len(operands) > max(least, kind.most):
         extra = operands[max(least, kind.most)]
         raise NotUnderstood(extra.column, f"{kind.most} points are the most of a shape" if kind.most else surplus(
             extra.word, kind.shown))
-    found = [_value(kind, number, piece) for number, piece in enumerate(operands)]
+    found = [_value(kind, number, part) for number, part in enumerate(operands)]
     if len(found) < least:
         missing = kind.operand(len(found)).what
         raise NotUnderstood(end, f"expected {missing} here: the line is {kind.shown}")
     return found
 
 
-def _value(kind: LineKind, number: int, piece: Piece) -> Any:
+def _value(kind: LineKind, number: int, part: LinePart) -> Any:
     operand = kind.operand(number)
-    if piece.is_quoted:
-        raise NotUnderstood(piece.column, f"expected {operand.what}, not a text" if kind.operands else surplus(
+    if part.is_quoted:
+        raise NotUnderstood(part.column, f"expected {operand.what}, not a text" if kind.operands else surplus(
             "a text", kind.shown))
-    return inner(operand.read, piece.column, piece.word)
+    return inner(operand.read, part.column, part.word)
 
 
 def _characters(quoted_letters: Tuple[Tuple[int, str], ...]) -> List[Tuple[int, str, int]]:
@@ -190,7 +190,7 @@ class Translation:
     _lines: "array[int]" = field(default_factory=lambda: array("L"))
     _columns: "array[int]" = field(default_factory=lambda: array("L"))
 
-    def add(self, made: Made) -> None:
+    def add(self, made: MadeEntry) -> None:
         """Takes the line of an entry. What comes behind a mistake isn't kept."""
         if self.mistakes:
             return
