@@ -34,8 +34,8 @@ def places(source):
 def test_numbers_of_any_size(value):
     for row in ("WAIT %s", "LINE 0,0 %s,0", "LINE 0,0 0,%s", "LINE 0,0 0,0 pel=%s,0", "BELL\n MAP %s red",
                 "MAP 1/%s red", "MAP 1 %s", "MAP 1 1,2,%s", "RESET 1 %s", "CHAR primary %s", "BLINK 1 1,2,%s",
-                "TO-EOL colour=front:%s", "TO-EOL colour=direct:%s,1,1", "TO-EOL text=%s", "TO-EOL text=%s,1/small/----",
-                "TO-EOL pen=%s",
+                "TO-EOL colour=front:%s", "TO-EOL colour=direct:%s,1,1", "TO-EOL text=%s",
+                "TO-EOL text=%s,1/small/----", "TO-EOL pen=%s",
                 "LINE 0,0 0,0 texture=%s", "LINE 0,0 0,0 texture=1/%s", "TO-EOL colour=%s", "%s", "%s=1", "SET %s=1"):
         assert len(places(row % value)) == 1, row
 
