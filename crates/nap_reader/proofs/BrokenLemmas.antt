@@ -8,7 +8,7 @@ use Rattle.nap_reader.specs.Laws.{BegunComesFirst, WantsSome, BreaksAmong, FedBr
 use Rattle.nap_reader.specs.Stream.{half_code}
 use Rattle.nap_reader.proofs.BreakingLemmas.{First, breaks_there, lacks_there, run_first, same_first}
 use Rattle.nap_reader.proofs.LawLemmas.{more_bytes_keep_entries}
-use Rattle.nap_reader.proofs.PartLemmas.{breaks_longer, breaks_more}
+use Rattle.nap_reader.proofs.PartLemmas.{breaks_longer, breaks_more, took_front}
 use Rattle.nap_reader.proofs.StandingLemmas.{taken_all}
 
 -- The end of a stream keeps what it has.
@@ -24,7 +24,7 @@ code_keeps o n (Some (half_code bytes)) = refl
 code_keeps o n (Some (open_run op place run)) = definition_keeps o n o.machine.work.state.definition
 code_keeps o n (Some open_body) = refl
 
-end_keeps : (o : Outcome) (n : ℕ) (r : Option Refusal) → (with_end o n r).entries ≡ o.entries
+pub end_keeps : (o : Outcome) (n : ℕ) (r : Option Refusal) → (with_end o n r).entries ≡ o.entries
 end_keeps o n None = code_keeps o n o.unfinished
 end_keeps o n (Some r) = refl
 
@@ -37,18 +37,8 @@ ended_first o n None =
 pub begun_comes_first : BegunComesFirst
 begun_comes_first budget p = ended_first (begun budget p) (length p) (begun budget p).refusal
 
--- A part of what comes between is a part of all.
-
-part_front : {S : Type 0} (g : Ghosts S) (s : S) (known more : List Entry) (t : S) (cause : Cause) → TookPart g s known more t cause → TookFront g s known more t cause
-part_front g s known more t stream h = h
-part_front g s known more t memory (inl took) = ([], more, refl, subst (λ (es : List Entry). g.took s es t) (sym (append-nil known)) took)
-part_front g s known more t memory (inr (front, next, rest, parts, took)) = (front, next ∷ rest, parts, took)
-part_front g s known more t device (inl (set, took)) = inl (set, ([], more, refl, subst (λ (es : List Entry). g.took s es t) (sym (append-nil known)) took))
-part_front g s known more t device (inr broke) = inr broke
-
-between_from : {S : Type 0} (g : Ghosts S) (s : S) (before after : Outcome) (t : S) (cause : Cause) → BreaksBetween g s before after t cause →
-    BreaksFrom g s before.entries after t cause
-between_from g s before after t cause h = record { more = h.more; adds = h.adds; part = part_front g s before.entries h.more t cause h.part }
+between_from : {S : Type 0} {g : Ghosts S} {s : S} {before after : Outcome} {t : S} {cause : Cause} → BreaksBetween g s before after t cause → BreaksFrom g s before.entries after t cause
+between_from {g = g} {s = s} {before = before} {t = t} {cause = cause} h = record { more = h.more; adds = h.adds; part = took_front g s before.entries h.more t cause h.part }
 
 closed_first : (o : Outcome) (b : ℕ) → First o (closed_by o b)
 closed_first o b = at (is_operand_byte b)
@@ -61,19 +51,14 @@ module _ {S : Type 0} (g : Ghosts S) (s : S) (budget : ℕ) (p : List ℕ) (b : 
   with_byte : BreaksWith g s budget p b t (cause_of r.fault) → BreaksFrom g s (begun budget p).entries (begun budget (p ++ b ∷ [])) t (cause_of r.fault)
   with_byte (inl between) =
       let known = closed_first (begun budget p) b in
-      let after = begun budget (p ++ b ∷ []) in
-      let from = between_from g s (closed_by (begun budget p) b) after t (cause_of r.fault) between in
-      breaks_longer g s (begun budget p).entries known.0 after t (cause_of r.fault)
-      (subst (λ (es : List Entry). BreaksFrom g s es after t (cause_of r.fault)) known.1 from)
+      breaks_longer (begun budget p).entries known.0 (subst (λ (es : List Entry). BreaksFrom g s es (begun budget (p ++ b ∷ [])) t (cause_of r.fault)) known.1 (between_from between))
   with_byte (inr (charged, from)) = from
 
   at_byte : BreaksAt g s budget p b t r → BreaksFrom g s (begun budget p).entries (begun budget (p ++ b ∷ [])) t (cause_of r.fault)
-  at_byte (inl (other, first, in_run)) =
-      breaks_more g s (begun budget p).entries first.0 (with_run (begun budget p)) (begun budget (p ++ b ∷ [])) t (cause_of r.fault) first.1
-      (between_from g s (begun budget p) (with_run (begun budget p)) t (cause_of r.fault) in_run.part)
+  at_byte (inl (other, first, in_run)) = breaks_more first.0 first.1 (between_from in_run.part)
   at_byte (inr h) = with_byte h.part
 
-module _ {S : Type 0} (g : Ghosts S) (s : S) (budget : ℕ) (before last : List ℕ) (i : ℕ) (t : S) (left : ℕ) (r : Refusal) (within : i < length last) where
+module _ (budget : ℕ) (before last : List ℕ) (i : ℕ) (within : i < length last) where
   -- the bytes up to the one that broke, and that
   abbrev p : List ℕ
   p = before ++ take i last
@@ -93,31 +78,27 @@ module _ {S : Type 0} (g : Ghosts S) (s : S) (budget : ℕ) (before last : List 
   all : (begun budget (before ++ last)).entries ≡ (begun budget (p ++ b ∷ [])).entries ++ more
   all = ap (λ (q : List ℕ). (begun budget q).entries) (sym (taken_all before last i within)) ∙ (more_bytes_keep_entries budget (p ++ b ∷ []) (drop (i + 1) last)).1
 
-  lacking : CanLackAt budget p b r.place ⊎ g.wants s (begun budget (p ++ b ∷ [])).entries →
-      LacksWithin budget (before ++ last) r.place ⊎ WantsSome g s (begun budget (before ++ last)).entries
-  lacking (inl own) = inl (inl (length before + i, omega (arith, within, length-append before last), rw (front, there) own))
-  lacking (inr sink) = inr ((begun budget (p ++ b ∷ [])).entries, more, all, sink)
-
-  broken_among : IsBroken g s budget (before ++ take i last) (get_or last i 0) t left r →
-      BreaksAmong g s budget (before ++ last) (begun budget before).entries (begun budget (before ++ last)) t r
-  broken_among h =
+  broken_among : {S : Type 0} {g : Ghosts S} {s t : S} {left : ℕ} {r : Refusal} → IsBroken g s budget (before ++ take i last) (get_or last i 0) t left r → BreaksAmong g s budget (before ++ last) (begun budget before).entries (begun budget (before ++ last)) t r
+  broken_among {S} {g} {s} {t} {left} {r} h =
       let known = more_bytes_keep_entries budget before (take i last) in
       let from = subst (λ (es : List Entry). BreaksFrom g s es (begun budget (p ++ b ∷ [])) t (cause_of r.fault)) known.1 (at_byte g s budget p b t r h.breaks) in
       record {
         place = inl (length before + i, omega (arith, within, length-append before last), rw (front, there) (breaks_there g s budget p b t r h.breaks));
         wants = λ is. lacking (lacks_there g s budget p b t r h.breaks is);
-        from = breaks_more g s (begun budget before).entries more (begun budget (p ++ b ∷ [])) (begun budget (before ++ last)) t (cause_of r.fault) all
-            (breaks_longer g s (begun budget before).entries known.0 (begun budget (p ++ b ∷ [])) t (cause_of r.fault) from);
+        from = breaks_more more all (breaks_longer (begun budget before).entries known.0 from);
       }
-
-  stopped_among : (cause : Cause) → cause ≢ stream → StopsBy g s budget (before ++ take i last) (get_or last i 0) t left r cause →
-      BreaksAmong g s budget (before ++ last) (begun budget before).entries (begun budget (before ++ last)) t r
-  stopped_among stream own h = absurd (own refl)
-  stopped_among memory own h = broken_among h
-  stopped_among device own h = broken_among h
+    where
+      lacking : CanLackAt budget p b r.place ⊎ g.wants s (begun budget (p ++ b ∷ [])).entries → LacksWithin budget (before ++ last) r.place ⊎ WantsSome g s (begun budget (before ++ last)).entries
+      lacking (inl own) = inl (inl (length before + i, omega (arith, within, length-append before last), rw (front, there) own))
+      lacking (inr sink) = inr ((begun budget (p ++ b ∷ [])).entries, more, all, sink)
 
 pub fed_breaks_among : {S : Type 0} (g : Ghosts S) → FedBreaksAmong g
-fed_breaks_among g s budget before last i t left r within = stopped_among g s budget before last i t left r within (cause_of r.fault)
+fed_breaks_among {S} g s budget before last i t left r within = at (cause_of r.fault)
+  where
+    at : (cause : Cause) → cause ≢ stream → StopsBy g s budget (before ++ take i last) (get_or last i 0) t left r cause → BreaksAmong g s budget (before ++ last) (begun budget before).entries (begun budget (before ++ last)) t r
+    at stream own h = absurd (own refl)
+    at memory own h = broken_among budget before last i within h
+    at device own h = broken_among budget before last i within h
 
 pub end_breaks_among : {S : Type 0} (g : Ghosts S) → EndBreaksAmong g
 end_breaks_among g s budget p t r live h =
@@ -127,6 +108,5 @@ end_breaks_among g s budget p t r live h =
     record {
       place = inr (h.place, h.part.unrefused);
       wants = λ _. inl (inr (h.place, h.part.unrefused));
-      from = breaks_more g s (begun budget p).entries [] last (means budget p) t (cause_of r.fault) (same ∙ sym (append-nil last.entries))
-          (between_from g s (begun budget p) last t (cause_of r.fault) h.part);
+      from = breaks_more [] (same ∙ sym (append-nil last.entries)) (between_from h.part);
     }

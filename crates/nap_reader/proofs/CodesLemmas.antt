@@ -12,21 +12,22 @@ use Rattle.nap_draw.specs.Rule.{drawn}
 use Rattle.nap_reader.specs.declared.fault.Fault.TheVariants as faults
 use Rattle.nap_reader.specs.declared.kind.Kind.TheVariants as kinds
 use Rattle.nap_reader.specs.declared.machine.Request.TheVariants as requests
-use Rattle.nap_reader.specs.Steps.{AreCharacters, CallsBy}
+use Rattle.nap_reader.specs.Steps.{AreCharacters, CallsBy, IsText, TellsSink, CodeTakes}
+use Rattle.nap_reader.specs.Holding.{some_broke}
 use Rattle.nap_reader.specs.Stream as model
 use Rattle.nap_reader.specs.Stream.{front}
-use Rattle.nap_reader.proofs.PartLemmas.{code_breaks}
-use Rattle.nap_reader.proofs.MachineLemmas.{Drew, LeftBy, left_is, leaves_from, one_takes, own_takes, stop_takes}
+use Rattle.nap_reader.proofs.PartLemmas.{Fails, code_breaks}
+use Rattle.nap_reader.proofs.MachineLemmas.{Drew, LeftBy, left_is, leaves_from, one_takes, stop_takes, own_tells}
 use Rattle.nap_reader.proofs.KindLemmas.{KindMade, acts_itself, binds_code, front_kind_made}
-use Rattle.nap_reader.proofs.LeadsLemmas.{TookBroke, TookMore, WantsMore, is_between, leads_on, leads_to_fault}
+use Rattle.nap_reader.proofs.LeadsLemmas.{Lawful, TookMore, is_between, leads_on, leads_to_fault, leads_past, leads_to_refusal}
 use Rattle.nap_reader.proofs.OpenBodyLemmas.{body_begins}
 use Rattle.nap_reader.proofs.ReadingLemmas as reading
-use Rattle.nap_reader.proofs.ReadingLemmas.{byte_refused, calls, code_acts, code_goes_on, code_strays, defines, run_opens, still_between, nothing_half, opcode_of_kind, opens_drawn, nothing_yet}
+use Rattle.nap_reader.proofs.ReadingLemmas.{byte_refused, code_goes_on, run_opens, nothing_half, opcode_of_kind, opens_drawn, nothing_yet, code_over, code_ends}
 use Rattle.nap_reader.proofs.StepLemmas.{IsAt, code_fault_own, conveys_nothing, leads_nowhere}
 use Rattle.nap_reader.proofs.TextLemmas.{text_passes, with_text, halts_less}
 use Rattle.std.proofs.lemmas.Bool.{false≢true}
 use Rattle.nap_reader.specs.Below.{Code, CodeFault, CharSet, CodeSets, Opcode, Entry, Ghosts, IsTyped, DrawFault, Work, code_rule, DrawsBy, fault_of, Drawn, LexerState, SinkFault, HaltsAfter, shows_of, set_at, IsGraphic}
-use Rattle.nap_reader.proofs.Common.{Refusal, Request, in_body, AllCharacters, code_fault, draw_fault, Continues, Holding, RunAt, kind_of, Calls, IsOpcodeByte, LeadsOn, Passes, StopsByte, TakesBy, as_it_was, asked, in_code, IsLive, Leaves, Takes, Works, at_byte, with_machine, Codes, Stops, in_text, Outcome, Placed, bytes_of, drawn_front, refusal, place_at}
+use Rattle.nap_reader.proofs.Common.{Refusal, Request, in_body, AllCharacters, code_fault, draw_fault, Continues, Holding, RunAt, kind_of, Calls, IsOpcodeByte, LeadsOn, Passes, StopsByte, TakesBy, as_it_was, asked, in_code, IsLive, Leaves, Takes, Works, at_byte, with_machine, Codes, Stops, in_text, Outcome, Placed, bytes_of, drawn_front, refusal, place_at, IsHeld, Kind, code_front}
 use Rattle.nap_codes.specs.declared.code.CodeFault.TheVariants as code_faults
 use Rattle.nap_codes.proofs.PublicLaws.{one_byte_opcode}
 use Rattle.nap_list.specs.declared.sink.SinkFault.TheVariants as sink_faults
@@ -37,24 +38,14 @@ use Rattle.nap_reader.proofs.SpelledLemmas.{opcode_alone, byte_calls, name_calls
 use Rattle.nap_reader.proofs.SliceLemmas.{first_of}
 use Rattle.nap_codes.specs.declared.code_set.CodeSet.TheVariants.{Macros}
 use Rattle.nap_codes.specs.Tables as tables
+use Rattle.nap_reader.proofs.StreamLemmas.{place_at-append}
 
 -- One code, where nothing is open.
 
--- A rule is refused, or not all of its entries could be put.
-pub record Fails {S : Type 0} (g : Ghosts S) (by : Result Drawn DrawFault) (t u : S) (fault : DrawFault) : Type 0 where
-  pub drew : DrawsBy g.took g.broke g.failed by t u fault (draws.cause_of fault)
-  pub wants : fault ≡ draw_faults.Memory → WantsBy g by t u
-  pub gives : fault ≡ draw_faults.Sink → GivesSome by
-
--- what every sink keeps
-pub record SinkKeeps {S : Type 0} (g : Ghosts S) : Type 0 where
-  pub more : TookMore g
-  pub broken : TookBroke g
-  pub wants : WantsMore g
-
 -- some bytes act, and leave no run open
-leads_by : {S : Type 0} {g : Ghosts S} {t : S} {h : Holding} {u : S} {h' : Holding} {xs : List Placed} (next : List ℕ) → 0 < length xs → h'.machine.left ≡ h.machine.left → h'.open_run ≡ None → Passes g t h xs u h' [] → LeadsOn g t h u h' xs next
-leads_by {u = u} {h' = h'} next some left closed passes = record {
+leads_by : {S : Type 0} {g : Ghosts S} {t : S} {h : Holding} {u v : S} {h' k : Holding} {xs : List Placed} (next : List ℕ) → v ≡ u → k ≡ h' → 0 < length xs → h'.machine.left ≡ h.machine.left → h'.open_run ≡ None → Passes g t h xs u h' [] →
+    LeadsOn g t h v k xs next
+leads_by {u = u} {h' = h'} next sink held some left closed passes = record {
   conveys = record {
     sink = u;
     holding = h';
@@ -63,8 +54,8 @@ leads_by {u = u} {h' = h'} next some left closed passes = record {
     passes = passes;
     none = λ none. absurd (omega (arith, some, ap length none));
   };
-  acted = as_it_was refl refl;
-  typed = λ set rested chars. (refl, refl);
+  acted = as_it_was sink held;
+  typed = λ set rested chars. (sink, held);
 }
 
 -- An opcode, where no code is half read.
@@ -77,20 +68,18 @@ pub record StartsRun (h : Holding) (x : Placed) (op : Opcode) : Type 0 where
 abbrev pub open_at : {h : Holding} {x : Placed} {op : Opcode} → StartsRun h x op → Holding
 open_at {h} {x} {op} k = record h { half = []; open_run = Some (record { op = op; place = x.place }); run = [] }
 
-pub run_opened : {S : Type 0} (g : Ghosts S) (t : S) {h : Holding} {x : Placed} {op : Opcode} (k : StartsRun h x op) (next : List ℕ) → LeadsOn g t h t (open_at k) (x ∷ []) next
-run_opened g t {h} {x} {op} k next = record {
+pub run_opened : {S : Type 0} {g : Ghosts S} {t v : S} {h held : Holding} {x : Placed} {op : Opcode} (k : StartsRun h x op) (next : List ℕ) → v ≡ t → held ≡ open_at k → LeadsOn g t h v held (x ∷ []) next
+run_opened {t = t} {x = x} {op = op} k next sink same = record {
   conveys = record {
     sink = t;
     holding = open_at k;
     left = refl;
     run = λ n all before. All-head (IsAt n) x [] all;
-    passes = λ s o pending c.
-        run_opens g s o t h k.between k.closed x pending c op 1 h.machine.sets (ap (λ (half : List ℕ). codes.front h.machine.sets (half ++ x.byte ∷ [])) k.is.rested ∙ k.is.names)
-        (sym (ap (λ (half : List ℕ). length (half ++ x.byte ∷ [])) k.is.rested));
+    passes = λ s o pending c. run_opens k.between k.closed c op k.is.rested k.is.names;
     none = λ none. absurd (omega (arith, ap length none));
   };
-  acted = as_it_was refl refl;
-  typed = λ set rested chars. (refl, refl);
+  acted = as_it_was sink same;
+  typed = λ set rested chars. (sink, same);
 }
 
 -- It draws by a rule, and asks this.
@@ -110,75 +99,76 @@ pub record EndsCode (h : Holding) (x : Placed) (c : Code) (after : CodeSets) : T
   pub whole : codes.front h.machine.sets (h.half ++ x.byte ∷ []) ≡ codes.whole c count after
   pub length_is : count ≡ length (h.half ++ x.byte ∷ [])
 
-module _ {S : Type 0} (g : Ghosts S) (t : S) {h : Holding} {x : Placed} {c : Code} {after : CodeSets} (k : EndsCode h x c after) where
-  -- what is held once it was read
-  abbrev pub read_at : Holding
-  read_at = record h { machine = record h.machine { sets = after }; half = [] }
+-- what is held once it was read, and has drawn so that the work is this
+abbrev pub drawn_at : Holding → CodeSets → Work → Holding
+drawn_at h after work = record h { machine = record h.machine { work = work; sets = after }; half = [] }
 
-  -- and once it has drawn
-  abbrev pub drawn_at : List Entry → Work → Holding
-  drawn_at entries work = record h { machine = record h.machine { work = work; sets = after }; half = [] }
+abbrev pub read_at : Holding → CodeSets → Holding
+read_at h after = drawn_at h after h.machine.work
+
+module _ {S : Type 0} (g : Ghosts S) (t : S) {h : Holding} {x : Placed} {c : Code} {after : CodeSets} (k : EndsCode h x c after) where
+  stands : {s : S} {o : Outcome} {pending : List Placed} (c' : Continues g s o t h (x ∷ pending)) {kind : Kind} → kind_of c ≡ kind → front h.machine (c'.rest ++ x ∷ pending) ≡ code_front (record h.machine { sets = after }) kind x.place pending
+  stands {pending = pending} c' same = code_ends k.between k.closed c' c k.count after k.whole k.length_is ∙ ap (λ (kind : Kind). code_front (record h.machine { sets = after }) kind x.place pending) same
+
+  read_over : {s : S} {o : Outcome} {pending : List Placed} (c' : Continues g s o t h (x ∷ pending)) → IsHeld [] (read_at h after)
+  read_over c' = code_over k.between k.closed c' (read_at h after) k.between refl refl k.closed refl
+
+  made : {kind : Kind} → kind_of c ≡ kind → KindMade kind
+  made same = subst KindMade same (front_kind_made h.machine.sets (h.half ++ x.byte ∷ []) c k.count after k.whole)
 
   -- It adds nothing.
-  pub nothing_leads : (next : List ℕ) → kind_of c ≡ kinds.AddsNothing → LeadsOn g t h t read_at (x ∷ []) next
-  nothing_leads next kind = leads_by next (omega arith) refl k.closed (λ s o pending c'. code_acts g s o t h k.between k.closed x pending c' c k.count after k.whole k.length_is kind)
+  nothing_leads : {v : S} {held : Holding} (next : List ℕ) → v ≡ t → held ≡ read_at h after → kind_of c ≡ kinds.AddsNothing → LeadsOn g t h v held (x ∷ []) next
+  nothing_leads next sink held kind = leads_by next sink held (omega arith) refl k.closed (λ s o pending c'. leads_past c' (read_at h after) pending (read_over c') (stands c' kind))
 
   -- It acts, or defines a macro, whose body comes next.
-  pub code_takes : {u : S} {request : Request} {entries : List Entry} {work : Work} → IsRuled c request → Drew g (code_rule h.machine.work c) t (drawn_by entries work) u → TookMore g → (behind : List Placed) (many : ℕ) (r : Option Refusal) →
-      TakesBy g t h u (drawn_at entries work) (x ∷ behind) many 1 r request
-  code_takes {u} {request} {entries} {work} (acts acting kind is) drew more behind many r =
-      let h' = drawn_at entries work in
-      subst (TakesBy g t h u h' (x ∷ behind) many 1 r) (sym is)
-      (leads_by (bytes_of behind) (omega arith) refl k.closed
-      (λ s o pending c'.
-      leads_on g s o t h (x ∷ pending) c' u entries h' pending more
-      (still_between g s o t h k.between k.closed x pending c' c k.count after k.whole k.length_is h' k.between refl refl k.closed refl)
-      (reading.acts g s o t h k.between k.closed x pending c' c k.count after k.whole k.length_is c (acts_itself c acting kind) ∙ ap (drawn_front (record h.machine { sets = after }) x.place pending) drew.is) drew.took drew.clear))
-  code_takes {u} {request} {entries} {work} (binds name show kind is) drew more behind many r =
-      let h' = asked (drawn_at entries work) (requests.Define name show) in
-      let graphic : KindMade (kinds.Binds name show) = subst KindMade kind (front_kind_made h.machine.sets (h.half ++ x.byte ∷ []) c k.count after k.whole) in
+  code_takes : {u : S} {request : Request} {entries : List Entry} {work : Work} {held : Holding} → IsRuled c request → held ≡ drawn_at h after work → Drew g (code_rule h.machine.work c) t (drawn_by entries work) u → TookMore g → (behind : List Placed) (many : ℕ) (r : Option Refusal) →
+      TakesBy g t h u held (x ∷ behind) many 1 r request
+  code_takes {u} {request} {entries} {work} {held} (acts acting kind is) same drew more behind many r =
+      let h' = drawn_at h after work in
+      subst (TakesBy g t h u held (x ∷ behind) many 1 r) (sym is)
+      (leads_by (bytes_of behind) refl same (omega arith) refl k.closed
+      (λ s o pending c'. leads_on c' u entries h' pending more (code_over k.between k.closed c' h' k.between refl refl k.closed refl)
+      (stands c' (acts_itself c acting kind) ∙ ap (drawn_front (record h.machine { sets = after }) x.place pending) drew.is) drew.took drew.clear))
+  code_takes {u} {request} {entries} {work} {held} (binds name show kind is) same drew more behind many r =
+      let asks = requests.Define name show in
+      let h' = asked (drawn_at h after work) asks in
       let rule = ap (code_rule h.machine.work) (sym (binds_code c name show kind)) ∙ drew.is in
-      subst (TakesBy g t h u (drawn_at entries work) (x ∷ behind) many 1 r) (sym is) (
+      subst (TakesBy g t h u held (x ∷ behind) many 1 r) (sym is) (
         omega arith,
-        graphic,
-        leads_by (bytes_of behind) (omega arith) refl k.closed
+        made kind,
+        leads_by (bytes_of behind) refl (ap (λ (h : Holding). asked h asks) same) (omega arith) refl k.closed
             (λ s o pending c'.
-            leads_on g s o t h (x ∷ pending) c' u entries h' pending more
+            leads_on c' u entries h' pending more
             (body_begins (record { name = name; show = show; escape = None }) h' refl refl (is_between h c'.rest k.between c'.held).body k.closed refl)
-            (defines g s o t h k.between k.closed x pending c' c k.count after k.whole k.length_is name show kind ∙ ap (drawn_front (record h.machine { sets = after; mode = in_body name show }) x.place pending) rule) drew.took drew.clear),
+            (stands c' kind ∙ ap (drawn_front (record h.machine { sets = after; mode = in_body name show }) x.place pending) rule) drew.took drew.clear),
       )
 
   -- Its rule is refused, or breaks.
   stops_by : {u : S} {fault : DrawFault} (m : model.Machine) {by : Result Drawn DrawFault} → ((s : S) (o : Outcome) (pending : List Placed) (c' : Continues g s o t h (x ∷ pending)) → front h.machine (c'.rest ++ x ∷ pending) ≡ drawn_front m x.place pending by) →
-      Fails g by t u fault → SinkKeeps g → StopsByte g t h x u (refusal (draw_fault fault) x.place)
-  stops_by {u} {fault} m {by} acting fails keeps = record {
-    own = λ own s o pending c'. leads_to_fault g s o t h (x ∷ pending) c' u m x.place pending by (acting s o pending c') fault fails.drew own;
+      Fails g by t u fault → Lawful g → StopsByte g t h x u (refusal (draw_fault fault) x.place)
+  stops_by {u} {fault} m {by} acting fails laws = record {
+    own = λ own s o pending c'. leads_to_fault c' u m x.place pending by (acting s o pending c') fault fails.drew own;
     broke = λ broke.
         in_code k.closed (record {
           place = refl;
-          part = λ s known o c'. inl (code_breaks g s known o t h x c' m by (acting s o [] c'.continues) u keeps.more keeps.broken keeps.wants fault fails.drew fails.wants fails.gives broke);
+          part = λ s known o c'. some_broke (code_breaks c' m by (acting s o [] c'.continues) laws fails broke);
         });
   }
 
-  pub code_stops : {u : S} {fault : DrawFault} {request : Request} → IsRuled c request → Fails g (code_rule h.machine.work c) t u fault → SinkKeeps g → StopsByte g t h x u (refusal (draw_fault fault) x.place)
-  code_stops {u} {fault} (acts acting kind is) fails keeps =
-      stops_by (record h.machine { sets = after }) (λ s o pending c'. reading.acts g s o t h k.between k.closed x pending c' c k.count after k.whole k.length_is c (acts_itself c acting kind)) fails keeps
-  code_stops {u} {fault} (binds name show kind is) fails keeps =
-      stops_by (record h.machine { sets = after; mode = in_body name show }) (λ s o pending c'. defines g s o t h k.between k.closed x pending c' c k.count after k.whole k.length_is name show kind) (subst (λ (c : Code). Fails g (code_rule h.machine.work c) t u fault) (binds_code c name show kind) fails) keeps
+  code_stops : {u : S} {fault : DrawFault} {request : Request} → IsRuled c request → Fails g (code_rule h.machine.work c) t u fault → Lawful g → StopsByte g t h x u (refusal (draw_fault fault) x.place)
+  code_stops (acts acting kind is) fails laws = stops_by (record h.machine { sets = after }) (λ s o pending c'. stands c' (acts_itself c acting kind)) fails laws
+  code_stops {u} {fault} (binds name show kind is) fails laws =
+      stops_by (record h.machine { sets = after; mode = in_body name show }) (λ s o pending c'. stands c' kind) (subst (λ (c : Code). Fails g (code_rule h.machine.work c) t u fault) (binds_code c name show kind) fails) laws
 
   -- It is an operand outside a run.
-  pub strays_stops : kind_of c ≡ kinds.Strays → StopsByte g t h x t (refusal faults.Stray x.place)
-  strays_stops kind = record {
-    own = λ own s o pending c'. code_strays g s o t h k.between k.closed x pending c' c k.count after k.whole k.length_is kind;
-    broke = λ broke. absurd (broke refl);
-  }
+  strays_stops : kind_of c ≡ kinds.Strays → StopsByte g t h x t (refusal faults.Stray x.place)
+  strays_stops kind = record { own = λ own s o pending c'. leads_to_refusal c' _ (stands c' kind); broke = λ broke. absurd (broke refl) }
 
   -- It calls a macro.
-  pub call_calls : {t₀ : S} {h₀ : Holding} {all : List Placed} {index name : ℕ} (behind : List Placed) → drop index all ≡ x ∷ behind → LeadsOn g t₀ h₀ t h (take index all) (bytes_of (drop index all)) → kind_of c ≡ kinds.Calls name →
-      Calls g t₀ h₀ t read_at all index name
-  call_calls {name = name} behind is leads kind =
-      let made : KindMade (kinds.Calls name) = subst KindMade kind (front_kind_made h.machine.sets (h.half ++ x.byte ∷ []) c k.count after k.whole) in
-      record {
+  call_calls : {t₀ v : S} {h₀ held : Holding} {all : List Placed} {index name : ℕ} (behind : List Placed) → drop index all ≡ x ∷ behind → LeadsOn g t₀ h₀ t h (take index all) (bytes_of (drop index all)) → kind_of c ≡ kinds.Calls name →
+      v ≡ t → held ≡ read_at h after → Calls g t₀ h₀ v held all index name
+  call_calls {t₀} {v} {h₀} {held} {all} {index} {name} behind is leads kind sink same =
+      subst (λ (v : S). Calls g t₀ h₀ v held all index name) (sym sink) (subst (λ (held : Holding). Calls g t₀ h₀ t held all index name) (sym same) (record {
         byte = x;
         behind = behind;
         is = is;
@@ -187,39 +177,30 @@ module _ {S : Type 0} (g : Ghosts S) (t : S) {h : Holding} {x : Placed} {c : Cod
         between = k.between;
         closed = k.closed;
         left = refl;
-        front_is = λ s o pending c'. calls g s o t h k.between k.closed x pending c' c k.count after k.whole k.length_is name kind;
+        front_is = λ s o pending c'. stands c' kind;
         rested = k.closed;
-        still = λ s o pending c'. still_between g s o t h k.between k.closed x pending c' c k.count after k.whole k.length_is read_at k.between refl refl k.closed refl;
-        named = made.1;
-      }
-
--- A byte of a code that isn't whole.
-pub half_leads : {S : Type 0} (g : Ghosts S) (t : S) {h : Holding} (x : Placed) (next : List ℕ) → h.open_body ≡ None → h.open_run ≡ None → codes.front h.machine.sets (h.half ++ x.byte ∷ []) ≡ codes.unfinished →
-    LeadsOn g t h t (record h { half = h.half ++ x.byte ∷ [] }) (x ∷ []) next
-half_leads g t {h} x next between closed unfinished = leads_by next (omega arith) refl closed (λ s o pending c. code_goes_on g s o t h between closed x pending c unfinished)
+        still = λ s o pending c'. read_over c';
+        named = (made kind).1;
+      }))
 
 -- A byte that is refused.
-pub fault_stops : {S : Type 0} (g : Ghosts S) (t : S) {h : Holding} (x : Placed) {fault : CodeFault} {index : ℕ} → h.open_body ≡ None → h.open_run ≡ None → codes.front h.machine.sets (h.half ++ x.byte ∷ []) ≡ codes.refused fault index →
+fault_stops : {S : Type 0} {g : Ghosts S} {t : S} {h : Holding} (x : Placed) {fault : CodeFault} {index : ℕ} → h.open_body ≡ None → h.open_run ≡ None → codes.front h.machine.sets (h.half ++ x.byte ∷ []) ≡ codes.refused fault index →
     index ≡ length h.half → StopsByte g t h x t (refusal (code_fault fault) x.place)
-fault_stops g t {h} x {fault} {index} between closed refused there = record {
-  own = λ own s o pending c. byte_refused g s o t h between closed x pending c fault index refused there;
+fault_stops x {fault} {index} between closed refused there = record {
+  own = λ own s o pending c. byte_refused between closed c fault index refused there;
   broke = λ broke. absurd (broke (code_fault_own fault));
 }
 
--- Characters, and the moves among them, where no code is half read.
-pub record AreText (h : Holding) (set : CharSet) (text : List ℕ) : Type 0 where
-  pub between : h.open_body ≡ None
-  pub closed : h.open_run ≡ None
-  pub rested : h.half ≡ []
-  pub chars : AllCharacters h.machine.sets set
-  pub some : 0 < length text
-  pub typed : All IsTyped text
+-- A byte of a code that isn't whole.
+half_leads : {S : Type 0} {g : Ghosts S} {t v : S} {h held : Holding} (x : Placed) (next : List ℕ) → v ≡ t → held ≡ record h { half = h.half ++ x.byte ∷ [] } → h.open_body ≡ None → h.open_run ≡ None →
+    codes.front h.machine.sets (h.half ++ x.byte ∷ []) ≡ codes.unfinished → LeadsOn g t h v held (x ∷ []) next
+half_leads x next sink held between closed unfinished = leads_by next sink held (omega arith) refl closed (λ s o pending c. code_goes_on between closed c unfinished)
 
-pub text_leads : {S : Type 0} (g : Ghosts S) (t : S) {h : Holding} {set : CharSet} {u : S} (xs : List Placed) (next : List ℕ) → AreText h set (bytes_of xs) → TookMore g → g.took t (draws_codes.text h.machine.work.state set (bytes_of xs)) u →
-    (g.failed t ≡ false → g.failed u ≡ false) → LeadsOn g t h u (record h { machine = with_text h.machine set (bytes_of xs) }) xs next
-text_leads g t {h} {set} {u} xs next k more took clear =
-    leads_by next (omega (arith, k.some, length-map xs (λ (x : Placed). x.byte))) refl k.closed
-    (λ s o pending c. text_passes {set = set} xs pending c (record { between = k.between; closed = k.closed; rested = k.rested; chars = k.chars }) k.typed u more took clear)
+-- Characters, and the moves among them, where no code is half read.
+text_leads : {S : Type 0} {g : Ghosts S} {t u : S} {h held : Holding} {set : CharSet} {xs : List Placed} (next : List ℕ) → IsText h set (bytes_of xs) → held ≡ record h { machine = with_text h.machine set (bytes_of xs) } → TookMore g →
+    g.took t (draws_codes.text h.machine.work.state set (bytes_of xs)) u → (g.failed t ≡ false → g.failed u ≡ false) → LeadsOn g t h u held xs next
+text_leads {u = u} {xs = xs} next k same more took clear =
+    leads_by next refl same (omega (arith, k.some, length-map xs (λ (x : Placed). x.byte))) refl k.closed (λ s o pending c. text_passes xs pending c k u more took clear)
 
 -- What a machine makes of a byte, where no run is open.
 
@@ -235,19 +216,15 @@ works_on {g = g} same live = record { live = live; clear = λ clear. ap g.failed
 -- It is of a code that isn't whole.
 pub half_takes : {S : Type 0} {g : Ghosts S} {old new : Machine S g} {x : Placed} {zs : List Placed} {ended : Bool} → codes.front old.lexer.sets (old.lexer.half ++ x.byte ∷ []) ≡ codes.unfinished →
     LeftBy old new old.work (record { sets = old.lexer.sets; half = old.lexer.half ++ x.byte ∷ [] }) → new.sink ≡ old.sink → IsLive new → Takes old new (x ∷ zs) ended 1 requests.Nothing
-half_takes {S} {g} {old} {new} {x} {zs} unfinished left same live =
-    one_takes (works_on same live) left.closed
-    (λ h behind between.
-    let next = bytes_of (zs ++ behind) in
-    subst (λ (v : S). LeadsOn g old.sink (with_machine h old) v (with_machine h new) (x ∷ []) next) (sym same)
-    (subst (λ (h' : Holding). LeadsOn g old.sink (with_machine h old) old.sink h' (x ∷ []) next) (sym (left_is left h)) (half_leads g old.sink x next between left.before unfinished)))
+half_takes {x = x} {zs = zs} unfinished left same live =
+    one_takes (works_on same live) left.closed (λ h behind between. half_leads x (bytes_of (zs ++ behind)) same (left_is left h) between left.before unfinished)
 
 -- It is refused.
 pub fault_takes : {S : Type 0} {g : Ghosts S} {old new : Machine S g} {x : Placed} {zs : List Placed} {ended : Bool} (fault : CodeFault) (index : ℕ) → codes.front old.lexer.sets (old.lexer.half ++ x.byte ∷ []) ≡ codes.refused fault index → index ≡ length old.lexer.half →
     old.open_run ≡ None → new.refusal ≡ Some (refusal (code_fault fault) x.place) → new.sink ≡ old.sink → Takes old new (x ∷ zs) ended 0 requests.Stop
 fault_takes {g = g} {old = old} {x = x} {zs = zs} fault index refused there closed is same =
-    own_takes is same (lexer_is_own fault) (omega arith)
-    (λ h behind between over. at_byte x (zs ++ behind) refl (conveys_nothing g old.sink (with_machine h old)) (fault_stops g old.sink x between closed refused there))
+    stop_takes is same (omega arith) (own_tells g old.sink (lexer_is_own fault))
+    (λ h behind between over. at_byte x (zs ++ behind) refl (conveys_nothing g old.sink (with_machine h old)) (fault_stops x between closed refused there))
 
 -- It ends a code.
 pub record Lexes {S : Type 0} {g : Ghosts S} (old : Machine S g) (x : Placed) (c : Code) (after : CodeSets) : Type 0 where
@@ -266,87 +243,49 @@ module _ {S : Type 0} {g : Ghosts S} {old : Machine S g} {x : Placed} {c : Code}
 
   -- The code adds nothing.
   pub nothing_takes : {new : Machine S g} {zs : List Placed} {ended : Bool} → kind_of c ≡ kinds.AddsNothing → LeftBy old new old.work (rested after) → new.sink ≡ old.sink → IsLive new → Takes old new (x ∷ zs) ended 1 requests.Nothing
-  nothing_takes {new} {zs} kind left same live =
-      one_takes (works_on same live) left.closed
-      (λ h behind between.
-      let next = bytes_of (zs ++ behind) in
-      subst (λ (v : S). LeadsOn g old.sink (with_machine h old) v (with_machine h new) (x ∷ []) next) (sym same)
-      (subst (λ (h' : Holding). LeadsOn g old.sink (with_machine h old) old.sink h' (x ∷ []) next) (sym (left_is left h)) (nothing_leads g old.sink (ends h between) next kind)))
+  nothing_takes {zs = zs} kind left same live =
+      one_takes (works_on same live) left.closed (λ h behind between. nothing_leads g old.sink (ends h between) (bytes_of (zs ++ behind)) same (left_is left h) kind)
 
   -- It calls a macro.
   pub macro_takes : {new : Machine S g} {zs : List Placed} {ended : Bool} {name : ℕ} → kind_of c ≡ kinds.Calls name → LeftBy old new old.work (rested after) → new.sink ≡ old.sink → IsLive new → Takes old new (x ∷ zs) ended 1 (requests.Call name)
-  macro_takes {new} {zs} {ended} {name} kind left same live =
+  macro_takes {zs = zs} kind left same live =
       one_takes (works_on same live) left.closed
-      (λ h behind between. (
-        0,
-        refl,
-        subst (λ (v : S). Calls g old.sink (with_machine h old) v (with_machine h new) (x ∷ (zs ++ behind)) 0 name) (sym same)
-            (subst (λ (h' : Holding). Calls g old.sink (with_machine h old) old.sink h' (x ∷ (zs ++ behind)) 0 name) (sym (left_is left h))
-            (call_calls g old.sink (ends h between) (zs ++ behind) refl (leads_nowhere g old.sink (with_machine h old) (bytes_of (x ∷ (zs ++ behind)))) kind)),
-      ))
+      (λ h behind between. (0, refl, call_calls g old.sink (ends h between) (zs ++ behind) refl (leads_nowhere (bytes_of (x ∷ (zs ++ behind))) refl refl) kind same (left_is left h)))
 
   -- It draws.
-  pub ruled_takes : {new : Machine S g} {zs : List Placed} {ended : Bool} {request : Request} {entries : List Entry} → IsRuled c request → Drew g (code_rule old.work c) old.sink (drawn_by entries new.work) new.sink → LeftBy old new new.work (rested after) → IsLive new →
-      TookMore g → Takes old new (x ∷ zs) ended 1 request
-  ruled_takes {new} {zs} {ended} {request} {entries} ruled drew left live more =
-      one_takes (leaves ruled) left.closed
-      (λ h behind between.
-      subst (λ (h' : Holding). TakesBy g old.sink (with_machine h old) new.sink h' (x ∷ (zs ++ behind)) (length (x ∷ zs)) 1 new.refusal request) (sym (left_is left h))
-      (code_takes g old.sink (ends h between) ruled drew more (zs ++ behind) (length (x ∷ zs)) new.refusal))
+  pub ruled_takes : {new : Machine S g} {zs : List Placed} {ended : Bool} {request : Request} {entries : List Entry} → IsRuled c request → Drew g (code_rule old.work c) old.sink (drawn_by entries new.work) new.sink → LeftBy old new new.work (rested after) → IsLive new → TookMore g → Takes old new (x ∷ zs) ended 1 request
+  ruled_takes {new} {zs} {request = request} {entries = entries} ruled drew left live more =
+      one_takes (leaves ruled) left.closed (λ h behind between. code_takes g old.sink (ends h between) ruled (left_is left h) drew more (zs ++ behind) (length (x ∷ zs)) new.refusal)
     where
-      works : Works old new
-      works = record { live = live; clear = drew.clear }
-
       leaves : IsRuled c request → Leaves old new request
-      leaves (acts acting kind is) = subst (Leaves old new) (sym is) works
-      leaves (binds name show kind is) = subst (Leaves old new) (sym is) works
+      leaves (acts acting kind is) = subst (Leaves old new) (sym is) (record { live = live; clear = drew.clear })
+      leaves (binds name show kind is) = subst (Leaves old new) (sym is) (record { live = live; clear = drew.clear })
 
   -- It is refused by its rule, or breaks.
-  pub ruled_stops : {new : Machine S g} {zs : List Placed} {ended : Bool} {request : Request} {u : S} {fault : DrawFault} → IsRuled c request → Fails g (code_rule old.work c) old.sink u fault →
-      (draw_fault fault ≡ faults.Sink → g.failed u ≡ true) × (g.failed old.sink ≡ false → g.failed u ≡ true → draw_fault fault ≡ faults.Sink) → new.refusal ≡ Some (refusal (draw_fault fault) x.place) → new.sink ≡ u → SinkKeeps g →
+  pub ruled_stops : {new : Machine S g} {zs : List Placed} {ended : Bool} {request : Request} {u : S} {fault : DrawFault} → IsRuled c request → Fails g (code_rule old.work c) old.sink u fault → TellsSink g old.sink u (draw_fault fault) → new.refusal ≡ Some (refusal (draw_fault fault) x.place) → new.sink ≡ u → Lawful g →
       Takes old new (x ∷ zs) ended 0 requests.Stop
-  ruled_stops {new} {zs} {ended} {request} {u} {fault} ruled fails told is same keeps =
-      stop_takes is (omega arith) (λ is. ap g.failed same ∙ told.0 is) (λ works fails. told.1 works (sym (ap g.failed same) ∙ fails))
-      (λ h behind between over.
-      at_byte x (zs ++ behind) refl (conveys_nothing g old.sink (with_machine h old))
-      (subst (λ (v : S). StopsByte g old.sink (with_machine h old) x v (refusal (draw_fault fault) x.place)) (sym same) (code_stops g old.sink (ends h between) ruled fails keeps)))
+  ruled_stops {zs = zs} ruled fails told is same laws =
+      stop_takes is same (omega arith) told (λ h behind between over. at_byte x (zs ++ behind) refl (conveys_nothing g old.sink (with_machine h old)) (code_stops g old.sink (ends h between) ruled fails laws))
 
   -- It is an operand outside a run.
   pub strays_takes : {new : Machine S g} {zs : List Placed} {ended : Bool} → kind_of c ≡ kinds.Strays → new.refusal ≡ Some (refusal faults.Stray x.place) → new.sink ≡ old.sink → Takes old new (x ∷ zs) ended 0 requests.Stop
-  strays_takes {new} {zs} kind is same =
-      own_takes is same (λ own. cc) (omega arith)
+  strays_takes {zs = zs} kind is same =
+      stop_takes is same (omega arith) (own_tells g old.sink (λ own. cc))
       (λ h behind between over. at_byte x (zs ++ behind) refl (conveys_nothing g old.sink (with_machine h old)) (strays_stops g old.sink (ends h between) kind))
 
-  -- It is an opcode: nothing was half read, and the lexer is as it was.
-  pub opcode_read : {op : Opcode} → kind_of c ≡ kinds.Opens op → (rested after ≡ old.lexer) × IsOpcodeByte [] after x.byte op
-  opcode_read {op} kind =
-      let sets = old.lexer.sets in
-      let half = old.lexer.half in
-      let front : codes.front sets (half ++ x.byte ∷ []) ≡ codes.whole (code.Op op) k.count after = k.whole ∙ ap (λ (c : Code). codes.whole c k.count after) (opcode_of_kind c op kind) in
-      let one = one_byte_opcode sets (half ++ x.byte ∷ []) op k.count after front in
-      let none : half ≡ [] = nothing_half half (omega (arith, k.length_is, one.0, length-append half (x.byte ∷ []))) in
-      let names : codes.front after (x.byte ∷ []) ≡ codes.whole (code.Op op) 1 after =
-      sym (ap (λ (bs : List ℕ). codes.front after (bs ++ x.byte ∷ [])) none) ∙ ap (λ (sets : CodeSets). codes.front sets (half ++ x.byte ∷ [])) one.1 ∙ front ∙ ap (λ (n : ℕ). codes.whole (code.Op op) n after) one.0 in (
-        ap₂ (λ (sets : CodeSets) (half : List ℕ). record { sets = sets; half = half }) one.1 (sym none),
-        record { rested = refl; drawn = opens_drawn after (x.byte ∷ []) (code.Op op) 1 after op names refl; alone = opcode_alone after x.byte op names; names = names },
-      )
-
--- What a machine takes is what one takes that was the same.
-pub takes_same : {S : Type 0} {g : Ghosts S} {old mid new : Machine S g} {xs : List Placed} {ended : Bool} {count : ℕ} {request : Request} → Takes mid new xs ended count request → LeftBy old mid old.work old.lexer → mid.sink ≡ old.sink → Takes old new xs ended count request
-takes_same {S} {g} {old} {mid} {new} {xs} {ended} {count} {request} takes left same = record {
-  within = takes.within;
-  leaves = leaves_from old mid new request (λ clear. ap g.failed same ∙ clear) takes.leaves;
-  goes = λ some. by_goes (takes.goes some);
-  closed = takes.closed;
-  by = λ h behind between over.
-      subst (λ (t : S). TakesBy g t (with_machine h old) new.sink (with_machine h new) (xs ++ behind) (length xs) count new.refusal request) same
-      (subst (λ (h' : Holding). TakesBy g mid.sink h' new.sink (with_machine h new) (xs ++ behind) (length xs) count new.refusal request) (left_is left h) (takes.by h behind between over));
-}
-  where
-    by_goes : (0 < count) ⊎ (request ≡ requests.Stop) ⊎ ((new.open_run ≡ None) × (mid.open_run ≢ None)) → (0 < count) ⊎ (request ≡ requests.Stop) ⊎ ((new.open_run ≡ None) × (old.open_run ≢ None))
-    by_goes (inl some) = inl some
-    by_goes (inr (inl stops)) = inr (inl stops)
-    by_goes (inr (inr (closed, opened))) = absurd (opened left.closed)
+-- It is an opcode: nothing was half read, and the lexer is as it was.
+pub opcode_read : {S : Type 0} {g : Ghosts S} {old : Machine S g} {x : Placed} {c : Code} {after : CodeSets} (k : Lexes old x c after) {op : Opcode} → kind_of c ≡ kinds.Opens op → (rested after ≡ old.lexer) × IsOpcodeByte [] after x.byte op
+opcode_read {old = old} {x = x} {c = c} {after = after} k {op} kind =
+    let sets = old.lexer.sets in
+    let half = old.lexer.half in
+    let front : codes.front sets (half ++ x.byte ∷ []) ≡ codes.whole (code.Op op) k.count after = k.whole ∙ ap (λ (c : Code). codes.whole c k.count after) (opcode_of_kind c op kind) in
+    let one = one_byte_opcode sets (half ++ x.byte ∷ []) op k.count after front in
+    let none : half ≡ [] = nothing_half half (omega (arith, k.length_is, one.0, length-append half (x.byte ∷ []))) in
+    let names : codes.front after (x.byte ∷ []) ≡ codes.whole (code.Op op) 1 after =
+    sym (ap (λ (bs : List ℕ). codes.front after (bs ++ x.byte ∷ [])) none) ∙ ap (λ (sets : CodeSets). codes.front sets (half ++ x.byte ∷ [])) one.1 ∙ front ∙ ap (λ (n : ℕ). codes.whole (code.Op op) n after) one.0 in (
+      ap₂ (λ (sets : CodeSets) (half : List ℕ). record { sets = sets; half = half }) one.1 (sym none),
+      record { rested = refl; drawn = opens_drawn after (x.byte ∷ []) (code.Op op) 1 after op names refl; alone = opcode_alone after x.byte op names; names = names },
+    )
 
 -- Codes that stand whole at the front of bytes, where no code is half read.
 
@@ -363,66 +302,44 @@ module _ {S : Type 0} {g : Ghosts S} {old : Machine S g} {c : Code} {after : Cod
   alone_within : 0 < length bytes
   alone_within = omega (arith, ap length k.is)
 
-  alone_ends : (h : Holding) → h.open_body ≡ None → (xs : List Placed) → bytes_of xs ≡ bytes → (x : Placed) × (ys : List Placed) × (xs ≡ x ∷ ys) × EndsCode (with_machine h old) x c after
-  alone_ends h between xs is =
-      let (x, ys, all, first, others) = first_of xs k.byte k.rest (is ∙ k.is) in (
-        x,
-        ys,
-        all,
-        record {
-          between = between;
-          closed = k.closed;
-          count = 1;
-          whole = ap (λ (half : List ℕ). codes.front old.lexer.sets (half ++ x.byte ∷ [])) k.half ∙ ap (λ (b : ℕ). codes.front old.lexer.sets (b ∷ [])) first ∙ k.front;
-          length_is = sym (ap (λ (half : List ℕ). length (half ++ x.byte ∷ [])) k.half);
-        },
-      )
-
-  -- It is taken.
-  alone_leads : {new : Machine S g} {ended : Bool} → Works old new → new.open_run ≡ None →
-      ((h : Holding) (x : Placed) (zs : List Placed) → EndsCode (with_machine h old) x c after → LeadsOn g old.sink (with_machine h old) new.sink (with_machine h new) (x ∷ []) (bytes_of zs)) → Codes old new bytes ended (outcomes.Acted 1 false)
-  alone_leads {new} works closed leads = record {
-    within = (omega arith, alone_within);
-    leaves = works;
-    closed = closed ∙ sym k.closed;
-    by = λ h xs behind between is over.
-        let (x, ys, all, code) = alone_ends h between xs is in
-        subst (λ (xs : List Placed). LeadsOn g old.sink (with_machine h old) new.sink (with_machine h new) (take 1 (xs ++ behind)) (bytes_of (drop 1 (xs ++ behind)))) (sym all) (leads h x (ys ++ behind) code);
-  }
+  -- it ends where it begins
+  lexes_alone : (P : List Placed → Type 0) → ((x : Placed) (ys : List Placed) → Lexes old x c after → P (x ∷ ys)) → (xs : List Placed) → bytes_of xs ≡ bytes → P xs
+  lexes_alone P takes xs is =
+      let (x, ys, all, first, others) = first_of xs k.byte k.rest (is ∙ k.is) in
+      subst P (sym all) (takes x ys (record {
+        closed = k.closed;
+        count = 1;
+        whole = ap (λ (half : List ℕ). codes.front old.lexer.sets (half ++ x.byte ∷ [])) k.half ∙ ap (λ (b : ℕ). codes.front old.lexer.sets (b ∷ [])) first ∙ k.front;
+        length_is = sym (ap (λ (half : List ℕ). length (half ++ x.byte ∷ [])) k.half);
+      }))
 
   -- It adds nothing.
-  pub alone_nothing : {new : Machine S g} {ended : Bool} → LeftBy old new old.work (record { sets = after; half = [] }) → new.sink ≡ old.sink → kind_of c ≡ kinds.AddsNothing → IsLive new → Codes old new bytes ended (outcomes.Acted 1 false)
-  alone_nothing {new} left same kind live =
-      alone_leads (works_on same live) left.closed
-      (λ h x zs code.
-      subst (λ (v : S). LeadsOn g old.sink (with_machine h old) v (with_machine h new) (x ∷ []) (bytes_of zs)) (sym same)
-      (subst (λ (h' : Holding). LeadsOn g old.sink (with_machine h old) old.sink h' (x ∷ []) (bytes_of zs)) (sym (left_is left h)) (nothing_leads g old.sink code (bytes_of zs) kind)))
+  pub alone_nothing : {new : Machine S g} {ended : Bool} → LeftBy old new old.work (rested after) → new.sink ≡ old.sink → kind_of c ≡ kinds.AddsNothing → IsLive new → Codes old new bytes ended (outcomes.Acted 1 false)
+  alone_nothing {new} {ended} left same kind live = record {
+    within = (omega arith, alone_within);
+    closed = left.closed ∙ sym k.closed;
+    by = lexes_alone (λ xs. Takes old new xs ended 1 requests.Nothing) (λ x ys lexes. nothing_takes lexes kind left same live);
+  }
 
   -- It acts.
-  pub alone_acts : {new : Machine S g} {ended : Bool} → LeftBy old new new.work (record { sets = after; half = [] }) → kind_of c ≡ kinds.Acts c → {entries : List Entry} → Drew g (code_rule old.work c) old.sink (drawn_by entries new.work) new.sink → IsLive new → TookMore g →
-      Codes old new bytes ended (outcomes.Acted 1 false)
-  alone_acts {new} left kind drew live more =
-      alone_leads (record { live = live; clear = drew.clear }) left.closed
-      (λ h x zs code.
-      subst (λ (h' : Holding). LeadsOn g old.sink (with_machine h old) new.sink h' (x ∷ []) (bytes_of zs)) (sym (left_is left h)) (code_takes g old.sink code (acts c kind refl) drew more zs 0 None))
+  pub alone_acts : {new : Machine S g} {ended : Bool} → LeftBy old new new.work (rested after) → kind_of c ≡ kinds.Acts c → {entries : List Entry} → Drew g (code_rule old.work c) old.sink (drawn_by entries new.work) new.sink → IsLive new → TookMore g → Codes old new bytes ended (outcomes.Acted 1 false)
+  alone_acts {new} {ended} left kind drew live more = record {
+    within = (omega arith, alone_within);
+    closed = left.closed ∙ sym k.closed;
+    by = lexes_alone (λ xs. Takes old new xs ended 1 requests.Nothing) (λ x ys lexes. ruled_takes lexes (acts c kind refl) drew left live more);
+  }
 
   -- It is refused, or breaks.
-  pub alone_stops : {new : Machine S g} {ended : Bool} {fault : DrawFault} → new.open_run ≡ old.open_run → kind_of c ≡ kinds.Acts c → Fails g (code_rule old.work c) old.sink new.sink fault →
-      (draw_fault fault ≡ faults.Sink → g.failed new.sink ≡ true) × (g.failed old.sink ≡ false → g.failed new.sink ≡ true → draw_fault fault ≡ faults.Sink) → SinkKeeps g → Codes old new bytes ended (outcomes.Stopped 0 (draw_fault fault) 0)
-  alone_stops {new} {ended} {fault} closed kind fails told keeps = record {
+  pub alone_stops : {new : Machine S g} {ended : Bool} {fault : DrawFault} → new.open_run ≡ old.open_run → kind_of c ≡ kinds.Acts c → Fails g (code_rule old.work c) old.sink new.sink fault → TellsSink g old.sink new.sink (draw_fault fault) → Lawful g → Codes old new bytes ended (outcomes.Stopped 0 (draw_fault fault) 0)
+  alone_stops {new} {ended} {fault} closed kind fails told laws = record {
     within = (omega arith, alone_within);
-    leaves = told;
     closed = closed;
-    by = λ h xs behind between is over.
-        let (x, ys, all, code) = alone_ends h between xs is in
-        let ruled : IsRuled c requests.Nothing = acts c kind refl in
-        subst (λ (xs : List Placed). Stops g old.sink (with_machine h old) (xs ++ behind) (length xs) 0 new.sink (refusal (draw_fault fault) (place_at (xs ++ behind) 0))) (sym all)
-        (at_byte x (ys ++ behind) refl (conveys_nothing g old.sink (with_machine h old)) (code_stops g old.sink code ruled fails keeps));
+    by = lexes_alone (λ xs. CodeTakes old new xs ended (outcomes.Stopped 0 (draw_fault fault) 0))
+        (λ x ys lexes kept refuses. let ruled : IsRuled c requests.Nothing = acts c kind refl in ruled_stops lexes ruled fails told refuses.is refuses.sink laws);
   }
 
 -- what a fault of a sink tells of it
-tells_sink : {S : Type 0} {g : Ghosts S} {s t : S} {n : ℕ} (fault : SinkFault) → Tells (shows_of g) s t n fault →
-    (draw_fault (fault_of fault) ≡ faults.Sink → g.failed t ≡ true) × (g.failed s ≡ false → g.failed t ≡ true → draw_fault (fault_of fault) ≡ faults.Sink)
+tells_sink : {S : Type 0} {g : Ghosts S} {s t : S} {n : ℕ} (fault : SinkFault) → Tells (shows_of g) s t n fault → TellsSink g s t (draw_fault (fault_of fault))
 tells_sink sink_faults.Memory tells = (λ is. cc, λ works fails. absurd (false≢true (sym (tells.memory refl) ∙ fails)))
 tells_sink sink_faults.Write tells = (λ is. tells.write refl, λ works fails. refl)
 
@@ -443,8 +360,8 @@ module _ {S : Type 0} {g : Ghosts S} {old : Machine S g} {set : CharSet} {bytes 
     same : bytes_of (take (length chars) (xs ++ behind)) ≡ chars
     same = ap bytes_of (take-append-le (length chars) xs behind few) ∙ sym (take-map (λ (x : Placed). x.byte) (length chars) xs) ∙ ap (take (length chars)) is ∙ sym k.front
 
-    are_text : AreText (with_machine h old) set (bytes_of (take (length chars) (xs ++ behind)))
-    are_text = record {
+    is_text : IsText (with_machine h old) set (bytes_of (take (length chars) (xs ++ behind)))
+    is_text = record {
       between = between;
       closed = k.closed;
       rested = k.are.rested;
@@ -458,40 +375,37 @@ module _ {S : Type 0} {g : Ghosts S} {old : Machine S g} {set : CharSet} {bytes 
       TookMore g → Codes old new bytes ended (outcomes.Acted (length chars) false)
   text_taken {new} left took clear live more = record {
     within = (k.some, k.few);
-    leaves = record { live = live; clear = clear };
     closed = left.closed ∙ sym left.before;
-    by = λ h xs behind between is over.
-        let ys = take (length chars) (xs ++ behind) in
-        let next = bytes_of (drop (length chars) (xs ++ behind)) in
-        let here = same h between xs behind is in
-        subst (λ (h' : Holding). LeadsOn g old.sink (with_machine h old) new.sink h' ys next)
-        (ap (λ (bs : List ℕ). record (with_machine h old) { machine = with_text (with_machine h old).machine set bs }) here ∙ sym (left_is left h))
-        (text_leads g old.sink ys next (are_text h between xs behind is) more (subst (λ (bs : List ℕ). g.took old.sink (text old.work.state set bs) new.sink) (sym here) took) clear);
+    by = λ xs is. record {
+      within = omega (arith, k.few, ap length is, length-map xs (λ (x : Placed). x.byte));
+      leaves = record { live = live; clear = clear };
+      goes = λ some. inl k.some;
+      closed = λ nothing less. left.closed;
+      by = λ h behind between over.
+          let here = sym (same h between xs behind is) in
+          text_leads (bytes_of (drop (length chars) (xs ++ behind))) (is_text h between xs behind is)
+          (left_is left h ∙ ap (λ (bs : List ℕ). record (with_machine h old) { machine = with_text (with_machine h old).machine set bs }) here) more (subst (λ (bs : List ℕ). g.took old.sink (text old.work.state set bs) new.sink) here took) clear;
+    };
   }
 
   -- Or one isn't, or breaks.
   pub text_halts : {new : Machine S g} {ended : Bool} (fault : SinkFault) {index : ℕ} → new.open_run ≡ old.open_run → HaltsAfter (shows_of g) (text old.work.state set chars) old.sink new.sink index fault → Tells (shows_of g) old.sink new.sink index fault →
       Codes old new bytes ended (outcomes.Stopped index (draw_fault (fault_of fault)) index)
-  text_halts {new} {ended} fault {index} closed halts tells =
+  text_halts {new} fault {index} closed halts tells =
       let less = halts_less g old.work.state set chars index old.sink new.sink fault k.some halts in
       record {
         within = (omega (arith, less, k.few), omega (arith, less, k.few));
-        leaves = tells_sink fault tells;
         closed = closed;
-        by = λ h xs behind between is over.
-            let t = are_text h between xs behind is in
-            in_text 0 index (length chars) (omega arith) less (omega (arith, few h between xs behind is)) refl (conveys_nothing g old.sink (with_machine h old)) (record {
-              between = t.between;
-              closed = t.closed;
-              rested = t.rested;
+        by = λ xs is kept refuses.
+            stop_takes refuses.is refuses.sink (omega (arith, less, k.few, ap length is, length-map xs (λ (x : Placed). x.byte))) (tells_sink fault tells)
+            (λ h behind between over.
+            in_text 0 index (length chars) (omega arith) less (omega (arith, few h between xs behind is)) (place_at-append xs behind index (omega (arith, less, few h between xs behind is))) (conveys_nothing g old.sink (with_machine h old)) (record {
               set = set;
-              chars = t.chars;
-              some = t.some;
-              typed = t.typed;
+              text_is = is_text h between xs behind is;
               fault = fault;
               halts = subst (λ (bs : List ℕ). HaltsAfter (shows_of g) (text old.work.state set bs) old.sink new.sink index fault) (sym (same h between xs behind is)) halts;
               why = refl;
-            });
+            }));
       }
 
 -- Calls of macros whose name is at hand.
@@ -535,8 +449,7 @@ module _ {S : Type 0} {g : Ghosts S} (old : Machine S g) {bytes : List ℕ} {cou
   all = is ∙ k.is
 
   call_by : (h : Holding) (behind : List Placed) → h.open_body ≡ None → Calls g old.sink (with_machine h old) old.sink (with_machine h old) (xs ++ behind) (length k.before) k.name
-  call_by h behind between =
-      subst (λ (half : List ℕ). Calls g old.sink (with_machine h old) old.sink (record (with_machine h old) { half = half }) (xs ++ behind) (length k.before) k.name) (sym k.rested) (by k.before refl)
+  call_by h behind between = by k.before refl
     where
       -- before the name, which is the byte behind these
       named : (y : Placed) (half : List ℕ) → y.byte ≡ k.name → half ≡ k.before → EndsCode (record (with_machine h old) { half = half }) y (code.Call k.name) old.lexer.sets
@@ -550,18 +463,21 @@ module _ {S : Type 0} {g : Ghosts S} (old : Machine S g) {bytes : List ℕ} {cou
             length_is = k.counted ∙ sym (ap length bytes ∙ length-append k.before (k.name ∷ []));
           }
 
-      by : (before : List ℕ) → k.before ≡ before → Calls g old.sink (with_machine h old) old.sink (record (with_machine h old) { half = [] }) (xs ++ behind) (length before) k.name
+      rest : with_machine h old ≡ record (with_machine h old) { half = [] }
+      rest = ap (λ (half : List ℕ). record (with_machine h old) { half = half }) k.rested
+
+      by : (before : List ℕ) → k.before ≡ before → Calls g old.sink (with_machine h old) old.sink (with_machine h old) (xs ++ behind) (length before) k.name
       by [] none =
           let (x, ys, xs_is, byte, others) = first_of xs k.name k.behind (all ∙ ap (λ (bs : List ℕ). bs ++ k.name ∷ k.behind) none) in
-          subst (λ (xs : List Placed). Calls g old.sink (with_machine h old) old.sink (record (with_machine h old) { half = [] }) (xs ++ behind) 0 k.name) (sym xs_is)
-          (call_calls g old.sink (named x old.lexer.half byte (k.rested ∙ sym none)) (ys ++ behind) refl (leads_nowhere g old.sink (with_machine h old) (bytes_of (x ∷ (ys ++ behind)))) refl)
+          subst (λ (xs : List Placed). Calls g old.sink (with_machine h old) old.sink (with_machine h old) (xs ++ behind) 0 k.name) (sym xs_is)
+          (call_calls g old.sink (named x old.lexer.half byte (k.rested ∙ sym none)) (ys ++ behind) refl (leads_nowhere (bytes_of (x ∷ (ys ++ behind))) refl refl) refl refl rest)
       by (b ∷ []) one =
           let (x, ys, xs_is, first, others) = first_of xs b (k.name ∷ k.behind) (all ∙ ap (λ (bs : List ℕ). bs ++ k.name ∷ k.behind) one) in
           let (y, zs, ys_is, byte, last) = first_of ys k.name k.behind others in
           let half : old.lexer.half ++ x.byte ∷ [] ≡ k.before = ap₂ (λ (bs : List ℕ) (c : ℕ). bs ++ c ∷ []) k.rested first ∙ sym one in
-          subst (λ (xs : List Placed). Calls g old.sink (with_machine h old) old.sink (record (with_machine h old) { half = [] }) (xs ++ behind) 1 k.name) (sym (xs_is ∙ ap (λ (zs : List Placed). x ∷ zs) ys_is))
+          subst (λ (xs : List Placed). Calls g old.sink (with_machine h old) old.sink (with_machine h old) (xs ++ behind) 1 k.name) (sym (xs_is ∙ ap (λ (zs : List Placed). x ∷ zs) ys_is))
           (call_calls g old.sink (named y (old.lexer.half ++ x.byte ∷ []) byte half) (zs ++ behind) refl
-          (half_leads g old.sink x (bytes_of (y ∷ (zs ++ behind))) between closed (ap (codes.front old.lexer.sets) half ∙ k.waits)) refl)
+          (half_leads x (bytes_of (y ∷ (zs ++ behind))) refl refl between closed (ap (codes.front old.lexer.sets) half ∙ k.waits)) refl refl rest)
       by (b ∷ c ∷ more) many = absurd (omega (arith, ap length many, k.few))
 
   pub call_takes : IsLive old → (ended : Bool) → Takes old old xs ended count (requests.Call k.name)

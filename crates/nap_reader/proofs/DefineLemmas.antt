@@ -9,6 +9,7 @@ use Rattle.nap_reader.proofs.Common.{OpenBody, Fault, Refusal, Input, ends_body,
 use Rattle.nap_reader.specs.declared.fault.Fault.TheVariants as faults
 use Rattle.nap_reader.specs.declared.machine.Machine.{Machine}
 use Rattle.nap_reader.specs.Steps.{in_body as breaks_in_body}
+use Rattle.nap_reader.specs.Holding.{next_broke}
 use Rattle.nap_reader.specs.Stream as model
 use Rattle.nap_reader.proofs.PartLemmas.{wants_next}
 use Rattle.nap_reader.proofs.FurtherLemmas.{came_same, counts_passed, counts_still, counts_then, goes_by, held_sets, passed_come, reads_still, same_comes}
@@ -80,7 +81,7 @@ pub stops_own : {S : Type 0} (g : Ghosts S) (t : S) (h : Holding) (x : Placed) (
 stops_own g t h x u r is refuses = record { own = λ own. refuses; broke = λ broke. absurd (broke is) }
 
 -- memory is wanting in a body
-pub stops_body : {S : Type 0} (g : Ghosts S) (t : S) (h : Holding) (x : Placed) (b : OpenBody) → h.open_body ≡ Some b → ((s : S) (known : List Entry) (o : Outcome) → ContinuesPast g s known o t h (x ∷ []) → BreaksInBody g s known o t h memory) →
+pub stops_body : {S : Type 0} (g : Ghosts S) (t : S) (h : Holding) (x : Placed) (b : OpenBody) → h.open_body ≡ Some b → ((s : S) (known : List Entry) (o : Outcome) → ContinuesPast g s known o t h (x ∷ []) → BreaksInBody g s known o t h.machine.left memory) →
     StopsByte g t h x t (refusal faults.Memory x.place)
 stops_body g t h x b opened part = record {
   own = λ own. let bad : ⊥ = cc in absurd bad;
@@ -94,7 +95,7 @@ pub cannot_stops : {S : Type 0} (g : Ghosts S) (t : S) (h : Holding) (x : Placed
     ((fault ≡ faults.Budget) × (left < length bytes)) ⊎ ((fault ≡ faults.Memory) × (0 < length bytes) × (length bytes ≤ left)) → StopsByte g t h x t (refusal fault x.place)
 cannot_stops g t h x left m bytes same acting breaks (inl (is, many)) =
     subst (λ (fault : Fault). StopsByte g t h x t (refusal fault x.place)) (sym is)
-    (stops_own g t h x t (refusal faults.Budget x.place) refl (λ s o pending k. leads_budget g s o t h (x ∷ pending) k m x.place bytes pending (acting s o pending k) (omega (arith, many, same))))
+    (stops_own g t h x t (refusal faults.Budget x.place) refl (λ s o pending k. leads_budget k m x.place bytes pending (acting s o pending k) (omega (arith, many, same))))
 cannot_stops g t h x left m bytes same acting breaks (inr (is, some, few)) =
     subst (λ (fault : Fault). StopsByte g t h x t (refusal fault x.place)) (sym is) (record { own = λ own. (let bad : ⊥ = cc in absurd bad); broke = λ broke. breaks some (omega (arith, few, same)) })
 
@@ -104,7 +105,7 @@ module _ {S : Type 0} (g : Ghosts S) (t : S) (h : Holding) (b : OpenBody) (opene
   byte_lacks x plain some =
       stops_body g t h x b opened
       (λ s known o k.
-      inl (wants_next g s known o t h (x ∷ []) k (leads_unrefused g s o t _ (byte_kept (reads_on opened k.continues none) plain some))))
+      next_broke (wants_next k (leads_unrefused (byte_kept (reads_on opened k.continues none) plain some))))
 
   pub bytes_fill : (xs : List Placed) (x : Placed) → All IsPlain (bytes_of xs) → IsPlain x.byte → h.machine.stored + length h.body + length xs ≡ store_limit → (c : Conveys g t h xs) × StopsByte g c.sink c.holding x t (refusal faults.Store x.place)
   bytes_fill [] x plain last full = (

@@ -12,6 +12,7 @@ use Rattle.nap_codes.specs.Tables.{control1_rows, mask_rows, opcode_rows, set_ro
 use Rattle.nap_codes.proofs.PublicLaws.{whole_is_spelled}
 use Rattle.nap_reader.specs.declared.machine.Machine.{Machine}
 use Rattle.nap_reader.specs.Steps.{Binds, in_body as breaks_in_body}
+use Rattle.nap_reader.specs.Holding.{body_broke}
 use Rattle.nap_reader.specs.Stream as model
 use Rattle.nap_reader.proofs.PartLemmas.{wants_from}
 use Rattle.nap_reader.proofs.ComingLemmas.{byte_comes}
@@ -137,7 +138,7 @@ module _ {S : Type 0} {g : Ghosts S} (m : Machine S g) {input : Input} {piece : 
         let passes : Passes g m.sink h (x ∷ []) m'.sink (held_by m' after) (all_at place bytes) =
         λ s o pending k.
         subst (λ (t : S). Continues g s o t (held_by m' after) (all_at place bytes ++ pending)) (sym sink)
-        (leads_shown g s o m.sink h (x ∷ pending) k (after_body h.machine b.name h.body) place bytes pending (shows s o pending k) few (held_by m' after) (ap (λ (h : Holding). h.machine) held)
+        (leads_shown k (after_body h.machine b.name h.body) place bytes pending (shows s o pending k) few (held_by m' after) (ap (λ (h : Holding). h.machine) held)
         (subst (IsHeld []) (sym held) (body_over ending.opened k m1 refl))) in
         let slice = byte_comes ending.next in
         let counts = counts_passed ending.next.reads adv.passed slice.2 slice.3 in
@@ -157,8 +158,5 @@ module _ {S : Type 0} {g : Ghosts S} (m : Machine S g) {input : Input} {piece : 
           body = b;
           is = ending.opened;
           place = refl;
-          part = λ s known o k. inr (
-            body_charged ending.opened k.continues ending.held ending.ends shown (omega (arith, few, length-append input.store.body (27 ∷ byte ∷ []))),
-            wants_from g s known o m.sink h (x ∷ []) k,
-          );
+          part = λ s known o k. body_broke (body_charged ending.opened k.continues ending.held ending.ends shown (omega (arith, few, length-append input.store.body (27 ∷ byte ∷ [])))) (wants_from k);
         })) cannot.reason

@@ -10,9 +10,9 @@ use Rattle.nap_reader.specs.Pieces.{ReadsPiece, ReadsTo, RefusesPiece, StopsFrom
 use Rattle.nap_reader.specs.Steps.{Latches}
 use Rattle.nap_reader.proofs.ComingLemmas.{byte_comes, came_coming, came_take, came_within, comes_still, fits, length-placed, passed_rest, passed_to}
 use Rattle.nap_reader.proofs.FrameLemmas.{frames-unread}
-use Rattle.nap_reader.proofs.LeadsLemmas.{TookMore}
+use Rattle.nap_reader.proofs.LeadsLemmas.{Lawful, TookMore}
 use Rattle.nap_reader.proofs.PieceLemmas.{reaches_on}
-use Rattle.nap_reader.proofs.StandingLemmas.{Lawful, stands_behind_stop, stands_by}
+use Rattle.nap_reader.proofs.StandingLemmas.{stands_behind_stop, stands_by}
 use Rattle.nap_reader.proofs.StepLemmas.{conveys_nothing}
 use Rattle.nap_reader.proofs.StopLemmas.{stops_reached}
 use Rattle.nap_reader.proofs.StreamLemmas.{bytes_of-append, bytes_of-placed}
@@ -258,8 +258,7 @@ pub latches_own : {S : Type 0} {g : Ghosts S} {m m' : Machine S g} {r : Refusal}
 latches_own {g = g} {r = r} is sink other = record {
   why = r;
   is = is;
-  failed = λ device. absurd (other device);
-  kept = λ works fails. let same = ap g.failed sink in cc;
+  tells = (λ device. absurd (other device), λ works fails. let same = ap g.failed sink in cc);
 }
 
 -- The stream is refused at the byte with this index, or reading breaks there.
@@ -285,8 +284,8 @@ stops_from {S} {g} {m} {m'} {input} {after} {piece} {many} {index} {r} laws latc
         budget = budget;
         stands = stands_behind_stop old new piece r stopped.0 refused budget stopped.1;
         stops = stopped;
-        failed = λ device. subst (λ (m : Machine S g). g.failed m.sink ≡ true) (sym is_machine) (latches.failed (ap (λ (r : Refusal). r.fault) why ∙ device));
-        kept = λ working fails. ap (λ (r : Refusal). r.fault) (sym why) ∙ latches.kept (by.clear working) (subst (λ (m : Machine S g). g.failed m.sink ≡ true) is_machine fails);
+        failed = λ device. subst (λ (m : Machine S g). g.failed m.sink ≡ true) (sym is_machine) (latches.tells.0 (ap (λ (r : Refusal). r.fault) why ∙ device));
+        kept = λ working fails. ap (λ (r : Refusal). r.fault) (sym why) ∙ latches.tells.1 (by.clear working) (subst (λ (m : Machine S g). g.failed m.sink ≡ true) is_machine fails);
         more_turns = omega (arith, by.turns, passed.turns, turns);
       },
 )

@@ -8,7 +8,7 @@ use Rattle.nap_reader.proofs.Common.{OpenBody, Input, store_limit, Advances, Can
 use Rattle.nap_reader.specs.declared.fault.Fault.TheVariants as faults
 use Rattle.nap_reader.specs.declared.machine.Machine.{Machine}
 use Rattle.nap_reader.specs.Coming.{Keeps}
-use Rattle.nap_reader.specs.Holding.{ReadsOn}
+use Rattle.nap_reader.specs.Holding.{ReadsOn, next_broke}
 use Rattle.nap_reader.proofs.PartLemmas.{wants_next}
 use Rattle.nap_reader.proofs.ComingLemmas.{byte_comes, came_coming, can_pass, length-spaced, taken_next, text_next}
 use Rattle.nap_reader.proofs.DefineLemmas.{BehindEscape, bytes_fill, bytes_kept, held_at, kept_counts, kept_goes, plain_in_front, plain_there, stops_body, stops_own}
@@ -157,7 +157,7 @@ module _ {S : Type 0} {g : Ghosts S} (m : Machine S g) {input : Input} {piece : 
   pub both_lack : room ≢ 0 → (byte ≡ 27) ⊎ (room ≢ 1) → StopsByte g m.sink hold x m.sink (refusal faults.Memory place)
   both_lack some two =
       stops_body g m.sink hold x b behind.opened
-      (λ s known o k. inl (wants_next g s known o m.sink hold (x ∷ []) k (escape_unrefused behind.opened k.continues behind.held low behind.ends some two)))
+      (λ s known o k. next_broke (wants_next k (escape_unrefused behind.opened k.continues behind.held low behind.ends some two)))
 
   -- It is of the body.
   module _ {first : Input} (room_is : room ≢ 0) (sets : Sets input first (grown input.store (27 ∷ [])) (Some (record { name = b.name; show = b.show; escape = None }))) where

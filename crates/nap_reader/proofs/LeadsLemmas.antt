@@ -1,4 +1,4 @@
-use Rattle.std.proofs.Common.{ℕ, ◌≡◌, ◌<◌, ◌≤◌, ◌-◌, ◌⊎◌, List, [], ◌∷◌, ◌++◌, length, Bool, true, false, Option, Some, None, Result, Ok, Err, ltb, refl, ap, sym, ◌∙◌, subst, arith, inl, inr, append_assoc, append-nil}
+use Rattle.std.proofs.Common.{ℕ, ◌≡◌, ◌≢◌, ◌<◌, ◌≤◌, ◌-◌, ◌⊎◌, List, [], ◌∷◌, ◌++◌, length, Bool, true, false, Option, Some, None, Result, Ok, Err, ltb, refl, ap, sym, ◌∙◌, subst, arith, inl, inr, append_assoc, append-nil}
 use Rattle.std.proofs.lemmas.Bool.{cond-true, cond-false, lt-ltb, le-ltb}
 use Rattle.nap_reader.proofs.Common.{body_front, front, placed_from}
 use Rattle.nap_reader.specs.Below.{Ghosts, Entry, DrawFault, Drawn, Cause, stream, memory, device}
@@ -25,6 +25,17 @@ TookBroke {S} g = (s t u : S) (d e : List Entry) (x : Entry) → g.took s d t �
 -- what is wanted behind a list that was taken is wanted for all
 abbrev pub WantsMore : {S : Type 0} → Ghosts S → Type 0
 WantsMore {S} g = (s t : S) (d e f : List Entry) → g.took s d t → g.wants t e → g.wants s (d ++ (e ++ f))
+
+-- nothing was taken
+abbrev pub TookNone : {S : Type 0} → Ghosts S → Type 0
+TookNone {S} g = (s : S) → g.took s [] s
+
+-- what a sink tells of what it took
+pub record Lawful {S : Type 0} (g : Ghosts S) : Type 0 where
+  pub more : TookMore g
+  pub broken : TookBroke g
+  pub wants : WantsMore g
+  pub none : TookNone g
 
 -- between two codes
 pub is_between : (h : Holding) (rest : List Placed) → h.open_body ≡ None → IsHeld rest h → IsHalf rest h
@@ -88,7 +99,7 @@ same_cause draw_faults.Memory = refl
 same_cause draw_faults.Sink = refl
 same_cause _ = refl
 
-module _ {S : Type 0} (g : Ghosts S) (s : S) (o : Outcome) (t : S) (h : Holding) (pending : List Placed) (k : Continues g s o t h pending) where
+module _ {S : Type 0} {g : Ghosts S} {s : S} {o : Outcome} {t : S} {h : Holding} {pending : List Placed} (k : Continues g s o t h pending) where
   -- what the front of what is held and pending says of the outcome
   pub by_front : (f : Front) → front h.machine (k.rest ++ pending) ≡ f → o ≡ prepend k.done (onward outcome_from h.machine (k.rest ++ pending) f)
   by_front f e =
@@ -152,9 +163,9 @@ module _ {S : Type 0} (g : Ghosts S) (s : S) (o : Outcome) (t : S) (h : Holding)
       (leads_to_refusal (refusal (draw_fault fault) place) (at ∙ ap (drawn_front m place ys) d.0))
 
 -- what is held back takes the first of what pends
-unfoldable pub leads_shift : {S : Type 0} (g : Ghosts S) (s : S) (o : Outcome) (t : S) (h : Holding) (x : Placed) (pending : List Placed) (h' : Holding) →
-    (k : Continues g s o t h (x ∷ pending)) → h'.machine ≡ h.machine → IsHeld (k.rest ++ x ∷ []) h' → Continues g s o t h' pending
-leads_shift g s o t h x pending h' k same held = record {
+unfoldable pub leads_shift : {S : Type 0} {g : Ghosts S} {s : S} {o : Outcome} {t : S} {h : Holding} {x : Placed} {pending : List Placed} (k : Continues g s o t h (x ∷ pending)) (h' : Holding) →
+    h'.machine ≡ h.machine → IsHeld (k.rest ++ x ∷ []) h' → Continues g s o t h' pending
+leads_shift {x = x} {pending = pending} k h' same held = record {
   done = k.done;
   taken = k.taken;
   clear = k.clear;
@@ -166,7 +177,7 @@ leads_shift g s o t h x pending h' k same held = record {
       ∙ ap (λ (xs : List Placed). prepend k.done (outcome_from h'.machine xs)) (sym (append_assoc k.rest (x ∷ []) pending));
 }
 
-module _ {S : Type 0} (g : Ghosts S) (s : S) (o : Outcome) (t : S) (h : Holding) (k : Continues g s o t h []) where
+module _ {S : Type 0} {g : Ghosts S} {s : S} {o : Outcome} {t : S} {h : Holding} (k : Continues g s o t h []) where
   -- nothing whole is held back, and nothing pends
   pub leads_paused : o ≡ prepend k.done (paused h.machine k.rest (Some (unfinished_of h)))
   leads_paused =
@@ -189,16 +200,16 @@ module _ {S : Type 0} (g : Ghosts S) (s : S) (o : Outcome) (t : S) (h : Holding)
   leads_unfinished = ap (λ (x : Outcome). x.unfinished) leads_paused
 
 -- no more is left to charge than is left where it leads on
-pub leads_left : {S : Type 0} (g : Ghosts S) (s : S) (o : Outcome) (t : S) (h : Holding) (pending : List Placed) → Continues g s o t h pending → o.machine.left ≤ h.machine.left
-leads_left g s o t h pending k =
+pub leads_left : {S : Type 0} {g : Ghosts S} {s : S} {o : Outcome} {t : S} {h : Holding} {pending : List Placed} → Continues g s o t h pending → o.machine.left ≤ h.machine.left
+leads_left {h = h} {pending = pending} k =
     let there = ap (λ (x : Outcome). x.machine.left) k.leads in
     omega (arith, there, outcome_from-left h.machine (k.rest ++ pending))
 
 -- more of the stream has come
-unfoldable pub leads_more : {S : Type 0} (g : Ghosts S) (s : S) (budget : ℕ) (p q : List ℕ) (t : S) (h : Holding) →
+unfoldable pub leads_more : {S : Type 0} {g : Ghosts S} {s : S} {t : S} {h : Holding} (budget : ℕ) (p q : List ℕ) →
     Continues g s (begun budget p) t h [] → Continues g s (begun budget (p ++ q)) t h (placed_from (length p) q)
-leads_more g s budget p q t h k =
-    let is = leads_paused g s (begun budget p) t h k in
+leads_more {h = h} budget p q k =
+    let is = leads_paused k in
     record {
       done = k.done;
       taken = k.taken;
@@ -212,50 +223,28 @@ leads_more g s budget p q t h k =
     }
 
 -- What a sink has where entries come behind what was known, and not all of them could be put.
-module _ {S : Type 0} (g : Ghosts S) (s t u : S) (known more : List Entry) (taken : g.took s known t) where
-  still_taken : u ≡ t → g.took s known u
-  still_taken same = subst (g.took s known) (sym same) taken
 
-  pub wants_part : TookMore g → (u ≡ t) ⊎ puts.Stops g.took t more u → TookPart g s known more u memory
-  wants_part law (inl same) = inl (still_taken same)
-  wants_part law (inr (first, next, rest, parts, took)) = inr (first, next, rest, parts, law s t u known first taken took)
+-- a sink that has failed, and whose failures stay, had failed before
+pub was_failed : {S : Type 0} (g : Ghosts S) (s t : S) → (g.failed s ≡ false → g.failed t ≡ false) → g.failed t ≡ true → g.failed s ≡ true
+was_failed {S} g s t clear set = at (g.failed s) refl
+  where
+    at : (b : Bool) → g.failed s ≡ b → g.failed s ≡ true
+    at true is = is
+    at false is = let k = clear is in cc
 
-  pub fails_part : TookBroke g → (g.failed s ≡ false → g.failed t ≡ false) → ((g.failed t ≡ true) × (u ≡ t)) ⊎ puts.Breaks g.broke t more u →
-      TookPart g s known more u device
-  fails_part law clear (inl (set, same)) = inl (at (g.failed s) refl, still_taken same)
-    where
-      at : (b : Bool) → g.failed s ≡ b → g.failed s ≡ true
-      at true is = is
-      at false is = let k = clear is in cc
-  fails_part law clear (inr (first, next, rest, parts, broke)) = inr (first, next, rest, parts, law s t u known first next taken broke)
+-- a sink that was s took these entries, and is t
+pub record Known {S : Type 0} (g : Ghosts S) (s : S) (known : List Entry) (t : S) : Type 0 where
+  pub taken : g.took s known t
+  pub clear : g.failed s ≡ false → g.failed t ≡ false
 
--- what holds where reading stops between two outcomes, by the cause of the fault
-abbrev pub Stopped : {S : Type 0} → Ghosts S → S → Outcome → Outcome → S → Refusal → Cause → Type 0
-Stopped g s before after u r stream = (after.refusal ≡ Some r) × g.took s after.entries u
-Stopped g s before after u r cause = BreaksBetween g s before after u cause
+pub fails_part : {S : Type 0} {g : Ghosts S} {s t : S} {known : List Entry} (u : S) (more : List Entry) → Lawful g → Known g s known t → ((g.failed t ≡ true) × (u ≡ t)) ⊎ puts.Breaks g.broke t more u → TookPart g s known more u device
+fails_part {g = g} {s = s} {t = t} {known = known} u more laws k (inl (set, same)) = inl (was_failed g s t k.clear set, subst (g.took s known) (sym same) k.taken)
+fails_part {s = s} {t = t} {known = known} u more laws k (inr (first, next, rest, parts, broke)) = inr (first, next, rest, parts, laws.broken s t u known first next k.taken broke)
 
--- An opcode was refused, or its entries could not all be put, behind what was known before it.
-module _ {S : Type 0} (g : Ghosts S) (s t u : S) (before after : Outcome) (taken : g.took s before.entries t)
-    (clear : g.failed s ≡ false → g.failed t ≡ false) (more : TookMore g) (broken : TookBroke g) (by : Result Drawn DrawFault) (place : ℕ)
-    (refused : (f : DrawFault) → by ≡ Err f → (after.refusal ≡ Some (refusal (draw_fault f) place)) × (after.entries ≡ before.entries))
-    (acted : (drawn : Drawn) → by ≡ Ok drawn → (after.entries ≡ before.entries ++ drawn.entries) × (after.refusal ≡ None)) where
-  by_cause : (f : DrawFault) (cause : Cause) → draws.DrawsBy g.took g.broke g.failed by t u f cause → Stopped g s before after u (refusal (draw_fault f) place) cause
-  by_cause f stream (is, same) =
-      let k = refused f is in
-      (k.0, subst (λ (es : List Entry). g.took s es u) (sym k.1) (subst (g.took s before.entries) (sym same) taken))
-  by_cause f memory (drawn, is, part) = record {
-    more = drawn.entries;
-    adds = (acted drawn is).0;
-    unrefused = (acted drawn is).1;
-    part = wants_part g s t u before.entries drawn.entries taken more part;
-  }
-  by_cause f device (drawn, is, part) = record {
-    more = drawn.entries;
-    adds = (acted drawn is).0;
-    unrefused = (acted drawn is).1;
-    part = fails_part g s t u before.entries drawn.entries taken broken clear part;
-  }
-
-  pub fault_answer : (fault : DrawFault) → draws.DrawsBy g.took g.broke g.failed by t u fault (draws.cause_of fault) →
-      Stopped g s before after u (refusal (draw_fault fault) place) (cause_of (draw_fault fault))
-  fault_answer fault k = subst (Stopped g s before after u (refusal (draw_fault fault) place)) (sym (same_cause fault)) (by_cause fault (draws.cause_of fault) k)
+-- an opcode's or a code's rule acts, and not all of its entries could be put
+pub rule_part : {S : Type 0} {g : Ghosts S} {s t : S} {known : List Entry} (u : S) (by : Result Drawn DrawFault) → Lawful g → Known g s known t → (fault : DrawFault) → draws.DrawsBy g.took g.broke g.failed by t u fault (draws.cause_of fault) →
+    cause_of (draw_fault fault) ≢ stream → (drawn : Drawn) × (by ≡ Ok drawn) × TookPart g s known drawn.entries u (cause_of (draw_fault fault))
+rule_part {g = g} {s = s} {known = known} u by laws k draw_faults.Memory (drawn, is, inl same) broke = (drawn, is, inl (subst (g.took s known) (sym same) k.taken))
+rule_part {s = s} {t = t} {known = known} u by laws k draw_faults.Memory (drawn, is, inr (first, next, rest, parts, took)) broke = (drawn, is, inr (first, next, rest, parts, laws.more s t u known first k.taken took))
+rule_part u by laws k draw_faults.Sink (drawn, is, part) broke = (drawn, is, fails_part u drawn.entries laws k part)
+rule_part u by laws k _ drew broke = absurd (broke refl)

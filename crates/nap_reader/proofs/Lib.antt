@@ -7,7 +7,6 @@ pub mod PrefixLemmas
 pub mod OperandLemmas
 pub mod TextLemmas
 pub mod StoreLemmas
-pub mod FrontLemmas
 pub mod StreamLemmas
 pub mod FrameLemmas
 pub mod HeldLemmas
@@ -32,7 +31,6 @@ pub mod FeedLemmas
 pub mod CollectLemmas
 pub mod CountingLemmas
 pub mod LegalLemmas
-pub mod RangeLemmas
 pub mod PublicLaws
 pub mod BreakLemmas
 pub mod ComingLemmas

@@ -1,13 +1,14 @@
-use Rattle.std.proofs.Common.{ℕ, ◌≡◌, List, [], Bool, true, false, if◌then◌else◌, Option, Some, None, Result, Ok, refl, ap, sym, ◌∙◌, subst, ◌≢◌, ◌<◌, ◌≤◌, ◌+◌, ◌*◌, ◌-◌, inl, inr, ◌∷◌, ◌++◌, length, drop, get_or, Err, OnOk, OnErr, is_err, arith}
+use Rattle.std.proofs.Common.{ℕ, ◌≡◌, List, [], Bool, true, false, if◌then◌else◌, Option, Some, None, Result, Ok, refl, ap, sym, ◌∙◌, subst, ◌≢◌, ◌<◌, ◌≤◌, ◌+◌, ◌*◌, ◌-◌, inl, inr, ◌∷◌, ◌++◌, length, drop, get_or, Err, OnOk, OnErr, is_err, arith, take}
 use Rattle.nap_draw.specs.Draws as draws
 use Rattle.nap_reader.specs.declared.machine.Machine.{Machine}
 use Rattle.nap_reader.proofs.OperandLemmas.{words_kept}
 use Rattle.std.proofs.lemmas.Bool.{false≢true}
 use Rattle.nap_reader.specs.Below.{carried, LexerState, Ghosts, DrawFault, Work, DrawsBy, Drawn, rule}
-use Rattle.nap_reader.proofs.Common.{OpenRun, no_names, draw_fault, Holding, run_by, ActsRun, StopsRun, asked, asks_if, with_machine, IsOver, Leaves, Stops, Takes, TakesBy, Works, after_drawing, refusal, Placed, bytes_of, Refusal, Request, placed_at}
+use Rattle.nap_reader.proofs.Common.{OpenRun, no_names, draw_fault, Holding, run_by, ActsRun, StopsRun, asked, asks_if, with_machine, Fault, IsOver, Leaves, Stops, Takes, TakesBy, Works, after_drawing, refusal, Placed, bytes_of, Refusal, Request, placed_at, LeadsOn}
 use Rattle.nap_reader.specs.declared.fault.Fault.TheVariants as faults
 use Rattle.nap_reader.specs.declared.machine.Request.TheVariants as requests
 use Rattle.nap_reader.specs.Framed.{spaced}
+use Rattle.nap_reader.specs.Steps.{TellsSink, Progresses}
 use Rattle.nap_reader.proofs.SliceLemmas.{byte-spaced}
 
 -- What is held where a machine is known.
@@ -94,23 +95,19 @@ pub no_some : {A : Type 0} {x : A} → Some x ≡ None → ⊥
 no_some e = cc
 
 -- it stops
-pub stop_takes : {S : Type 0} {g : Ghosts S} {old new : Machine S g} {bytes : List Placed} {ended : Bool} {count : ℕ} {r : Refusal} → new.refusal ≡ Some r → count ≤ length bytes → (r.fault ≡ faults.Sink → g.failed new.sink ≡ true) →
-    (g.failed old.sink ≡ false → g.failed new.sink ≡ true → r.fault ≡ faults.Sink) →
-    ((h : Holding) (behind : List Placed) → h.open_body ≡ None → (ended ≡ true → IsOver (bytes_of behind)) → Stops g old.sink (with_machine h old) (bytes ++ behind) (length bytes) count new.sink r) → Takes old new bytes ended count requests.Stop
-stop_takes {r = r} is few failed kept stops = record {
+pub stop_takes : {S : Type 0} {g : Ghosts S} {old new : Machine S g} {bytes : List Placed} {ended : Bool} {count : ℕ} {r : Refusal} {u : S} → new.refusal ≡ Some r → new.sink ≡ u → count ≤ length bytes → TellsSink g old.sink u r.fault →
+    ((h : Holding) (behind : List Placed) → h.open_body ≡ None → (ended ≡ true → IsOver (bytes_of behind)) → Stops g old.sink (with_machine h old) (bytes ++ behind) (length bytes) count u r) → Takes old new bytes ended count requests.Stop
+stop_takes {S} {g} {old} {new} {bytes} {ended} {count} {r} is same few tells stops = record {
   within = few;
-  leaves = record { why = r; is = is; failed = failed; kept = kept };
+  leaves = record { why = r; is = is; tells = subst (λ (u : S). TellsSink g old.sink u r.fault) (sym same) tells };
   goes = λ some. inr (inl refl);
   closed = λ nothing. let bad : ⊥ = cc in absurd bad;
-  by = λ h behind between over. (r, is, stops h behind between over);
+  by = λ h behind between over. (r, is, subst (λ (u : S). Stops g old.sink (with_machine h old) (bytes ++ behind) (length bytes) count u r) (sym same) (stops h behind between over));
 }
 
--- by a fault that isn't the sink's
-pub own_takes : {S : Type 0} {g : Ghosts S} {old new : Machine S g} {bytes : List Placed} {ended : Bool} {count : ℕ} {r : Refusal} → new.refusal ≡ Some r → new.sink ≡ old.sink → r.fault ≢ faults.Sink → count ≤ length bytes →
-    ((h : Holding) (behind : List Placed) → h.open_body ≡ None → (ended ≡ true → IsOver (bytes_of behind)) → Stops g old.sink (with_machine h old) (bytes ++ behind) (length bytes) count old.sink r) → Takes old new bytes ended count requests.Stop
-own_takes {S} {g} {old} {new} {bytes} {ended} {count} {r} is same other few stops =
-    stop_takes is few (λ device. absurd (other device)) (λ works fails. absurd (false≢true (sym works ∙ sym (ap g.failed same) ∙ fails)))
-    (λ h behind between over. subst (λ (t : S). Stops g old.sink (with_machine h old) (bytes ++ behind) (length bytes) count t r) (sym same) (stops h behind between over))
+-- a fault that isn't the sink's tells nothing of it
+pub own_tells : {S : Type 0} (g : Ghosts S) (t : S) {fault : Fault} → fault ≢ faults.Sink → TellsSink g t t fault
+own_tells g t other = (λ device. absurd (other device), λ works fails. absurd (false≢true (sym works ∙ fails)))
 
 -- it goes on where its sink worked if it did before
 pub leaves_from : {S : Type 0} {g : Ghosts S} (old mid new : Machine S g) (request : Request) → (g.failed old.sink ≡ false → g.failed mid.sink ≡ false) → Leaves mid new request → Leaves old new request
@@ -120,8 +117,15 @@ leaves_from {g = g} old mid new request still leaves = by request leaves
     works w = record { live = w.live; clear = λ clear. w.clear (still clear) }
 
     by : (request : Request) → Leaves mid new request → Leaves old new request
-    by requests.Stop l = record { why = l.why; is = l.is; failed = l.failed; kept = λ clear fails. l.kept (still clear) fails }
+    by requests.Stop l = record { why = l.why; is = l.is; tells = (l.tells.0, λ clear fails. l.tells.1 (still clear) fails) }
     by _ w = works w
+
+-- it may ask that all names are unbound
+pub asks_takes : {S : Type 0} {g : Ghosts S} {old new : Machine S g} {xs : List Placed} {ended : Bool} {count : ℕ} (clears : Bool) → Works old new → new.open_run ≡ None → count ≤ length xs → (0 < length xs → Progresses old new count (asks_if clears)) →
+    ((h : Holding) (behind : List Placed) → h.open_body ≡ None → (ended ≡ true → IsOver (bytes_of behind)) →
+    LeadsOn g old.sink (with_machine h old) new.sink (asked (with_machine h new) (asks_if clears)) (take count (xs ++ behind)) (bytes_of (drop count (xs ++ behind)))) → Takes old new xs ended count (asks_if clears)
+asks_takes true works closed few goes leads = record { within = few; leaves = works; goes = goes; closed = λ nothing less. closed; by = leads }
+asks_takes false works closed few goes leads = record { within = few; leaves = works; goes = goes; closed = λ nothing less. closed; by = leads }
 
 -- It takes one byte.
 pub one_takes : {S : Type 0} {g : Ghosts S} {old new : Machine S g} {x : Placed} {zs : List Placed} {ended : Bool} {request : Request} → Leaves old new request → new.open_run ≡ None →

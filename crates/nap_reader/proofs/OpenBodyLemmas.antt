@@ -12,7 +12,7 @@ use Rattle.nap_reader.specs.Course as course
 use Rattle.nap_reader.specs.Holding.{held_escape, past, AreOfBody, AtBody, ReadsOn}
 use Rattle.nap_reader.proofs.HeldLemmas.{place_at-behind}
 use Rattle.nap_reader.proofs.LeadsLemmas.{front_body, leads_left, leads_shown, leads_to_refusal, leads_past, leads_shift, leads_unrefused}
-use Rattle.nap_reader.proofs.ReadingLemmas.{holds_half, nothing_yet, code_goes_on}
+use Rattle.nap_reader.proofs.ReadingLemmas.{nothing_yet, code_goes_on, holds_nothing}
 use Rattle.nap_reader.proofs.StreamLemmas.{bytes_of-append, outcome_from-front}
 
 -- What the next byte of an open body does.
@@ -231,8 +231,7 @@ module _ {S : Type 0} {g : Ghosts S} {s : S} {o : Outcome} {t : S} {h : Holding}
   -- what is held once the body has ended
   pub body_over : (m : Machine) → m.mode ≡ between → IsHeld [] (record h { machine = m; open_run = None; run = []; open_body = None; body = [] })
   body_over m mode =
-      holds_half (record h { machine = m; open_run = None; run = []; open_body = None; body = [] }) [] refl mode refl refl (sym held_body.at.half)
-      (ap (codes.front m.sets) held_body.at.half ∙ nothing_yet m.sets)
+      holds_nothing (record h { machine = m; open_run = None; run = []; open_body = None; body = [] }) refl mode refl refl held_body.at.half
 
   -- where no ESC is held
   pub reads_on : b.escape ≡ None → ReadsOn g s o t h b x pending
@@ -277,7 +276,7 @@ module _ {S : Type 0} {g : Ghosts S} {s : S} {o : Outcome} {t : S} {h : Holding}
     escape_full few ends none =
         let e = escape_at_front (bodies.refused faults.Store 0) (escape_front unread_room x.byte (bytes_of pending) few ends ∙ stores-none unread_room _ none) in
         let there = place_at-behind held_body.bytes escape (x ∷ pending) (length h.body + 0) (omega (arith, body_length)) in
-        leads_to_refusal g s o t h (x ∷ pending) k _ (e ∙ ap (λ (n : ℕ). course.refuse (refusal faults.Store n)) there)
+        leads_to_refusal k _ (e ∙ ap (λ (n : ℕ). course.refuse (refusal faults.Store n)) there)
 
     -- it belongs to the body
     pub escape_kept : x.byte < 128 → ends_body x.byte ≡ false → unread_room ≢ 0 → ReadsOn g s o t (record h { body = h.body ++ 27 ∷ [] }) b x pending
@@ -331,8 +330,8 @@ module _ {S : Type 0} {g : Ghosts S} {s : S} {o : Outcome} {t : S} {h : Holding}
           Continues g s o t (record h { machine = after_body h.machine b.name h.body; half = 27 ∷ []; open_run = None; run = []; open_body = None; body = [] }) (x ∷ pending)
       body_bound hidden =
           let h' : Holding = record h { machine = after_body h.machine b.name h.body; half = []; open_run = None; run = []; open_body = None; body = [] } in
-          let there = leads_past g s o t h (x ∷ pending) k h' (escape ∷ x ∷ pending) (holds_half h' [] refl refl refl refl refl (nothing_yet h.machine.sets)) (body_binds hidden) in
-          code_goes_on g s o t h' refl refl escape (x ∷ pending) there (escape_unfinished h.machine.sets)
+          let there = leads_past k h' (escape ∷ x ∷ pending) (holds_nothing h' refl refl refl refl refl) (body_binds hidden) in
+          code_goes_on refl refl there (escape_unfinished h.machine.sets)
 
       pub same_done : (hidden : b.show ≡ false) → (body_bound hidden).done ≡ k.done
       unfolding body_bound leads_past leads_shift code_goes_on
@@ -369,8 +368,8 @@ module _ {S : Type 0} {g : Ghosts S} {s : S} {o : Outcome} {t : S} {h : Holding}
           let m : Machine = after_body h.machine b.name h.body in
           let h' : Holding = record h { machine = charged m (length bytes); open_run = None; run = []; open_body = None; body = [] } in
           let there =
-          leads_shown g s o t h (x ∷ pending) k m x.place bytes pending (body_shows shown) (omega (arith, size, few)) h' refl (body_over (charged m (length bytes)) refl) in
-          omega (arith, size, few, leads_left g s o t h' (all_at x.place bytes ++ pending) there)
+          leads_shown k m x.place bytes pending (body_shows shown) (omega (arith, size, few)) h' refl (body_over (charged m (length bytes)) refl) in
+          omega (arith, size, few, leads_left there)
 
   -- the byte has the eighth bit
   pub byte_eighth : 128 ≤ x.byte → IsRefused g s o t h (refusal faults.EighthBit x.place)
@@ -384,7 +383,7 @@ module _ {S : Type 0} {g : Ghosts S} {s : S} {o : Outcome} {t : S} {h : Holding}
           let there : place_at (held_body.bytes ++ escape ∷ x ∷ pending) (length h.body + 1) ≡ x.place =
           ap (λ (ys : List Placed). place_at ys (length h.body + 1)) (sym (append_assoc held_body.bytes (escape ∷ []) (x ∷ pending)))
           ∙ place_at-behind before x pending (length h.body + 1) (omega (arith, body_length held, length-append held_body.bytes (escape ∷ []))) in
-          leads_to_refusal g s o t h (x ∷ pending) k _
+          leads_to_refusal k _
           (escape_at_front held _ (eighth_escape unread_room x.byte (bytes_of pending) high)
           ∙ ap (λ (n : ℕ). course.refuse (refusal faults.EighthBit n)) there)
 
@@ -396,7 +395,7 @@ module _ {S : Type 0} {g : Ghosts S} {s : S} {o : Outcome} {t : S} {h : Holding}
 
   escape_again : x.byte ≡ 27 → o.refusal ≡ None
   escape_again is =
-      leads_unrefused g s o t _ (escape_held both_kept (ap (λ (n : ℕ). record { byte = n; place = x.place }) is))
+      leads_unrefused (escape_held both_kept (ap (λ (n : ℕ). record { byte = n; place = x.place }) is))
 
   pub escape_unrefused : (x.byte ≡ 27) ⊎ (store_limit - h.machine.stored - length h.body ≢ 1) → o.refusal ≡ None
   escape_unrefused (inl is) = escape_again is
@@ -405,6 +404,6 @@ module _ {S : Type 0} {g : Ghosts S} {s : S} {o : Outcome} {t : S} {h : Holding}
       at : (test : Bool) → eqb x.byte 27 ≡ test → o.refusal ≡ None
       at true e = escape_again (grind (arith, nat_tests))
       at false e =
-          leads_unrefused g s o t _
+          leads_unrefused
           (byte_kept both_kept (record { low = few; other = grind (arith, nat_tests) })
           (omega (arith, some, two, length-append h.body (27 ∷ []))))

@@ -8,9 +8,9 @@ use Rattle.nap_draw.specs.Acts.{WantsBy, GivesSome}
 use Rattle.nap_draw.specs.Draws as draws
 use Rattle.nap_reader.specs.Course as course
 use Rattle.nap_reader.specs.Breaking.{TakesPart}
-use Rattle.nap_reader.specs.Holding.{BreaksPast, BreaksNext}
+use Rattle.nap_reader.specs.Holding.{BreaksPast, BreaksNext, body_broke, charged_broke, next_broke, some_broke}
 use Rattle.nap_reader.proofs.HeldLemmas.{half_read_pauses}
-use Rattle.nap_reader.proofs.LeadsLemmas.{TookMore, TookBroke, WantsMore, by_front, wants_part, fails_part}
+use Rattle.nap_reader.proofs.LeadsLemmas.{Known, Lawful, by_front, rule_part, was_failed}
 use Rattle.nap_reader.proofs.ReadingLemmas.{nothing_yet}
 use Rattle.nap_reader.proofs.StreamLemmas.{outcome_from-front, outcome_from-left, outcome_from-append}
 
@@ -28,69 +28,6 @@ nothing_comes m = in_mode m.mode refl
     in_mode between mode = (nothing, waits nothing (half_read_pauses m [] [] mode refl (nothing_yet m.sets)))
     in_mode (in_body name show) mode = (open_body, waits open_body (ap (λ (mode : Mode). front_in mode m []) mode))
 
--- The last byte that came makes a code whole, which acts by a rule, and not all of its entries could be put.
-module _ {S : Type 0} (g : Ghosts S) (s : S) (known : List Entry) (o : Outcome) (t : S) (h : Holding) (x : Placed)
-    (k : ContinuesPast g s known o t h (x ∷ [])) (m : Machine) (by : Result Drawn DrawFault)
-    (acting : front h.machine (k.continues.rest ++ x ∷ []) ≡ drawn_front m x.place [] by) where
-  adds_drawn : (drawn : Drawn) → by ≡ Ok drawn → (o.entries ≡ known ++ drawn.entries) × (o.refusal ≡ None)
-  adds_drawn drawn is =
-      let m' : Machine = after_drawing m drawn in
-      let there =
-      by_front g s o t h (x ∷ []) k.continues (course.act drawn.entries m' []) (acting ∙ ap (drawn_front m x.place []) is)
-      ∙ ap (λ (y : Outcome). prepend k.continues.done (prepend drawn.entries y)) (nothing_comes m').1 in (
-        ap (λ (y : Outcome). y.entries) there
-            ∙ ap (λ (es : List Entry). k.continues.done ++ es) (append-nil drawn.entries)
-            ∙ ap (λ (es : List Entry). es ++ drawn.entries) k.done,
-        ap (λ (y : Outcome). y.refusal) there,
-      )
-
-  known_taken : g.took s known t
-  known_taken = subst (λ (es : List Entry). g.took s es t) k.done k.continues.taken
-
-  pub code_breaks : (u : S) → TookMore g → TookBroke g → WantsMore g → (fault : DrawFault) →
-      draws.DrawsBy g.took g.broke g.failed by t u fault (draws.cause_of fault) →
-      (fault ≡ draw_faults.Memory → WantsBy g by t u) →
-      (fault ≡ draw_faults.Sink → GivesSome by) →
-      cause_of (draw_fault fault) ≢ stream → BreaksPast g s known o u (cause_of (draw_fault fault))
-  code_breaks u more broken law draw_faults.Memory (drawn, is, part) wants gives broke =
-      let want = subst (λ (r : Result Drawn DrawFault). WantsBy g r t u) is (wants refl) in
-      record {
-        more = drawn.entries;
-        some = λ none. absurd (omega (arith, ap length none, ap length want.stops.3, length-append want.stops.0 (want.stops.1 ∷ want.stops.2)));
-        adds = (adds_drawn drawn is).0;
-        unrefused = (adds_drawn drawn is).1;
-        wants = λ _. subst (λ (es : List Entry). g.wants s (known ++ es)) (append-nil drawn.entries) (law s t known drawn.entries [] known_taken want.wants);
-        part = wants_part g s t u known drawn.entries known_taken more part;
-      }
-  code_breaks u more broken law draw_faults.Sink (drawn, is, part) wants gives broke = record {
-    more = drawn.entries;
-    some = subst GivesSome is (gives refl);
-    adds = (adds_drawn drawn is).0;
-    unrefused = (adds_drawn drawn is).1;
-    wants = λ is. let bad : ⊥ = cc in absurd bad;
-    part = fails_part g s t u known drawn.entries known_taken broken k.continues.clear part;
-  }
-  code_breaks u more broken law _ drew wants gives broke = absurd (broke refl)
-
--- A body could be charged, and couldn't be read for want of memory.
-pub call_breaks : {S : Type 0} (g : Ghosts S) (s : S) (known : List Entry) (o : Outcome) (t : S) (h : Holding) (x : Placed) (k : ContinuesPast g s known o t h (x ∷ []))
-    (m : Machine) (place : ℕ) (bytes : List ℕ) (ys : List Placed) → front h.machine (k.continues.rest ++ x ∷ []) ≡ shown_front m place bytes ys →
-    m.left ≡ h.machine.left → 0 < length bytes → length bytes ≤ m.left →
-    (o.machine.left < h.machine.left) × BreaksFrom g s known o t memory
-call_breaks g s known o t h x k m place bytes ys shows same some few =
-    let e = shows ∙ cond-false (ltb m.left (length bytes)) _ _ (le-ltb m.left (length bytes) few) in
-    let is = by_front g s o t h (x ∷ []) k.continues (course.act [] (charged m (length bytes)) (all_at place bytes ++ ys)) e in
-    let falls = outcome_from-left (charged m (length bytes)) (all_at place bytes ++ ys) in
-    let there : o.machine.left ≡ (outcome_from (charged m (length bytes)) (all_at place bytes ++ ys)).machine.left = ap (λ (o : Outcome). o.machine.left) is in
-    let more = (outcome_from (charged m (length bytes)) (all_at place bytes ++ ys)).entries in (
-      omega (arith, falls, there, same),
-      record {
-        more = more;
-        adds = ap (λ (o : Outcome). o.entries) is ∙ ap (λ (es : List Entry). es ++ more) k.done;
-        part = ([], more, refl, subst (λ (es : List Entry). g.took s es t) (sym (append-nil known)) (subst (λ (es : List Entry). g.took s es t) k.done k.continues.taken));
-      },
-    )
-
 -- what a sink has of what comes
 pub took_front : {S : Type 0} (g : Ghosts S) (s : S) (known more : List Entry) (t : S) (cause : Cause) → TookPart g s known more t cause → TookFront g s known more t cause
 took_front {S} g s known more t cause part = at cause part
@@ -105,122 +42,123 @@ took_front {S} g s known more t cause part = at cause part
     at device (inl (set, took)) = inl (set, none took)
     at device (inr broke) = inr broke
 
--- what breaks behind what was known has a part of what comes
-pub breaks_from : {S : Type 0} (g : Ghosts S) (s : S) (known : List Entry) (o : Outcome) (t : S) (h : Holding) (cause : Cause) → BreaksSome g s known o t h cause →
-    BreaksFrom g s known o t cause
-breaks_from g s known o t h cause (inr (less, from)) = from
-breaks_from g s known o t h cause (inl past) = record { more = past.more; adds = past.adds; part = took_front g s known past.more t cause past.part }
+-- A rule is refused, or not all of its entries could be put.
+pub record Fails {S : Type 0} (g : Ghosts S) (by : Result Drawn DrawFault) (t u : S) (fault : DrawFault) : Type 0 where
+  pub drew : draws.DrawsBy g.took g.broke g.failed by t u fault (draws.cause_of fault)
+  pub wants : fault ≡ draw_faults.Memory → WantsBy g by t u
+  pub gives : fault ≡ draw_faults.Sink → GivesSome by
 
--- so has what breaks in a body
-pub body_breaks_from : {S : Type 0} (g : Ghosts S) (s : S) (known : List Entry) (o : Outcome) (t : S) (h : Holding) (cause : Cause) → BreaksInBody g s known o t h cause →
-    BreaksFrom g s known o t cause
-body_breaks_from g s known o t h cause (inr (less, from)) = from
-body_breaks_from g s known o t h cause (inl next) = record { more = next.more; adds = next.adds; part = took_front g s known next.more t cause next.part }
+-- The last byte that came makes a code whole, which acts by a rule, and not all of its entries could be put.
+module _ {S : Type 0} {g : Ghosts S} {s : S} {known : List Entry} {o : Outcome} {t : S} {h : Holding} {x : Placed} (k : ContinuesPast g s known o t h (x ∷ [])) where
+  known_taken : Known g s known t
+  known_taken = record { taken = subst (λ (es : List Entry). g.took s es t) k.done k.continues.taken; clear = k.continues.clear }
+
+  adds_drawn : (m : Machine) (drawn : Drawn) → front h.machine (k.continues.rest ++ x ∷ []) ≡ course.act drawn.entries (after_drawing m drawn) [] → (o.entries ≡ known ++ drawn.entries) × (o.refusal ≡ None)
+  adds_drawn m drawn acts =
+      let there = by_front k.continues _ acts ∙ ap (λ (y : Outcome). prepend k.continues.done (prepend drawn.entries y)) (nothing_comes (after_drawing m drawn)).1 in (
+        ap (λ (y : Outcome). y.entries) there ∙ ap (λ (es : List Entry). k.continues.done ++ es) (append-nil drawn.entries) ∙ ap (λ (es : List Entry). es ++ drawn.entries) k.done,
+        ap (λ (y : Outcome). y.refusal) there,
+      )
+
+  pub code_breaks : (m : Machine) (by : Result Drawn DrawFault) → front h.machine (k.continues.rest ++ x ∷ []) ≡ drawn_front m x.place [] by → Lawful g → {u : S} {fault : DrawFault} → Fails g by t u fault → cause_of (draw_fault fault) ≢ stream →
+      BreaksPast g s known o u (cause_of (draw_fault fault))
+  code_breaks m by acting laws {u} {fault} fails broke =
+      let (drawn, is, part) = rule_part u by laws known_taken fault fails.drew broke in
+      let (adds, unrefused) = adds_drawn m drawn (acting ∙ ap (drawn_front m x.place []) is) in
+      let memory = λ (is_memory : fault ≡ draw_faults.Memory). subst (λ (r : Result Drawn DrawFault). WantsBy g r t u) is (fails.wants is_memory) in
+      let device = λ (is_sink : fault ≡ draw_faults.Sink). subst GivesSome is (fails.gives is_sink) in
+      record {
+        next = record { more = drawn.entries; adds = adds; unrefused = unrefused; part = part };
+        some = some_by fault drawn memory device broke;
+        wants = λ is. subst (λ (es : List Entry). g.wants s (known ++ es)) (append-nil drawn.entries) (laws.wants s t known drawn.entries [] known_taken.taken (memory (wants_memory fault is)).wants);
+      }
+    where
+      wants_memory : (fault : DrawFault) → cause_of (draw_fault fault) ≡ memory → fault ≡ draw_faults.Memory
+      wants_memory draw_faults.Memory is = refl
+      wants_memory _ is = let bad : ⊥ = cc in absurd bad
+
+      some_by : (fault : DrawFault) (drawn : Drawn) → (fault ≡ draw_faults.Memory → WantsBy g (Ok drawn) t u) → (fault ≡ draw_faults.Sink → GivesSome (Ok drawn)) → cause_of (draw_fault fault) ≢ stream → drawn.entries ≢ []
+      some_by draw_faults.Memory drawn wants gives broke none =
+          let want = wants refl in
+          omega (arith, ap length none, ap length want.stops.3, length-append want.stops.0 (want.stops.1 ∷ want.stops.2))
+      some_by draw_faults.Sink drawn wants gives broke none = gives refl none
+      some_by _ drawn wants gives broke none = absurd (broke refl)
+
+-- what was known was taken, and more comes
+module _ {S : Type 0} {g : Ghosts S} {s : S} {known : List Entry} {o : Outcome} {t : S} {h : Holding} {xs : List Placed} (k : ContinuesPast g s known o t h xs) where
+  past_taken : g.took s known t
+  past_taken = subst (λ (es : List Entry). g.took s es t) k.done k.continues.taken
+
+  -- memory was wanting before any further entry, and nothing is refused
+  pub wants_next : o.refusal ≡ None → BreaksNext g s known o t memory
+  wants_next unrefused =
+      let more = (outcome_from h.machine (k.continues.rest ++ xs)).entries in
+      record { more = more; adds = ap (λ (o : Outcome). o.entries) k.continues.leads ∙ ap (λ (es : List Entry). es ++ more) k.done; unrefused = unrefused; part = inl past_taken }
+
+  -- or it may be
+  pub wants_from : BreaksFrom g s known o t memory
+  wants_from =
+      let more = (outcome_from h.machine (k.continues.rest ++ xs)).entries in
+      record {
+        more = more;
+        adds = ap (λ (o : Outcome). o.entries) k.continues.leads ∙ ap (λ (es : List Entry). es ++ more) k.done;
+        part = took_front g s known more t memory (inl past_taken);
+      }
+
+  -- A body could be charged, and couldn't be read for want of memory.
+  pub call_breaks : (m : Machine) (place : ℕ) (bytes : List ℕ) (ys : List Placed) → front h.machine (k.continues.rest ++ xs) ≡ shown_front m place bytes ys → m.left ≡ h.machine.left → 0 < length bytes → length bytes ≤ m.left → BreaksSome g s known o t h.machine.left memory
+  call_breaks m place bytes ys shows same some few =
+      let e = shows ∙ cond-false (ltb m.left (length bytes)) _ _ (le-ltb m.left (length bytes) few) in
+      let is = by_front k.continues (course.act [] (charged m (length bytes)) (all_at place bytes ++ ys)) e in
+      let falls = outcome_from-left (charged m (length bytes)) (all_at place bytes ++ ys) in
+      let there : o.machine.left ≡ (outcome_from (charged m (length bytes)) (all_at place bytes ++ ys)).machine.left = ap (λ (o : Outcome). o.machine.left) is in
+      charged_broke (omega (arith, falls, there, same)) wants_from
 
 -- what breaks in a code breaks in the body that it ends
-pub some_in_body : {S : Type 0} (g : Ghosts S) (s : S) (known : List Entry) (o : Outcome) (t : S) (h : Holding) (cause : Cause) → BreaksSome g s known o t h cause →
-    BreaksInBody g s known o t h cause
-some_in_body g s known o t h cause (inr charged) = inr charged
-some_in_body g s known o t h cause (inl past) = inl (record { more = past.more; adds = past.adds; unrefused = past.unrefused; part = past.part })
+pub some_in_body : {S : Type 0} {g : Ghosts S} {s : S} {known : List Entry} {o : Outcome} {t : S} {left : ℕ} {cause : Cause} → BreaksSome g s known o t left cause → BreaksInBody g s known o t left cause
+some_in_body (charged_broke less from) = body_broke less from
+some_in_body (some_broke past) = next_broke past.next
 
--- memory was wanting before any further entry, and nothing is refused
-pub wants_next : {S : Type 0} (g : Ghosts S) (s : S) (known : List Entry) (o : Outcome) (t : S) (h : Holding) (xs : List Placed) (k : ContinuesPast g s known o t h xs) →
-    o.refusal ≡ None → BreaksNext g s known o t memory
-wants_next g s known o t h xs k unrefused =
-    let more = (outcome_from h.machine (k.continues.rest ++ xs)).entries in
-    record {
-      more = more;
-      adds = ap (λ (o : Outcome). o.entries) k.continues.leads ∙ ap (λ (es : List Entry). es ++ more) k.done;
-      unrefused = unrefused;
-      part = inl (subst (λ (es : List Entry). g.took s es t) k.done k.continues.taken);
-    }
-
--- memory was wanting before any further entry
-pub wants_from : {S : Type 0} (g : Ghosts S) (s : S) (known : List Entry) (o : Outcome) (t : S) (h : Holding) (xs : List Placed) (k : ContinuesPast g s known o t h xs) →
-    BreaksFrom g s known o t memory
-wants_from g s known o t h xs k =
-    let more = (outcome_from h.machine (k.continues.rest ++ xs)).entries in
-    record {
-      more = more;
-      adds = ap (λ (o : Outcome). o.entries) k.continues.leads ∙ ap (λ (es : List Entry). es ++ more) k.done;
-      part = ([], more, refl, subst (λ (es : List Entry). g.took s es t) (sym (append-nil known)) (subst (λ (es : List Entry). g.took s es t) k.done k.continues.taken));
-    }
+-- what breaks in a body has a part of what comes
+pub body_breaks_from : {S : Type 0} {g : Ghosts S} {s : S} {known : List Entry} {o : Outcome} {t : S} {left : ℕ} {cause : Cause} → BreaksInBody g s known o t left cause → BreaksFrom g s known o t cause
+body_breaks_from (body_broke less from) = from
+body_breaks_from {g = g} {s = s} {known = known} {t = t} {cause = cause} (next_broke next) = record { more = next.more; adds = next.adds; part = took_front g s known next.more t cause next.part }
 
 -- What a sink has of what comes, where reading breaks.
 
--- a sink that has failed, and whose failures stay, had failed before
-pub was_failed : {S : Type 0} (g : Ghosts S) (s t : S) → (g.failed s ≡ false → g.failed t ≡ false) → g.failed t ≡ true → g.failed s ≡ true
-was_failed {S} g s t clear set = at (g.failed s) refl
+-- it is so of an outcome that has other entries before or behind, and of a sink that tells the same
+breaks_as : {S : Type 0} {g : Ghosts S} {s t u : S} {known : List Entry} {o whole : Outcome} {cause : Cause} (known' before behind : List Entry) → (g.failed t ≡ true → g.failed s ≡ true) →
+    ((first : List Entry) → g.took t (known ++ first) u → g.took s (known' ++ (before ++ first)) u) → ((first : List Entry) (next : Entry) → g.broke t (known ++ first) next u → g.broke s (known' ++ (before ++ first)) next u) →
+    (h : BreaksFrom g t known o u cause) → whole.entries ≡ known' ++ (before ++ (h.more ++ behind)) → BreaksFrom g s known' whole u cause
+breaks_as {S} {g} {s} {t} {u} {known} {o} {whole} {cause} known' before behind failed took broke h adds = record { more = before ++ (h.more ++ behind); adds = adds; part = at cause h.part }
   where
-    at : (b : Bool) → g.failed s ≡ b → g.failed s ≡ true
-    at true is = is
-    at false is = let k = clear is in cc
+    all : (first rest : List Entry) → h.more ≡ first ++ rest → before ++ (h.more ++ behind) ≡ (before ++ first) ++ (rest ++ behind)
+    all first rest parts = ap (λ (es : List Entry). before ++ (es ++ behind)) parts ∙ ap (λ (es : List Entry). before ++ es) (append_assoc first rest behind) ∙ sym (append_assoc before first (rest ++ behind))
+
+    takes : TakesPart g t known h.more u → TakesPart g s known' (before ++ (h.more ++ behind)) u
+    takes (first, rest, parts, taken) = (before ++ first, rest ++ behind, all first rest parts, took first taken)
+
+    at : (cause : Cause) → TookFront g t known h.more u cause → TookFront g s known' (before ++ (h.more ++ behind)) u cause
+    at stream part = part
+    at memory part = takes part
+    at device (inl (set, part)) = inl (failed set, takes part)
+    at device (inr (first, next, rest, parts, broken)) = inr (before ++ first, next, rest ++ behind, all first (next ∷ rest) parts, broke first next broken)
 
 -- fewer entries are said to be known
-pub breaks_longer : {S : Type 0} (g : Ghosts S) (s : S) (known es : List Entry) (o : Outcome) (t : S) (cause : Cause) →
-    BreaksFrom g s (known ++ es) o t cause → BreaksFrom g s known o t cause
-breaks_longer {S} g s known es o t cause h = record {
-  more = es ++ h.more;
-  adds = h.adds ∙ append_assoc known es h.more;
-  part = at cause h.part;
-}
-  where
-    takes : TakesPart g s (known ++ es) h.more t → TakesPart g s known (es ++ h.more) t
-    takes (first, rest, parts, took) = (
-      es ++ first,
-      rest,
-      ap (λ (xs : List Entry). es ++ xs) parts ∙ sym (append_assoc es first rest),
-      subst (λ (xs : List Entry). g.took s xs t) (append_assoc known es first) took,
-    )
-
-    at : (cause : Cause) → TookFront g s (known ++ es) h.more t cause → TookFront g s known (es ++ h.more) t cause
-    at stream part = part
-    at memory part = takes part
-    at device (inl (set, part)) = inl (set, takes part)
-    at device (inr (first, next, rest, parts, broke)) = inr (
-      es ++ first,
-      next,
-      rest,
-      ap (λ (xs : List Entry). es ++ xs) parts ∙ sym (append_assoc es first (next ∷ rest)),
-      subst (λ (xs : List Entry). g.broke s xs next t) (append_assoc known es first) broke,
-    )
+pub breaks_longer : {S : Type 0} {g : Ghosts S} {s : S} {o : Outcome} {t : S} {cause : Cause} (known es : List Entry) → BreaksFrom g s (known ++ es) o t cause → BreaksFrom g s known o t cause
+breaks_longer {g = g} {s = s} {t = t} known es h =
+    breaks_as known es [] (λ set. set) (λ first. subst (λ (xs : List Entry). g.took s xs t) (append_assoc known es first)) (λ first next. subst (λ (xs : List Entry). g.broke s xs next t) (append_assoc known es first)) h
+    (h.adds ∙ append_assoc known es h.more ∙ ap (λ (xs : List Entry). known ++ (es ++ xs)) (sym (append-nil h.more)))
 
 -- more comes behind
-pub breaks_more : {S : Type 0} (g : Ghosts S) (s : S) (known es : List Entry) (o whole : Outcome) (t : S) (cause : Cause) → whole.entries ≡ o.entries ++ es →
-    BreaksFrom g s known o t cause → BreaksFrom g s known whole t cause
-breaks_more {S} g s known es o whole t cause more h = record {
-  more = h.more ++ es;
-  adds = more ∙ ap (λ (xs : List Entry). xs ++ es) h.adds ∙ append_assoc known h.more es;
-  part = at cause h.part;
-}
-  where
-    takes : TakesPart g s known h.more t → TakesPart g s known (h.more ++ es) t
-    takes (first, rest, parts, took) = (first, rest ++ es, ap (λ (xs : List Entry). xs ++ es) parts ∙ append_assoc first rest es, took)
-
-    at : (cause : Cause) → TookFront g s known h.more t cause → TookFront g s known (h.more ++ es) t cause
-    at stream part = part
-    at memory part = takes part
-    at device (inl (set, part)) = inl (set, takes part)
-    at device (inr (first, next, rest, parts, broke)) =
-        inr (first, next, rest ++ es, ap (λ (xs : List Entry). xs ++ es) parts ∙ append_assoc first (next ∷ rest) es, broke)
+pub breaks_more : {S : Type 0} {g : Ghosts S} {s : S} {known : List Entry} {o whole : Outcome} {t : S} {cause : Cause} (es : List Entry) → whole.entries ≡ o.entries ++ es → BreaksFrom g s known o t cause → BreaksFrom g s known whole t cause
+breaks_more {known = known} es more h =
+    breaks_as known [] es (λ set. set) (λ first took. took) (λ first next broke. broke) h (more ∙ ap (λ (xs : List Entry). xs ++ es) h.adds ∙ append_assoc known h.more es)
 
 -- a list was taken before
-pub breaks_behind : {S : Type 0} (g : Ghosts S) (s t u : S) (known : List Entry) (o whole : Outcome) (cause : Cause) → TookMore g → TookBroke g →
-    g.took s known t → (g.failed s ≡ false → g.failed t ≡ false) → whole.entries ≡ known ++ o.entries → BreaksFrom g t [] o u cause → BreaksFrom g s known whole u cause
-breaks_behind {S} g s t u known o whole cause more broken taken clear is h = record {
-  more = h.more;
-  adds = is ∙ ap (λ (xs : List Entry). known ++ xs) h.adds;
-  part = at cause h.part;
-}
-  where
-    takes : TakesPart g t [] h.more u → TakesPart g s known h.more u
-    takes (first, rest, parts, took) = (first, rest, parts, more s t u known first taken took)
-
-    at : (cause : Cause) → TookFront g t [] h.more u cause → TookFront g s known h.more u cause
-    at stream part = part
-    at memory part = takes part
-    at device (inl (set, part)) = inl (was_failed g s t clear set, takes part)
-    at device (inr (first, next, rest, parts, broke)) = inr (first, next, rest, parts, broken s t u known first next taken broke)
+pub breaks_behind : {S : Type 0} {g : Ghosts S} {s t u : S} {known : List Entry} {o whole : Outcome} {cause : Cause} → Lawful g → Known g s known t → whole.entries ≡ known ++ o.entries → BreaksFrom g t [] o u cause → BreaksFrom g s known whole u cause
+breaks_behind {g = g} {s = s} {t = t} {u = u} {known = known} laws k is h =
+    breaks_as known [] [] (was_failed g s t k.clear) (λ first. laws.more s t u known first k.taken) (λ first next. laws.broken s t u known first next k.taken) h (is ∙ ap (λ (xs : List Entry). known ++ xs) (h.adds ∙ sym (append-nil h.more)))
 
 -- the entries of a list come first of those of a longer one
 pub entries_first : (m : Machine) (xs ys : List Placed) → (es : List Entry) × ((outcome_from m (xs ++ ys)).entries ≡ (outcome_from m xs).entries ++ es)
@@ -233,29 +171,20 @@ entries_first m xs ys =
     at None = ((outcome_from (outcome_from m xs).machine ((outcome_from m xs).rest ++ ys)).entries, refl)
 
 -- the rule of what stands at the front acts, and not all of its entries could be put
-pub rule_breaks : {S : Type 0} (g : Ghosts S) (s : S) (o : Outcome) (t u : S) (h : Holding) (pending : List Placed) (k : Continues g s o t h pending)
-    (m : Machine) (place : ℕ) (ys : List Placed) (by : Result Drawn DrawFault) → front h.machine (k.rest ++ pending) ≡ drawn_front m place ys by →
-    TookMore g → TookBroke g → (fault : DrawFault) (cause : Cause) → draws.DrawsBy g.took g.broke g.failed by t u fault cause → cause ≢ stream → BreaksFrom g s [] o u cause
-rule_breaks {S} g s o t u h pending k m place ys by acts more broken fault cause drew broke = at cause broke drew
-  where
-    from : (drawn : Drawn) → by ≡ Ok drawn → (cause : Cause) → TookPart g s k.done drawn.entries u cause → BreaksFrom g s [] o u cause
-    from drawn is cause part =
-        let there = by_front g s o t h pending k (course.act drawn.entries (after_drawing m drawn) ys) (acts ∙ ap (drawn_front m place ys) is) in
-        let behind = (outcome_from (after_drawing m drawn) ys).entries in
-        let drew : Outcome = record o { entries = k.done ++ drawn.entries } in
-        breaks_longer g s [] k.done o u cause
-        (breaks_more g s k.done behind drew o u cause (ap (λ (o : Outcome). o.entries) there ∙ sym (append_assoc k.done drawn.entries behind))
-        (record { more = drawn.entries; adds = refl; part = took_front g s k.done drawn.entries u cause part }))
-
-    at : (cause : Cause) → cause ≢ stream → draws.DrawsBy g.took g.broke g.failed by t u fault cause → BreaksFrom g s [] o u cause
-    at stream broke drew = absurd (broke refl)
-    at memory broke (drawn, is, part) = from drawn is memory (wants_part g s t u k.done drawn.entries k.taken more part)
-    at device broke (drawn, is, part) = from drawn is device (fails_part g s t u k.done drawn.entries k.taken broken k.clear part)
+pub rule_breaks : {S : Type 0} {g : Ghosts S} {s : S} {o : Outcome} {t : S} {h : Holding} {pending : List Placed} (k : Continues g s o t h pending) (m : Machine) (place : ℕ) (ys : List Placed) (by : Result Drawn DrawFault) → front h.machine (k.rest ++ pending) ≡ drawn_front m place ys by →
+    Lawful g → {u : S} (fault : DrawFault) → draws.DrawsBy g.took g.broke g.failed by t u fault (draws.cause_of fault) → cause_of (draw_fault fault) ≢ stream → BreaksFrom g s [] o u (cause_of (draw_fault fault))
+rule_breaks {g = g} {s = s} {o = o} k m place ys by acts laws {u} fault drew broke =
+    let (drawn, is, part) = rule_part u by laws (record { taken = k.taken; clear = k.clear }) fault drew broke in
+    let there = by_front k (course.act drawn.entries (after_drawing m drawn) ys) (acts ∙ ap (drawn_front m place ys) is) in
+    let behind = (outcome_from (after_drawing m drawn) ys).entries in
+    let drew : BreaksFrom g s k.done (record o { entries = k.done ++ drawn.entries }) u (cause_of (draw_fault fault)) =
+    record { more = drawn.entries; adds = refl; part = took_front g s k.done drawn.entries u (cause_of (draw_fault fault)) part } in
+    breaks_longer [] k.done (breaks_more behind (ap (λ (o : Outcome). o.entries) there ∙ sym (append_assoc k.done drawn.entries behind)) drew)
 
 -- the same outcome with fewer bytes pending
-pub cut : {S : Type 0} (g : Ghosts S) (s : S) (o : Outcome) (t : S) (h : Holding) (xs ys : List Placed) → (k : Continues g s o t h (xs ++ ys)) →
+pub cut : {S : Type 0} {g : Ghosts S} {s : S} {o : Outcome} {t : S} {h : Holding} (xs ys : List Placed) → (k : Continues g s o t h (xs ++ ys)) →
     (less : Outcome) × (es : List Entry) × (o.entries ≡ less.entries ++ es) × Continues g s less t h xs
-cut g s o t h xs ys k =
+cut {h = h} xs ys k =
     let first = entries_first h.machine (k.rest ++ xs) ys in
     let less : Outcome = prepend k.done (outcome_from h.machine (k.rest ++ xs)) in (
       less,

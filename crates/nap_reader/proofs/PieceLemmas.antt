@@ -7,9 +7,9 @@ use Rattle.nap_reader.specs.Pieces.{Amid}
 use Rattle.nap_reader.specs.Standing.{IsKnown}
 use Rattle.nap_reader.proofs.BreakingLemmas.{uses_breaks}
 use Rattle.nap_reader.proofs.ComingLemmas.{came_none}
-use Rattle.nap_reader.proofs.LeadsLemmas.{TookMore, leads_entries, leads_left, leads_machine, leads_more, leads_unrefused}
+use Rattle.nap_reader.proofs.LeadsLemmas.{Lawful, TookMore, leads_entries, leads_left, leads_machine, leads_more, leads_unrefused}
 use Rattle.nap_reader.proofs.PartLemmas.{breaks_behind}
-use Rattle.nap_reader.proofs.StandingLemmas.{Lawful, taken_more}
+use Rattle.nap_reader.proofs.StandingLemmas.{taken_more}
 use Rattle.nap_reader.proofs.StepLemmas.{IsAt, acted_then, all_front, all_rest, left_acted, passes_acted, run_acted, typed_then}
 
 -- How a piece is taken.
@@ -49,7 +49,7 @@ module _ {S : Type 0} {g : Ghosts S} {old : Reader S g} {piece : List ℕ} {i : 
   unfolding placed_from
   begun_there =
       subst (λ (n : ℕ). Continues g s o amid.sink amid.holding (placed_at b n ∷ [])) place_is
-      (leads_more g s (budget_of old) q (b ∷ []) amid.sink amid.holding (amid.before s p stood))
+      (leads_more (budget_of old) q (b ∷ []) (amid.before s p stood))
 
   -- what is known with it
   pub known_amid : Continues g s o t h frames
@@ -66,15 +66,15 @@ module _ {S : Type 0} {g : Ghosts S} {old : Reader S g} {piece : List ℕ} {i : 
       let relative : Continues g amid.sink rest amid.sink amid.holding (x ∷ []) =
       record { done = []; taken = laws.none amid.sink; clear = λ before. before; rest = k.rest; held = k.held; leads = refl } in
       let there = breaks amid.sink rest (subst (Continues g amid.sink rest t h) (append-nil frames) (amid.since amid.sink rest [] relative)) in
-      let before = ap (λ (m : Machine). m.left) (leads_machine g s (begun (budget_of old) q) amid.sink amid.holding k) in
-      let after = leads_left g s o t h frames known_amid in
+      let before = ap (λ (m : Machine). m.left) (leads_machine k) in
+      let after = leads_left known_amid in
       record {
-        before = leads_unrefused g s (begun (budget_of old) q) amid.sink amid.holding k;
+        before = leads_unrefused k;
         breaks =
-            uses_breaks g s (budget_of old) q b u r (place ∙ sym place_is) (omega (arith, before, after, amid.less))
-            (subst (λ (es : List Entry). BreaksFrom g s es o u (cause_of r.fault)) (sym (leads_entries g s (begun (budget_of old) q) amid.sink amid.holding k))
-            (breaks_behind g s amid.sink u k.done rest o (cause_of r.fault) laws.more laws.broken k.taken k.clear
-            (ap (λ (o : Outcome). o.entries) (leads_more g s (budget_of old) q (b ∷ []) amid.sink amid.holding k).leads
+            uses_breaks (budget_of old) q b r (place ∙ sym place_is) (omega (arith, before, after, amid.less))
+            (subst (λ (es : List Entry). BreaksFrom g s es o u (cause_of r.fault)) (sym (leads_entries k))
+            (breaks_behind laws (record { taken = k.taken; clear = k.clear })
+            (ap (λ (o : Outcome). o.entries) (leads_more (budget_of old) q (b ∷ []) k).leads
             ∙ ap (λ (n : ℕ). k.done ++ (outcome_from amid.holding.machine (k.rest ++ placed_at b n ∷ [])).entries) place_is) there));
         left = omega (arith, same, before, amid.less);
         charged = omega (arith, same, after);
@@ -96,7 +96,7 @@ pub known_with : {S : Type 0} {g : Ghosts S} {old : Reader S g} {piece : List �
     Continues g s (begun (budget_of old) ((p ++ take at piece) ++ bytes)) t h (placed_from (fed_of old + at) bytes)
 known_with {g = g} {old = old} {piece = piece} {at = at} {t = t} {h = h} {s = s} {p = p} leads empty bytes stood =
     subst (λ (n : ℕ). Continues g s (begun (budget_of old) ((p ++ take at piece) ++ bytes)) t h (placed_from n bytes)) (length_taken p piece at leads.within ∙ ap (λ (n : ℕ). n + at) (sym (stood.fed leads.live)))
-    (leads_more g s (budget_of old) (p ++ take at piece) bytes t h (leads.alone empty s p stood))
+    (leads_more (budget_of old) (p ++ take at piece) bytes (leads.alone empty s p stood))
 
 -- Bytes that come next were taken, and these come of bodies by them.
 record Brings {S : Type 0} (g : Ghosts S) (t : S) (h : Holding) (xs : List Placed) (u : S) (h' : Holding) (came : List Placed) : Type 0 where
@@ -190,9 +190,9 @@ module _ {S : Type 0} {g : Ghosts S} {old : Reader S g} {piece : List ℕ} {at :
   -- Some bytes that come next lead on.
   pub leads_past : {x : Placed} {xs rest : List Placed} {until : ℕ} (bs : List ℕ) → next ≡ x.byte ∷ bs → (c : Conveys g t h (x ∷ xs)) → Came frames rest piece at until (fed_of old + at) (x ∷ xs) → LeadsTo old piece until c.sink c.holding rest
   leads_past {x} {xs} bs first c = advances {came = []} by.leads (record {
-    left = omega (arith, c.left, left_acted g by.sink by.holding t h next by.acted);
+    left = omega (arith, c.left, left_acted by.acted);
     there = λ n all. All-nil (IsAt n);
-    run = λ n all run. c.run n all (run_acted g by.sink by.holding t h next n by.acted run);
+    run = λ n all run. c.run n all (run_acted n by.acted run);
     called = λ some. absurd (omega (arith, some));
     passes = λ s o pending k. c.passes s o pending (passes_acted g by.sink by.holding t h next x more (λ b cs there. ap (λ (zs : List ℕ). get_or zs 0 0) (sym first ∙ there)) by.acted s o (xs ++ pending) k);
   })
@@ -212,7 +212,7 @@ module _ {S : Type 0} {g : Ghosts S} {old : Reader S g} {piece : List ℕ} {at :
         sink = by.sink;
         holding = by.holding;
         leads = by.leads;
-        acted = acted_then g by.sink by.holding t h u h' next by.acted acted;
+        acted = acted_then by.acted acted;
         typed = typed_then by.sink by.holding t h u h' by.typed typed;
       }))
   reaches_on {rest = rest} {until = until} (x ∷ xs) came then first = record {
@@ -230,7 +230,7 @@ module _ {S : Type 0} {g : Ghosts S} {old : Reader S g} {piece : List ℕ} {at :
     sink = u;
     holding = h';
     leads = advances {came = came} by.leads (record {
-      left = omega (arith, left, left_acted g by.sink by.holding t h next by.acted);
+      left = omega (arith, left, left_acted by.acted);
       there = λ n all. there n (All-head (IsAt n) x [] all);
       run = λ n all run. subst (RunAt n) (sym closed) tt;
       called = λ some. (x, refl, subst (RunAt x.place) (sym closed) tt);

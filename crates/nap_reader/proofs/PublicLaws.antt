@@ -16,7 +16,7 @@ pub use Rattle.nap_reader.proofs.BrokenLemmas.{begun_comes_first, end_breaks_amo
 use Rattle.nap_reader.proofs.HeldLemmas.{front_code, front_run, open_run_pauses}
 pub use Rattle.nap_reader.proofs.LawLemmas.{more_bytes_keep_entries, more_bytes_keep_refusal, pieces_agree}
 pub use Rattle.nap_reader.proofs.LegalLemmas.{accepted_is_legal}
-pub use Rattle.nap_reader.proofs.RangeLemmas.{read_values_are_in_range}
+pub use Rattle.nap_reader.proofs.LegalLemmas.{read_values_are_in_range}
 use Rattle.nap_reader.proofs.StreamLemmas.{outcome_from-front}
 
 -- The proofs of the laws.

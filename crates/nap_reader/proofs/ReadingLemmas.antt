@@ -1,6 +1,6 @@
 use Rattle.std.proofs.Common.{ℕ, ◌-◌, ◌≡◌, ◌<◌, ◌≤◌, List, [], ◌∷◌, ◌++◌, length, Bool, true, false, Some, None, Result, Ok, Err, OnOk, IfErr, MatchResult, refl, ap, sym, ◌∙◌, subst, arith, length-append}
 use Rattle.nap_reader.specs.Below.{Code, CodeFault, CodeSets, Opcode, LexerState, StepsBy, Ghosts, DrawFault, code_rule, Drawn, IsDrawn, rule, stream, run_limit}
-use Rattle.nap_reader.proofs.Common.{OpenRun, Kind, between, in_body, body_of, kind_of, code_fault, draw_fault, Placed, Outcome, bytes_of, is_operand, refusal, after_drawing, drawn_front, shown_front, code_front, start_machine, outcome_from, begun, cause_of, Holding, IsHeld, IsOpenRun, IsRefused, Continues}
+use Rattle.nap_reader.proofs.Common.{OpenRun, Kind, between, in_body, body_of, kind_of, code_fault, draw_fault, Machine, Placed, Outcome, bytes_of, is_operand, refusal, after_drawing, drawn_front, shown_front, code_front, start_machine, outcome_from, begun, cause_of, Holding, IsHeld, IsOpenRun, IsRefused, Continues}
 use Rattle.nap_codes.specs.declared.code.Code.TheVariants as code
 use Rattle.nap_codes.specs.declared.opcode.Opcode.TheVariants as opcodes
 use Rattle.nap_codes.specs.Laws.{IsInRange}
@@ -59,49 +59,6 @@ if_err_by (Err e) f = f e refl
 pub matched_err : {A E : Type 0} (F : A → Type 0) (G : E → Type 0) (r : Result A E) (e : E) → r ≡ Err e → MatchResult r F G → G e
 matched_err {A} {E} F G r e is h = subst (λ (x : Result A E). MatchResult x F G) is h
 
--- a word joins the open run
-module _ {S : Type 0} (g : Ghosts S) (s : S) (o : Outcome) (t : S) (h : Holding) (open_run : OpenRun) (no_body : h.open_body ≡ None) (is : h.open_run ≡ Some open_run) (x : Placed) (pending : List Placed)
-    (k : Continues g s o t h (x ∷ pending)) where
-  half_of : IsHalf k.rest h
-  half_of = is_between h k.rest no_body k.held
-
-  open_of : IsOpenRun k.rest open_run h.run h.machine.sets × (h.half ≡ [])
-  open_of = is_open_run h k.rest open_run no_body is k.held
-
-  pub word_joins : is_operand x ≡ true → length h.run < run_limit → Continues g s o t (record h { run = h.run ++ (x.byte - 64) ∷ [] }) pending
-  word_joins word few =
-      let h' : Holding = record h { run = h.run ++ (x.byte - 64) ∷ [] } in
-      leads_shift g s o t h x pending h' k refl
-      (holds_open_run h' (k.rest ++ x ∷ []) open_run no_body half_of.mode half_of.body is (joins_run k.rest open_run h.run h.machine.sets x open_of.0 word few) open_of.1)
-
-  pub word_too_many : is_operand x ≡ true → run_limit ≤ length h.run → IsRefused g s o t h (refusal faults.LongRun open_run.place)
-  word_too_many word many =
-      leads_to_refusal g s o t h (x ∷ pending) k _
-      (front_long h.machine k.rest open_run h.run x pending half_of.mode open_of.0 word many)
-
-  pub over : is_operand x ≡ false → (by : Result Drawn DrawFault) → rule h.machine.work open_run.op h.run ≡ by →
-      front h.machine (k.rest ++ x ∷ pending) ≡ drawn_front h.machine open_run.place (x ∷ pending) by
-  over other by e =
-      front_run h.machine k.rest open_run h.run x pending half_of.mode open_of.0 other
-      ∙ ap (drawn_front h.machine open_run.place (x ∷ pending)) e
-
-  -- the run is over, and its opcode acts
-  pub run_acts : (u : S) (drawn : Drawn) → TookMore g → is_operand x ≡ false → rule h.machine.work open_run.op h.run ≡ Ok drawn → g.took t drawn.entries u →
-      (g.failed t ≡ false → g.failed u ≡ false) →
-      Continues g s o u (record h { machine = after_drawing h.machine drawn; open_run = None; run = [] }) (x ∷ pending)
-  run_acts u drawn law other by took clear =
-      let h' : Holding = record h { machine = after_drawing h.machine drawn; open_run = None; run = [] } in
-      leads_on g s o t h (x ∷ pending) k u drawn.entries h' (x ∷ pending) law
-      (holds_between h' [] no_body (record { mode = half_of.mode; body = half_of.body; half = (sym open_of.1, ap (codes.front h.machine.sets) open_of.1 ∙ nothing_yet h.machine.sets) }))
-      (over other _ by) took clear
-
-  -- the run is over, and its opcode is refused
-  pub run_refused : (u : S) → is_operand x ≡ false → (fault : DrawFault) →
-      draws.DrawsBy g.took g.broke g.failed (rule h.machine.work open_run.op h.run) t u fault (draws.cause_of fault) → cause_of (draw_fault fault) ≡ stream →
-      IsRefused g s o u h (refusal (draw_fault fault) open_run.place)
-  run_refused u other fault drew own =
-      leads_to_fault g s o t h (x ∷ pending) k u h.machine open_run.place (x ∷ pending) _ (over other _ refl) fault drew own
-
 -- what a step of the lexer says of the front
 
 pub more_of : (f : codes.Front) (old : LexerState) (b : ℕ) (new : LexerState) → StepsBy f old b steps.More new →
@@ -131,87 +88,76 @@ pub holds_half : (h : Holding) (rest : List Placed) → h.open_body ≡ None →
 holds_half h rest no_body mode empty is bytes unfinished =
     holds_between h rest no_body (record { mode = mode; body = empty; half = subst (IsHeldBy rest h) (sym is) (bytes, unfinished) })
 
--- a byte where no run is open
-module _ {S : Type 0} (g : Ghosts S) (s : S) (o : Outcome) (t : S) (h : Holding) (no_body : h.open_body ≡ None) (is : h.open_run ≡ None) (x : Placed) (pending : List Placed)
+-- nothing is held back between two codes
+pub holds_nothing : (h : Holding) → h.open_body ≡ None → h.machine.mode ≡ between → h.body ≡ [] → h.open_run ≡ None → h.half ≡ [] → IsHeld [] h
+holds_nothing h no_body mode empty is none = holds_half h [] no_body mode empty is (sym none) (ap (codes.front h.machine.sets) none ∙ nothing_yet h.machine.sets)
+
+-- a byte behind an open run
+module _ {S : Type 0} {g : Ghosts S} {s : S} {o : Outcome} {t : S} {h : Holding} {open_run : OpenRun} {x : Placed} {pending : List Placed} (no_body : h.open_body ≡ None) (is : h.open_run ≡ Some open_run)
     (k : Continues g s o t h (x ∷ pending)) where
+  half_of : IsHalf k.rest h
+  half_of = is_between h k.rest no_body k.held
+
+  open_of : IsOpenRun k.rest open_run h.run h.machine.sets × (h.half ≡ [])
+  open_of = is_open_run h k.rest open_run no_body is k.held
+
+  -- it is a word that joins the run
+  pub word_joins : is_operand x ≡ true → length h.run < run_limit → Continues g s o t (record h { run = h.run ++ (x.byte - 64) ∷ [] }) pending
+  word_joins word few =
+      let h' : Holding = record h { run = h.run ++ (x.byte - 64) ∷ [] } in
+      leads_shift k h' refl
+      (holds_open_run h' (k.rest ++ x ∷ []) open_run no_body half_of.mode half_of.body is (joins_run k.rest open_run h.run h.machine.sets x open_of.0 word few) open_of.1)
+
+  pub word_too_many : is_operand x ≡ true → run_limit ≤ length h.run → IsRefused g s o t h (refusal faults.LongRun open_run.place)
+  word_too_many word many = leads_to_refusal k _ (front_long h.machine k.rest open_run h.run x pending half_of.mode open_of.0 word many)
+
+  -- it ends the run
+  pub over : is_operand x ≡ false → (by : Result Drawn DrawFault) → rule h.machine.work open_run.op h.run ≡ by →
+      front h.machine (k.rest ++ x ∷ pending) ≡ drawn_front h.machine open_run.place (x ∷ pending) by
+  over other by e =
+      front_run h.machine k.rest open_run h.run x pending half_of.mode open_of.0 other
+      ∙ ap (drawn_front h.machine open_run.place (x ∷ pending)) e
+
+  -- nothing is held once its opcode has acted
+  pub none_held : (m : Machine) → m.mode ≡ h.machine.mode → IsHeld [] (record h { machine = m; open_run = None; run = [] })
+  none_held m mode = holds_nothing (record h { machine = m; open_run = None; run = [] }) no_body (mode ∙ half_of.mode) half_of.body refl open_of.1
+
+-- a byte where no run is open
+module _ {S : Type 0} {g : Ghosts S} {s : S} {o : Outcome} {t : S} {h : Holding} {x : Placed} {pending : List Placed} (no_body : h.open_body ≡ None) (is : h.open_run ≡ None) (k : Continues g s o t h (x ∷ pending)) where
   pub between_held : IsHalf k.rest h
   between_held = is_between h k.rest no_body k.held
 
   pub half_held : (bytes_of k.rest ≡ h.half) × (codes.front h.machine.sets h.half ≡ codes.unfinished)
   half_held = is_half h k.rest no_body is k.held
 
-  -- what is held once a code or its beginning was read
-  abbrev pub reading : CodeSets → List ℕ → Holding
-  reading sets half = record h { machine = record h.machine { sets = sets }; half = half }
-
-  -- the code is still half read
-  unfoldable pub code_goes_on : codes.front h.machine.sets (h.half ++ x.byte ∷ []) ≡ codes.unfinished →
-      Continues g s o t (reading h.machine.sets (h.half ++ x.byte ∷ [])) pending
+  -- its code is still half read
+  unfoldable pub code_goes_on : codes.front h.machine.sets (h.half ++ x.byte ∷ []) ≡ codes.unfinished → Continues g s o t (record h { half = h.half ++ x.byte ∷ [] }) pending
   code_goes_on e =
-      leads_shift g s o t h x pending (reading h.machine.sets (h.half ++ x.byte ∷ [])) k refl
-      (holds_half (reading h.machine.sets (h.half ++ x.byte ∷ [])) _ no_body between_held.mode between_held.body is
+      leads_shift k (record h { half = h.half ++ x.byte ∷ [] }) refl
+      (holds_half (record h { half = h.half ++ x.byte ∷ [] }) _ no_body between_held.mode between_held.body is
       (bytes_of-append k.rest (x ∷ []) ∙ ap (λ (bs : List ℕ). bs ++ x.byte ∷ []) half_held.0) e)
 
-  -- the byte is refused
+  -- it is refused
   pub byte_refused : (fault : CodeFault) (i : ℕ) → codes.front h.machine.sets (h.half ++ x.byte ∷ []) ≡ codes.refused fault i →
       i ≡ length h.half → IsRefused g s o t h (refusal (code_fault fault) x.place)
-  byte_refused fault i e at =
-      leads_to_refusal g s o t h (x ∷ pending) k _ (front_fault h.machine k.rest x pending h.half fault i between_held.mode half_held.0 e at)
+  byte_refused fault i e at = leads_to_refusal k _ (front_fault h.machine k.rest x pending h.half fault i between_held.mode half_held.0 e at)
 
-  -- a whole code
-  module _ (c : Code) (n : ℕ) (after : CodeSets) (e : codes.front h.machine.sets (h.half ++ x.byte ∷ []) ≡ codes.whole c n after)
-      (len : n ≡ length (h.half ++ x.byte ∷ [])) where
-    whole : (kind : Kind) → kind_of c ≡ kind →
-        front h.machine (k.rest ++ x ∷ pending) ≡ code_front (record h.machine { sets = after }) kind x.place pending
-    whole kind same =
-        front_code h.machine k.rest x pending h.half c n after between_held.mode half_held.0 e len
-        ∙ ap (λ (k : Kind). code_front (record h.machine { sets = after }) k x.place pending) same
+  -- it ends a code
+  pub code_ends : (c : Code) (n : ℕ) (after : CodeSets) → codes.front h.machine.sets (h.half ++ x.byte ∷ []) ≡ codes.whole c n after → n ≡ length (h.half ++ x.byte ∷ []) →
+      front h.machine (k.rest ++ x ∷ pending) ≡ code_front (record h.machine { sets = after }) (kind_of c) x.place pending
+  code_ends c n after e len = front_code h.machine k.rest x pending h.half c n after between_held.mode half_held.0 e len
 
-    -- it adds nothing
-    pub code_acts : kind_of c ≡ kinds.AddsNothing → Continues g s o t (reading after []) pending
-    code_acts kind =
-        leads_past g s o t h (x ∷ pending) k (reading after []) pending
-        (holds_half (reading after []) [] no_body between_held.mode between_held.body is refl (nothing_yet after)) (whole _ kind)
+  -- and nothing is held then
+  pub code_over : (h' : Holding) → h'.open_body ≡ None → h'.machine.mode ≡ h.machine.mode → h'.body ≡ h.body → h'.open_run ≡ None → h'.half ≡ [] → IsHeld [] h'
+  code_over h' no_body' mode body is' none = holds_nothing h' no_body' (mode ∙ between_held.mode) (body ∙ between_held.body) is' none
 
-    -- it is an operand outside a run
-    pub code_strays : kind_of c ≡ kinds.Strays → IsRefused g s o t h (refusal faults.Stray x.place)
-    code_strays kind = leads_to_refusal g s o t h (x ∷ pending) k _ (whole _ kind)
-
-    -- a character or a control
-    pub acts : (acting : Code) → kind_of c ≡ kinds.Acts acting →
-        front h.machine (k.rest ++ x ∷ pending) ≡ drawn_front (record h.machine { sets = after }) x.place pending (code_rule h.machine.work acting)
-    acts acting kind = whole (kinds.Acts acting) kind
-
-    -- what is held once it has acted
-    pub still_between : (h' : Holding) → h'.open_body ≡ None → h'.machine.mode ≡ h.machine.mode → h'.body ≡ h.body → h'.open_run ≡ None → h'.half ≡ [] → IsHeld [] h'
-    still_between h' no_body' mode body is' none =
-        holds_half h' [] no_body' (mode ∙ between_held.mode) (body ∙ between_held.body) is' (sym none)
-        (ap (codes.front h'.machine.sets) none ∙ nothing_yet h'.machine.sets)
-
-    -- a call
-    pub calls : (name : ℕ) → kind_of c ≡ kinds.Calls name →
-        front h.machine (k.rest ++ x ∷ pending) ≡ shown_front (record h.machine { sets = after }) x.place (body_of h.machine.names name) pending
-    calls name kind = whole (kinds.Calls name) kind
-
-    -- the definition of a macro
-    pub defines : (name : ℕ) (show : Bool) → kind_of c ≡ kinds.Binds name show →
-        front h.machine (k.rest ++ x ∷ pending)
-        ≡ drawn_front (record h.machine { sets = after; mode = in_body name show }) x.place pending (code_rule h.machine.work (code.DefMacro name show))
-    defines name show kind = whole (kinds.Binds name show) kind
-
-  -- an opcode opens a run
-  pub run_opens : (op : Opcode) (n : ℕ) (after : CodeSets) → codes.front h.machine.sets (h.half ++ x.byte ∷ []) ≡ codes.whole (code.Op op) n after →
-      n ≡ length (h.half ++ x.byte ∷ []) →
-      Continues g s o t (record (reading after []) { open_run = Some (record { op = op; place = x.place }); run = [] }) pending
-  run_opens op n after e len =
-      let one = one_byte_opcode h.machine.sets _ op n after e in
-      let none : h.half ≡ [] = nothing_half h.half (omega (arith, len, one.0, length-append h.half (x.byte ∷ []))) in
-      let alone : codes.front after (x.byte ∷ []) ≡ codes.whole (code.Op op) 1 after =
-      sym (ap (λ (bs : List ℕ). codes.front after (bs ++ x.byte ∷ [])) none) ∙ ap (λ (sets : CodeSets). codes.front sets (h.half ++ x.byte ∷ [])) one.1 ∙ e ∙ ap (λ (k : ℕ). codes.whole (code.Op op) k after) one.0 in
+  -- an opcode opens a run, where no code was half read
+  pub run_opens : (op : Opcode) → h.half ≡ [] → codes.front h.machine.sets (x.byte ∷ []) ≡ codes.whole (code.Op op) 1 h.machine.sets →
+      Continues g s o t (record h { half = []; open_run = Some (record { op = op; place = x.place }); run = [] }) pending
+  run_opens op none alone =
       let empty : k.rest ≡ [] = rest_of_nothing k.rest (half_held.0 ∙ none) in
-      let h' : Holding = record (reading after []) { open_run = Some (record { op = op; place = x.place }); run = [] } in
-      leads_shift g s o t h x pending h' k (ap (λ (sets : CodeSets). record h.machine { sets = sets }) one.1)
-      (rw empty (holds_open_run h' (x ∷ []) (record { op = op; place = x.place }) no_body between_held.mode between_held.body refl (opens_run x op after alone) refl))
+      let h' : Holding = record h { half = []; open_run = Some (record { op = op; place = x.place }); run = [] } in
+      leads_shift k h' refl (rw empty (holds_open_run h' (x ∷ []) (record { op = op; place = x.place }) no_body between_held.mode between_held.body refl (opens_run x op h.machine.sets alone) refl))
 
 -- a reader that was fed nothing
 pub begins : {S : Type 0} (g : Ghosts S) (s : S) (budget left : ℕ) → left ≡ budget → g.took s [] s →

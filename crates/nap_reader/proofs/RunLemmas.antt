@@ -10,8 +10,8 @@ use Rattle.nap_reader.specs.declared.fault.Fault.TheVariants as faults
 use Rattle.nap_reader.specs.declared.machine.Machine.{Machine}
 use Rattle.nap_reader.specs.declared.machine.Request.TheVariants as requests
 use Rattle.nap_reader.specs.Carried.{NoCharacters}
-use Rattle.nap_reader.specs.Steps.{Executes, FailsRun}
-use Rattle.nap_reader.proofs.MachineLemmas.{held_is, no_some, own_takes, stop_takes, Drew, LeftBy, asked_is, leaves_from}
+use Rattle.nap_reader.specs.Steps.{Executes, FailsRun, TellsSink, CodeTakes}
+use Rattle.nap_reader.proofs.MachineLemmas.{held_is, no_some, stop_takes, Drew, LeftBy, asked_is, leaves_from, asks_takes, own_tells}
 use Rattle.nap_reader.proofs.OperandLemmas.{as_many_words, more_words, operands_in_front, run_over, same_words}
 use Rattle.nap_reader.proofs.SliceLemmas.{first_of, split_bytes}
 use Rattle.nap_reader.proofs.StepLemmas.{conveys_nothing, stops_run}
@@ -20,7 +20,7 @@ use Rattle.nap_draw.specs.Draws as draws
 use Rattle.nap_reader.specs.declared.machine.codes.CodeOutcome.TheVariants as outcomes
 use Rattle.nap_reader.proofs.CodesLemmas.{StartsRun, open_at, run_opened}
 use Rattle.nap_reader.proofs.LeadsLemmas.{TookMore}
-use Rattle.nap_reader.proofs.TakingLemmas.{leads_behind, stops_behind, takes_behind}
+use Rattle.nap_reader.proofs.TakingLemmas.{leads_behind, stops_behind, takes_behind, takes_then}
 
 -- A stretch of bytes is its bytes in turn.
 
@@ -29,17 +29,16 @@ abbrev pub words : List ℕ → List ℕ
 words bytes = map (λ b. b - 64) bytes
 
 -- operand bytes of an open run join it, whatever comes behind them
-pub words_join : {S : Type 0} (g : Ghosts S) (s : S) (o : Outcome) (t : S) (open_run : OpenRun) (xs pending : List Placed) (h : Holding) → h.open_body ≡ None → h.open_run ≡ Some open_run →
-    Continues g s o t h (xs ++ pending) → All (λ b. is_operand_byte b ≡ true) (bytes_of xs) → length h.run + length xs ≤ run_limit →
-    Continues g s o t (record h { run = h.run ++ words (bytes_of xs) }) pending
-words_join g s o t open_run [] pending h between opened k all few = rw (append-nil h.run) k
-words_join g s o t open_run (x ∷ xs) pending h between opened k all few =
+pub words_join : {S : Type 0} {g : Ghosts S} {s : S} {o : Outcome} {t : S} {h : Holding} {open_run : OpenRun} (xs pending : List Placed) → h.open_body ≡ None → h.open_run ≡ Some open_run → Continues g s o t h (xs ++ pending) →
+    All (λ b. is_operand_byte b ≡ true) (bytes_of xs) → length h.run + length xs ≤ run_limit → Continues g s o t (record h { run = h.run ++ words (bytes_of xs) }) pending
+words_join {h = h} [] pending between opened k all few = rw (append-nil h.run) k
+words_join {g = g} {s = s} {o = o} {t = t} {h = h} (x ∷ xs) pending between opened k all few =
     let b = x.byte in
     let h' : Holding = record h { run = h.run ++ (b - 64) ∷ [] } in
     let one : Continues g s o t h' (xs ++ pending) =
-    word_joins g s o t h open_run between opened x (xs ++ pending) k (All-head (λ b. is_operand_byte b ≡ true) b (bytes_of xs) all) (omega (arith, few)) in
+    word_joins between opened k (All-head (λ b. is_operand_byte b ≡ true) b (bytes_of xs) all) (omega (arith, few)) in
     rw (sym (append_assoc h.run ((b - 64) ∷ []) (words (bytes_of xs))))
-    (words_join g s o t open_run xs pending h' between opened one (All-tail (λ b. is_operand_byte b ≡ true) b (bytes_of xs) all)
+    (words_join {h = h'} xs pending between opened one (All-tail (λ b. is_operand_byte b ≡ true) b (bytes_of xs) all)
     (omega (arith, few, length-append h.run ((b - 64) ∷ []))))
 
 -- Operands of an open run.
@@ -68,14 +67,14 @@ module _ {S : Type 0} (g : Ghosts S) (t : S) {h : Holding} {open_run : OpenRun} 
     holding = joined;
     left = refl;
     run = λ n all before. before;
-    passes = λ s o pending c. words_join g s o t open_run (take k all) pending h run.between run.is c room.operands (omega (arith, room.short, length-take-le k all room.few));
+    passes = λ s o pending c. words_join (take k all) pending run.between run.is c room.operands (omega (arith, room.short, length-take-le k all room.few));
     none = λ empty. (refl, ap (λ (ws : List ℕ). record h { run = ws }) (ap (λ (xs : List Placed). h.run ++ words (bytes_of xs)) empty ∙ append-nil h.run));
   }
 
   -- They wait.
-  pub operands_wait : (next : List ℕ) → LeadsOn g t h t joined (take k all) next
+  operands_wait : {v : S} {held : Holding} (next : List ℕ) → v ≡ t → held ≡ joined → LeadsOn g t h v held (take k all) next
   unfolding joins
-  operands_wait next = record { conveys = joins; acted = as_it_was refl refl; typed = λ set rested chars. (refl, refl) }
+  operands_wait next sink same = record { conveys = joins; acted = as_it_was sink same; typed = λ set rested chars. (sink, same) }
 
   -- The run acts ahead of a byte that is no operand.
   pub operands_act : {next : List ℕ} → IsOver next → {v : S} {h' : Holding} → ActsRun g t joined v h' → LeadsOn g t h v h' (take k all) next
@@ -91,7 +90,7 @@ module _ {S : Type 0} (g : Ghosts S) (t : S) {h : Holding} {open_run : OpenRun} 
   unfolding joins
   operands_stop over {v} {r} stops many =
       let (x, ys, left, byte, others) = first_of (drop k all) over.byte over.rest over.is in
-      at_byte x ys left joins (stops_run g t joined x v r (ap is_operand_byte byte ∙ over.other) stops)
+      at_byte x ys left joins (stops_run (ap is_operand_byte byte ∙ over.other) stops)
 
   -- There are more than it has room for.
   pub operands_long : (x : Placed) (zs : List Placed) → drop k all ≡ x ∷ zs → is_operand_byte x.byte ≡ true → length h.run + k ≡ run_limit → (many : ℕ) → Stops g t h all many k t (refusal faults.LongRun open_run.place)
@@ -99,7 +98,7 @@ module _ {S : Type 0} (g : Ghosts S) (t : S) {h : Holding} {open_run : OpenRun} 
   operands_long x zs left word full many =
       at_byte x zs left joins (record {
         own = λ own s o pending c.
-            word_too_many g s o t joined open_run run.between run.is x pending c word
+            word_too_many run.between run.is c word
             (omega (arith, full, length-append h.run (words (bytes_of (take k all))), length-map (bytes_of (take k all)) (λ (b : ℕ). b - 64), length-map (take k all) (λ (x : Placed). x.byte), length-take-le k all room.few));
         broke = λ broke. absurd (broke refl);
       })
@@ -155,7 +154,7 @@ module _ {S : Type 0} {g : Ghosts S} (old : Machine S g) (open_run : OpenRun) (i
 pub run_too_long : {S : Type 0} {g : Ghosts S} {old new : Machine S g} {open_run : OpenRun} {xs : List Placed} (ended : Bool) (most : ℕ) → old.open_run ≡ Some open_run → most < operands_in xs → length old.run.items + most ≡ run_limit →
     new.refusal ≡ Some (refusal faults.LongRun open_run.place) → new.sink ≡ old.sink → Takes old new xs ended most requests.Stop
 run_too_long {g = g} {old = old} {open_run = open_run} {xs = xs} ended most is less full refused same =
-    own_takes refused same (λ own. cc) (omega (arith, less, within xs []))
+    stop_takes refused same (omega (arith, less, within xs [])) (own_tells g old.sink (λ own. cc))
     (λ h behind between over.
     let (x, zs, left, word) = next_byte xs behind most less in
     operands_long g old.sink (is_open old open_run is h between) (has_room old open_run is h xs behind most (omega (arith, less)) (omega (arith, full))) x zs left word (omega (arith, full, counted old open_run is h)) (length xs))
@@ -164,7 +163,7 @@ run_too_long {g = g} {old = old} {open_run = open_run} {xs = xs} ended most is l
 pub run_lacks : {S : Type 0} {g : Ghosts S} {old new : Machine S g} {open_run : OpenRun} {xs : List Placed} (ended : Bool) → old.open_run ≡ Some open_run → 0 < operands_in xs → length old.run.items + operands_in xs ≤ run_limit →
     new.refusal ≡ Some (refusal faults.Memory (place_at xs 0)) → new.sink ≡ old.sink → Takes old new xs ended 0 requests.Stop
 run_lacks {g = g} {old = old} {open_run = open_run} {xs = xs} ended is some short refused same =
-    own_takes refused same (λ own. cc) (omega arith)
+    stop_takes refused same (omega arith) (own_tells g old.sink (λ own. cc))
     (λ h behind between over.
     let (x, zs, left, word) = next_byte xs behind 0 some in
     let here : x.place ≡ place_at xs 0 = sym (ap (λ (ys : List Placed). place_at ys 0) left) ∙ place_at-append xs behind 0 (omega (arith, some, within xs behind)) in
@@ -218,9 +217,7 @@ module _ {S : Type 0} {g : Ghosts S} {old mid : Machine S g} {open_run : OpenRun
     goes = λ some. inl (omega (arith, some, all));
     closed = λ nothing less. absurd (omega (arith, less, all));
     by = λ h behind between over.
-        subst (λ (v : S). LeadsOn g old.sink (with_machine h old) v (with_machine h mid) (take (operands_in xs) (xs ++ behind)) (bytes_of (drop (operands_in xs) (xs ++ behind)))) (sym j.sink)
-        (subst (λ (h' : Holding). LeadsOn g old.sink (with_machine h old) old.sink h' (take (operands_in xs) (xs ++ behind)) (bytes_of (drop (operands_in xs) (xs ++ behind)))) (sym (held_joined h between behind))
-        (operands_wait g old.sink (open_in h between) (room_in h behind) (bytes_of (drop (operands_in xs) (xs ++ behind)))));
+        operands_wait g old.sink (open_in h between) (room_in h behind) (bytes_of (drop (operands_in xs) (xs ++ behind))) j.sink (held_joined h between behind);
   }
 
   -- The byte behind them is known, and the opcode acts.
@@ -232,29 +229,16 @@ module _ {S : Type 0} {g : Ghosts S} {old mid : Machine S g} {open_run : OpenRun
       (subst (λ (t : S). ActsRun g t (with_machine h mid) new.sink (asked (with_machine h new) (asks_if clears))) j.sink (acted h between)))
 
   pub run_acts : (operands_in xs ≡ length xs → ended ≡ true) → {new : Machine S g} (clears : Bool) → Executes mid new clears → Takes old new xs ended (operands_in xs) (asks_if clears)
-  run_acts ends {new} true executes = record {
-    within = few;
-    leaves = record { live = executes.0.live; clear = λ clear. executes.0.clear (ap g.failed j.sink ∙ clear) };
-    goes = λ some. inr (inr (executes.1, λ none. no_some (sym j.is ∙ none)));
-    closed = λ nothing less. executes.1;
-    by = leads ends new true executes;
-  }
-  run_acts ends {new} false executes = record {
-    within = few;
-    leaves = record { live = executes.0.live; clear = λ clear. executes.0.clear (ap g.failed j.sink ∙ clear) };
-    goes = λ some. inr (inr (executes.1, λ none. no_some (sym j.is ∙ none)));
-    closed = λ nothing less. executes.1;
-    by = leads ends new false executes;
-  }
+  run_acts ends {new} clears executes =
+      asks_takes clears (record { live = executes.0.live; clear = λ clear. executes.0.clear (ap g.failed j.sink ∙ clear) }) executes.1 few (λ some. inr (inr (executes.1, λ none. no_some (sym j.is ∙ none)))) (leads ends new clears executes)
 
   -- It is refused, or breaks.
   pub run_stops : (operands_in xs ≡ length xs → ended ≡ true) → {failed new : Machine S g} {r : Refusal} → FailsRun mid failed r → Refuses failed new r → Takes old new xs ended (operands_in xs) requests.Stop
-  run_stops ends {failed} {new} {r} (stopped, fails, kept) refuses =
-      stop_takes refuses.is few (λ is. ap g.failed refuses.sink ∙ fails is) (λ works fails. kept (ap g.failed j.sink ∙ works) (sym (ap g.failed refuses.sink) ∙ fails))
+  run_stops ends {failed} {new} {r} (stopped, tells) refuses =
+      stop_takes refuses.is refuses.sink few (tells.0, λ works fails. tells.1 (ap g.failed j.sink ∙ works) fails)
       (λ h behind between over.
-      subst (λ (v : S). Stops g old.sink (with_machine h old) (xs ++ behind) (length xs) (operands_in xs) v r) (sym refuses.sink)
-      (operands_stop g old.sink (open_in h between) (room_in h behind) (over_behind xs behind (λ all. over (ends all)))
-      (subst (λ (h' : Holding). StopsRun g old.sink h' failed.sink r) (held_joined h between behind) (subst (λ (t : S). StopsRun g t (with_machine h mid) failed.sink r) j.sink (stopped h between))) (length xs)))
+      operands_stop g old.sink (open_in h between) (room_in h behind) (over_behind xs behind (λ all. over (ends all)))
+      (subst (λ (h' : Holding). StopsRun g old.sink h' failed.sink r) (held_joined h between behind) (subst (λ (t : S). StopsRun g t (with_machine h mid) failed.sink r) j.sink (stopped h between))) (length xs))
 
 -- What a machine makes of an opcode, where no run is open.
 
@@ -323,8 +307,7 @@ module _ {S : Type 0} {g : Ghosts S} {old : Machine S g} {op : Opcode} {bytes : 
         let held : asked (with_machine h new) (asks_if drawn.clears) ≡ h' =
         ap (λ (held : Holding). asked held (asks_if drawn.clears)) (held_is h new drawn.work old.lexer None left.work_is left.lexer_is left.closed)
         ∙ asked_is (record (with_machine h old) { open_run = None; run = [] }) drawn ∙ ap (λ (half : List ℕ). record h' { half = half }) r.at.is.rested in
-        leads_behind (x ∷ all) 1 more (run_opened g old.sink start (bytes_of all)) (length run)
-        (subst (λ (held : Holding). LeadsOn g old.sink begun new.sink held (take (length run) all) (bytes_of (drop (length run) all))) (sym held)
+        leads_behind (x ∷ all) 1 more (run_opened start (bytes_of all) refl refl) (length run)
         (operands_act g old.sink begun_open room (subst IsOver (sym split.1) whole.over) (record {
           open_run = record { op = op; place = x.place };
           between = comes.between;
@@ -333,13 +316,13 @@ module _ {S : Type 0} {g : Ghosts S} {old : Machine S g} {op : Opcode} {bytes : 
           by = ap (rule old.work op) (sym run_words) ∙ drew.is;
           took = drew.took;
           clear = drew.clear;
-          holds = refl;
-        })))
+          holds = held;
+        }))
 
     stops : (u : S) (fault : DrawFault) → DrawsBy g.took g.broke g.failed (rule old.work op (carried run)) old.sink u fault (draws.cause_of fault) → TookMore g →
         Stops g old.sink (with_machine h old) (x ∷ all) (length (x ∷ ys)) (1 + length run) u (refusal (draw_fault fault) x.place)
     stops u fault drew more =
-        stops_behind (x ∷ all) 1 more (run_opened g old.sink start (bytes_of all)) (length (x ∷ ys)) (length run)
+        stops_behind (x ∷ all) 1 more (run_opened start (bytes_of all) refl refl) (length (x ∷ ys)) (length run)
         (operands_stop g old.sink begun_open room (subst IsOver (sym split.1) whole.over) (record {
           open_run = record { op = op; place = x.place };
           between = comes.between;
@@ -349,33 +332,39 @@ module _ {S : Type 0} {g : Ghosts S} {old : Machine S g} {op : Opcode} {bytes : 
           drew = subst (λ (words : List ℕ). DrawsBy g.took g.broke g.failed (rule old.work op words) old.sink u fault (draws.cause_of fault)) run_words drew;
         }) (length (x ∷ ys) - 1))
 
+  -- It is the first of some bytes, which others are behind.
+  first_is : (P : List Placed → Type 0) → ((x : Placed) (ys : List Placed) → ((h : Holding) (behind : List Placed) → h.open_body ≡ None → (ended ≡ true → IsOver (bytes_of behind)) → Comes h x ys behind) → length run + 1 ≤ length (x ∷ ys) → P (x ∷ ys)) →
+      (xs : List Placed) → bytes_of xs ≡ bytes → P xs
+  first_is P takes xs is =
+      let (x, ys, all, byte, rest) = first_of xs r.byte r.rest (is ∙ r.bytes_is) in
+      subst P (sym all)
+      (takes x ys (λ h behind between over. record { between = between; byte = byte; rest = rest; over = over }) (omega (arith, run_within, ap length is, length-map xs (λ (x : Placed). x.byte), ap (λ (zs : List Placed). length zs) all)))
+
   -- It acts.
   pub opcode_acts : {new : Machine S g} (drawn : Drawn) → LeftBy old new drawn.work old.lexer → Drew g (rule old.work op (carried run)) old.sink drawn new.sink → IsLive new → TookMore g → Codes old new bytes ended (outcomes.Acted (length run + 1) drawn.clears)
   opcode_acts {new} drawn left drew live more = record {
     within = (omega arith, run_within);
-    leaves = record { live = live; clear = drew.clear };
     closed = left.closed ∙ sym left.before;
-    by = λ h xs behind between is over.
-        let (x, ys, all, byte, rest) = first_of xs r.byte r.rest (is ∙ r.bytes_is) in
-        let comes : Comes h x ys behind = record { between = between; byte = byte; rest = rest; over = over } in
-        subst (λ (xs : List Placed). LeadsOn g old.sink (with_machine h old) new.sink (asked (with_machine h new) (asks_if drawn.clears)) (take (length run + 1) (xs ++ behind)) (bytes_of (drop (length run + 1) (xs ++ behind)))) (sym all)
-        (subst (λ (n : ℕ). LeadsOn g old.sink (with_machine h old) new.sink (asked (with_machine h new) (asks_if drawn.clears)) (take n (x ∷ (ys ++ behind))) (bytes_of (drop n (x ∷ (ys ++ behind))))) (let e : 1 + length run ≡ length run + 1 = omega arith in e)
-        (whole_leads comes new drawn left drew more));
+    by = first_is (λ xs. Takes old new xs ended (length run + 1) (asks_if drawn.clears))
+        (λ x ys comes few.
+        asks_takes drawn.clears (record { live = live; clear = drew.clear }) left.closed few (λ some. inl (omega arith))
+        (λ h behind between over.
+        subst (λ (n : ℕ). LeadsOn g old.sink (with_machine h old) new.sink (asked (with_machine h new) (asks_if drawn.clears)) (take n (x ∷ (ys ++ behind))) (bytes_of (drop n (x ∷ (ys ++ behind))))) (let e : 1 + length run ≡ length run + 1 = omega arith in e)
+        (whole_leads (comes h behind between over) new drawn left drew more)));
   }
 
   -- It is refused, or breaks.
   pub opcode_stops : {new : Machine S g} (fault : DrawFault) → new.open_run ≡ old.open_run → DrawsBy g.took g.broke g.failed (rule old.work op (carried run)) old.sink new.sink fault (draws.cause_of fault) →
-      (draw_fault fault ≡ faults.Sink → g.failed new.sink ≡ true) × (g.failed old.sink ≡ false → g.failed new.sink ≡ true → draw_fault fault ≡ faults.Sink) → TookMore g → Codes old new bytes ended (outcomes.Stopped (length run + 1) (draw_fault fault) 0)
+      TellsSink g old.sink new.sink (draw_fault fault) → TookMore g → Codes old new bytes ended (outcomes.Stopped (length run + 1) (draw_fault fault) 0)
   opcode_stops {new} fault closed drew told more = record {
     within = (run_within, omega (arith, run_within));
-    leaves = told;
     closed = closed;
-    by = λ h xs behind between is over.
-        let (x, ys, all, byte, rest) = first_of xs r.byte r.rest (is ∙ r.bytes_is) in
-        let comes : Comes h x ys behind = record { between = between; byte = byte; rest = rest; over = over } in
-        subst (λ (xs : List Placed). Stops g old.sink (with_machine h old) (xs ++ behind) (length xs) (length run + 1) new.sink (refusal (draw_fault fault) (place_at (xs ++ behind) 0))) (sym all)
-        (subst (λ (n : ℕ). Stops g old.sink (with_machine h old) (x ∷ (ys ++ behind)) (length (x ∷ ys)) n new.sink (refusal (draw_fault fault) x.place)) (let e : 1 + length run ≡ length run + 1 = omega arith in e)
-        (stops comes new.sink fault drew more));
+    by = first_is (λ xs. CodeTakes old new xs ended (outcomes.Stopped (length run + 1) (draw_fault fault) 0))
+        (λ x ys comes few kept refuses.
+        stop_takes refuses.is refuses.sink few told
+        (λ h behind between over.
+        subst (λ (n : ℕ). Stops g old.sink (with_machine h old) (x ∷ (ys ++ behind)) (length (x ∷ ys)) n new.sink (refusal (draw_fault fault) x.place)) (let e : 1 + length run ≡ length run + 1 = omega arith in e)
+        (stops (comes h behind between over) new.sink fault drew more)));
   }
 
 -- Its run opens.
@@ -396,20 +385,14 @@ module _ {S : Type 0} {g : Ghosts S} {old mid : Machine S g} {x : Placed} {op : 
       held_is h mid old.work old.lexer (Some open_run) o.work o.lexer o.run
       ∙ ap (λ (half : List ℕ). record (with_machine h old) { half = half; open_run = Some open_run; run = carried mid.run.items }) o.at.is.rested
       ∙ ap (λ (run : List ℕ). record (with_machine h old) { half = []; open_run = Some open_run; run = carried run }) o.items in
-      subst (λ (v : S). LeadsOn g old.sink (with_machine h old) v (with_machine h mid) (x ∷ []) next) (sym o.sink)
-      (subst (λ (h' : Holding). LeadsOn g old.sink (with_machine h old) old.sink h' (x ∷ []) next) (sym held)
-      (run_opened g old.sink (starts o.at h between) next))
+      run_opened (starts o.at h between) next o.sink held
 
 -- What the machine takes behind it is taken with it.
-pub open_takes : {S : Type 0} {g : Ghosts S} {old mid new : Machine S g} {x : Placed} {op : Opcode} {xs : List Placed} {ended : Bool} {count : ℕ} {request : Request} → Takes mid new xs ended count request → OpensRun old mid x op → TookMore g →
+pub open_takes : {S : Type 0} {g : Ghosts S} {old mid new : Machine S g} {x : Placed} {op : Opcode} {xs : List Placed} {ended : Bool} {count : ℕ} {request : Request} → IsLive mid → Takes mid new xs ended count request → OpensRun old mid x op → TookMore g →
     Takes old new (x ∷ xs) ended (1 + count) request
-open_takes {g = g} {old = old} {mid = mid} {new = new} {x = x} {xs = xs} {count = count} {request = request} takes o more = record {
-  within = omega (arith, takes.within);
-  leaves = leaves_from old mid new request (λ clear. ap g.failed o.sink ∙ clear) takes.leaves;
-  goes = λ some. inl (omega arith);
-  closed = λ nothing less. takes.closed nothing (omega (arith, less));
-  by = λ h behind between over.
-      takes_behind (x ∷ (xs ++ behind)) 1 more (opened o h between (bytes_of (xs ++ behind))) new h request (length (x ∷ xs)) count
-      (subst (λ (many : ℕ). TakesBy g mid.sink (with_machine h mid) new.sink (with_machine h new) (xs ++ behind) many count new.refusal request) (let e : length xs ≡ length (x ∷ xs) - 1 = omega arith in e)
-      (takes.by h behind between over));
-}
+open_takes {g = g} {old = old} {mid = mid} {x = x} {xs = xs} {ended = ended} {count = count} {request = request} live takes o more =
+    takes_then {xs = x ∷ xs} {count = 1} (record {
+      within = omega arith;
+      works = record { live = live; clear = λ clear. ap g.failed o.sink ∙ clear };
+      by = λ h behind between over. opened o h between (bytes_of (xs ++ behind));
+    }) more (inl (omega arith)) takes

@@ -23,24 +23,13 @@ pub stands_by : {S : Type 0} {g : Ghosts S} (reader : Reader S g) (s : S) (p : L
     Continues g s (begun (budget_of reader) p) (sink_of reader) (holding_of reader) [] → Stands reader s p
 stands_by {S} {g} reader s p live fed k = record {
   answers = subst (Answers g s (budget_of reader) p (sink_of reader) (left_of reader)) (sym live) (record {
-    refusal = leads_unrefused g s (begun (budget_of reader) p) (sink_of reader) (holding_of reader) k;
-    taken = leads_taken g s (begun (budget_of reader) p) (sink_of reader) (holding_of reader) k;
-    left = ap (λ (m : Machine). m.left) (leads_machine g s (begun (budget_of reader) p) (sink_of reader) (holding_of reader) k);
+    refusal = leads_unrefused k;
+    taken = leads_taken k;
+    left = ap (λ (m : Machine). m.left) (leads_machine k);
   });
   fed = λ _. fed;
   continues = λ _. k;
 }
-
--- nothing was taken
-abbrev pub TookNone : {S : Type 0} → Ghosts S → Type 0
-TookNone {S} g = (s : S) → g.took s [] s
-
--- what a sink tells of what it took
-pub record Lawful {S : Type 0} (g : Ghosts S) : Type 0 where
-  pub more : TookMore g
-  pub broken : TookBroke g
-  pub wants : WantsMore g
-  pub none : TookNone g
 
 -- a refusal stands for all that comes after it
 known_stays : {S : Type 0} (g : Ghosts S) (s : S) (budget : ℕ) (p q : List ℕ) (t : S) (n : ℕ) (r : Refusal) →

@@ -1,7 +1,7 @@
 use Rattle.std.proofs.Common.{length, arith, length-append, ℕ, ◌≡◌, List, [], ◌∷◌, ◌++◌, All, get_or, false, Some, None, refl, ap, sym, ◌∙◌, subst, append_assoc, append-nil}
 use Rattle.std.proofs.lemmas.List.Elements.{All-cons, All-head, All-nil, All-tail}
 use Rattle.nap_reader.specs.Below.{CodeFault, IsGraphic, Ghosts, DrawFault, stream}
-use Rattle.nap_reader.proofs.Common.{Refusal, code_fault, draw_fault, Placed, Outcome, bytes_of, is_operand, is_operand_byte, cause_of, Holding, Continues, ContinuesPast, IsRefused, RunAt, Acted, ActsRun, Breaks, Conveys, LeadsOn, StaysInText, StopsByte, StopsRun, StopsText, ahead, as_it_was, at_word, bound, in_code}
+use Rattle.nap_reader.proofs.Common.{Refusal, after_drawing, code_fault, draw_fault, Placed, Outcome, bytes_of, is_operand, is_operand_byte, cause_of, Holding, Continues, ContinuesPast, IsRefused, RunAt, Acted, ActsRun, Breaks, Conveys, LeadsOn, StaysInText, StopsByte, StopsRun, StopsText, ahead, as_it_was, at_word, bound, in_code}
 use Rattle.nap_codes.specs.declared.code.Code.TheVariants as code
 use Rattle.nap_codes.specs.declared.code.CodeFault.TheVariants as code_faults
 use Rattle.nap_codes.specs.Front as codes
@@ -12,10 +12,10 @@ use Rattle.nap_reader.specs.Stream as model
 use Rattle.nap_reader.specs.Stream.{front}
 use Rattle.nap_reader.specs.Steps.{BreaksCode, behind_run, in_body, in_run}
 use Rattle.nap_reader.proofs.PartLemmas.{some_in_body}
-use Rattle.nap_reader.proofs.LeadsLemmas.{TookMore}
+use Rattle.nap_reader.proofs.LeadsLemmas.{TookMore, leads_on, leads_to_fault}
 use Rattle.nap_reader.proofs.MachineLemmas.{no_some}
 use Rattle.nap_reader.proofs.OpenBodyLemmas.{body_bound, held_body, same_done}
-use Rattle.nap_reader.proofs.ReadingLemmas.{run_acts, run_refused}
+use Rattle.nap_reader.proofs.ReadingLemmas.{none_held, over}
 
 -- What a reader does with one byte, by what stands at the front then.
 
@@ -30,27 +30,27 @@ code_fault_own code_faults.EighthBit = refl
 code_fault_own _ = refl
 
 -- Where no run is open, nor a body, only a code breaks.
-pub breaks_code : {S : Type 0} (g : Ghosts S) (t : S) (h : Holding) (x : Placed) (u : S) (r : Refusal) → h.open_body ≡ None → h.open_run ≡ None → Breaks g t h x u r →
-    BreaksCode g t h x u r
-breaks_code g t h x u r between closed (at_word lacks) = let bad : Some lacks.open_run ≡ None = sym lacks.is ∙ closed in cc
-breaks_code g t h x u r between closed (in_run other stops) = let bad : Some stops.open_run ≡ None = sym stops.is ∙ closed in cc
-breaks_code g t h x u r between closed (in_code none code) = code
-breaks_code g t h x u r between closed (behind_run v h' other acts code) = let bad : Some acts.open_run ≡ None = sym acts.is ∙ closed in cc
-breaks_code g t h x u r between closed (in_body body) = let bad : Some body.body ≡ None = sym body.is ∙ between in cc
+pub breaks_code : {S : Type 0} {g : Ghosts S} {t : S} {h : Holding} {x : Placed} {u : S} {r : Refusal} → h.open_body ≡ None → h.open_run ≡ None → Breaks g t h x u r → BreaksCode g t h x u r
+breaks_code between closed (at_word lacks) = let bad : Some lacks.open_run ≡ None = sym lacks.is ∙ closed in cc
+breaks_code between closed (in_run other stops) = let bad : Some stops.open_run ≡ None = sym stops.is ∙ closed in cc
+breaks_code between closed (in_code none code) = code
+breaks_code between closed (behind_run v h' other acts code) = let bad : Some acts.open_run ≡ None = sym acts.is ∙ closed in cc
+breaks_code between closed (in_body body) = let bad : Some body.body ≡ None = sym body.is ∙ between in cc
 
 -- The opcode of the open run acts, and the byte that ended it is still to be read.
-pub passes_run : {S : Type 0} (g : Ghosts S) (t : S) (h : Holding) (u : S) (h' : Holding) → TookMore g → (acts : ActsRun g t h u h') → (x : Placed) → is_operand x ≡ false →
-    (s : S) (o : Outcome) (pending : List Placed) → Continues g s o t h (x ∷ pending) → Continues g s o u h' (x ∷ pending)
-passes_run g t h u h' more acts x other s o pending k =
+pub passes_run : {S : Type 0} {g : Ghosts S} {t : S} {h : Holding} {u : S} {h' : Holding} {x : Placed} {s : S} {o : Outcome} {pending : List Placed} → TookMore g → (acts : ActsRun g t h u h') → is_operand x ≡ false →
+    Continues g s o t h (x ∷ pending) → Continues g s o u h' (x ∷ pending)
+passes_run {g = g} {h = h} {u = u} {x = x} {s = s} {o = o} {pending = pending} more acts other k =
+    let m = after_drawing h.machine acts.drawn in
     subst (λ (h : Holding). Continues g s o u h (x ∷ pending)) (sym acts.holds)
-    (run_acts g s o t h acts.open_run acts.between acts.is x pending k u acts.drawn more other acts.by acts.took acts.clear)
+    (leads_on k u acts.drawn.entries (record h { machine = m; open_run = None; run = [] }) (x ∷ pending) more (none_held acts.between acts.is k m refl) (over acts.between acts.is k other _ acts.by) acts.took acts.clear)
 
 -- It is refused, or breaks.
-pub stops_run : {S : Type 0} (g : Ghosts S) (t : S) (h : Holding) (x : Placed) (u : S) (r : Refusal) → is_operand x ≡ false → StopsRun g t h u r → StopsByte g t h x u r
-stops_run g t h x u r other stops = record {
+pub stops_run : {S : Type 0} {g : Ghosts S} {t : S} {h : Holding} {x : Placed} {u : S} {r : Refusal} → is_operand x ≡ false → StopsRun g t h u r → StopsByte g t h x u r
+stops_run {g = g} {h = h} {x = x} {u = u} other stops = record {
   own = λ own s o pending k.
       subst (IsRefused g s o u h) (sym stops.why)
-      (run_refused g s o t h stops.open_run stops.between stops.is x pending k u other stops.fault stops.drew (ap (λ (r : Refusal). cause_of r.fault) (sym stops.why) ∙ own));
+      (leads_to_fault k u h.machine stops.open_run.place (x ∷ pending) _ (over stops.between stops.is k other _ refl) stops.fault stops.drew (ap (λ (r : Refusal). cause_of r.fault) (sym stops.why) ∙ own));
   broke = λ broke. in_run other stops;
 }
 
@@ -59,7 +59,7 @@ module _ {S : Type 0} (g : Ghosts S) (t : S) (h : Holding) (u : S) (h' : Holding
   pub passes_acted : Acted g t h u h' next → (s : S) (o : Outcome) (pending : List Placed) → Continues g s o t h (x ∷ pending) → Continues g s o u h' (x ∷ pending)
   passes_acted (as_it_was sink holding) s o pending k =
       subst (λ (t : S). Continues g s o t h' (x ∷ pending)) (sym sink) (subst (λ (h : Holding). Continues g s o t h (x ∷ pending)) (sym holding) k)
-  passes_acted (ahead b bs is other acts) s o pending k = passes_run g t h u h' more acts x (ap is_operand_byte (first b bs is) ∙ other) s o pending k
+  passes_acted (ahead b bs is other acts) s o pending k = passes_run more acts (ap is_operand_byte (first b bs is) ∙ other) k
   passes_acted (bound b bs is ends sink binds) s o pending k =
       subst (λ (t : S). Continues g s o t h' (x ∷ pending)) (sym sink)
       (subst (λ (held : Holding). Continues g s o t held (x ∷ pending)) (sym (binds.holds (held_body binds.is k).at.half))
@@ -71,18 +71,18 @@ module _ {S : Type 0} (g : Ghosts S) (t : S) (h : Holding) (u : S) (h' : Holding
       let x_other = ap is_operand_byte (first b bs is) ∙ other in
       record {
         own = λ own s o pending k.
-            let there = stops.own own s o pending (passes_run g t h u h' more acts x x_other s o pending k) in
+            let there = stops.own own s o pending (passes_run more acts x_other k) in
             (there.0, there.1, there.2 ∙ ap (λ (h : Holding). h.machine.left) acts.holds);
         broke = λ broke.
             behind_run u h' x_other acts
-            (breaks_code g u h' x v r (ap (λ (h : Holding). h.open_body) acts.holds ∙ acts.between) (ap (λ (h : Holding). h.open_run) acts.holds) (stops.broke broke));
+            (breaks_code (ap (λ (h : Holding). h.open_body) acts.holds ∙ acts.between) (ap (λ (h : Holding). h.open_run) acts.holds) (stops.broke broke));
       }
   stops_acted (bound b bs is ends sink binds) v r stops = record {
     own = λ own s o pending k.
         let there = stops.own own s o pending (passes_acted (bound b bs is ends sink binds) s o pending k) in
         (there.0, there.1, there.2 ∙ binds.left);
     broke = λ broke.
-        let code = breaks_code g u h' x v r binds.between binds.closed (stops.broke broke) in
+        let code = breaks_code binds.between binds.closed (stops.broke broke) in
         in_body (record {
           body = binds.body;
           is = binds.is;
@@ -96,21 +96,21 @@ module _ {S : Type 0} (g : Ghosts S) (t : S) (h : Holding) (u : S) (h' : Holding
                 done = same_done binds.is k.continues binds.held x_ends binds.hidden ∙ k.done;
               } in
               let here : BreaksCode g t after x v r = subst (λ (w : S). BreaksCode g w after x v r) sink (subst (λ (held : Holding). BreaksCode g u held x v r) holds code) in
-              some_in_body g s known o v after (cause_of r.fault) (here.part s known o past);
+              some_in_body (here.part s known o past);
         });
   }
 
 -- as much is left to charge
-pub left_acted : {S : Type 0} (g : Ghosts S) (t : S) (h : Holding) (u : S) (h' : Holding) (next : List ℕ) → Acted g t h u h' next → h'.machine.left ≡ h.machine.left
-left_acted g t h u h' next (as_it_was sink holding) = ap (λ (h : Holding). h.machine.left) holding
-left_acted g t h u h' next (ahead b bs is other acts) = ap (λ (h : Holding). h.machine.left) acts.holds
-left_acted g t h u h' next (bound b bs is ends sink binds) = binds.left
+pub left_acted : {S : Type 0} {g : Ghosts S} {t : S} {h : Holding} {u : S} {h' : Holding} {next : List ℕ} → Acted g t h u h' next → h'.machine.left ≡ h.machine.left
+left_acted (as_it_was sink holding) = ap (λ (h : Holding). h.machine.left) holding
+left_acted (ahead b bs is other acts) = ap (λ (h : Holding). h.machine.left) acts.holds
+left_acted (bound b bs is ends sink binds) = binds.left
 
 -- the run that is open is where it was
-pub run_acted : {S : Type 0} (g : Ghosts S) (t : S) (h : Holding) (u : S) (h' : Holding) (next : List ℕ) (n : ℕ) → Acted g t h u h' next → RunAt n h.open_run → RunAt n h'.open_run
-run_acted g t h u h' next n (as_it_was sink holding) run = subst (λ (h : Holding). RunAt n h.open_run) (sym holding) run
-run_acted g t h u h' next n (ahead b bs is other acts) run = subst (λ (h : Holding). RunAt n h.open_run) (sym acts.holds) tt
-run_acted g t h u h' next n (bound b bs is ends sink binds) run = subst (RunAt n) (sym binds.closed) tt
+pub run_acted : {S : Type 0} {g : Ghosts S} {t : S} {h : Holding} {u : S} {h' : Holding} {next : List ℕ} (n : ℕ) → Acted g t h u h' next → RunAt n h.open_run → RunAt n h'.open_run
+run_acted n (as_it_was sink holding) run = subst (λ (h : Holding). RunAt n h.open_run) (sym holding) run
+run_acted n (ahead b bs is other acts) run = subst (λ (h : Holding). RunAt n h.open_run) (sym acts.holds) tt
+run_acted n (bound b bs is ends sink binds) run = subst (RunAt n) (sym binds.closed) tt
 
 -- One after another.
 
@@ -118,8 +118,8 @@ run_acted g t h u h' next n (bound b bs is ends sink binds) run = subst (RunAt n
 abbrev pub conveys_nothing : {S : Type 0} (g : Ghosts S) (t : S) (h : Holding) → Conveys g t h []
 conveys_nothing g t h = record { sink = t; holding = h; left = refl; run = λ n all before. before; passes = λ s o pending k. k; none = λ _. (refl, refl) }
 
-pub leads_nowhere : {S : Type 0} (g : Ghosts S) (t : S) (h : Holding) (next : List ℕ) → LeadsOn g t h t h [] next
-leads_nowhere g t h next = record { conveys = conveys_nothing g t h; acted = as_it_was refl refl; typed = λ set rested chars. (refl, refl) }
+pub leads_nowhere : {S : Type 0} {g : Ghosts S} {t v : S} {h held : Holding} (next : List ℕ) → v ≡ t → held ≡ h → LeadsOn g t h v held [] next
+leads_nowhere {g = g} {t = t} {h = h} next sink same = record { conveys = conveys_nothing g t h; acted = as_it_was sink same; typed = λ set rested chars. (sink, same) }
 
 abbrev pub IsAt : ℕ → Placed → Type 0
 IsAt n x = x.place ≡ n
@@ -134,16 +134,16 @@ all_rest n [] ys all = all
 all_rest n (x ∷ xs) ys all = all_rest n xs ys (All-tail (IsAt n) x (xs ++ ys) all)
 
 -- An opcode acts ahead of a byte once, or a body is bound.
-pub acted_then : {S : Type 0} (g : Ghosts S) (t : S) (h : Holding) (u : S) (h' : Holding) (v : S) (h'' : Holding) (next : List ℕ) → Acted g t h u h' next → Acted g u h' v h'' next → Acted g t h v h'' next
-acted_then {S = S} g t h u h' v h'' next (as_it_was sink holding) then = subst (λ (held : Holding). Acted g t held v h'' next) holding (subst (λ (w : S). Acted g w h' v h'' next) sink then)
-acted_then {S = S} g t h u h' v h'' next first (as_it_was sink holding) = subst (λ (held : Holding). Acted g t h v held next) (sym holding) (subst (λ (w : S). Acted g t h w h' next) (sym sink) first)
-acted_then {S = S} g t h u h' v h'' next (ahead b bs is other acts) (ahead c cs is' other' acts') =
+pub acted_then : {S : Type 0} {g : Ghosts S} {t : S} {h : Holding} {u : S} {h' : Holding} {v : S} {h'' : Holding} {next : List ℕ} → Acted g t h u h' next → Acted g u h' v h'' next → Acted g t h v h'' next
+acted_then {S = S} {g = g} {t = t} {h' = h'} {v = v} {h'' = h''} {next = next} (as_it_was sink holding) then = subst (λ (held : Holding). Acted g t held v h'' next) holding (subst (λ (w : S). Acted g w h' v h'' next) sink then)
+acted_then {S = S} {g = g} {t = t} {h = h} {h' = h'} {v = v} {next = next} first (as_it_was sink holding) = subst (λ (held : Holding). Acted g t h v held next) (sym holding) (subst (λ (w : S). Acted g t h w h' next) (sym sink) first)
+acted_then (ahead b bs is other acts) (ahead c cs is' other' acts') =
     absurd (no_some (sym acts'.is ∙ ap (λ (h : Holding). h.open_run) acts.holds))
-acted_then {S = S} g t h u h' v h'' next (bound b bs is ends sink binds) (ahead c cs is' other' acts') =
+acted_then (bound b bs is ends sink binds) (ahead c cs is' other' acts') =
     absurd (no_some (sym acts'.is ∙ binds.closed))
-acted_then {S = S} g t h u h' v h'' next (ahead b bs is other acts) (bound c cs is' ends' sink' binds') =
+acted_then (ahead b bs is other acts) (bound c cs is' ends' sink' binds') =
     absurd (no_some (sym binds'.is ∙ ap (λ (h : Holding). h.open_body) acts.holds ∙ acts.between))
-acted_then {S = S} g t h u h' v h'' next (bound b bs is ends sink binds) (bound c cs is' ends' sink' binds') =
+acted_then (bound b bs is ends sink binds) (bound c cs is' ends' sink' binds') =
     absurd (no_some (sym binds'.is ∙ binds.between))
 
 pub typed_then : {S : Type 0} (t : S) (h : Holding) (u : S) (h' : Holding) (v : S) (h'' : Holding) → StaysInText t h u h' → StaysInText u h' v h'' → StaysInText t h v h''
@@ -164,9 +164,9 @@ module _ {S : Type 0} {g : Ghosts S} {t : S} {h : Holding} {u : S} {h' : Holding
       record {
         sink = then.sink;
         holding = then.holding;
-        left = then.left ∙ left_acted g c.sink c.holding u h' next first.acted ∙ c.left;
+        left = then.left ∙ left_acted first.acted ∙ c.left;
         run = λ n all before.
-            then.run n (all_rest n xs (x ∷ ys) all) (run_acted g c.sink c.holding u h' next n first.acted (c.run n (all_front n xs (x ∷ ys) all) before));
+            then.run n (all_rest n xs (x ∷ ys) all) (run_acted n first.acted (c.run n (all_front n xs (x ∷ ys) all) before));
         passes = λ s o pending k.
             then.passes s o pending
             (passes_acted g c.sink c.holding u h' next x more byte first.acted s o (ys ++ pending)
@@ -183,7 +183,7 @@ module _ {S : Type 0} {g : Ghosts S} {t : S} {h : Holding} {u : S} {h' : Holding
       let typed : StaysInText u h' v h'' = subst (λ (held : Holding). StaysInText u held v h'') same.1 (subst (λ (w : S). StaysInText w then.conveys.holding v h'') same.0 then.typed) in
       subst (λ (zs : List Placed). LeadsOn g t h v h'' zs then_next) (sym (append-nil xs)) (record {
         conveys = c;
-        acted = acted_then g c.sink c.holding u h' v h'' then_next (subst (Acted g c.sink c.holding u h') is first.acted) acted;
+        acted = acted_then (subst (Acted g c.sink c.holding u h') is first.acted) acted;
         typed = typed_then c.sink c.holding u h' v h'' first.typed typed;
       })
   leads_then v h'' (y ∷ ys) then_next is then = record {
@@ -211,7 +211,7 @@ module _ {S : Type 0} {g : Ghosts S} {t : S} {h : Holding} {u : S} {h' : Holding
       let same = c.none refl in
       let at = first.conveys in
       let here : StopsText g u h' text i v r = subst (λ (held : Holding). StopsText g u held text i v r) same.1 (subst (λ (w : S). StopsText g w c.holding text i v r) same.0 stops) in
-      let still = first.typed here.set here.rested here.chars in
+      let still = first.typed here.set here.text_is.rested here.text_is.chars in
       let there : StopsText g at.sink at.holding text i v r = subst (λ (held : Holding). StopsText g at.sink held text i v r) still.1 (subst (λ (w : S). StopsText g w h' text i v r) still.0 here) in
       subst (λ (zs : List Placed). (k : Conveys g t h zs) × StopsText g k.sink k.holding text i v r) (sym (append-nil xs)) (at, there)
   halts_then (y ∷ ys) rest text i v r is c stops = (conveys_then y ys (bytes_of ys ++ rest) is c, stops)

@@ -5,10 +5,9 @@ use Rattle.nap_reader.specs.Below.{Ghosts, fault_of}
 use Rattle.nap_reader.proofs.Common.{Fault, Refusal, Reader, draw_fault, placed_at, Machine, Outcome, Placed, begun, bytes_of, place_at, placed_from, refusal, BreaksFrom, cause_of, Continues, Holding, LeadsTo, Reaches, StopsAt, budget_of, fed_of, left_of, sink_of, Breaks, Came, Conveys, Stops, StopsByte, StopsText, at_byte, in_text, of_body, of_piece}
 use Rattle.nap_reader.proofs.BreakLemmas.{breaks_byte, breaks_place, breaks_there}
 use Rattle.nap_reader.proofs.ComingLemmas.{came_coming, came_next, came_none, came_take, length-placed}
-use Rattle.nap_reader.proofs.LeadsLemmas.{leads_left, leads_machine, leads_unrefused}
+use Rattle.nap_reader.proofs.LeadsLemmas.{Lawful, leads_left, leads_machine, leads_unrefused}
 use Rattle.nap_reader.proofs.PartLemmas.{breaks_more, cut}
 use Rattle.nap_reader.proofs.PieceLemmas.{broken_amid, first_placed, known_amid, known_with, leads_past, length_taken, stops_by}
-use Rattle.nap_reader.proofs.StandingLemmas.{Lawful}
 use Rattle.nap_reader.proofs.StepLemmas.{IsAt, all_front, left_acted, stops_acted}
 use Rattle.nap_reader.proofs.StreamLemmas.{bytes_of-append, bytes_of-placed}
 use Rattle.nap_reader.proofs.TakingLemmas.{place_at-drop}
@@ -38,7 +37,7 @@ module _ {S : Type 0} {g : Ghosts S} {old : Reader S g} {piece : List ℕ} {at :
         record {
           within = omega (arith, inside, moved);
           fed = omega (arith, fed, moved);
-          before = λ s p stood. leads_unrefused g s (begun (budget_of old) (p ++ take at piece)) t h (leads.alone empty s p stood);
+          before = λ s p stood. leads_unrefused (leads.alone empty s p stood);
           there = λ s p stood.
               let q = p ++ take at piece in
               let o : Outcome = begun (budget_of old) (q ++ b ∷ []) in
@@ -46,13 +45,13 @@ module _ {S : Type 0} {g : Ghosts S} {old : Reader S g} {piece : List ℕ} {at :
               let k : Continues g s o t h (x ∷ []) = subst (λ (y : Placed). Continues g s o t h (y ∷ [])) (sym placed) (known_with leads empty (b ∷ []) stood) in
               let here : placed_at b (fed_of old + at) ≡ placed_at b (length q) =
               ap (placed_at b) (sym (length_taken p piece at leads.within ∙ ap (λ (n : ℕ). n + at) (sym (stood.fed leads.live)))) in
-              let known = ap (λ (m : Machine). m.left) (leads_machine g s (begun (budget_of old) q) t h k0) in
+              let known = ap (λ (m : Machine). m.left) (leads_machine k0) in
               stops_by s (budget_of old) q b (sink_of new) (left_of new) r (λ is. let k' = stops.own is s o [] k in record { refusal = k'.0; taken = k'.1; left = k'.2 ∙ sym left })
               (λ is. record {
-                before = leads_unrefused g s (begun (budget_of old) q) t h k0;
-                breaks = breaks_byte (budget_of old) q b laws.more laws.broken k0 is (subst (λ (y : Placed). Breaks g t h y (sink_of new) r) (placed ∙ here) (stops.broke is));
+                before = leads_unrefused k0;
+                breaks = breaks_byte (budget_of old) q b laws k0 is (subst (λ (y : Placed). Breaks g t h y (sink_of new) r) (placed ∙ here) (stops.broke is));
                 left = omega (arith, left, known);
-                charged = omega (arith, left, leads_left g s o t h (x ∷ []) k);
+                charged = omega (arith, left, leads_left k);
               });
         },
       )
@@ -64,17 +63,17 @@ module _ {S : Type 0} {g : Ghosts S} {old : Reader S g} {piece : List ℕ} {at :
         record {
           within = inside;
           fed = omega (arith, fed, same, last);
-          before = λ s p stood. leads_unrefused g s (begun (budget_of old) (p ++ take i piece)) amid.sink amid.holding (amid.before s p stood);
+          before = λ s p stood. leads_unrefused (amid.before s p stood);
           there = λ s p stood.
               let o : Outcome = begun (budget_of old) ((p ++ take i piece) ++ b ∷ []) in
               let k = subst (Continues g s o t h) front (known_amid leads.live inside amid stood) in
               stops_by s (budget_of old) (p ++ take i piece) b (sink_of new) (left_of new) r (λ is. let k' = stops.own is s o rest k in record { refusal = k'.0; taken = k'.1; left = k'.2 ∙ sym left })
               (λ is.
               broken_amid leads.live inside amid stood laws left
-              (breaks_place g t h x (sink_of new) r (fed_of old + i) (All-head (IsAt (fed_of old + i)) x rest (subst (All (IsAt (fed_of old + i))) front amid.there)) amid.run (stops.broke is))
+              (breaks_place (fed_of old + i) (All-head (IsAt (fed_of old + i)) x rest (subst (All (IsAt (fed_of old + i))) front amid.there)) amid.run (stops.broke is))
               (λ s o k.
-              let less = cut g s o t h (x ∷ []) rest (subst (Continues g s o t h) front k) in
-              breaks_more g s [] less.1 less.0 o (sink_of new) (cause_of r.fault) less.2 (breaks_there laws.more laws.broken less.3 is (stops.broke is))));
+              let less = cut (x ∷ []) rest (subst (Continues g s o t h) front k) in
+              breaks_more less.1 less.2 (breaks_there laws less.3 is (stops.broke is))));
         },
       )
 
@@ -97,15 +96,15 @@ module _ {S : Type 0} {g : Ghosts S} {old : Reader S g} {piece : List ℕ} {at :
         record {
           within = inside;
           fed = omega (arith, fed, last, less, ap length front, length-append texts rest);
-          before = λ s p stood. leads_unrefused g s (begun (budget_of old) (p ++ take i piece)) amid.sink amid.holding (amid.before s p stood);
+          before = λ s p stood. leads_unrefused (amid.before s p stood);
           there = λ s p stood.
               stops_by s (budget_of old) (p ++ take i piece) (get_or piece i 0) (sink_of new) (left_of new) r (λ own. absurd (not_own stops.fault (ap (λ (r : Refusal). cause_of r.fault) (sym reason) ∙ own)))
               (λ _.
               broken_amid leads.live inside amid stood laws left (sym place ∙ place_of_all (fed_of old + i) texts index less there)
               (λ s o k.
               subst (λ (r : Refusal). BreaksFrom g s [] o (sink_of new) (cause_of r.fault)) (sym reason)
-              (text_breaks_off {set = stops.set} texts rest (subst (Continues g s o t h) front k) (record { between = stops.between; closed = stops.closed; rested = stops.rested; chars = stops.chars }) stops.typed
-              laws.more laws.broken (halts_in g h.machine.work.state stops.set (bytes_of texts) index t (sink_of new) stops.fault stops.some stops.halts))));
+              (text_breaks_off {set = stops.set} texts rest (subst (Continues g s o t h) front k) stops.text_is
+              laws (halts_in g h.machine.work.state stops.set (bytes_of texts) index t (sink_of new) stops.fault stops.text_is.some stops.halts))));
         },
       )
 
@@ -158,7 +157,7 @@ module _ {S : Type 0} {g : Ghosts S} {old : Reader S g} {piece : List ℕ} {at :
               by.sink,
               by.holding,
               subst (λ (m : ℕ). LeadsTo old piece m by.sink by.holding rest) (sym still.1) (subst (LeadsTo old piece at by.sink by.holding) (sym still.0) by.leads),
-              omega (arith, same, left_acted g by.sink by.holding t h next by.acted),
+              omega (arith, same, left_acted by.acted),
               first (omega (arith, ap length gone, length-take-le n all (omega (arith, few, all_long)))) (subst (P t) gone_is.1 (subst (λ (w : S). P w c.holding) gone_is.0 here)),
             )
         by_first (y ∷ ys) some =
@@ -187,7 +186,7 @@ module _ {S : Type 0} {g : Ghosts S} {old : Reader S g} {piece : List ℕ} {at :
       let (u, held, leads, same, there) =
       reached first few' left (λ (u : S) (held : Holding). StopsText g u held (bytes_of texts) taken (sink_of new) r) c stops
       (λ zero here.
-      let typed = by.typed here.set here.rested here.chars in
+      let typed = by.typed here.set here.text_is.rested here.text_is.chars in
       subst (λ (held : Holding). StopsText g by.sink held (bytes_of texts) taken (sink_of new) r) typed.1 (subst (λ (w : S). StopsText g w h (bytes_of texts) taken (sink_of new) r) typed.0 here)) in
       stops_text new leads same laws there
       (subst (Came behind (drop size behind) piece from (from + (size - length behind)) (fed_of old + from)) (ap (take size) (sym (then_is first few')))

@@ -1,110 +1,88 @@
-use Rattle.std.proofs.Common.{ℕ, zero, suc, ◌+◌, ◌-◌, ◌≡◌, ◌≢◌, ◌<◌, ◌≤◌, List, [], ◌∷◌, ◌++◌, length, take, drop, Result, Ok, Err, Bool, true, false, cond, eqb, ltb, refl, ap, ◌∙◌, arith, sym, append_assoc, length-drop}
-use Rattle.std.proofs.lemmas.Bool.{ltb-true, lt-ltb, eqb-true, eqb-false}
+use Rattle.std.proofs.Common.{ℕ, zero, suc, ◌+◌, ◌-◌, ◌≡◌, ◌≢◌, ◌<◌, ◌≤◌, List, [], ◌∷◌, ◌++◌, All, length, take, drop, Result, Ok, Err, Bool, true, false, cond, eqb, ltb, refl, ap, ◌∙◌, arith, sym, subst, append_assoc, length-append, length-drop}
+use Rattle.std.specs.Prelude.{⊤}
+use Rattle.std.proofs.lemmas.Bool.{ltb-true, ltb-false, lt-ltb, eqb-true, eqb-false}
+use Rattle.std.proofs.lemmas.Bool.Decides.{nat_tests}
 use Rattle.std.proofs.Math.ListN.{drop_of_length-le}
 use Rattle.std.proofs.lemmas.List.{length-map, take-append-le, drop-append-le}
+use Rattle.std.proofs.lemmas.List.Elements.{All-nil, All-cons}
 use Rattle.std.proofs.lemmas.List.Folds.{prefix_len-append, length-prefix_len}
 use Rattle.std.proofs.lemmas.List.Sums.{prefix_len-le-length}
-use Rattle.nap_reader.specs.Below.{Opcode, Entry, DrawFault, code_rule, Drawn, rule, run_limit}
-use Rattle.nap_reader.proofs.Common.{Refusal, Kind, kind_of, Mode, between, in_body, body_of, onward, continue, Placed, Machine, Unfinished, Front, bytes_of, words_of, is_operand, run_length, refusal, all_at, drawn_front, opcode_front, shown_front, code_front, place_at, front_by, after_body, bound_front, body_front_by, front_in, front, outcome_from, placed_from, start_machine, begun}
+use Rattle.nap_reader.specs.Below.{Code, CodeSets, Opcode, Entry, DrawFault, Work, code_rule, Drawn, rule, run_limit}
+use Rattle.nap_reader.proofs.Common.{Refusal, Kind, kind_of, Lessens, Mode, between, in_body, body_of, body_front, store_limit, onward, continue, Placed, Machine, Unfinished, Front, bytes_of, words_of, half_read, is_operand, is_operand_byte, run_length, refusal, all_at, drawn_front, opcode_front, shown_front, code_front, place_at, front_by, after_body, bound_front, body_front_by, front_in, front, outcome_from, placed_from, start_machine, begun}
+use Rattle.nap_values.specs.Laws.{IsWord}
 use Rattle.nap_codes.specs.declared.code.Code.TheVariants as code
 use Rattle.nap_codes.specs.Front as codes
 use Rattle.nap_codes.proofs.PublicLaws.{whole_stays, refused_stays, whole_length, refused_index}
+use Rattle.nap_draw.specs.Codes.{IsMade}
 use Rattle.nap_reader.specs.declared.fault.Fault.TheVariants as faults
 use Rattle.nap_reader.specs.declared.kind.Kind.TheVariants as kinds
 use Rattle.nap_reader.specs.Bodies as bodies
 use Rattle.nap_reader.specs.Course as course
 use Rattle.nap_reader.specs.Course.{Stays}
-use Rattle.nap_reader.specs.Stream.{run_front, left_of}
+use Rattle.nap_reader.specs.Stream as model
+use Rattle.nap_reader.specs.Stream.{ends_of, left_of, run_front}
 use Rattle.nap_reader.proofs.BodyLemmas as settled
-use Rattle.nap_reader.proofs.BodyLemmas.{Settled, waits, ends}
-use Rattle.nap_reader.proofs.CourseLemmas.{outcome-front, outcome-append, outcome-falls}
-use Rattle.nap_reader.proofs.FrontLemmas.{front-falls, front-lessens, settled_body}
+use Rattle.nap_reader.proofs.BodyLemmas.{Settled, waits, ends, body_front-Settled, definition_length}
+use Rattle.nap_reader.proofs.CourseLemmas.{Falls, outcome-front, outcome-append, outcome-falls}
+use Rattle.nap_reader.proofs.KindLemmas.{KindMade, front_kind_made}
+
+-- What each front comes to: what it puts, and what is left behind it.
+
+-- an open run is of words
+abbrev pub IsOfWords : Unfinished → Type 0
+IsOfWords (model.open_run op place run) = All IsWord run
+IsOfWords _ = ⊤
+
+-- these entries are put, and the work is then this: nothing, what an opcode's rule gives of words, or what a code's rule gives
+pub data Puts (work : Work) : List Entry → Work → Type 0 where
+  puts_nothing : Puts work [] work
+  by_rule : (op : Opcode) (run : List ℕ) (d : Drawn) → All IsWord run → rule work op run ≡ Ok d → Puts work d.entries d.work
+  by_code : (c : Code) (d : Drawn) → IsMade c → code_rule work c ≡ Ok d → Puts work d.entries d.work
+
+-- The second is the first with these bytes behind. What is unread after it and what is left then, taken together, are below k,
+-- and no more is left to charge.
+pub data Fronts (q : List Placed) (work : Work) (left k : ℕ) : Front → Front → Type 0 where
+  pauses : {u : Unfinished} {f : Front} → IsOfWords u → Fronts q work left k (course.pause u) f
+  refuses : {r : Refusal} → Fronts q work left k (course.refuse r) (course.refuse r)
+  acts : {es : List Entry} {m : Machine} {xs ys : List Placed} → ys ≡ xs ++ q → length xs + left_of m < k → m.left ≤ left → Puts work es m.work → Fronts q work left k (course.act es m xs) (course.act es m ys)
+
+Fronts-more : {q : List Placed} {work : Work} {left k n : ℕ} {f f' : Front} → k ≤ n → Fronts q work left k f f' → Fronts q work left n f f'
+Fronts-more h (pauses words) = pauses words
+Fronts-more h refuses = refuses
+Fronts-more h (acts same less few puts) = acts same (omega arith) few puts
+
+Fronts-acting : {q : List Placed} {work : Work} {left k : ℕ} {es : List Entry} {m : Machine} {xs : List Placed} {f : Front} → Fronts q work left k (course.act es m xs) f →
+    (f ≡ course.act es m (xs ++ q)) × (length xs + left_of m < k) × (m.left ≤ left)
+Fronts-acting {es = es} {m = m} (acts same less few puts) = (ap (course.act es m) same, less, few)
+
+Fronts-refusing : {q : List Placed} {work : Work} {left k : ℕ} {r : Refusal} {f : Front} → Fronts q work left k (course.refuse r) f → f ≡ course.refuse r
+Fronts-refusing refuses = refl
+
+Fronts-cond : {q : List Placed} {work : Work} {left k : ℕ} (b : Bool) {x y x' y' : Front} → (b ≡ true → Fronts q work left k x x') → (b ≡ false → Fronts q work left k y y') → Fronts q work left k (cond b x y) (cond b x' y')
+Fronts-cond true f g = f refl
+Fronts-cond false f g = g refl
+
+Fronts-cond_left : {q : List Placed} {work : Work} {left k : ℕ} (b : Bool) {x y f : Front} → (b ≡ true → Fronts q work left k x f) → (b ≡ false → Fronts q work left k y f) → Fronts q work left k (cond b x y) f
+Fronts-cond_left true f g = f refl
+Fronts-cond_left false f g = g refl
+
+carries_word : (b : ℕ) → is_operand_byte b ≡ true → IsWord (b - 64)
+carries_word b is = grind (arith, nat_tests)
+
+-- the operand bytes at the front carry words
+run_words : (xs : List Placed) → All IsWord (words_of (take (run_length xs) xs))
+run_words [] = All-nil IsWord
+run_words (x ∷ xs) = at (is_operand x) refl (run_words xs)
+  where
+    at : (b : Bool) → is_operand x ≡ b → All IsWord (words_of (take (run_length xs) xs)) → All IsWord (words_of (take (cond b (1 + run_length xs) 0) (x ∷ xs)))
+    at true is rest =
+        let more : 1 + run_length xs ≡ suc (run_length xs) = omega arith in
+        subst (λ (n : ℕ). All IsWord (words_of (take n (x ∷ xs)))) (sym more)
+        (All-cons IsWord (x.byte - 64) (words_of (take (run_length xs) xs)) (carries_word x.byte is) rest)
+    at false is rest = All-nil IsWord
 
 pub length-all_at : (place : ℕ) (bytes : List ℕ) → length (all_at place bytes) ≡ length bytes
 length-all_at place bytes = length-map bytes _
-
--- the second is the first with more input behind it
-data Kept (q : List Placed) : Front → Front → Type 0 where
-  kept_pause : {u : Unfinished} {f : Front} → Kept q (course.pause u) f
-  kept_refusal : {r : Refusal} → Kept q (course.refuse r) (course.refuse r)
-  kept_act : {es : List Entry} {m : Machine} {xs ys : List Placed} → ys ≡ xs ++ q → Kept q (course.act es m xs) (course.act es m ys)
-
-Kept-cond : {q : List Placed} (b : Bool) {x y x' y' : Front} →
-    (b ≡ true → Kept q x x') → (b ≡ false → Kept q y y') → Kept q (cond b x y) (cond b x' y')
-Kept-cond true f g = f refl
-Kept-cond false f g = g refl
-
-Kept-cond_left : {q : List Placed} (b : Bool) {x y f : Front} → (b ≡ true → Kept q x f) → (b ≡ false → Kept q y f) → Kept q (cond b x y) f
-Kept-cond_left true f g = f refl
-Kept-cond_left false f g = g refl
-
-Kept-acting : {q : List Placed} {es : List Entry} {m : Machine} {xs : List Placed} {f : Front} →
-    Kept q (course.act es m xs) f → f ≡ course.act es m (xs ++ q)
-Kept-acting {es = es} {m = m} (kept_act e) = ap (course.act es m) e
-
-Kept-refusing : {q : List Placed} {r : Refusal} {f : Front} → Kept q (course.refuse r) f → f ≡ course.refuse r
-Kept-refusing kept_refusal = refl
-
-drawn_front-Kept : (m : Machine) (place : ℕ) (rest q : List Placed) (by : Result Drawn DrawFault) →
-    Kept q (drawn_front m place rest by) (drawn_front m place (rest ++ q) by)
-drawn_front-Kept m place rest q (Ok drawn) = kept_act refl
-drawn_front-Kept m place rest q (Err fault) = kept_refusal
-
-shown_front-Kept : (m : Machine) (place : ℕ) (bytes : List ℕ) (rest q : List Placed) →
-    Kept q (shown_front m place bytes rest) (shown_front m place bytes (rest ++ q))
-shown_front-Kept m place bytes rest q =
-    Kept-cond (ltb m.left (length bytes)) (λ _. kept_refusal) (λ _. kept_act (sym (append_assoc (all_at place bytes) rest q)))
-
--- a run that has ended
-ended_run-Kept : (m : Machine) (op : Opcode) (place : ℕ) (run rest q : List Placed) → 0 < length rest →
-    Kept q (run_front m op place run rest) (run_front m op place run (rest ++ q))
-ended_run-Kept m op place run [] q h = absurd (omega arith)
-ended_run-Kept m op place run (x ∷ xs) q h =
-    Kept-cond (ltb run_limit (length run)) (λ _. kept_refusal) (λ _. drawn_front-Kept m place (x ∷ xs) q (rule m.work op (words_of run)))
-
-long_run : (m : Machine) (op : Opcode) (place : ℕ) (run rest : List Placed) → run_limit < length run →
-    run_front m op place run rest ≡ course.refuse (refusal faults.LongRun place)
-long_run m op place run rest h = rw (lt-ltb run_limit (length run) h) refl
-
--- a run that is still open
-open_run-Kept : (m : Machine) (op : Opcode) (place : ℕ) (run more rest q : List Placed) → length run ≤ length more →
-    Kept q (run_front m op place run []) (run_front m op place more rest)
-open_run-Kept m op place run more rest q h =
-    Kept-cond_left (ltb run_limit (length run))
-    (λ e.
-    let long : run_limit < length run = ltb-true run_limit (length run) e in
-    rw (long_run m op place more rest (omega arith)) kept_refusal)
-    (λ _. kept_pause)
-
--- the run of an opcode, ended or still open
-opcode_front-Kept : (m : Machine) (op : Opcode) (place : ℕ) (xs q : List Placed) →
-    Kept q (opcode_front m op place xs) (opcode_front m op place (xs ++ q))
-opcode_front-Kept m op place xs q = at (eqb (run_length xs) (length xs)) refl
-  where
-    at : (b : Bool) → eqb (run_length xs) (length xs) ≡ b →
-        Kept q (opcode_front m op place xs) (opcode_front m op place (xs ++ q))
-    at true e =
-        let is : run_length xs ≡ length xs = eqb-true (run_length xs) (length xs) e in
-        let long : run_length (xs ++ q) ≡ length xs + run_length q = rw (prefix_len-append is_operand xs q, e) refl in
-        let more : length (take (run_length xs) xs) ≤ length (take (run_length (xs ++ q)) (xs ++ q)) =
-        simp length-prefix_len (omega arith) in
-        rw (drop_of_length-le xs {i = run_length xs} (omega arith)) (open_run-Kept m op place _ _ _ q more)
-    at false e =
-        let ne : run_length xs ≢ length xs = eqb-false (run_length xs) (length xs) e in
-        let le : run_length xs ≤ length xs = prefix_len-le-length is_operand xs in
-        let same : run_length (xs ++ q) ≡ run_length xs = rw (prefix_len-append is_operand xs q, e) refl in
-        rw (same, take-append-le _ xs q le, drop-append-le _ xs q le)
-        (ended_run-Kept m op place _ (drop (run_length xs) xs) q (simp length-drop (omega arith)))
-
-code_front-Kept : (m : Machine) (kind : Kind) (place : ℕ) (xs q : List Placed) →
-    Kept q (code_front m kind place xs) (code_front m kind place (xs ++ q))
-code_front-Kept m (kinds.Opens op) place xs q = opcode_front-Kept m op place xs q
-code_front-Kept m kinds.Strays place xs q = kept_refusal
-code_front-Kept m kinds.AddsNothing place xs q = kept_act refl
-code_front-Kept m (kinds.Acts c) place xs q = drawn_front-Kept m place xs q (code_rule m.work c)
-code_front-Kept m (kinds.Calls name) place xs q = shown_front-Kept m place (body_of m.names name) xs q
-code_front-Kept m (kinds.Binds name show) place xs q =
-    drawn_front-Kept (record m { mode = in_body name show }) place xs q (code_rule m.work (code.DefMacro name show))
 
 pub place_at-append : (xs q : List Placed) (i : ℕ) → i < length xs → place_at (xs ++ q) i ≡ place_at xs i
 place_at-append [] q i h = absurd (omega arith)
@@ -128,52 +106,148 @@ pub words_of-append : (xs ys : List Placed) → words_of (xs ++ ys) ≡ words_of
 words_of-append [] ys = refl
 words_of-append (x ∷ xs) ys = ap (λ (ws : List ℕ). (x.byte - 64) ∷ ws) (words_of-append xs ys)
 
-front_by-Kept : (m : Machine) (xs q : List Placed) (f : codes.Front) → codes.front m.sets (bytes_of xs) ≡ f →
-    Kept q (front_by m xs f) (front_by m (xs ++ q) (codes.front m.sets (bytes_of (xs ++ q))))
-front_by-Kept m xs q codes.unfinished e = kept_pause
-front_by-Kept m xs q (codes.refused fault i) e =
+drawn_fronts : (m : Machine) (place : ℕ) (rest q : List Placed) (by : Result Drawn DrawFault) (k : ℕ) → length rest + left_of m < k → ((d : Drawn) → by ≡ Ok d → Puts m.work d.entries d.work) →
+    Fronts q m.work m.left k (drawn_front m place rest by) (drawn_front m place (rest ++ q) by)
+drawn_fronts m place rest q (Ok drawn) k h puts = acts refl h (omega arith) (puts drawn refl)
+drawn_fronts m place rest q (Err fault) k h puts = refuses
+
+-- what is charged for the bytes is no less than they are
+shown_fronts : (m : Machine) (place : ℕ) (bytes : List ℕ) (rest q : List Placed) (k : ℕ) → length rest + left_of m < k → Fronts q m.work m.left k (shown_front m place bytes rest) (shown_front m place bytes (rest ++ q))
+shown_fronts m place bytes rest q k h =
+    Fronts-cond (ltb m.left (length bytes)) (λ _. refuses) (λ e.
+    let within : length bytes ≤ m.left = ltb-false m.left (length bytes) e in
+    let all : length (all_at place bytes ++ rest) ≡ length bytes + length rest = length-append (all_at place bytes) rest ∙ ap (λ (n : ℕ). n + length rest) (length-all_at place bytes) in
+    acts (sym (append_assoc (all_at place bytes) rest q)) (omega arith) (omega arith) puts_nothing)
+
+-- a run that has ended
+ended_fronts : (m : Machine) (op : Opcode) (place : ℕ) (run rest q : List Placed) (k : ℕ) → length rest + left_of m < k → All IsWord (words_of run) → 0 < length rest →
+    Fronts q m.work m.left k (run_front m op place run rest) (run_front m op place run (rest ++ q))
+ended_fronts m op place run [] q k less words h = absurd (omega arith)
+ended_fronts m op place run (x ∷ xs) q k less words h =
+    Fronts-cond (ltb run_limit (length run)) (λ _. refuses) (λ _. drawn_fronts m place (x ∷ xs) q (rule m.work op (words_of run)) k less (λ d is. by_rule op (words_of run) d words is))
+
+-- a run that is still open
+open_fronts : (m : Machine) (op : Opcode) (place : ℕ) (run more rest q : List Placed) {k : ℕ} → All IsWord (words_of run) → length run ≤ length more →
+    Fronts q m.work m.left k (run_front m op place run []) (run_front m op place more rest)
+open_fronts m op place run more rest q {k} words h =
+    Fronts-cond_left (ltb run_limit (length run))
+    (λ e.
+    let long : ltb run_limit (length more) ≡ true = lt-ltb run_limit (length more) (let least = ltb-true run_limit (length run) e in omega arith) in
+    let is : run_front m op place more rest ≡ course.refuse (refusal faults.LongRun place) = rw long refl in
+    subst (Fronts q m.work m.left k (course.refuse (refusal faults.LongRun place))) (sym is) refuses)
+    (λ _. pauses words)
+
+-- the run of an opcode, ended or still open
+opcode_fronts : (m : Machine) (op : Opcode) (place : ℕ) (xs q : List Placed) (k : ℕ) → length xs + left_of m < k → Fronts q m.work m.left k (opcode_front m op place xs) (opcode_front m op place (xs ++ q))
+opcode_fronts m op place xs q k h = at (eqb (run_length xs) (length xs)) refl
+  where
+    at : (b : Bool) → eqb (run_length xs) (length xs) ≡ b → Fronts q m.work m.left k (opcode_front m op place xs) (opcode_front m op place (xs ++ q))
+    at true e =
+        let is : run_length xs ≡ length xs = eqb-true (run_length xs) (length xs) e in
+        let long : run_length (xs ++ q) ≡ length xs + run_length q = rw (prefix_len-append is_operand xs q, e) refl in
+        let more : length (take (run_length xs) xs) ≤ length (take (run_length (xs ++ q)) (xs ++ q)) = simp length-prefix_len (omega arith) in
+        rw (drop_of_length-le xs {i = run_length xs} (omega arith)) (open_fronts m op place _ _ _ q (run_words xs) more)
+    at false e =
+        let ne : run_length xs ≢ length xs = eqb-false (run_length xs) (length xs) e in
+        let le : run_length xs ≤ length xs = prefix_len-le-length is_operand xs in
+        let same : run_length (xs ++ q) ≡ run_length xs = rw (prefix_len-append is_operand xs q, e) refl in
+        rw (same, take-append-le _ xs q le, drop-append-le _ xs q le)
+        (ended_fronts m op place _ (drop (run_length xs) xs) q k (simp length-drop (omega arith)) (run_words xs) (simp length-drop (omega arith)))
+
+-- the fewest bytes that a code of this kind has
+abbrev least : Kind → ℕ
+least (kinds.Binds name show) = 2
+least _ = 1
+
+code_fronts : (m : Machine) (kind : Kind) (place : ℕ) (rest q : List Placed) (k : ℕ) → m.mode ≡ between → length rest + (least kind + m.left) ≤ k → KindMade kind →
+    Fronts q m.work m.left k (code_front m kind place rest) (code_front m kind place (rest ++ q))
+code_fronts m kind place rest q k mode h made = at kind h made
+  where
+    still : ends_of m.mode ≡ 0
+    still = ap ends_of mode
+
+    at : (kind : Kind) → length rest + (least kind + m.left) ≤ k → KindMade kind → Fronts q m.work m.left k (code_front m kind place rest) (code_front m kind place (rest ++ q))
+    at (kinds.Opens op) h made = opcode_fronts m op place rest q k (omega (arith, still))
+    at kinds.Strays h made = refuses
+    at kinds.AddsNothing h made = acts refl (omega (arith, still)) (omega arith) puts_nothing
+    at (kinds.Acts c) h made = drawn_fronts m place rest q (code_rule m.work c) k (omega (arith, still)) (λ d is. by_code c d made is)
+    at (kinds.Calls name) h made = shown_fronts m place (body_of m.names name) rest q k (omega (arith, still))
+    at (kinds.Binds name show) h made =
+        drawn_fronts (record m { mode = in_body name show }) place rest q (code_rule m.work (code.DefMacro name show)) k (omega (arith, still))
+        (λ d is. by_code (code.DefMacro name show) d tt is)
+
+least_of : (sets : CodeSets) (bytes : List ℕ) (c : Code) (n : ℕ) (after : CodeSets) → codes.front sets bytes ≡ codes.whole c n after → least (kind_of c) ≤ n
+least_of sets bytes (code.DefMacro name show) n after e = definition_length sets bytes name show n after e
+least_of sets bytes c n after e = (whole_length sets bytes c n after e).0
+
+half_of_words : (bytes : List ℕ) → IsOfWords (half_read bytes)
+half_of_words [] = tt
+half_of_words (b ∷ bs) = tt
+
+by_fronts : (m : Machine) (xs q : List Placed) (f : codes.Front) → codes.front m.sets (bytes_of xs) ≡ f → m.mode ≡ between →
+    Fronts q m.work m.left (length xs + m.left) (front_by m xs f) (front_by m (xs ++ q) (codes.front m.sets (bytes_of (xs ++ q))))
+by_fronts m xs q codes.unfinished e mode = pauses (half_of_words (bytes_of xs))
+by_fronts m xs q (codes.refused fault i) e mode =
     let same : length (bytes_of xs) ≡ length xs = length-map xs _ in
     let within : i < length (bytes_of xs) = refused_index m.sets (bytes_of xs) fault i e in
-    rw (bytes_of-append xs q, refused_stays m.sets (bytes_of xs) (bytes_of q) fault i e, place_at-append xs q i (omega arith)) kept_refusal
-front_by-Kept m xs q (codes.whole c n sets) e =
+    rw (bytes_of-append xs q, refused_stays m.sets (bytes_of xs) (bytes_of q) fault i e, place_at-append xs q i (omega arith)) refuses
+by_fronts m xs q (codes.whole c n sets) e mode =
     let same : length (bytes_of xs) ≡ length xs = length-map xs _ in
     let within = whole_length m.sets (bytes_of xs) c n sets e in
+    let few = least_of m.sets (bytes_of xs) c n sets e in
     let last : n - 1 < length xs = omega (arith, within.0, within.1) in
+    let behind : length (drop n xs) + (least (kind_of c) + m.left) ≤ length xs + m.left = simp length-drop (omega (arith, within.1, few, same)) in
     rw (bytes_of-append xs q, whole_stays m.sets (bytes_of xs) (bytes_of q) c n sets e, place_at-append xs q (n - 1) last, drop-append-le n xs q (omega (arith, within.1)))
-    (code_front-Kept (record m { sets = sets }) (kind_of c) (place_at xs (n - 1)) (drop n xs) q)
+    (code_fronts (record m { sets = sets }) (kind_of c) (place_at xs (n - 1)) (drop n xs) q (length xs + m.left) mode behind (front_kind_made m.sets (bytes_of xs) c n sets e))
 
 taken_bytes : (xs q : List Placed) (n : ℕ) → n ≤ length xs → take n (bytes_of (xs ++ q)) ≡ take n (bytes_of xs)
 taken_bytes xs q n h =
     ap (take n) (bytes_of-append xs q) ∙ take-append-le n (bytes_of xs) (bytes_of q) (omega (arith, length-map xs (λ (x : Placed). x.byte)))
 
-bound_front-Kept : (m : Machine) (name : ℕ) (show : Bool) (n : ℕ) (xs q : List Placed) → n + 2 ≤ length xs →
-    Kept q (bound_front m name show n xs) (bound_front m name show n (xs ++ q))
-bound_front-Kept m name false n xs q h =
-    rw (taken_bytes xs q n (omega arith), drop-append-le n xs q (omega arith)) (kept_act refl)
-bound_front-Kept m name true n xs q h =
+bound_fronts : (m : Machine) (name : ℕ) (show : Bool) (n : ℕ) (xs q : List Placed) → n + 2 ≤ length xs → Fronts q m.work m.left (length xs + (m.left + 1)) (bound_front m name show n xs) (bound_front m name show n (xs ++ q))
+bound_fronts m name false n xs q h =
+    let behind : length (drop n xs) + m.left < length xs + (m.left + 1) = simp length-drop (omega arith) in
+    rw (taken_bytes xs q n (omega arith), drop-append-le n xs q (omega arith)) (acts {m = after_body m name (take n (bytes_of xs))} {xs = drop n xs} refl (omega arith) (omega arith) puts_nothing)
+bound_fronts m name true n xs q h =
+    let behind : length (drop (n + 2) xs) + m.left < length xs + (m.left + 1) = simp length-drop (omega arith) in
     rw (
       taken_bytes xs q n (omega arith),
       taken_bytes xs q (n + 2) (omega arith),
       place_at-append xs q (n + 1) (omega arith),
       drop-append-le (n + 2) xs q (omega arith),
-    ) (shown_front-Kept (after_body m name (take n (bytes_of xs))) (place_at xs (n + 1)) (take (n + 2) (bytes_of xs)) (drop (n + 2) xs) q)
+    ) (shown_fronts (after_body m name (take n (bytes_of xs))) (place_at xs (n + 1)) (take (n + 2) (bytes_of xs)) (drop (n + 2) xs) q _ (omega arith))
 
-body_front_by-Kept : (m : Machine) (name : ℕ) (show : Bool) (xs q : List Placed) {f g : bodies.BodyFront} → Settled (length xs) f g →
-    Kept q (body_front_by m name show xs f) (body_front_by m name show (xs ++ q) g)
-body_front_by-Kept m name show xs q waits = kept_pause
-body_front_by-Kept m name show xs q (settled.refuses {i = i} within) = rw (place_at-append xs q i within) kept_refusal
-body_front_by-Kept m name show xs q (ends {k = k} within) = bound_front-Kept m name show k xs q within
+body_fronts : (m : Machine) (name : ℕ) (show : Bool) (xs q : List Placed) {f g : bodies.BodyFront} → Settled (length xs) f g →
+    Fronts q m.work m.left (length xs + (m.left + 1)) (body_front_by m name show xs f) (body_front_by m name show (xs ++ q) g)
+body_fronts m name show xs q waits = pauses tt
+body_fronts m name show xs q (settled.refuses {i = i} within) = rw (place_at-append xs q i within) refuses
+body_fronts m name show xs q (ends {k = k} within) = bound_fronts m name show k xs q within
 
-front-Kept : (mode : Mode) (m : Machine) (xs q : List Placed) → Kept q (front_in mode m xs) (front_in mode m (xs ++ q))
-front-Kept between m xs q = front_by-Kept m xs q (codes.front m.sets (bytes_of xs)) refl
-front-Kept (in_body name show) m xs q =
-    rw (bytes_of-append xs q) (body_front_by-Kept m name show xs q (settled_body m xs q))
+-- what is known of the body at the front of a list, where these come behind it
+settled_body : (m : Machine) (xs q : List Placed) →
+    Settled (length xs) (body_front (store_limit - m.stored) (bytes_of xs)) (body_front (store_limit - m.stored) (bytes_of xs ++ bytes_of q))
+settled_body m xs q =
+    subst (λ (n : ℕ). Settled n (body_front (store_limit - m.stored) (bytes_of xs)) (body_front (store_limit - m.stored) (bytes_of xs ++ bytes_of q)))
+    (length-map xs _) (body_front-Settled (store_limit - m.stored) (bytes_of xs) (bytes_of q))
 
-pub front-stays : Stays front
+in_fronts : (m : Machine) (xs q : List Placed) (mode : Mode) → m.mode ≡ mode → Fronts q m.work m.left (length xs + (m.left + ends_of mode)) (front_in mode m xs) (front_in mode m (xs ++ q))
+in_fronts m xs q between e = Fronts-more (omega arith) (by_fronts m xs q (codes.front m.sets (bytes_of xs)) refl e)
+in_fronts m xs q (in_body name show) e = rw (bytes_of-append xs q) (body_fronts m name show xs q (settled_body m xs q))
+
+pub front_fronts : (m : Machine) (xs q : List Placed) → Fronts q m.work m.left (length xs + left_of m) (front m xs) (front m (xs ++ q))
 unfolding front
+front_fronts m xs q = in_fronts m xs q m.mode refl
+
+front-lessens : Lessens front left_of
+front-lessens m xs es m' ys e = (Fronts-acting (rw e at (front_fronts m xs []))).1
+
+front-falls : Falls front (λ m. m.left)
+front-falls m xs es m' ys e = (Fronts-acting (rw e at (front_fronts m xs []))).2
+
+front-stays : Stays front
 front-stays = record {
-  acting = λ m xs es m' ys q e. Kept-acting (rw e at (front-Kept m.mode m xs q));
-  refusing = λ m xs r q e. Kept-refusing (rw e at (front-Kept m.mode m xs q));
+  acting = λ m xs es m' ys q e. (Fronts-acting (rw e at (front_fronts m xs q))).0;
+  refusing = λ m xs r q e. Fronts-refusing (rw e at (front_fronts m xs q));
 }
 
 -- what comes of a list is what its front gives, and then what comes of the rest

@@ -7,8 +7,8 @@ use Rattle.nap_reader.specs.declared.machine.Request.TheVariants as requests
 use Rattle.nap_reader.proofs.LeadsLemmas.{TookMore}
 use Rattle.nap_reader.proofs.StepLemmas.{halts_then, leads_then, stops_then, leads_nowhere}
 use Rattle.nap_reader.proofs.StreamLemmas.{bytes_of-append, place_at-append}
-use Rattle.nap_reader.specs.declared.machine.codes.CodeOutcome.TheVariants as outcomes
-use Rattle.nap_reader.proofs.MachineLemmas.{leaves_from, stop_takes}
+use Rattle.nap_reader.specs.Steps.{Progresses}
+use Rattle.nap_reader.proofs.MachineLemmas.{LeftBy, leaves_from, left_is}
 
 -- What a machine takes of bytes, and then of those behind them.
 
@@ -78,23 +78,27 @@ module _ {S : Type 0} {g : Ghosts S} {t : S} {h : Holding} {u : S} {h' : Holding
   takes_behind new k requests.Stop many m (why, is, stops) = (why, is, stops_behind many m stops)
   takes_behind new k _ many m then = leads_behind m then
 
--- The machine took codes of a slice, and goes on behind them.
+-- The machine took so many bytes of a slice, and goes on behind them.
 pub record Took {S : Type 0} {g : Ghosts S} (old new : Machine S g) (xs : List Placed) (ended : Bool) (count : ℕ) : Type 0 where
   pub within : count ≤ length xs
   pub works : Works old new
-  pub closed : count < length xs → new.open_run ≡ None
   pub by : (h : Holding) (behind : List Placed) → h.open_body ≡ None → (ended ≡ true → IsOver (bytes_of behind)) →
       LeadsOn g old.sink (with_machine h old) new.sink (with_machine h new) (take count (xs ++ behind)) (bytes_of (drop count (xs ++ behind)))
 
--- It took none so far.
-pub took_none : {S : Type 0} {g : Ghosts S} {old : Machine S g} (xs : List Placed) (ended : Bool) → IsLive old → old.open_run ≡ None → Took old old xs ended 0
-took_none {g = g} {old = old} xs ended live closed = record {
+-- It took none so far, and is as it was.
+pub took_same : {S : Type 0} {g : Ghosts S} {old mid : Machine S g} {xs : List Placed} {ended : Bool} → LeftBy old mid old.work old.lexer → mid.sink ≡ old.sink → IsLive mid → Took old mid xs ended 0
+took_same {g = g} {xs = xs} left same live = record {
   within = omega arith;
-  works = record { live = live; clear = λ clear. clear };
-  closed = λ less. closed;
-  by = λ h behind between over.
-      leads_nowhere g old.sink (with_machine h old) (bytes_of (xs ++ behind));
+  works = record { live = live; clear = λ clear. ap g.failed same ∙ clear };
+  by = λ h behind between over. leads_nowhere (bytes_of (xs ++ behind)) same (left_is left h);
 }
+
+pub took_none : {S : Type 0} {g : Ghosts S} {old : Machine S g} (xs : List Placed) (ended : Bool) → IsLive old → old.open_run ≡ None → Took old old xs ended 0
+took_none xs ended live closed = took_same (record { before = closed; closed = closed; work_is = refl; lexer_is = refl }) refl live
+
+-- Nothing is asked.
+pub took : {S : Type 0} {g : Ghosts S} {old new : Machine S g} {xs : List Placed} {ended : Bool} {count : ℕ} → Takes old new xs ended count requests.Nothing → Took old new xs ended count
+took takes = record { within = takes.within; works = takes.leaves; by = takes.by }
 
 -- It took all of them.
 pub took_all : {S : Type 0} {g : Ghosts S} {old new : Machine S g} {xs : List Placed} {ended : Bool} {count : ℕ} → Took old new xs ended count → length xs ≤ count → Takes old new xs ended count requests.Nothing
@@ -102,93 +106,40 @@ took_all t all = record {
   within = t.within;
   leaves = t.works;
   goes = λ some. inl (omega (arith, all, some));
-  closed = λ nothing. t.closed;
+  closed = λ nothing less. absurd (omega (arith, less, all));
   by = t.by;
 }
 
-module _ {S : Type 0} {g : Ghosts S} {old mid : Machine S g} {xs : List Placed} {ended : Bool} {count : ℕ} (t : Took old mid xs ended count) (more : TookMore g) {new : Machine S g} where
-  -- It takes more.
-  pub took_takes : {n : ℕ} {request : Request} → count < length xs → Takes mid new (drop count xs) ended n request → Takes old new xs ended (count + n) request
-  took_takes {n} {request} less takes = record {
-    within = omega (arith, t.within, takes.within, length-drop count xs);
-    leaves = leaves_from old mid new request t.works.clear takes.leaves;
-    goes = λ some. by_goes (takes.goes (omega (arith, less, length-drop count xs)));
-    closed = λ nothing few. takes.closed nothing (omega (arith, few, length-drop count xs));
-    by = λ h behind between over.
-        takes_behind (xs ++ behind) count more (t.by h behind between over) new h request (length xs) n
-        (subst (λ (many : ℕ). TakesBy g mid.sink (with_machine h mid) new.sink (with_machine h new) (drop count (xs ++ behind)) many n new.refusal request) (length-drop count xs)
-        (subst (λ (ys : List Placed). TakesBy g mid.sink (with_machine h mid) new.sink (with_machine h new) ys (length (drop count xs)) n new.refusal request) (sym (drop-append-le count xs behind t.within))
-        (takes.by h behind between over)));
-  }
-    where
-      by_goes : (0 < n) ⊎ (request ≡ requests.Stop) ⊎ ((new.open_run ≡ None) × (mid.open_run ≢ None)) → (0 < count + n) ⊎ (request ≡ requests.Stop) ⊎ ((new.open_run ≡ None) × (old.open_run ≢ None))
-      by_goes (inl some) = inl (omega (arith, some))
-      by_goes (inr (inl stops)) = inr (inl stops)
-      by_goes (inr (inr (closed, opened))) = absurd (opened (t.closed less))
+-- It takes more of those that are left.
+pub takes_then : {S : Type 0} {g : Ghosts S} {old mid new : Machine S g} {xs : List Placed} {ended : Bool} {count n : ℕ} {request : Request} → Took old mid xs ended count → TookMore g → (0 < count) ⊎ ((count < length xs) × (mid.open_run ≡ None)) →
+    Takes mid new (drop count xs) ended n request → Takes old new xs ended (count + n) request
+takes_then {g = g} {old = old} {mid = mid} {new = new} {xs = xs} {count = count} {n = n} {request = request} t more further takes = record {
+  within = omega (arith, t.within, takes.within, length-drop count xs);
+  leaves = leaves_from old mid new request t.works.clear takes.leaves;
+  goes = λ some. by_further further;
+  closed = λ nothing few. takes.closed nothing (omega (arith, few, length-drop count xs));
+  by = λ h behind between over.
+      takes_behind (xs ++ behind) count more (t.by h behind between over) new h request (length xs) n
+      (subst (λ (many : ℕ). TakesBy g mid.sink (with_machine h mid) new.sink (with_machine h new) (drop count (xs ++ behind)) many n new.refusal request) (length-drop count xs)
+      (subst (λ (ys : List Placed). TakesBy g mid.sink (with_machine h mid) new.sink (with_machine h new) ys (length (drop count xs)) n new.refusal request) (sym (drop-append-le count xs behind t.within))
+      (takes.by h behind between over)));
+}
+  where
+    by_goes : mid.open_run ≡ None → Progresses mid new n request → Progresses old new (count + n) request
+    by_goes closed (inl some) = inl (omega (arith, some))
+    by_goes closed (inr (inl stops)) = inr (inl stops)
+    by_goes closed (inr (inr (over, opened))) = absurd (opened closed)
 
-  -- and goes on
-  pub took_further : {n : ℕ} → Takes mid new (drop count xs) ended n requests.Nothing → Took old new xs ended (count + n)
-  took_further {n} takes = record {
-    within = omega (arith, t.within, takes.within, length-drop count xs);
-    works = record { live = takes.leaves.live; clear = λ clear. takes.leaves.clear (t.works.clear clear) };
-    closed = λ few. takes.closed refl (omega (arith, few, length-drop count xs));
-    by = λ h behind between over.
-        leads_behind (xs ++ behind) count more (t.by h behind between over) n
-        (subst (λ (ys : List Placed). LeadsOn g mid.sink (with_machine h mid) new.sink (with_machine h new) (take n ys) (bytes_of (drop n ys))) (sym (drop-append-le count xs behind t.within)) (takes.by h behind between over));
-  }
+    by_further : (0 < count) ⊎ ((count < length xs) × (mid.open_run ≡ None)) → Progresses old new (count + n) request
+    by_further (inl some) = inl (omega (arith, some))
+    by_further (inr (less, closed)) = by_goes closed (takes.goes (omega (arith, less, length-drop count xs)))
 
-  -- A code acts.
-  code_by : {n : ℕ} {clears : Bool} → Codes mid new (drop count (bytes_of xs)) ended (outcomes.Acted n clears) → (h : Holding) (behind : List Placed) → h.open_body ≡ None → (ended ≡ true → IsOver (bytes_of behind)) →
-      LeadsOn g old.sink (with_machine h old) new.sink (asked (with_machine h new) (asks_if clears)) (take (count + n) (xs ++ behind)) (bytes_of (drop (count + n) (xs ++ behind)))
-  code_by {n} {clears} code h behind between over =
-      leads_behind (xs ++ behind) count more (t.by h behind between over) n
-      (subst (λ (ys : List Placed). LeadsOn g mid.sink (with_machine h mid) new.sink (asked (with_machine h new) (asks_if clears)) (take n ys) (bytes_of (drop n ys))) (sym (drop-append-le count xs behind t.within))
-      (code.by h (drop count xs) behind between (sym (drop-map (λ (x : Placed). x.byte) count xs)) over))
+-- It took none before, and was as it is.
+pub takes_same : {S : Type 0} {g : Ghosts S} {old mid new : Machine S g} {xs : List Placed} {ended : Bool} {n : ℕ} {request : Request} → Takes mid new xs ended n request → LeftBy old mid old.work old.lexer → mid.sink ≡ old.sink → IsLive mid → TookMore g → 0 < length xs →
+    Takes old new xs ended n request
+takes_same {old = old} {new = new} {xs = xs} {ended = ended} {n = n} {request = request} takes left same live more some =
+    subst (λ (k : ℕ). Takes old new xs ended k request) (let e : 0 + n ≡ n = omega arith in e) (takes_then (took_same left same live) more (inr (some, left.closed)) takes)
 
-  pub took_code : {n : ℕ} → count < length xs → Codes mid new (drop count (bytes_of xs)) ended (outcomes.Acted n false) → Took old new xs ended (count + n)
-  took_code less code = record {
-    within = omega (arith, t.within, code.within.1, length-map xs (λ (x : Placed). x.byte), length-drop count (bytes_of xs));
-    works = record { live = code.leaves.live; clear = λ clear. code.leaves.clear (t.works.clear clear) };
-    closed = λ few. code.closed ∙ t.closed less;
-    by = code_by code;
-  }
-
-  pub took_clears : {n : ℕ} → count < length xs → Codes mid new (drop count (bytes_of xs)) ended (outcomes.Acted n true) → Takes old new xs ended (count + n) requests.Clear
-  took_clears less code = record {
-    within = omega (arith, t.within, code.within.1, length-map xs (λ (x : Placed). x.byte), length-drop count (bytes_of xs));
-    leaves = record { live = code.leaves.live; clear = λ clear. code.leaves.clear (t.works.clear clear) };
-    goes = λ some. inl (omega (arith, code.within.0));
-    closed = λ nothing few. code.closed ∙ t.closed less;
-    by = code_by code;
-  }
-
-  -- It isn't taken yet, and all is as it was.
-  pub took_same : Works mid new → new.open_run ≡ mid.open_run → ((h : Holding) (xs' behind : List Placed) → h.open_body ≡ None → bytes_of xs' ≡ drop count (bytes_of xs) → (ended ≡ true → IsOver (bytes_of behind)) → (new.sink ≡ mid.sink) × (with_machine h new ≡ with_machine h mid)) →
-      Took old new xs ended count
-  took_same works closed same = record {
-    within = t.within;
-    works = record { live = works.live; clear = λ clear. works.clear (t.works.clear clear) };
-    closed = λ less. closed ∙ t.closed less;
-    by = λ h behind between over.
-        let is = same h (drop count xs) behind between (sym (drop-map (λ (x : Placed). x.byte) count xs)) over in
-        subst (λ (h' : Holding). LeadsOn g old.sink (with_machine h old) new.sink h' (take count (xs ++ behind)) (bytes_of (drop count (xs ++ behind)))) (sym is.1)
-        (subst (λ (v : S). LeadsOn g old.sink (with_machine h old) v (with_machine h mid) (take count (xs ++ behind)) (bytes_of (drop count (xs ++ behind)))) (sym is.0) (t.by h behind between over));
-  }
-
-  -- It is refused, or breaks.
-  pub took_stops : {stopped : Machine S g} {n index : ℕ} {fault : Fault} → Codes mid stopped (drop count (bytes_of xs)) ended (outcomes.Stopped n fault index) → Refuses stopped new (refusal fault (place_at xs (count + index))) →
-      Takes old new xs ended (count + n) requests.Stop
-  took_stops {stopped} {n} {index} {fault} code refuses =
-      let r = refusal fault (place_at xs (count + index)) in
-      stop_takes {r = r} refuses.is (omega (arith, t.within, code.within.0, length-map xs (λ (x : Placed). x.byte), length-drop count (bytes_of xs))) (λ is. ap g.failed refuses.sink ∙ code.leaves.0 is)
-      (λ works fails. code.leaves.1 (t.works.clear works) (sym (ap g.failed refuses.sink) ∙ fails))
-      (λ h behind between over.
-      let there : place_at (drop count xs ++ behind) index ≡ place_at xs (count + index) =
-      place_at-append (drop count xs) behind index (omega (arith, code.within.1, length-map xs (λ (x : Placed). x.byte), length-drop count (bytes_of xs), length-drop count xs)) ∙ place_at-drop xs count index in
-      let stops : Stops g mid.sink (with_machine h mid) (drop count xs ++ behind) (length (drop count xs)) n stopped.sink (refusal fault (place_at (drop count xs ++ behind) index)) =
-      code.by h (drop count xs) behind between (sym (drop-map (λ (x : Placed). x.byte) count xs)) over in
-      stops_behind (xs ++ behind) count more (t.by h behind between over) (length xs) n
-      (subst (λ (v : S). Stops g mid.sink (with_machine h mid) (drop count (xs ++ behind)) (length xs - count) n v r) (sym refuses.sink)
-      (subst (λ (many : ℕ). Stops g mid.sink (with_machine h mid) (drop count (xs ++ behind)) many n stopped.sink r) (length-drop count xs)
-      (subst (λ (ys : List Placed). Stops g mid.sink (with_machine h mid) ys (length (drop count xs)) n stopped.sink r) (sym (drop-append-le count xs behind t.within))
-      (subst (λ (p : ℕ). Stops g mid.sink (with_machine h mid) (drop count xs ++ behind) (length (drop count xs)) n stopped.sink (refusal fault p)) there stops)))))
+-- the bytes that are left, of which the place of each is known
+pub left_bytes : (xs : List Placed) (count : ℕ) → bytes_of (drop count xs) ≡ drop count (bytes_of xs)
+left_bytes xs count = sym (drop-map (λ (x : Placed). x.byte) count xs)

@@ -17,12 +17,11 @@ use Rattle.nap_reader.specs.declared.kind.Kind.TheVariants as kinds
 use Rattle.nap_reader.proofs.CourseLemmas.{prepend-append}
 use Rattle.nap_reader.proofs.HeldLemmas.{front_code, half_read_pauses}
 use Rattle.nap_reader.proofs.StreamLemmas.{bytes_of-placed, outcome_from-front}
-use Rattle.nap_reader.proofs.PartLemmas.{was_failed}
-use Rattle.nap_reader.proofs.LeadsLemmas.{TookMore, TookBroke, is_between, fails_part, leads_more}
-use Rattle.nap_reader.proofs.ReadingLemmas.{nothing_yet, rest_of_nothing, is_half, holds_half}
+use Rattle.nap_reader.proofs.LeadsLemmas.{Lawful, TookMore, fails_part, is_between, leads_more, was_failed}
+use Rattle.nap_reader.proofs.ReadingLemmas.{nothing_yet, rest_of_nothing, is_half, holds_nothing}
 use Rattle.nap_reader.proofs.BreakingLemmas.{brings_breaks}
-use Rattle.nap_reader.proofs.StandingLemmas.{Lawful}
 use Rattle.nap_reader.proofs.PieceLemmas.{length_taken, stops_by, taken_further}
+use Rattle.nap_reader.specs.Steps.{IsText}
 
 -- A stretch of a text is its characters, and the moves among them, in turn.
 
@@ -154,21 +153,14 @@ halts_less g s set q i t u fault some h =
     let is = text_parts s set q halt.es halt.next halt.rest halt.parts in
     omega (arith, halt.count, is.count, ap (λ (xs : List ℕ). length xs) is.parts, length-append is.before (is.byte ∷ is.behind))
 
--- Nothing is held back, and all bytes from 20 to 7F are characters of this set.
-pub record InText (h : Holding) (set : CharSet) : Type 0 where
-  pub between : h.open_body ≡ None
-  pub closed : h.open_run ≡ None
-  pub rested : h.half ≡ []
-  pub chars : AllCharacters h.machine.sets set
-
 -- Characters pend before other bytes.
-module _ {S : Type 0} {g : Ghosts S} {s : S} {o : Outcome} {t : S} {h : Holding} {set : CharSet} (xs pending : List Placed) (k : Continues g s o t h (xs ++ pending)) (in_text : InText h set) (all : All IsTyped (bytes_of xs)) where
+module _ {S : Type 0} {g : Ghosts S} {s : S} {o : Outcome} {t : S} {h : Holding} {set : CharSet} (xs pending : List Placed) (k : Continues g s o t h (xs ++ pending)) (in_text : IsText h set (bytes_of xs)) where
   acts : o ≡ prepend (k.done ++ text h.machine.work.state set (bytes_of xs)) (outcome_from (with_text h.machine set (bytes_of xs)) pending)
   acts =
       let empty : k.rest ≡ [] = rest_of_nothing k.rest ((is_half h k.rest in_text.between in_text.closed k.held).0 ∙ in_text.rested) in
       k.leads
       ∙ ap (λ (ys : List Placed). prepend k.done (outcome_from h.machine (ys ++ (xs ++ pending)))) empty
-      ∙ ap (prepend k.done) (text_acts h.machine set xs pending (is_between h k.rest in_text.between k.held).mode in_text.chars all)
+      ∙ ap (prepend k.done) (text_acts h.machine set xs pending (is_between h k.rest in_text.between k.held).mode in_text.chars in_text.typed)
       ∙ sym (prepend-append k.done (text h.machine.work.state set (bytes_of xs)) (outcome_from (with_text h.machine set (bytes_of xs)) pending))
 
   -- all of them were taken
@@ -182,14 +174,13 @@ module _ {S : Type 0} {g : Ghosts S} {s : S} {o : Outcome} {t : S} {h : Holding}
         taken = more s t u k.done (text h.machine.work.state set (bytes_of xs)) k.taken took;
         clear = λ before. clear (k.clear before);
         rest = [];
-        held = holds_half h' [] in_text.between held.mode held.body in_text.closed (sym in_text.rested) (ap (codes.front h.machine.sets) in_text.rested ∙ nothing_yet h.machine.sets);
+        held = holds_nothing h' in_text.between held.mode held.body in_text.closed in_text.rested;
         leads = acts;
       }
 
   -- one of them wasn't taken, or broke
-  pub text_breaks_off : {i : ℕ} {u : S} {fault : SinkFault} → TookMore g → TookBroke g → HaltsIn g h.machine.work.state set (bytes_of xs) i t u fault →
-      BreaksFrom g s [] o u (cause_of (draw_fault (fault_of fault)))
-  text_breaks_off {i} {u} {fault} more broken halt = record { more = o.entries; adds = refl; part = at fault halt.halted }
+  pub text_breaks_off : {i : ℕ} {u : S} {fault : SinkFault} → Lawful g → HaltsIn g h.machine.work.state set (bytes_of xs) i t u fault → BreaksFrom g s [] o u (cause_of (draw_fault (fault_of fault)))
+  text_breaks_off {i} {u} {fault} laws halt = record { more = o.entries; adds = refl; part = at fault halt.halted }
     where
       behind : List Entry
       behind = (outcome_from (with_text h.machine set (bytes_of xs)) pending).entries
@@ -203,7 +194,7 @@ module _ {S : Type 0} {g : Ghosts S} {s : S} {o : Outcome} {t : S} {h : Holding}
           ∙ ap (λ (es : List Entry). es ++ behind) (sym (append_assoc k.done halt.es (halt.next ∷ halt.rest))) ∙ append_assoc first (halt.next ∷ halt.rest) behind
 
       at : (fault : SinkFault) → Halted g halt.es halt.next t u fault → TookFront g s [] o.entries u (cause_of (draw_fault (fault_of fault)))
-      at sink_faults.Memory (took, wants) = (first, halt.next ∷ (halt.rest ++ behind), parts, more s t u k.done halt.es k.taken took)
+      at sink_faults.Memory (took, wants) = (first, halt.next ∷ (halt.rest ++ behind), parts, laws.more s t u k.done halt.es k.taken took)
       at sink_faults.Write (inl (failed, stays, empty)) =
           inl (
             was_failed g s t k.clear failed,
@@ -214,15 +205,15 @@ module _ {S : Type 0} {g : Ghosts S} {s : S} {o : Outcome} {t : S} {h : Holding}
               subst (λ (es : List Entry). g.took s es u) (sym (ap (λ (es : List Entry). k.done ++ es) empty ∙ append-nil k.done)) (subst (g.took s k.done) (sym stays) k.taken),
             ),
           )
-      at sink_faults.Write (inr broke) = inr (first, halt.next, halt.rest ++ behind, parts, broken s t u k.done halt.es halt.next k.taken broke)
+      at sink_faults.Write (inr broke) = inr (first, halt.next, halt.rest ++ behind, parts, laws.broken s t u k.done halt.es halt.next k.taken broke)
 
 -- Characters come.
-module _ {S : Type 0} {g : Ghosts S} {s : S} {t : S} {h : Holding} {set : CharSet} (budget : ℕ) (p : List ℕ) (k : Continues g s (begun budget p) t h []) (in_text : InText h set) where
+module _ {S : Type 0} {g : Ghosts S} {s : S} {t : S} {h : Holding} {set : CharSet} (budget : ℕ) (p : List ℕ) {q₀ : List ℕ} (k : Continues g s (begun budget p) t h []) (in_text : IsText h set q₀) where
   comes : (q : List ℕ) → All IsTyped q → begun budget (p ++ q) ≡ prepend (k.done ++ text h.machine.work.state set q) (paused (with_text h.machine set q) [] (Some nothing))
   unfolding leads_more
   comes q all =
       let empty : k.rest ≡ [] = rest_of_nothing k.rest ((is_half h k.rest in_text.between in_text.closed k.held).0 ∙ in_text.rested) in
-      (leads_more g s budget p q t h k).leads
+      (leads_more budget p q k).leads
       ∙ ap (λ (xs : List Placed). prepend k.done (outcome_from h.machine (xs ++ placed_from (length p) q))) empty
       ∙ ap (prepend k.done) (text_comes h.machine set q (length p) (is_between h k.rest in_text.between k.held).mode in_text.chars all)
       ∙ sym (prepend-append k.done (text h.machine.work.state set q) (paused (with_text h.machine set q) [] (Some nothing)))
@@ -246,18 +237,20 @@ module _ {S : Type 0} {g : Ghosts S} {s : S} {t : S} {h : Holding} {set : CharSe
       record {
         before = ap (λ (o : Outcome). o.refusal) there;
         breaks =
-            brings_breaks g s budget (p ++ before) b u r (sym (ap (λ (o : Outcome). (closed_by o b).entries) there ∙ still (is_operand_byte b))) (omega (arith, place, halt.count, is.count, length-append p before))
+            brings_breaks budget (p ++ before) b r (sym (ap (λ (o : Outcome). (closed_by o b).entries) there ∙ still (is_operand_byte b))) (omega (arith, place, halt.count, is.count, length-append p before))
             (record {
-              more = halt.next ∷ [];
               some = λ none. let bad : ⊥ = cc in bad;
+              wants = wants;
+              next = record {
+              more = halt.next ∷ [];
               adds =
                   ap (λ (o : Outcome). o.entries) further
                   ∙ append-nil (k.done ++ text s' set (before ++ b ∷ []))
                   ∙ ap (λ (es : List Entry). k.done ++ es) (text_more s' set before (b ∷ []) ∙ ap (λ (es : List Entry). text s' set before ++ es) (one_char (walk s' (text s' set before)) set b)
                   ∙ ap₂ (λ (es : List Entry) (e : Entry). es ++ e ∷ []) (sym is.front) (sym is.next)) ∙ sym (append_assoc k.done halt.es (halt.next ∷ []));
               unrefused = ap (λ (o : Outcome). o.refusal) further;
-              wants = wants;
               part = part;
+              };
             });
         left = let is = ap (λ (o : Outcome). o.machine.left) there in omega (arith, is, same);
         charged = let is = ap (λ (o : Outcome). o.machine.left) further in omega (arith, is, same);
@@ -273,7 +266,7 @@ module _ {S : Type 0} {g : Ghosts S} {s : S} {t : S} {h : Holding} {set : CharSe
     where
       part : Halted g halt.es halt.next t u sink_faults.Write → TookPart g s (k.done ++ halt.es) (halt.next ∷ []) u device
       part (inl (failed, stays, empty)) =
-          fails_part g s t u (k.done ++ halt.es) _ (subst (λ (es : List Entry). g.took s es t) (sym (ap (λ (es : List Entry). k.done ++ es) empty ∙ append-nil k.done)) k.taken) laws.broken k.clear (inl (failed, stays))
+          fails_part u _ laws (record { taken = subst (λ (es : List Entry). g.took s es t) (sym (ap (λ (es : List Entry). k.done ++ es) empty ∙ append-nil k.done)) k.taken; clear = k.clear }) (inl (failed, stays))
       part (inr broke) = inr ([], halt.next, [], refl, subst (λ (es : List Entry). g.broke s es halt.next u) (sym (append-nil (k.done ++ halt.es))) (laws.broken s t u k.done halt.es halt.next k.taken broke))
 
 -- it is no refusal of the stream's own
@@ -285,10 +278,10 @@ not_own sink_faults.Write is = let bad : ⊥ = cc in bad
 pub text_stops : {S : Type 0} {g : Ghosts S} {old : Reader S g} {piece : List ℕ} {at : ℕ} {t : S} {h : Holding} {frames : List Placed} {q : List ℕ} {i : ℕ} {r : Refusal} (new : Reader S g) → LeadsTo old piece at t h frames → frames ≡ [] → left_of new ≡ h.machine.left →
     Lawful g → StopsText g t h q i (sink_of new) r → take (length q) (drop at piece) ≡ q → r.place ≡ fed_of old + at + i → fed_of new ≡ fed_of old + at + (i + 1) → StopsAt old new piece r (at + i)
 text_stops {S} {g} {old} {piece} {at} {t} {h} {q = q} {i = i} {r = r} new leads empty left laws stops front place fed =
-    let halt = halts_in g h.machine.work.state stops.set q i t (sink_of new) stops.fault stops.some stops.halts in
+    let halt = halts_in g h.machine.work.state stops.set q i t (sink_of new) stops.fault stops.text_is.some stops.halts in
     let is = text_parts h.machine.work.state stops.set q halt.es halt.next halt.rest halt.parts in
     let count : i ≡ length is.before = halt.count ∙ is.count in
-    let less = halts_less g h.machine.work.state stops.set q i t (sink_of new) stops.fault stops.some stops.halts in
+    let less = halts_less g h.machine.work.state stops.set q i t (sink_of new) stops.fault stops.text_is.some stops.halts in
     let long : length q ≤ length piece - at = omega (arith, sym (ap length front), length-take (length q) (drop at piece), length-drop at piece) in
     let first : take (length is.before) (drop at piece) ≡ is.before =
     ap (λ (j : ℕ). take j (drop at piece)) (sym count)
@@ -304,7 +297,7 @@ text_stops {S} {g} {old} {piece} {at} {t} {h} {q = q} {i = i} {r = r} new leads 
     (subst (λ (q : List ℕ). IsBroken g s (budget_of old) q (get_or piece (at + i) 0) (sink_of new) (left_of new) (refusal (draw_fault (fault_of stops.fault)) r.place))
     (taken_further p piece is.before at first ∙ ap (λ (j : ℕ). p ++ take (at + j) piece) (sym count))
     (subst (λ (b : ℕ). IsBroken g s (budget_of old) ((p ++ take at piece) ++ is.before) b (sink_of new) (left_of new) (refusal (draw_fault (fault_of stops.fault)) r.place)) (sym there)
-    (text_broken {set = stops.set} (budget_of old) (p ++ take at piece) (leads.alone empty s p stood) (record { between = stops.between; closed = stops.closed; rested = stops.rested; chars = stops.chars }) stops.fault laws halt is stops.typed left
+    (text_broken {set = stops.set} (budget_of old) (p ++ take at piece) (leads.alone empty s p stood) stops.text_is stops.fault laws halt is stops.text_is.typed left
     (omega (arith, place, length_taken p piece at leads.within, stood.fed leads.live))))) in
     record {
       within = omega (arith, less, long, leads.within);

@@ -12,10 +12,9 @@ use Rattle.nap_reader.proofs.PartLemmas.{call_breaks}
 use Rattle.nap_reader.proofs.ComingLemmas.{bytes_of-spaced, came_coming, came_next, came_take, came_within, can_pass, fits, length-spaced, passed_rest, passed_to, place_at-spaced, text_next}
 use Rattle.nap_reader.proofs.DefineLemmas.{cannot_stops}
 use Rattle.nap_reader.proofs.FurtherLemmas.{SameComes, coming_bytes, coming_same, counts_passed, counts_still, counts_then, goes_by, held_parts, own_fault, passed_come, passed_still, passed_then, passed_with, reads_at, stops_from}
-use Rattle.nap_reader.proofs.LeadsLemmas.{TookMore, is_between, leads_shown}
+use Rattle.nap_reader.proofs.LeadsLemmas.{Lawful, TookMore, is_between, leads_shown}
 use Rattle.nap_reader.proofs.PieceLemmas.{reaches_called, reaches_on}
-use Rattle.nap_reader.proofs.ReadingLemmas.{holds_half, is_half}
-use Rattle.nap_reader.proofs.StandingLemmas.{Lawful}
+use Rattle.nap_reader.proofs.ReadingLemmas.{holds_half, is_half, holds_nothing}
 use Rattle.nap_reader.proofs.StepLemmas.{conveys_nothing}
 use Rattle.nap_reader.proofs.StreamLemmas.{bytes_of-append, bytes_of-placed, length-all_at, place_at-append}
 use Rattle.nap_reader.proofs.TakingLemmas.{place_at-drop, stops_behind}
@@ -106,7 +105,7 @@ still_held : (h : Holding) (n : ℕ) → h.open_body ≡ None → h.open_run ≡
 still_held h n between closed held =
     let half = is_between h [] between held in
     let rest = is_half h [] between closed held in
-    holds_half (record h { machine = record h.machine { left = n } }) [] between half.mode half.body closed rest.0 rest.1
+    holds_nothing (record h { machine = record h.machine { left = n } }) between half.mode half.body closed (sym rest.0)
 
 module _ {S : Type 0} {g : Ghosts S} {from now : Machine S g} {input input' : Input} {piece : List ℕ} {count place : ℕ} {request : Request} (turn : Turn from now input piece count request place) (adv : Advances input input' count)
     {index name : ℕ} (counted : count ≡ index + 1) (calls : Calls g from.sink (held_by from input) now.sink (held_by now input) (coming input piece) index name) where
@@ -183,7 +182,7 @@ module _ {S : Type 0} {g : Ghosts S} {from now : Machine S g} {input input' : In
       (shows.open_bytes ∙ ap (λ (store : StoreState). store.body) adv.store) (shows.body ∙ adv.body) in
       let passes : Passes g now.sink calls.holding (x ∷ []) now.sink (held_by now after) (all_at x.place bytes) =
       λ s o pending c.
-      leads_shown g s o now.sink calls.holding (x ∷ pending) c m x.place bytes pending (calls_it s o pending c) few (held_by now after) (ap (λ (h : Holding). h.machine) held)
+      leads_shown c m x.place bytes pending (calls_it s o pending c) few (held_by now after) (ap (λ (h : Holding). h.machine) held)
       (subst (IsHeld []) (sym held) (still_held (held_by now input) (m.left - length bytes) turn.between calls.rested (calls.still s o pending c))) in
       let counts = turn_counts turn adv in
       reads_at old by (counts_then count (omega arith) counts (counts_still counts.reads shows.same)) works
@@ -200,7 +199,7 @@ module _ {S : Type 0} {g : Ghosts S} {from now : Machine S g} {input input' : In
       let stops : StopsByte g now.sink calls.holding x now.sink (refusal fault place) =
       subst (λ (n : ℕ). StopsByte g now.sink calls.holding x now.sink (refusal fault n)) (sym place_is)
       (cannot_stops g now.sink calls.holding x (input'.budget - input'.charged) m bytes (omega (arith, adv.passed.budget, adv.passed.charged)) calls_it
-      (λ some few. in_code calls.closed (record { place = refl; part = λ s known o k. inr (call_breaks g s known o now.sink calls.holding x k m x.place bytes [] (calls_it s o [] k.continues) (sym calls.left) some few) })) cannot.reason) in
+      (λ some few. in_code calls.closed (record { place = refl; part = λ s known o k. call_breaks k m x.place bytes [] (calls_it s o [] k.continues) (sym calls.left) some few })) cannot.reason) in
       let stopped : Stops g from.sink (held_by from input) all (length turn.text) index now.sink (refusal fault place) =
       subst (λ (n : ℕ). Stops g from.sink (held_by from input) all (length turn.text) n now.sink (refusal fault place)) (let e : index + 0 ≡ index = omega arith in e)
       (stops_behind all index laws.more calls.leads {v = now.sink} {r = refusal fault place} (length turn.text) 0 (at_byte x calls.behind calls.is (conveys_nothing g now.sink calls.holding) stops)) in
@@ -208,8 +207,7 @@ module _ {S : Type 0} {g : Ghosts S} {from now : Machine S g} {input input' : In
       (record {
         why = refusal fault place;
         is = is;
-        failed = λ device. absurd (own_fault cannot device);
-        kept = λ (working : g.failed from.sink ≡ false) (fails : g.failed m'.sink ≡ true). let bad : true ≡ false = sym fails ∙ ap g.failed sink ∙ works.clear working in cc;
+        tells = (λ device. absurd (own_fault cannot device), λ (working : g.failed from.sink ≡ false) (fails : g.failed m'.sink ≡ true). let bad : true ≡ false = sym fails ∙ ap g.failed sink ∙ works.clear working in cc);
       }) is (passed_with turn.reads turn.next.comes within (subst (Passed input after) counted (passed_still adv.passed cannot.still)))
       (subst (λ (t : S). Stops g from.sink (held_by from input) all (length turn.text) index t (refusal fault place)) (sym sink) stopped)
 

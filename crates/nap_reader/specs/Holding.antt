@@ -156,30 +156,28 @@ pub record ContinuesPast {S : Type 0} (g : Ghosts S) (s : S) (known : List Entry
   pub continues : Continues g s o t h pending
   pub done : continues.done ≡ known
 
--- A sink that was s has the entries that were known, and a part of those that the outcome has more: some. That has no
--- refusal. Where memory was wanting, the sink may want it for these entries.
-pub record BreaksPast {S : Type 0} (g : Ghosts S) (s : S) (known : List Entry) (o : Outcome) (t : S) (cause : Cause) : Type 0 where
-  pub more : List Entry
-  pub some : more ≢ []
-  pub adds : o.entries ≡ known ++ more
-  pub unrefused : o.refusal ≡ None
-  pub wants : cause ≡ memory → g.wants s (known ++ more)
-  pub part : TookPart g s known more t cause
-
--- The same, where there may be none, and memory of the reader's own may be wanting.
+-- A sink that was s has the entries that were known, and a part of those that the outcome has more. That has no refusal.
 pub record BreaksNext {S : Type 0} (g : Ghosts S) (s : S) (known : List Entry) (o : Outcome) (t : S) (cause : Cause) : Type 0 where
   pub more : List Entry
   pub adds : o.entries ≡ known ++ more
   pub unrefused : o.refusal ≡ None
   pub part : TookPart g s known more t cause
 
--- The same; or a body is charged, and the sink has a part of what comes.
-abbrev pub BreaksInBody : {S : Type 0} → Ghosts S → S → List Entry → Outcome → S → Holding → Cause → Type 0
-BreaksInBody g s known o t h cause = BreaksNext g s known o t cause ⊎ ((o.machine.left < h.machine.left) × BreaksFrom g s known o t cause)
+-- There are some. Where memory was wanting, the sink may want it for these entries.
+pub record BreaksPast {S : Type 0} (g : Ghosts S) (s : S) (known : List Entry) (o : Outcome) (t : S) (cause : Cause) : Type 0 where
+  pub next : BreaksNext g s known o t cause
+  pub some : next.more ≢ []
+  pub wants : cause ≡ memory → g.wants s (known ++ next.more)
 
--- Some entries come; or a body is charged, and the sink has a part of what comes.
-abbrev pub BreaksSome : {S : Type 0} → Ghosts S → S → List Entry → Outcome → S → Holding → Cause → Type 0
-BreaksSome g s known o t h cause = BreaksPast g s known o t cause ⊎ ((o.machine.left < h.machine.left) × BreaksFrom g s known o t cause)
+-- What comes next broke; or a body is charged, and the sink has a part of what comes.
+pub data BreaksInBody {S : Type 0} (g : Ghosts S) (s : S) (known : List Entry) (o : Outcome) (t : S) (left : ℕ) (cause : Cause) : Type 0 where
+  next_broke : BreaksNext g s known o t cause → BreaksInBody g s known o t left cause
+  body_broke : o.machine.left < left → BreaksFrom g s known o t cause → BreaksInBody g s known o t left cause
+
+-- The same, where some entries come.
+pub data BreaksSome {S : Type 0} (g : Ghosts S) (s : S) (known : List Entry) (o : Outcome) (t : S) (left : ℕ) (cause : Cause) : Type 0 where
+  some_broke : BreaksPast g s known o t cause → BreaksSome g s known o t left cause
+  charged_broke : o.machine.left < left → BreaksFrom g s known o t cause → BreaksSome g s known o t left cause
 
 -- the refusal is the stream's own
 abbrev pub IsOwn : Refusal → Type 0
@@ -200,10 +198,10 @@ pub record Ends {S : Type 0} (g : Ghosts S) (s : S) (o : Outcome) (t : S) (h : H
 abbrev pub BeginsAll : ℕ → List ℕ → Type 0
 BeginsAll budget p = (b : ℕ) → is_operand_byte b ≡ false → Begins (with_run (begun budget p)) (begun budget (p ++ b ∷ []))
 
--- The open run has acted, or was refused, or broke.
-abbrev pub ClosesInto : {S : Type 0} → Ghosts S → S → ℕ → List ℕ → S → Refusal → Cause → Type 0
-ClosesInto g s budget p t r stream = ((with_run (begun budget p)).refusal ≡ Some r) × g.took s (with_run (begun budget p)).entries t
-ClosesInto g s budget p t r _ = BeginsAll budget p × BreaksInRun g s budget p t r
+-- The opcode of the open run was refused, or broke.
+pub data ClosesInto {S : Type 0} (g : Ghosts S) (s : S) (budget : ℕ) (p : List ℕ) (t : S) (r : Refusal) : Type 0 where
+  run_refused : (with_run (begun budget p)).refusal ≡ Some r → g.took s (with_run (begun budget p)).entries t → IsOwn r → ClosesInto g s budget p t r
+  run_broke : BeginsAll budget p → BreaksInRun g s budget p t r → cause_of r.fault ≢ stream → ClosesInto g s budget p t r
 
 -- the open run is at this place, where there is one
 abbrev pub RunAt : ℕ → Option OpenRun → Type 0

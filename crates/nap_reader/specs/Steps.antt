@@ -7,6 +7,7 @@ use Rattle.nap_list.specs.Agreement.{StatesAgree}
 use Rattle.nap_draw.specs.Codes as draws_codes
 use Rattle.nap_draw.specs.Draws as draws
 use Rattle.nap_reader.specs.declared.body.OpenBody.{OpenBody}
+use Rattle.nap_reader.specs.declared.fault.Fault.{Fault}
 use Rattle.nap_reader.specs.declared.fault.Fault.TheVariants as faults
 use Rattle.nap_reader.specs.declared.fault.Refusal.{Refusal}
 use Rattle.nap_reader.specs.declared.machine.Machine.{Machine}
@@ -89,14 +90,14 @@ pub record LacksWord {S : Type 0} (t : S) (h : Holding) (x : Placed) (u : S) (r 
 -- what the code brings that a byte ends isn't all there
 pub record BreaksCode {S : Type 0} (g : Ghosts S) (t : S) (h : Holding) (x : Placed) (u : S) (r : Refusal) : Type 0 where
   pub place : r.place ≡ x.place
-  pub part : (s : S) (known : List Entry) (o : Outcome) → ContinuesPast g s known o t h (x ∷ []) → BreaksSome g s known o u h (cause_of r.fault)
+  pub part : (s : S) (known : List Entry) (o : Outcome) → ContinuesPast g s known o t h (x ∷ []) → BreaksSome g s known o u h.machine.left (cause_of r.fault)
 
 -- the same of a byte of a body
 pub record BreaksBody {S : Type 0} (g : Ghosts S) (t : S) (h : Holding) (x : Placed) (u : S) (r : Refusal) : Type 0 where
   pub body : OpenBody
   pub is : h.open_body ≡ Some body
   pub place : r.place ≡ x.place
-  pub part : (s : S) (known : List Entry) (o : Outcome) → ContinuesPast g s known o t h (x ∷ []) → BreaksInBody g s known o u h (cause_of r.fault)
+  pub part : (s : S) (known : List Entry) (o : Outcome) → ContinuesPast g s known o t h (x ∷ []) → BreaksInBody g s known o u h.machine.left (cause_of r.fault)
 
 -- Reading breaks with a byte: at a word of the open run; in the opcode whose run the byte ends; in the code that it ends,
 -- behind such a run or not; or in a body.
@@ -112,15 +113,19 @@ pub record StopsByte {S : Type 0} (g : Ghosts S) (t : S) (h : Holding) (x : Plac
   pub own : IsOwn r → (s : S) (o : Outcome) (pending : List Placed) → Continues g s o t h (x ∷ pending) → IsRefused g s o u h r
   pub broke : cause_of r.fault ≢ stream → Breaks g t h x u r
 
--- One of these characters, or of the moves among them, wasn't taken, or broke: the one with this index.
-pub record StopsText {S : Type 0} (g : Ghosts S) (t : S) (h : Holding) (text : List ℕ) (index : ℕ) (u : S) (r : Refusal) : Type 0 where
+-- These are characters, or moves among them, and nothing is held back before them.
+pub record IsText (h : Holding) (set : CharSet) (text : List ℕ) : Type 0 where
   pub between : h.open_body ≡ None
   pub closed : h.open_run ≡ None
   pub rested : h.half ≡ []
-  pub set : CharSet
   pub chars : AllCharacters h.machine.sets set
   pub some : 0 < length text
   pub typed : All IsTyped text
+
+-- One of them wasn't taken, or broke: the one with this index.
+pub record StopsText {S : Type 0} (g : Ghosts S) (t : S) (h : Holding) (text : List ℕ) (index : ℕ) (u : S) (r : Refusal) : Type 0 where
+  pub set : CharSet
+  pub text_is : IsText h set text
   pub fault : SinkFault
   pub halts : HaltsAfter (shows_of g) (draws_codes.text h.machine.work.state set text) t u index fault
   pub why : r.fault ≡ draw_fault (fault_of fault)
@@ -243,23 +248,30 @@ pub record Refuses {S : Type 0} {g : Ghosts S} (old new : Machine S g) (r : Refu
   pub lexer : new.lexer ≡ old.lexer
   pub open_run : new.open_run ≡ old.open_run
 
+-- what a fault tells of a sink that was t, and is u: whether it has failed
+abbrev pub TellsSink : {S : Type 0} → Ghosts S → S → S → Fault → Type 0
+TellsSink g t u fault = (fault ≡ faults.Sink → g.failed u ≡ true) × (g.failed t ≡ false → g.failed u ≡ true → fault ≡ faults.Sink)
+
 -- It is refused, and a failure of its sink is told.
 pub record Latches {S : Type 0} {g : Ghosts S} (old new : Machine S g) : Type 0 where
   pub why : Refusal
   pub is : new.refusal ≡ Some why
-  pub failed : why.fault ≡ faults.Sink → g.failed new.sink ≡ true
-  pub kept : g.failed old.sink ≡ false → g.failed new.sink ≡ true → why.fault ≡ faults.Sink
+  pub tells : TellsSink g old.sink new.sink why.fault
 
 abbrev pub Leaves : {S : Type 0} {g : Ghosts S} → Machine S g → Machine S g → Request → Type 0
 Leaves old new requests.Stop = Latches old new
 Leaves old new _ = Works old new
+
+-- Some bytes were taken; or it is refused, or the open run is over.
+abbrev pub Progresses : {S : Type 0} {g : Ghosts S} → Machine S g → Machine S g → ℕ → Request → Type 0
+Progresses old new count request = (0 < count) ⊎ (request ≡ requests.Stop) ⊎ ((new.open_run ≡ None) × (old.open_run ≢ None))
 
 -- The machine took so many bytes of a slice that has these, behind which others come: none of an operand, where the run has ended.
 -- Where it asks nothing, a run is open behind the last of them at most.
 pub record Takes {S : Type 0} {g : Ghosts S} (old new : Machine S g) (bytes : List Placed) (ended : Bool) (count : ℕ) (request : Request) : Type 0 where
   pub within : count ≤ length bytes
   pub leaves : Leaves old new request
-  pub goes : 0 < length bytes → (0 < count) ⊎ (request ≡ requests.Stop) ⊎ ((new.open_run ≡ None) × (old.open_run ≢ None))
+  pub goes : 0 < length bytes → Progresses old new count request
   pub closed : request ≡ requests.Nothing → count < length bytes → new.open_run ≡ None
   pub by : (h : Holding) (behind : List Placed) → h.open_body ≡ None → (ended ≡ true → IsOver (bytes_of behind)) →
       TakesBy g old.sink (with_machine h old) new.sink (with_machine h new) (bytes ++ behind) (length bytes) count new.refusal request
@@ -299,34 +311,25 @@ pub record CallsBy (lexer : LexerState) (bytes : List ℕ) (count : ℕ) : Type 
   pub few : length before ≤ 1
   pub whole : codes.front lexer.sets (before ++ name ∷ []) ≡ codes.whole (code.Call name) count lexer.sets
 
--- What became of the code at the front of these bytes: it took some; it is an opcode whose run they don't end; it is refused or
--- breaks behind so many, at the place of the byte with this index; or nothing was done.
-abbrev pub CodeTakes : {S : Type 0} → Ghosts S → S → Holding → S → Holding → List Placed → ℕ → CodeOutcome → Type 0
-CodeTakes g t h u h' all many (outcomes.Acted count clears) =
-    LeadsOn g t h u (asked h' (asks_if clears)) (take count all) (bytes_of (drop count all))
-CodeTakes g t h u h' all many (outcomes.Stopped count fault index) = Stops g t h all many count u (refusal fault (place_at all index))
-CodeTakes g t h u h' all many _ = (u ≡ t) × (h' ≡ h)
+-- How many bytes it has, or which opcode it is: one whose run they don't end. Or nothing was done.
+abbrev pub CodeWithin : {S : Type 0} {g : Ghosts S} → Machine S g → Machine S g → List ℕ → CodeOutcome → Type 0
+CodeWithin old new bytes (outcomes.Acted count clears) = (0 < count) × (count ≤ length bytes)
+CodeWithin old new bytes (outcomes.Stopped count fault index) = (count ≤ length bytes) × (index < length bytes)
+CodeWithin old new bytes (outcomes.Opens op) = (new ≡ old) × (byte : ℕ) × (rest : List ℕ) × (bytes ≡ byte ∷ rest) × IsOpcodeByte old.lexer.half old.lexer.sets byte op
+CodeWithin old new bytes outcomes.Other = new ≡ old
 
--- How many bytes that is, and which opcode it is.
-abbrev pub CodeWithin : LexerState → List ℕ → CodeOutcome → Type 0
-CodeWithin lexer bytes (outcomes.Acted count clears) = (0 < count) × (count ≤ length bytes)
-CodeWithin lexer bytes (outcomes.Stopped count fault index) = (count ≤ length bytes) × (index < length bytes)
-CodeWithin lexer bytes (outcomes.Opens op) = (byte : ℕ) × (rest : List ℕ) × (bytes ≡ byte ∷ rest) × IsOpcodeByte lexer.half lexer.sets byte op
-CodeWithin lexer bytes outcomes.Other = ⊤
-
--- What it leaves of a machine.
-abbrev pub CodeLeaves : {S : Type 0} {g : Ghosts S} → Machine S g → Machine S g → CodeOutcome → Type 0
-CodeLeaves {S} {g} old new (outcomes.Stopped count fault index) =
-    (fault ≡ faults.Sink → g.failed new.sink ≡ true) × (g.failed old.sink ≡ false → g.failed new.sink ≡ true → fault ≡ faults.Sink)
-CodeLeaves old new _ = Works old new
+-- What a machine took with it; where it is refused or breaks, once that is kept, at the place of the byte with this index.
+abbrev pub CodeTakes : {S : Type 0} {g : Ghosts S} → Machine S g → Machine S g → List Placed → Bool → CodeOutcome → Type 0
+CodeTakes old new xs ended (outcomes.Acted count clears) = Takes old new xs ended count (asks_if clears)
+CodeTakes {S} {g} old new xs ended (outcomes.Stopped count fault index) =
+    (kept : Machine S g) → Refuses new kept (refusal fault (place_at xs index)) → Takes old kept xs ended count requests.Stop
+CodeTakes old new xs ended _ = ⊤
 
 -- The machine took the code at the front of these bytes, behind which others come: none of an operand, where the run has ended.
 pub record Codes {S : Type 0} {g : Ghosts S} (old new : Machine S g) (bytes : List ℕ) (ended : Bool) (outcome : CodeOutcome) : Type 0 where
-  pub within : CodeWithin new.lexer bytes outcome
-  pub leaves : CodeLeaves old new outcome
+  pub within : CodeWithin old new bytes outcome
   pub closed : new.open_run ≡ old.open_run
-  pub by : (h : Holding) (xs behind : List Placed) → h.open_body ≡ None → bytes_of xs ≡ bytes → (ended ≡ true → IsOver (bytes_of behind)) →
-      CodeTakes g old.sink (with_machine h old) new.sink (with_machine h new) (xs ++ behind) (length xs) outcome
+  pub by : (xs : List Placed) → bytes_of xs ≡ bytes → CodeTakes old new xs ended outcome
 
 -- The opcode of the open run acted, which may unbind all names; or it is refused, or breaks.
 abbrev pub Executes : {S : Type 0} {g : Ghosts S} → Machine S g → Machine S g → Bool → Type 0
@@ -334,5 +337,4 @@ Executes {S} {g} old new clears = Works old new × (new.open_run ≡ None)
     × ((h : Holding) → h.open_body ≡ None → ActsRun g old.sink (with_machine h old) new.sink (asked (with_machine h new) (asks_if clears)))
 
 abbrev pub FailsRun : {S : Type 0} {g : Ghosts S} → Machine S g → Machine S g → Refusal → Type 0
-FailsRun {S} {g} old new r = ((h : Holding) → h.open_body ≡ None → StopsRun g old.sink (with_machine h old) new.sink r)
-    × (r.fault ≡ faults.Sink → g.failed new.sink ≡ true) × (g.failed old.sink ≡ false → g.failed new.sink ≡ true → r.fault ≡ faults.Sink)
+FailsRun {S} {g} old new r = ((h : Holding) → h.open_body ≡ None → StopsRun g old.sink (with_machine h old) new.sink r) × TellsSink g old.sink new.sink r.fault

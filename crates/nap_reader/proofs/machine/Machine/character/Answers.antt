@@ -48,4 +48,4 @@ returns-in-Err g c = λ ended behind.
     (alone_stops (is_alone g (goal.at.returns-in-Err g c).In-Some behind) refl refl
     (record { drew = c.in-Err.ensures.acts.1; wants = λ memory. c.in-Err.ensures.memory (ap Err memory); gives = λ device. c.in-Err.ensures.gives (ap Err device) })
     (λ is. c.in-Err.ensures.failed (ap Err (sink_fault fault is)), λ works fails. ap draw_fault (c.in-Err.ensures.kept works fails))
-    (record { more = g.met.S.Sink.took_more; broken = g.met.S.Sink.took_broke; wants = g.met.S.Sink.wants_more }))
+    (record { more = g.met.S.Sink.took_more; broken = g.met.S.Sink.took_broke; wants = g.met.S.Sink.wants_more; none = g.met.S.Sink.took_none }))

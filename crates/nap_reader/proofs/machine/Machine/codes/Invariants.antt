@@ -1,10 +1,15 @@
-use Rattle.std.proofs.Common.{◌-◌, length}
+use Rattle.std.proofs.Common.{◌≡◌, ◌<◌, ◌-◌, None, length}
 use Rattle.nap_reader.specs.Framed.{spaced}
+use Rattle.nap_reader.proofs.Common.{IsLive}
 use Rattle.nap_reader.proofs.TakingLemmas.{Took}
 use Rattle.nap_reader.proofs.machine.Machine.codes.Given as goal
 
 abbrev pub invariant-loop-count : goal.invariant-loop-count
-invariant-loop-count g l = Took {S = g.row.S.Denot} {g = g.S.Sink} l.fn.self l.self (spaced l.slice.place l.slice.step l.bytes) l.ended l.count
+invariant-loop-count g l = record {
+  took : Took {S = g.row.S.Denot} {g = g.S.Sink} l.fn.self l.self (spaced l.slice.place l.slice.step l.bytes) l.ended l.count;
+  live : IsLive {S = g.row.S.Denot} {g = g.S.Sink} l.self;
+  closed : l.count < length l.bytes → l.self.open_run ≡ None;
+}
 
 abbrev pub decreases-loop-count : goal.decreases-loop-count
 decreases-loop-count g l = length l.bytes - l.count

@@ -4,7 +4,7 @@ use Rattle.nap_reader.proofs.ComingLemmas.{byte_comes, can_pass}
 use Rattle.nap_reader.proofs.DefineLemmas.{behind_escape}
 use Rattle.nap_reader.proofs.EndBodyLemmas.{bound_goes, shown_goes, shown_stops}
 use Rattle.nap_reader.proofs.FurtherLemmas.{byte_passed, byte_stops, counts_passed, counts_still, counts_then, own_fault, passed_still}
-use Rattle.nap_reader.proofs.StandingLemmas.{Lawful}
+use Rattle.nap_reader.proofs.LeadsLemmas.{Lawful}
 use Rattle.nap_reader.proofs.machine.Machine.end_body.Goals as goal
 
 was_not : (b : Bool) → not b ≡ false → b ≡ true

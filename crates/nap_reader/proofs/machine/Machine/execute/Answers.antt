@@ -22,6 +22,5 @@ returns-in-Err g c =
     let acts = subst (λ (run : List ℕ). Acts g.S.Sink told (rule m.work c.args.open_run.op (carried run)) m.work c.act.new.self m.sink c.act.new.sink (Err c.in-Err.fault)) c.deref.ensures.value c.in-Err.ensures.acts in
     rw c.from.ensures (
       fails_run m c.args.open_run c.requires.run c.act.new.sink c.in-Err.fault acts.1,
-      λ is. c.in-Err.ensures.failed (ap Err (sink_fault c.in-Err.fault is)),
-      λ works fails. ap draw_fault (c.in-Err.ensures.kept works fails),
+      (λ is. c.in-Err.ensures.failed (ap Err (sink_fault c.in-Err.fault is)), λ works fails. ap draw_fault (c.in-Err.ensures.kept works fails)),
     )

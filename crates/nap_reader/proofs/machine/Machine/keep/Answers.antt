@@ -7,7 +7,7 @@ use Rattle.nap_reader.proofs.ComingLemmas.{byte_comes, can_pass}
 use Rattle.nap_reader.proofs.DefineLemmas.{byte_lacks, memory_other, store_other}
 use Rattle.nap_reader.proofs.FurtherLemmas.{byte_passed, byte_stops, counts_less, latches_own, next_same, passed_then, same_comes, stops_from}
 use Rattle.nap_reader.proofs.KeepLemmas.{body_fills, fill_passes, first_plain, holds_counts, holds_goes, keeps_counts, keeps_goes}
-use Rattle.nap_reader.proofs.StandingLemmas.{Lawful}
+use Rattle.nap_reader.proofs.LeadsLemmas.{Lawful}
 use Rattle.nap_reader.proofs.machine.Machine.keep.Goals as goal
 
 pub hold_escape-requires : goal.hold_escape-requires

@@ -24,7 +24,7 @@ returns g c =
     let takes = rw (c.place_of-2.ensures, behind bytes at) at c.join-taken.ensures in
     record {
       some = omega arith;
-      takes = takes_at slice.place slice.step bytes at c.requires.within (omega arith) (open_takes takes (record {
+      takes = takes_at slice.place slice.step bytes at c.requires.within (omega arith) (open_takes (record { live = c.requires.live.live; agrees = c.requires.live.agrees }) takes (record {
         at = record { closed = c.requires.closed; is = c.requires.is };
         run = ap (λ (place : ℕ). Some (record { op = c.args.op; place = place })) c.place_of.ensures;
         items = c.clear.ensures.items;

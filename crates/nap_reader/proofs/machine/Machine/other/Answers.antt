@@ -6,8 +6,9 @@ use Rattle.nap_reader.proofs.Common.{Fault, draw_fault, placed_at, IsOpcodeByte,
 use Rattle.nap_reader.specs.declared.fault.Fault.TheVariants as faults
 use Rattle.nap_reader.specs.declared.machine.Request.TheVariants as requests
 use Rattle.nap_reader.specs.Framed.{spaced}
-use Rattle.nap_reader.proofs.CodesLemmas.{call_takes, IsRuled, acts, binds, Lexes, fault_takes, half_takes, macro_takes, nothing_takes, opcode_read, rested, ruled_stops, ruled_takes, strays_takes, takes_same}
-use Rattle.nap_reader.proofs.ComingLemmas.{bytes_of-spaced}
+use Rattle.nap_reader.proofs.CodesLemmas.{call_takes, IsRuled, acts, binds, Lexes, fault_takes, half_takes, macro_takes, nothing_takes, opcode_read, rested, ruled_stops, ruled_takes, strays_takes}
+use Rattle.nap_reader.proofs.TakingLemmas.{takes_same}
+use Rattle.nap_reader.proofs.ComingLemmas.{bytes_of-spaced, length-spaced}
 use Rattle.nap_reader.proofs.KindLemmas.{front_made}
 use Rattle.nap_reader.proofs.MachineLemmas.{takes_at}
 use Rattle.nap_reader.proofs.ReadingLemmas.{code_of, fault_of, more_of}
@@ -74,7 +75,9 @@ open-requires-clause-is g c =
 pub returns-in-Opens-clause-takes : goal.returns-in-Opens-clause-takes
 returns-in-Opens-clause-takes g c =
     let (after, k, lexer) = lexes g (goal.at.returns-in-Opens-clause-takes g c).In-Code in
+    let slice = c.args.slice.now in
     takes_same c.open.ensures.takes (record { before = c.requires.closed; closed = c.requires.closed; work_is = refl; lexer_is = lexer ∙ (opcode_read k (sym c.in-Opens.ensures)).0 }) refl
+    (record { live = c.requires.live.live; agrees = c.requires.live.agrees }) g.met.S.Sink.took_more (omega (arith, c.requires.within, length-drop c.args.at (spaced slice.place slice.step slice.bytes.now), length-spaced slice.place slice.step slice.bytes.now))
 
 pub returns-in-Strays-clause-takes : goal.returns-in-Strays-clause-takes
 returns-in-Strays-clause-takes g c =
@@ -134,4 +137,4 @@ returns-in-Err-clause-takes g c =
     (ruled_stops k (ruled g (goal.at.returns-in-Err-clause-takes g c).After-control) (record { drew = c.in-Err.ensures.acts.1; wants = λ memory. c.in-Err.ensures.memory (ap Err memory); gives = λ device. c.in-Err.ensures.gives (ap Err device) })
     (λ is. c.in-Err.ensures.failed (ap Err (sink_fault fault is)), λ works fails. ap draw_fault (c.in-Err.ensures.kept works fails))
     (kept.is ∙ ap₂ (λ (fault : Fault) (place : ℕ). Some (refusal fault place)) c.from-in-Err.ensures c.place_of-in-Err.ensures) kept.sink
-    (record { more = g.met.S.Sink.took_more; broken = g.met.S.Sink.took_broke; wants = g.met.S.Sink.wants_more })))
+    (record { more = g.met.S.Sink.took_more; broken = g.met.S.Sink.took_broke; wants = g.met.S.Sink.wants_more; none = g.met.S.Sink.took_none })))

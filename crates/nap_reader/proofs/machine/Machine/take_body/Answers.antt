@@ -7,7 +7,7 @@ use Rattle.nap_reader.proofs.DefineLemmas.{stops_own}
 use Rattle.nap_reader.proofs.FurtherLemmas.{byte_passed, byte_stops, counts_still, counts_then, smaller, stops_then}
 use Rattle.nap_reader.proofs.KeepLemmas.{next_byte}
 use Rattle.nap_reader.proofs.OpenBodyLemmas.{byte_eighth}
-use Rattle.nap_reader.proofs.StandingLemmas.{Lawful}
+use Rattle.nap_reader.proofs.LeadsLemmas.{Lawful}
 use Rattle.nap_reader.proofs.machine.Machine.take_body.Goals as goal
 
 pub loop-input-init : goal.loop-input-init
