@@ -17,12 +17,11 @@ use Rattle.nap_reader.specs.Holding.{some_broke}
 use Rattle.nap_reader.specs.Stream as model
 use Rattle.nap_reader.specs.Stream.{front}
 use Rattle.nap_reader.proofs.PartLemmas.{Fails, code_breaks}
-use Rattle.nap_reader.proofs.MachineLemmas.{Drew, LeftBy, left_is, leaves_from, one_takes, stop_takes, own_tells}
-use Rattle.nap_reader.proofs.KindLemmas.{KindMade, acts_itself, binds_code, front_kind_made}
-use Rattle.nap_reader.proofs.LeadsLemmas.{Lawful, TookMore, is_between, leads_on, leads_to_fault, leads_past, leads_to_refusal}
+use Rattle.nap_reader.proofs.TakingLemmas.{Drew, LeftBy, left_is, leaves_from, one_takes, stop_takes, own_tells}
+use Rattle.nap_reader.proofs.SpelledLemmas.{KindMade, acts_itself, binds_code, front_kind_made, opcode_alone, byte_calls, name_calls, nothing_yet}
+use Rattle.nap_reader.proofs.ReadingLemmas.{Lawful, TookMore, is_between, leads_on, leads_to_fault, leads_past, leads_to_refusal, byte_refused, code_goes_on, run_opens, nothing_half, opcode_of_kind, opens_drawn, code_over, code_ends}
 use Rattle.nap_reader.proofs.OpenBodyLemmas.{body_begins}
 use Rattle.nap_reader.proofs.ReadingLemmas as reading
-use Rattle.nap_reader.proofs.ReadingLemmas.{byte_refused, code_goes_on, run_opens, nothing_half, opcode_of_kind, opens_drawn, nothing_yet, code_over, code_ends}
 use Rattle.nap_reader.proofs.StepLemmas.{IsAt, code_fault_own, conveys_nothing, leads_nowhere}
 use Rattle.nap_reader.proofs.TextLemmas.{text_passes, with_text, halts_less}
 use Rattle.std.proofs.lemmas.Bool.{false≢true}
@@ -34,8 +33,7 @@ use Rattle.nap_list.specs.declared.sink.SinkFault.TheVariants as sink_faults
 use Rattle.nap_list.specs.Putting.{Tells}
 use Rattle.nap_reader.specs.declared.machine.Machine.{Machine}
 use Rattle.nap_reader.specs.declared.machine.codes.CodeOutcome.TheVariants as outcomes
-use Rattle.nap_reader.proofs.SpelledLemmas.{opcode_alone, byte_calls, name_calls}
-use Rattle.nap_reader.proofs.SliceLemmas.{first_of}
+use Rattle.nap_reader.proofs.ComingLemmas.{first_of}
 use Rattle.nap_codes.specs.declared.code_set.CodeSet.TheVariants.{Macros}
 use Rattle.nap_codes.specs.Tables as tables
 use Rattle.nap_reader.proofs.StreamLemmas.{place_at-append}
@@ -410,40 +408,6 @@ module _ {S : Type 0} {g : Ghosts S} {old : Machine S g} {set : CharSet} {bytes 
 
 -- Calls of macros whose name is at hand.
 
--- SS3 by itself isn't a whole code
-shift_begins : (sets : CodeSets) → codes.front sets (0x1D ∷ []) ≡ codes.unfinished
-unfolding codes.front codes.control0_front codes.more_front codes.single_shift_front codes.one_further tables.row_of tables.control0_rows
-shift_begins sets = refl
-
-pub calls_by_name : (lexer : LexerState) (bytes : List ℕ) → lexer.half ≡ [] → 0 < length bytes → IsGraphic (get_or bytes 0 0) → set_at lexer.sets lexer.sets.gl ≡ Macros → CallsBy lexer bytes 1
-calls_by_name lexer bytes rested some graphic macros = record {
-  before = [];
-  name = get_or bytes 0 0;
-  behind = drop 1 bytes;
-  is = drop_more bytes 0 0 some;
-  counted = refl;
-  rested = rested;
-  named = graphic;
-  waits = nothing_yet lexer.sets;
-  few = omega arith;
-  whole = byte_calls lexer.sets (get_or bytes 0 0) macros graphic;
-}
-
-pub calls_by_shift : (lexer : LexerState) (bytes : List ℕ) → lexer.half ≡ [] → get_or bytes 0 0 ≡ 0x1D → 1 < length bytes → IsGraphic (get_or bytes 1 0) → lexer.sets.g3 ≡ Macros → CallsBy lexer bytes 2
-calls_by_shift lexer bytes rested first more graphic macros = record {
-  before = 0x1D ∷ [];
-  name = get_or bytes 1 0;
-  behind = drop 2 bytes;
-  is = drop_more bytes 0 0 (omega (arith, more)) ∙ ap (λ (b : ℕ). b ∷ drop 1 bytes) first ∙ ap (λ (bs : List ℕ). 0x1D ∷ bs) (drop_more bytes 1 0 more);
-  counted = refl;
-  rested = rested;
-  named = graphic;
-  waits = shift_begins lexer.sets;
-  few = omega arith;
-  whole = name_calls lexer.sets (get_or bytes 1 0) macros graphic;
-}
-
--- What a machine takes then.
 module _ {S : Type 0} {g : Ghosts S} (old : Machine S g) {bytes : List ℕ} {count : ℕ} (k : CallsBy old.lexer bytes count) (closed : old.open_run ≡ None) (xs : List Placed) (is : bytes_of xs ≡ bytes) where
   all : bytes_of xs ≡ k.before ++ k.name ∷ k.behind
   all = is ∙ k.is

@@ -1,24 +1,89 @@
-use Rattle.std.proofs.Common.{ℕ, ◌+◌, ◌<◌, ◌≤◌, ◌≡◌, ◌≢◌, ◌⊎◌, true, List, ◌++◌, Option, Some, Err, length, take, get_or, refl, ap, sym, subst, ◌∙◌, inl, inr, append_assoc, length-append, arith}
-use Rattle.std.proofs.lemmas.List.{take-append-le, get_or_append_left}
-use Rattle.nap_draw.specs.Draws.{Cause, stream, memory, device}
-use Rattle.nap_list.specs.Limits.{reads_limit}
+use Rattle.std.proofs.Common.{◌+◌, ◌++◌, ◌<◌, Bool, Err, List, None, Option, Result, Some, [], ap, append-nil, append_assoc, arith, false, get_or, inl, inr, length, length-append, refl, subst, sym, take, true, ◌||◌, ℕ, ◌∙◌, ◌≡◌, ◌≢◌, ◌≤◌, ◌⊎◌}
+use Rattle.std.proofs.Math.Bool.{or-false}
+use Rattle.std.specs.Prelude.{slice_index}
+use Rattle.std.specs.Io.KnownBytes.{Consumes}
+use Rattle.nap_reader.specs.Below.{Ghosts}
+use Rattle.nap_reader.proofs.Common.{Reader, Refusal, Stands, StopsAt, StopsBy, begun, budget_of, cause_of, left_of, refusal_of, sink_of}
 use Rattle.nap_list.specs.declared.device.inlet.Inlet as inlet
+use Rattle.nap_list.specs.Reading.{IsCutOff, IsReadWhole, NoneFailed, Reading, reading}
+use Rattle.nap_reader.specs.declared.feeding.FeedFault.{FeedFault}
+use Rattle.nap_reader.specs.declared.feeding.FeedFault.TheVariants as feed_fault
+use Rattle.nap_reader.specs.Feeding.{EndsBy, Feeds, StopsInLast}
+use Rattle.nap_reader.specs.Standing.{Answers, AnswersBy, Stands, StopsBy, budget_of, left_of, refusal_of, sink_of}
+use Rattle.std.proofs.lemmas.List.{get_or_append_left, take-append-le}
+use Rattle.nap_draw.specs.Draws.{Cause, device, memory, stream}
+use Rattle.nap_list.specs.Limits.{reads_limit}
 use Rattle.nap_list.specs.declared.entry.Entry.{Entry}
 use Rattle.nap_list.specs.declared.sink.Sink.{Ghosts}
-use Rattle.nap_list.specs.Reading.{Reading, IsCutOff, IsReadWhole, reading}
 use Rattle.nap_reader.specs.declared.fault.Fault.{Fault}
 use Rattle.nap_reader.specs.declared.fault.Fault.TheVariants as fault
 use Rattle.nap_reader.specs.declared.fault.Refusal.{Refusal}
-use Rattle.nap_reader.specs.declared.feeding.FeedFault.TheVariants as feed_fault
 use Rattle.nap_reader.specs.declared.reader.Reader.{Reader}
-use Rattle.nap_reader.specs.Breaking.{cause_of, BreaksWithin, LacksWithin}
-use Rattle.nap_reader.specs.Feeding.{Feeds}
+use Rattle.nap_reader.specs.Breaking.{BreaksWithin, LacksWithin, cause_of}
 use Rattle.nap_reader.specs.Laws.{BreaksAmong, WantsSome}
-use Rattle.nap_reader.specs.Standing.{Answers, AnswersBy, Stands, StopsBy, budget_of, left_of, refusal_of, sink_of}
 use Rattle.nap_reader.specs.Stream.{Outcome, begun, ended_by, means}
 use Rattle.nap_reader.proofs.PublicLaws.{begun_comes_first, fed_breaks_among, more_bytes_keep_refusal}
 use Rattle.nap_reader.specs.declared.collect.ReadFault.{ReadFault}
 use Rattle.nap_reader.specs.Collecting.{IsReadOut, LacksMemoryFor, RefusedBy}
+
+-- a call that doesn't fail leaves the flag
+pub flag_stays : (first before after : Bool) → before ≡ first → after ≡ (before || false) → after ≡ first
+flag_stays first before after h k = k ∙ (or-false before ∙ h)
+
+-- what an input gave before its last read
+pub record Gave {I : Type 0} (i : inlet.Ghosts I) (start mid end : I) (p : List ℕ) : Type 0 where
+  pub gave : Consumes (i.left start) (i.left mid) p
+  pub reads : i.calls mid ≤ i.calls start + length p
+  pub once : i.calls end ≤ i.calls mid + 1
+
+-- nothing is refused that a reader stands for without a refusal
+going : {S : Type 0} {g : Ghosts S} {s : S} {p : List ℕ} (old reader : Reader S g) → Stands reader s p → budget_of reader ≡ budget_of old → refusal_of reader ≡ None → (begun (budget_of old) p).refusal ≡ None
+going {g = g} {s = s} {p = p} old reader h same none =
+    subst (λ (budget : ℕ). (begun budget p).refusal ≡ None) same
+    (subst (Answers g s (budget_of reader) p (sink_of reader) (left_of reader)) none h.answers).refusal
+
+module _ {I S : Type 0} {i : inlet.Ghosts I} {g : Ghosts S} {start mid end : I} {p : List ℕ} {old : Reader S g} {s : S} (so : Gave i start mid end p) where
+  -- what was read was taken, and the input ended or failed
+  pub feeds_on : {new : Reader S g} (answer : Result (Unit {0}) FeedFault) → Stands new s p → budget_of new ≡ budget_of old → refusal_of new ≡ None →
+      Consumes (i.left mid) (i.left end) [] → EndsBy p (reading i start end) None answer → StopsInLast g s (budget_of old) p [] (sink_of new) (left_of new) answer →
+      Feeds i old new s p start end answer
+  feeds_on {new} answer h same none gives ends stops = record {
+    stands = h;
+    last = record {
+      mid = mid;
+      before = p;
+      last = [];
+      parts = sym (append-nil p);
+      gave = so.gave;
+      gives = gives;
+      reads = so.reads;
+      once = so.once;
+      unrefused = going old new h same none;
+    };
+    ends = subst (λ (r : Option Refusal). EndsBy p (reading i start end) r answer) (sym none) ends;
+    stops = stops;
+  }
+
+  -- the last piece was refused
+  pub feeds_refused : {reader new : Reader S g} {piece : List ℕ} {r : Refusal} {n : ℕ} → Stands reader s p → budget_of reader ≡ budget_of old → refusal_of reader ≡ None →
+      Stands new s (p ++ piece) → refusal_of new ≡ Some r → StopsAt reader new piece r n → NoneFailed (reading i start end) →
+      Consumes (i.left mid) (i.left end) piece → Feeds i old new s (p ++ piece) start end (Err (feed_fault.Refused r))
+  feeds_refused {reader} {new} {piece} {r} {n} h same none after refused stops none_failed gives = record {
+    stands = after;
+    last = record {
+      mid = mid;
+      before = p;
+      last = piece;
+      parts = refl;
+      gave = so.gave;
+      gives = gives;
+      reads = so.reads;
+      once = so.once;
+      unrefused = going old reader h same none;
+    };
+    ends = (none_failed, refused);
+    stops = (n, stops.within, subst (λ (budget : ℕ). StopsBy g s budget (p ++ take n piece) (slice_index piece n) (sink_of new) (left_of new) r (cause_of r.fault)) same (stops.there s p h));
+  }
 
 -- A page that was read from a device, or refused and read to its end.
 
@@ -36,22 +101,28 @@ lacks_in_whole g s budget p place (inr (first, rest, parts, wants)) =
     let (more, is) = begun_comes_first budget p in
     inr (first, rest ++ more, is ∙ ap (λ (es : List Entry). es ++ more) parts ∙ append_assoc first rest more, wants)
 
--- A stream was refused, at a byte of the last ones that were fed, and more bytes stand behind.
-module _ {S : Type 0} {g : Ghosts S} (reader : Reader S g) (s : S) (budget : ℕ) (before last more : List ℕ) (i : ℕ) (r : Refusal)
-    (within : i < length last) (same : budget_of reader ≡ budget) (some : refusal_of reader ≡ Some r) (h : Stands reader s (before ++ last))
-    (stops : StopsBy g s budget (before ++ take i last) (get_or last i 0) (sink_of reader) (left_of reader) r (cause_of r.fault))
-    (fails : cause_of r.fault ≡ device → g.failed (sink_of reader) ≡ true) where
+-- A stream was refused, at a byte of the last ones that were fed.
+pub record RefusedIn {S : Type 0} {g : Ghosts S} (reader : Reader S g) (s : S) (budget : ℕ) (before last : List ℕ) (i : ℕ) (r : Refusal) : Type 0 where
+  pub within : i < length last
+  pub budget_is : budget_of reader ≡ budget
+  pub refused : refusal_of reader ≡ Some r
+  pub stands : Stands reader s (before ++ last)
+  pub stops : StopsBy g s budget (before ++ take i last) (get_or last i 0) (sink_of reader) (left_of reader) r (cause_of r.fault)
+  pub fails : cause_of r.fault ≡ device → g.failed (sink_of reader) ≡ true
+
+-- More bytes stand behind.
+module _ {S : Type 0} {g : Ghosts S} {reader : Reader S g} {s : S} {budget : ℕ} {before last : List ℕ} {i : ℕ} {r : Refusal} (more : List ℕ) (k : RefusedIn reader s budget before last i r) where
   known : AnswersBy g s budget (before ++ last) (sink_of reader) (left_of reader) r (cause_of r.fault)
   known =
-      subst (λ (b : ℕ). AnswersBy g s b (before ++ last) (sink_of reader) (left_of reader) r (cause_of r.fault)) same
-      (subst (Answers g s (budget_of reader) (before ++ last) (sink_of reader) (left_of reader)) some h.answers)
+      subst (λ (b : ℕ). AnswersBy g s b (before ++ last) (sink_of reader) (left_of reader) r (cause_of r.fault)) k.budget_is
+      (subst (Answers g s (budget_of reader) (before ++ last) (sink_of reader) (left_of reader)) k.refused k.stands.answers)
 
   among : cause_of r.fault ≢ stream → BreaksAmong g s budget (before ++ (last ++ more)) (begun budget before).entries (begun budget (before ++ (last ++ more))) (sink_of reader) r
   among broke =
-      let front : take i (last ++ more) ≡ take i last = take-append-le i last more (omega (arith, within)) in
-      let there : get_or (last ++ more) i 0 ≡ get_or last i 0 = get_or_append_left last more 0 i within in
-      let longer : StopsBy g s budget (before ++ take i (last ++ more)) (get_or (last ++ more) i 0) (sink_of reader) (left_of reader) r (cause_of r.fault) = rw (front, there) stops in
-      fed_breaks_among g s budget before (last ++ more) i (sink_of reader) (left_of reader) r (omega (arith, within, length-append last more)) broke longer
+      let front : take i (last ++ more) ≡ take i last = take-append-le i last more (omega (arith, k.within)) in
+      let there : get_or (last ++ more) i 0 ≡ get_or last i 0 = get_or_append_left last more 0 i k.within in
+      let longer : StopsBy g s budget (before ++ take i (last ++ more)) (get_or (last ++ more) i 0) (sink_of reader) (left_of reader) r (cause_of r.fault) = rw (front, there) k.stops in
+      fed_breaks_among g s budget before (last ++ more) i (sink_of reader) (left_of reader) r (omega (arith, k.within, length-append last more)) broke longer
 
   breaks : cause_of r.fault ≢ stream → BreaksWithin budget ((before ++ last) ++ more) r.place
   breaks broke = subst (λ (bytes : List ℕ). BreaksWithin budget bytes r.place) (sym (append_assoc before last more)) (among broke).place
@@ -61,14 +132,13 @@ module _ {S : Type 0} {g : Ghosts S} (reader : Reader S g) (s : S) (budget : ℕ
       subst (λ (bytes : List ℕ). LacksMemoryFor g s budget bytes r.place) (sym (append_assoc before last more))
       (lacks_in_whole g s budget (before ++ (last ++ more)) r.place ((among (λ own. let bad = sym is ∙ own in cc)).wants is))
 
-  at : (cause : Cause) → cause_of r.fault ≡ cause → AnswersBy g s budget (before ++ last) (sink_of reader) (left_of reader) r cause →
-      RefusedBy g s budget ((before ++ last) ++ more) r cause
-  at stream is here = still_refused budget (before ++ last) more r here.refusal
-  at memory is here = (breaks (λ own. let bad = sym is ∙ own in cc), lacks is)
-  at device is here = (breaks (λ own. let bad = sym is ∙ own in cc), (sink_of reader, fails is))
-
   pub refused_behind : RefusedBy g s budget ((before ++ last) ++ more) r (cause_of r.fault)
   refused_behind = at (cause_of r.fault) refl known
+    where
+      at : (cause : Cause) → cause_of r.fault ≡ cause → AnswersBy g s budget (before ++ last) (sink_of reader) (left_of reader) r cause → RefusedBy g s budget ((before ++ last) ++ more) r cause
+      at stream is here = still_refused budget (before ++ last) more r here.refusal
+      at memory is here = (breaks (λ own. let bad = sym is ∙ own in cc), lacks is)
+      at device is here = (breaks (λ own. let bad = sym is ∙ own in cc), (sink_of reader, k.fails is))
 
 -- what is neither the stream's own fault nor want of memory is a failed device
 pub device_fault : (f : Fault) → cause_of f ≡ device → f ≡ fault.Sink
@@ -76,41 +146,43 @@ device_fault fault.Sink is = refl
 device_fault _ is = cc
 
 -- A stream was refused, and the rest of the input read.
-module _ {I S : Type 0} (i : inlet.Ghosts I) {g : Ghosts S} (old new : Reader S g) (s : S) (p : List ℕ) (initial final : I) (r : Refusal)
-    (h : Feeds i old new s p initial final (Err (feed_fault.Refused r))) (same : budget_of new ≡ budget_of old) (fails : r.fault ≡ fault.Sink → g.failed (sink_of new) ≡ true)
-    (more : List ℕ) where
-  pub refused_whole : RefusedBy g s (budget_of old) (p ++ more) r (cause_of r.fault)
-  refused_whole =
+module _ {I S : Type 0} {i : inlet.Ghosts I} {g : Ghosts S} {old new : Reader S g} {s : S} {p : List ℕ} {initial final : I} {r : Refusal} (h : Feeds i old new s p initial final (Err (feed_fault.Refused r))) where
+  pub refused_whole : budget_of new ≡ budget_of old → (r.fault ≡ fault.Sink → g.failed (sink_of new) ≡ true) → (more : List ℕ) → RefusedBy g s (budget_of old) (p ++ more) r (cause_of r.fault)
+  refused_whole same fails more =
       let (n, within, stops) = h.stops in
       subst (λ (bytes : List ℕ). RefusedBy g s (budget_of old) (bytes ++ more) r (cause_of r.fault)) (sym h.last.parts)
-      (refused_behind new s (budget_of old) h.last.before h.last.last more n r within same h.ends.1 (subst (Stands new s) h.last.parts h.stands) stops
-      (λ is. fails (device_fault r.fault is)))
+      (refused_behind more (record { within = within; budget_is = same; refused = h.ends.1; stands = subst (Stands new s) h.last.parts h.stands; stops = stops; fails = λ is. fails (device_fault r.fault is) }))
 
   -- each read of a refused stream gave a byte
   pub reads_few : (reading i initial final).reads ≤ length p
   reads_few = omega (arith, h.last.reads, h.last.once, h.stops.1, ap length h.last.parts, length-append h.last.before h.last.last)
 
 -- two readings, one after the other
-module _ (first second whole : Reading) (p more : List ℕ) (few : first.reads ≤ length p) (none_failed : first.failed ≡ first.failed_before)
-    (joins : second.failed_before ≡ first.failed) (before : whole.failed_before ≡ first.failed_before) (failed : whole.failed ≡ second.failed) (left : whole.left ≡ second.left)
-    (reads : whole.reads ≡ first.reads + second.reads) where
+pub record Follows (first second whole : Reading) : Type 0 where
+  pub joins : second.failed_before ≡ first.failed
+  pub before : whole.failed_before ≡ first.failed_before
+  pub failed : whole.failed ≡ second.failed
+  pub left : whole.left ≡ second.left
+  pub reads : whole.reads ≡ first.reads + second.reads
+
+module _ {first second whole : Reading} (p more : List ℕ) (f : Follows first second whole) (few : first.reads ≤ length p) (none_failed : first.failed ≡ first.failed_before) where
   pub read_whole : IsReadWhole second more → IsReadWhole whole (p ++ more)
   read_whole h = record {
-    none_failed = failed ∙ h.none_failed ∙ joins ∙ none_failed ∙ sym before;
-    end = rw left h.end;
-    gave = omega (arith, reads, few, h.gave, length-append p more);
+    none_failed = f.failed ∙ h.none_failed ∙ f.joins ∙ none_failed ∙ sym f.before;
+    end = rw f.left h.end;
+    gave = omega (arith, f.reads, few, h.gave, length-append p more);
   }
 
-  pub cut_off : (most : ℕ) → most + first.reads ≡ reads_limit → (f : ReadFault) → IsReadOut most more second (Err f) → IsCutOff whole (p ++ more)
-  cut_off most all f (inl h) =
+  pub cut_off : (most : ℕ) → most + first.reads ≡ reads_limit → (fault : ReadFault) → IsReadOut most more second (Err fault) → IsCutOff whole (p ++ more)
+  cut_off most all fault (inl h) =
       inl (record {
-        failed = failed ∙ h.failed;
-        some = omega (arith, reads, h.some);
-        gave = omega (arith, reads, few, h.gave, length-append p more);
+        failed = f.failed ∙ h.failed;
+        some = omega (arith, f.reads, h.some);
+        gave = omega (arith, f.reads, few, h.gave, length-append p more);
       })
-  cut_off most all f (inr (none, often, gave)) =
+  cut_off most all fault (inr (none, often, gave)) =
       inr (record {
-        none_failed = failed ∙ none ∙ joins ∙ none_failed ∙ sym before;
-        often = omega (arith, reads, often, all);
+        none_failed = f.failed ∙ none ∙ f.joins ∙ none_failed ∙ sym f.before;
+        often = omega (arith, f.reads, often, all);
         gave = omega (arith, few, gave, all, length-append p more);
       })

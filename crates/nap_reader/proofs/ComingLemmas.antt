@@ -1,11 +1,200 @@
-use Rattle.std.proofs.Common.{ℕ, suc, zero, ◌≡◌, ◌≢◌, ◌<◌, ◌≤◌, ◌+◌, ◌-◌, ◌*◌, ◌⊎◌, inl, inr, Some, Result, Ok, Err, OnOk, OnErr, List, [], ◌∷◌, ◌++◌, length, take, drop, get_or, refl, ap, ap₂, sym, ◌∙◌, subst, arith, append_assoc, append-nil, length-append}
-use Rattle.std.proofs.lemmas.List.{drop-drop, drop_all, drop_at, drop_more, length-drop, length-map, length-take-le, nil_from_length, take-append-drop, take-append-le, take-take}
-use Rattle.std.proofs.lemmas.List.Elements.{All-pop}
-use Rattle.std.proofs.Math.Seq.{get_or-append_seam}
-use Rattle.nap_reader.proofs.Common.{Frame, Input, store_limit, CanAdvance, IsNextByte, Passed, coming, Comes, FramesIn, Innermost, IsFrame, behind, placed_at, spaced, unread, unread_of, Came, of_body, of_piece, StoreState, grown, part, Placed, all_at, bytes_of, place_at, placed_from}
-use Rattle.nap_reader.proofs.FrameLemmas.{frames-store, frames-unread, last-frame, length-part, unread-push, unread-store}
-use Rattle.nap_reader.proofs.StoreLemmas.{part-grown}
+use Rattle.std.proofs.Common.{◌*◌, ◌+◌, ◌++◌, ◌-◌, ◌<◌, All, Err, List, None, Ok, OnErr, OnOk, Result, Some, [], ap, append-nil, append_assoc, ap₂, arith, drop, get_or, inl, inr, length, length-append, length-drop, length-take, map, refl, set, subst, suc, sym, take, zero, ℕ, ◌∙◌, ◌∷◌, ◌≡◌, ◌≢◌, ◌≤◌, ◌⊎◌}
+use Rattle.std.proofs.lemmas.List.{drop-append-le, drop-drop, drop-map, drop_all, drop_at, drop_more, length-drop, length-map, length-take-le, map-append, map-set, nil_from_length, take-append-drop, take-append-le, take-map, take-take, take_all}
+use Rattle.std.proofs.Math.ListN.{drop_of_length-le}
+use Rattle.std.proofs.lemmas.List.Elements.{All-append, All-cons, All-head, All-nil, All-pop, All-tail}
+use Rattle.nap_reader.specs.declared.store.Span.{Span}
+use Rattle.nap_reader.specs.Stored.{IsBefore, StoreState, closed, grown, part, part_at, shown}
+use Rattle.std.proofs.Math.Seq.{drop-append_seam, get_or-append_seam, take-add, take-append_seam}
+use Rattle.nap_reader.proofs.Common.{Came, CanAdvance, Comes, Frame, FramesIn, Innermost, Input, IsFrame, IsNextByte, Passed, Placed, StoreState, all_at, behind, bytes_of, coming, grown, of_body, of_piece, part, place_at, placed_at, placed_from, spaced, store_limit, unread, unread_of}
+use Rattle.nap_reader.specs.Framed.{frame_bytes}
 use Rattle.nap_reader.proofs.StreamLemmas.{bytes_of-all_at, bytes_of-append, length-all_at, placed_from-append}
+use Rattle.std.specs.Prelude.{slice_get}
+
+-- a part stays where the list grows
+pub part-grown : (bytes more : List ℕ) (start end : ℕ) → start ≤ end → end ≤ length bytes → part (bytes ++ more) start end ≡ part bytes start end
+part-grown bytes more start end h within =
+    ap (take (end - start)) (drop-append-le start bytes more (omega arith))
+    ∙ take-append-le (end - start) (drop start bytes) more (omega (arith, length-drop start bytes))
+
+-- a part up to the end
+pub part-all : (bytes : List ℕ) (start : ℕ) → start ≤ length bytes → part bytes start (length bytes) ≡ drop start bytes
+part-all bytes start h = take_all (length bytes - start) (drop start bytes) (omega (arith, length-drop start bytes))
+
+pub bodies-grown : (bytes more : List ℕ) (n : ℕ) (spans : List Span) → n ≤ length bytes → All (IsBefore n) spans →
+    map (part_at (bytes ++ more)) spans ≡ map (part_at bytes) spans
+bodies-grown bytes more n [] h all = refl
+bodies-grown bytes more n (span ∷ spans) h all =
+    let first = All-head (IsBefore n) span spans all in
+    let same = part-grown bytes more span.start span.end first.0 (omega (arith, first.1, h)) in
+    let rest = bodies-grown bytes more n spans h (All-tail (IsBefore n) span spans all) in
+    ap (λ (body : List ℕ). body ∷ map (part_at (bytes ++ more)) spans) same ∙ ap (λ (bodies : List (List ℕ)). part_at bytes span ∷ bodies) rest
+
+-- what a store is, seen by its parts
+abbrev pub state_of : List ℕ → List Span → ℕ → ℕ → StoreState
+state_of bytes spans from stored = record { names = map (part_at bytes) spans; bytes = bytes; body = drop from bytes; stored = stored }
+
+pub grown_by : (bytes more : List ℕ) (spans : List Span) (from stored : ℕ) → All (IsBefore from) spans → from ≤ length bytes →
+    state_of (bytes ++ more) spans from stored ≡ grown (state_of bytes spans from stored) more
+grown_by bytes more spans from stored all h =
+    rw (bodies-grown bytes more from spans h all, drop-append-le from bytes more h) refl
+
+pub bound : (bytes : List ℕ) (spans : List Span) (from stored name end : ℕ) → from ≤ length bytes → end ≡ length bytes →
+    state_of bytes (set spans (name - 32) (record { start = from; end = end })) end (stored + (end - from))
+    ≡ closed (state_of bytes spans from stored) name
+bound bytes spans from stored name end h all =
+    rw (all, map-set (part_at bytes) spans (name - 32) (record { start = from; end = length bytes }), part-all bytes from h, drop_of_length-le bytes {i = length bytes} (omega arith), length-drop) refl
+
+pub bound_grown : (bytes : List ℕ) (spans : List Span) (from stored name ender end : ℕ) → All (IsBefore from) spans → from ≤ length bytes → end ≡ length bytes →
+    state_of (bytes ++ 0x1B ∷ ender ∷ []) (set spans (name - 32) (record { start = from; end = end })) (length (bytes ++ 0x1B ∷ ender ∷ [])) (stored + (end - from))
+    ≡ shown (state_of bytes spans from stored) name ender
+bound_grown bytes spans from stored name ender end all h same =
+    let more : List ℕ = 0x1B ∷ ender ∷ [] in
+    let grown = bodies-grown bytes more from spans h all in
+    let body = part-grown bytes more from (length bytes) h (omega arith) ∙ part-all bytes from h in
+    rw (
+      same,
+      map-set (part_at (bytes ++ more)) spans (name - 32) (record { start = from; end = length bytes }),
+      grown,
+      body,
+      drop_of_length-le (bytes ++ more) {i = length (bytes ++ more)} (omega arith),
+      length-drop,
+    ) refl
+
+-- one more body is read
+pub unread-push : (bytes : List ℕ) (frames : List Frame) (frame : Frame) →
+    unread bytes (frames ++ frame ∷ []) ≡ frame_bytes bytes frame ++ unread bytes frames
+unread-push bytes [] frame = sym (append-nil (frame_bytes bytes frame))
+unread-push bytes (first ∷ frames) frame =
+    ap (λ (xs : List Placed). xs ++ frame_bytes bytes first) (unread-push bytes frames frame)
+    ∙ append_assoc (frame_bytes bytes frame) (unread bytes frames) (frame_bytes bytes first)
+
+-- the first bytes of a part, and the others
+part-split : (bytes : List ℕ) (next end count : ℕ) → count ≤ end - next → part bytes next end ≡ take count (part bytes next end) ++ part bytes (next + count) end
+part-split bytes next end count less =
+    let all : end - next ≡ count + (end - (next + count)) = omega (arith, less) in
+    let first : take count (part bytes next end) ≡ take count (drop next bytes) = take-take count (end - next) (drop next bytes) less in
+    ap (λ (n : ℕ). take n (drop next bytes)) all
+    ∙ take-add count (end - (next + count)) (drop next bytes)
+    ∙ ap₂ (λ (xs ys : List ℕ). xs ++ take (end - (next + count)) ys) (sym first) (drop-drop count next bytes)
+
+-- the innermost body gives so many bytes, and more
+pub gives-some : (bytes : List ℕ) (frames : List Frame) (next end place count : ℕ) → count ≤ end - next →
+    unread bytes (frames ++ record { next = next; end = end; place = place } ∷ [])
+    ≡ all_at place (take count (part bytes next end)) ++ unread bytes (frames ++ record { next = next + count; end = end; place = place } ∷ [])
+gives-some bytes frames next end place count less =
+    let front = take count (part bytes next end) in
+    let rest = part bytes (next + count) end in
+    unread-push bytes frames (record { next = next; end = end; place = place })
+    ∙ ap (λ (xs : List ℕ). all_at place xs ++ unread bytes frames) (part-split bytes next end count less)
+    ∙ ap (λ (xs : List Placed). xs ++ unread bytes frames) (map-append (λ (b : ℕ). placed_at b place) front rest)
+    ∙ append_assoc (all_at place front) (all_at place rest) (unread bytes frames)
+    ∙ ap (λ (xs : List Placed). all_at place front ++ xs) (sym (unread-push bytes frames (record { next = next + count; end = end; place = place })))
+
+-- it gives all that it has
+pub gives-all : (bytes : List ℕ) (frames : List Frame) (next end place count : ℕ) → end ≤ length bytes → end - next ≤ count →
+    unread bytes (frames ++ record { next = next; end = end; place = place } ∷ []) ≡ all_at place (take count (part bytes next end)) ++ unread bytes frames
+gives-all bytes frames next end place count within all =
+    unread-push bytes frames (record { next = next; end = end; place = place })
+    ∙ ap (λ (xs : List ℕ). all_at place xs ++ unread bytes frames)
+    (sym (take_all count (part bytes next end) (omega (arith, all, within, length-take (end - next) (drop next bytes), length-drop next bytes))))
+
+-- there is one innermost body
+pub same-frame : (frames before before' : List Frame) (frame frame' : Frame) → frames ≡ before ++ frame ∷ [] → frames ≡ before' ++ frame' ∷ [] → frame ≡ frame'
+same-frame frames before before' frame frame' is is' =
+    let e = ap (λ (xs : List Frame). length xs) (sym is ∙ is') in
+    let same : length before ≡ length before' = omega (arith, e, length-append before (frame ∷ []), length-append before' (frame' ∷ [])) in
+    sym (get_or-append_seam before frame [] frame)
+    ∙ ap (λ (xs : List Frame). get_or xs (length before) frame) (sym is ∙ is')
+    ∙ ap (λ (i : ℕ). get_or (before' ++ frame' ∷ []) i frame) same
+    ∙ get_or-append_seam before' frame' [] frame
+
+-- what it gives is the front of what it has
+pub same-front : (bytes : List ℕ) (frames before : List Frame) (frame : Frame) (text : List ℕ) (place count : ℕ) → frames ≡ before ++ frame ∷ [] → Innermost bytes frames text place →
+    all_at frame.place (take count (part bytes frame.next frame.end)) ≡ all_at place (take count text)
+same-front bytes frames before frame text place count is inner =
+    let same = same-frame frames before inner.before frame inner.frame is inner.last in
+    ap (λ (f : Frame). all_at f.place (take count (part bytes f.next f.end))) same
+    ∙ ap₂ (λ (n : ℕ) (xs : List ℕ). all_at n (take count xs)) (sym inner.place_is) (sym inner.text_is)
+
+-- what is unread stays where the store grows
+pub unread-grown : (bytes more : List ℕ) (frames : List Frame) → FramesIn (length bytes) frames → unread (bytes ++ more) frames ≡ unread bytes frames
+unread-grown bytes more [] h = refl
+unread-grown bytes more (frame ∷ frames) h =
+    let first = All-head (IsFrame (length bytes)) frame frames h in
+    let same = part-grown bytes more frame.next frame.end (omega (arith, first.0)) first.1 in
+    ap (λ (xs : List ℕ). unread (bytes ++ more) frames ++ all_at frame.place xs) same
+    ∙ ap (λ (xs : List Placed). xs ++ frame_bytes bytes frame) (unread-grown bytes more frames (All-tail (IsFrame (length bytes)) frame frames h))
+
+pub last-frame : (n : ℕ) (frames before : List Frame) (frame : Frame) → frames ≡ before ++ frame ∷ [] → FramesIn n frames → IsFrame n frame
+last-frame n frames before frame e h = (All-pop (IsFrame n) frames before (Some frame) e h).1
+
+pub length-part : (bytes : List ℕ) (start end : ℕ) → start ≤ end → end ≤ length bytes → length (part bytes start end) ≡ end - start
+length-part bytes start end h within = length-take (end - start) (drop start bytes) ∙ omega (arith, length-drop start bytes)
+
+-- how much is unread once one more body is read
+pub length-unread-push : (bytes : List ℕ) (frames : List Frame) (frame : Frame) → IsFrame (length bytes) frame →
+    length (unread bytes (frames ++ frame ∷ [])) ≡ length (unread bytes frames) + (frame.end - frame.next)
+length-unread-push bytes frames frame h =
+    let pushed = ap length (unread-push bytes frames frame) ∙ length-append (frame_bytes bytes frame) (unread bytes frames) in
+    let count = length-all_at frame.place (part bytes frame.next frame.end) ∙ length-part bytes frame.next frame.end (omega (arith, h.0)) h.1 in
+    omega (arith, pushed, count)
+
+-- each body that is read has a byte to give
+pub frames-unread : (bytes : List ℕ) (frames : List Frame) → FramesIn (length bytes) frames → length frames ≤ length (unread bytes frames)
+frames-unread bytes [] h = omega arith
+frames-unread bytes (frame ∷ frames) h =
+    let first = All-head (IsFrame (length bytes)) frame frames h in
+    let rest = frames-unread bytes frames (All-tail (IsFrame (length bytes)) frame frames h) in
+    let count = length-all_at frame.place (part bytes frame.next frame.end) ∙ length-part bytes frame.next frame.end (omega (arith, first.0)) first.1 in
+    omega (arith, rest, first.0, count, length-append (unread bytes frames) (frame_bytes bytes frame))
+
+pub frames-within : (n m : ℕ) (frames : List Frame) → n ≤ m → FramesIn n frames → FramesIn m frames
+frames-within n m frames h all k d within = let one = all k d within in (one.0, omega (arith, one.1))
+
+-- what is unread stays where a body grows
+pub unread-store : (old new : StoreState) (more : List ℕ) (frames : List Frame) → new.bytes ≡ old.bytes ++ more → FramesIn (length old.bytes) frames →
+    unread new.bytes frames ≡ unread old.bytes frames
+unread-store old new more frames e h = ap (λ (bytes : List ℕ). unread bytes frames) e ∙ unread-grown old.bytes more frames h
+
+pub frames-store : (old new : StoreState) (more : List ℕ) (frames : List Frame) → new.bytes ≡ old.bytes ++ more → FramesIn (length old.bytes) frames →
+    FramesIn (length new.bytes) frames
+frames-store old new more frames e h =
+    frames-within (length old.bytes) (length new.bytes) frames (omega (arith, ap length e, length-append old.bytes more)) h
+
+-- one body more is within the store
+pub frames-push : (n : ℕ) (frames : List Frame) (frame : Frame) → FramesIn n frames → IsFrame n frame → FramesIn n (frames ++ frame ∷ [])
+frames-push n frames frame h is = All-append (IsFrame n) frames (frame ∷ []) h (All-cons (IsFrame n) frame [] is (All-nil (IsFrame n)))
+
+-- The bytes of a slice behind so many.
+
+pub drop-spaced : (place step : ℕ) (bs : List ℕ) (n : ℕ) → drop n (spaced place step bs) ≡ spaced (place + step * n) step (drop n bs)
+unfolding spaced
+drop-spaced place step bs zero = ap (λ (p : ℕ). spaced p step bs) (let e : place ≡ place + step * 0 = grind arith in e)
+drop-spaced place step [] (suc n) = refl
+drop-spaced place step (b ∷ bs) (suc n) = drop-spaced (place + step) step bs n ∙ ap (λ (p : ℕ). spaced p step (drop n bs)) (let e : place + step + step * n ≡ place + step * suc n = grind arith in e)
+
+-- one of them, and those behind it
+pub byte-spaced : (place step : ℕ) (bs : List ℕ) (n : ℕ) → n < length bs → drop n (spaced place step bs) ≡ placed_at (get_or bs n 0) (place + step * n) ∷ spaced (place + step * (n + 1)) step (drop (n + 1) bs)
+unfolding spaced
+byte-spaced place step bs n less =
+    drop-spaced place step bs n ∙ ap (spaced (place + step * n) step) (drop_more bs n 0 less)
+    ∙ ap (λ (p : ℕ). placed_at (get_or bs n 0) (place + step * n) ∷ spaced p step (drop (n + 1) bs)) (let e : place + step * n + step ≡ place + step * (n + 1) = grind arith in e)
+
+-- the first of some bytes
+pub first_of : (xs : List Placed) (b : ℕ) (bs : List ℕ) → bytes_of xs ≡ b ∷ bs → (x : Placed) × (ys : List Placed) × (xs ≡ x ∷ ys) × (x.byte ≡ b) × (bytes_of ys ≡ bs)
+first_of [] b bs is = absurd (omega (arith, ap length is))
+first_of (x ∷ xs) b bs is = (x, xs, refl, ap (λ (cs : List ℕ). get_or cs 0 0) is, ap (drop 1) is)
+
+pub first_byte : (bytes : List ℕ) (b : ℕ) → slice_get bytes 0 ≡ Some b → (rest : List ℕ) × (bytes ≡ b ∷ rest)
+first_byte [] b some = let bad : None ≡ Some b = some in cc
+first_byte (c ∷ rest) b some = let same : c ≡ b = cc in (rest, ap (λ (b : ℕ). b ∷ rest) same)
+
+-- the bytes of some in two parts
+pub split_bytes : (all : List Placed) (p q : List ℕ) → bytes_of all ≡ p ++ q → (bytes_of (take (length p) all) ≡ p) × (bytes_of (drop (length p) all) ≡ q)
+split_bytes all p q is = (
+  sym (take-map (λ (x : Placed). x.byte) (length p) all) ∙ ap (take (length p)) is ∙ take-append_seam p q,
+  sym (drop-map (λ (x : Placed). x.byte) (length p) all) ∙ ap (drop (length p)) is ∙ drop-append_seam p q,
+)
 
 -- What comes next, and what was taken of it.
 
@@ -68,9 +257,9 @@ body_next {stored} inner =
     ap (unread stored) inner.last ∙ unread-push stored inner.before inner.frame ∙ ap₂ (λ (m : ℕ) (bs : List ℕ). all_at m bs ++ unread stored inner.before) (sym inner.place_is) (sym inner.text_is)
 
 -- Where the bytes that come next are none, nothing comes.
-pub none_comes : (stored : List ℕ) (frames : List Frame) → FramesIn (length stored) frames → (piece text : List ℕ) (at fed place : ℕ) → at ≤ length piece → Comes stored frames piece at fed text place →
+pub none_comes : {stored : List ℕ} {frames : List Frame} {piece text : List ℕ} {at fed place : ℕ} → FramesIn (length stored) frames → at ≤ length piece → Comes stored frames piece at fed text place →
     text ≡ [] → (unread stored frames ≡ []) × (length piece ≤ at)
-none_comes stored frames framed piece text at fed place within comes none = elim (none_or_some frames) [
+none_comes {stored} {frames} {piece} {text} {at} framed within comes none = elim (none_or_some frames) [
   | inl empty ↦ (ap (unread stored) empty, omega (arith, ap length (comes.of_piece empty).0, ap length none, length-drop at piece))
   | inr some ↦
       let inner = comes.of_body some in
@@ -256,7 +445,7 @@ byte_comes {input} {piece} {byte} {place} next = by there.0 refl
 
     by : (bytes : List ℕ) → there.0 ≡ bytes → (text : List ℕ) × (first : ℕ) × Comes input.store.bytes input.frames.stack.items piece input.at input.fed text first × (1 ≤ length text)
     by [] none =
-        let nothing = none_comes input.store.bytes input.frames.stack.items input.framed piece there.0 input.at input.fed there.1 next.reads.within there.2 none in
+        let nothing = none_comes input.framed next.reads.within there.2 none in
         absurd (omega (arith, ap length (sym next.is ∙ ap (λ (zs : List Placed). zs ++ placed_from input.fed (drop input.at piece)) nothing.0), length-placed input.fed (drop input.at piece), length-drop input.at piece, nothing.1))
     by (b ∷ bs) some = (there.0, there.1, there.2, omega (arith, ap length some))
 

@@ -81,31 +81,36 @@ module _ {S : Type 0} (g : Ghosts S) (x : Entry) (s : Counting S) (t : S) (f : S
   puts_none (Err fault) is = subst (λ (fault : SinkFault). PutSome {A = Unit {0}} (counting g) (x ∷ []) s (made t s.count) (Err fault)) (sym is) none_counted
 
 -- A page was read into a sink that counts, over another one.
-module _ {S : Type 0} (g : Ghosts S) (h : Ghosts (Counting S)) (took_is : (s t : Counting S) (d : List Entry) → h.took s d t → Took g s d t)
-    (wants_is : (s : Counting S) (d : List Entry) → h.wants s d → g.wants s.sink d) (failed_is : (t : Counting S) → h.failed t ≡ true → g.failed t.sink ≡ true) where
-  known : (n : ℕ) (before after : Option ℕ) → before ≡ Some 0 → GrowsBy n before after → IsCount after n
-  known n before after none h = count n after (subst (λ (b : Option ℕ). GrowsBy n b after) none h)
+
+-- what it shows
+abbrev pub over : {S : Type 0} → Ghosts S → Ghosts (Counting S)
+over g = record {
+  state = λ s. g.state s.sink;
+  wants = λ s d. g.wants s.sink d;
+  failed = λ s. g.failed s.sink;
+  took = λ s d t. Took g s d t;
+  broke = λ s d e t. g.broke s.sink d e t.sink;
+}
+
+known : (n : ℕ) (before after : Option ℕ) → before ≡ Some 0 → GrowsBy n before after → IsCount after n
+known n before after none h = count n after (subst (λ (b : Option ℕ). GrowsBy n b after) none h)
+  where
+    count : (n : ℕ) (after : Option ℕ) → GrowsBy n (Some 0) after → IsCount after n
+    count n None past = omega (arith, past)
+    count n (Some k) sum = omega (arith, sum)
+
+module _ {S : Type 0} (g : Ghosts S) {s : Counting S} (first : S) (is : s ≡ made first (Some 0)) (budget : ℕ) (p : List ℕ) where
+  pub counted_all : (t : Counting S) {last : S} {n : Option ℕ} → last ≡ t.sink → n ≡ t.count → Collects (over g) s budget p (Ok t) → CountsAll g first budget p (Ok (last, n))
+  counted_all t {last} {n} sink count (accepted, took) = (
+    accepted,
+    subst (g.took first (means budget p).entries) (sym sink) (subst (λ (x : S). g.took x (means budget p).entries t.sink) (ap (λ (x : Counting S). x.sink) is) took.took),
+    subst (λ (k : Option ℕ). IsCount k (length (means budget p).entries)) (sym count) (known (length (means budget p).entries) s.count t.count (ap (λ (x : Counting S). x.count) is) took.count),
+  )
+
+  pub counted_refused : (r : Refusal) → Collects (over g) s budget p (Err r) → CountsAll g first budget p (Err r)
+  counted_refused r refused = subst (λ (x : S). RefusedBy g x budget p r (cause_of r.fault)) (ap (λ (x : Counting S). x.sink) is) (at (cause_of r.fault) refused)
     where
-      count : (n : ℕ) (after : Option ℕ) → GrowsBy n (Some 0) after → IsCount after n
-      count n None past = omega (arith, past)
-      count n (Some k) sum = omega (arith, sum)
-
-  pub counted_all : (s : Counting S) (first : S) → s ≡ made first (Some 0) → (budget : ℕ) (p : List ℕ) (t : Counting S) (last : S) (n : Option ℕ) → last ≡ t.sink → n ≡ t.count →
-      Collects h s budget p (Ok t) → CountsAll g first budget p (Ok (last, n))
-  counted_all s first is budget p t last n sink count (accepted, taken) =
-      let took = took_is s t (means budget p).entries taken in
-      let from : g.took first (means budget p).entries t.sink = subst (λ (x : S). g.took x (means budget p).entries t.sink) (ap (λ (x : Counting S). x.sink) is) took.took in (
-        accepted,
-        subst (g.took first (means budget p).entries) (sym sink) from,
-        subst (λ (k : Option ℕ). IsCount k (length (means budget p).entries)) (sym count) (known (length (means budget p).entries) s.count t.count (ap (λ (x : Counting S). x.count) is) took.count),
-      )
-
-  refused_by : (s : Counting S) (budget : ℕ) (p : List ℕ) (r : Refusal) (cause : Cause) → RefusedBy h s budget p r cause → RefusedBy g s.sink budget p r cause
-  refused_by s budget p r stream is = is
-  refused_by s budget p r memory (breaks, inl own) = (breaks, inl own)
-  refused_by s budget p r memory (breaks, inr (first, rest, parts, wants)) = (breaks, inr (first, rest, parts, wants_is s first wants))
-  refused_by s budget p r device (breaks, (t, failed)) = (breaks, (t.sink, failed_is t failed))
-
-  pub counted_refused : (s : Counting S) (first : S) → s ≡ made first (Some 0) → (budget : ℕ) (p : List ℕ) (r : Refusal) → Collects h s budget p (Err r) → CountsAll g first budget p (Err r)
-  counted_refused s first is budget p r refused =
-      subst (λ (x : S). RefusedBy g x budget p r (cause_of r.fault)) (ap (λ (x : Counting S). x.sink) is) (refused_by s budget p r (cause_of r.fault) refused)
+      at : (cause : Cause) → RefusedBy (over g) s budget p r cause → RefusedBy g s.sink budget p r cause
+      at stream is = is
+      at memory is = is
+      at device (breaks, (t, failed)) = (breaks, (t.sink, failed))

@@ -1,21 +1,29 @@
-use Rattle.std.proofs.Common.{ℕ, ◌≡◌, ◌≢◌, ◌<◌, ◌≤◌, ◌+◌, ◌-◌, ◌⊎◌, inl, inr, List, [], ◌∷◌, ◌++◌, All, Bool, true, false, IsSome, not, eqb, ltb, length, take, drop, get_or, Option, None, Some, refl, ap, sym, ◌∙◌, subst, arith, append_assoc, length-append, eq-eqb}
+use Rattle.std.proofs.Common.{◌*◌, ◌+◌, ◌++◌, ◌-◌, ◌<◌, All, Bool, IsSome, List, None, Option, Some, [], ap, append_assoc, ap₂, arith, drop, eq-eqb, eqb, false, get_or, inl, inr, length, length-append, ltb, not, refl, subst, sym, take, true, ℕ, ◌∙◌, ◌∷◌, ◌≡◌, ◌≢◌, ◌≤◌, ◌⊎◌}
 use Rattle.std.specs.List.{prefix_len}
-use Rattle.std.proofs.lemmas.Bool.{and_parts, ltb-true}
-use Rattle.std.proofs.lemmas.List.{get_or-take, length-map, length-take-le}
-use Rattle.std.proofs.lemmas.List.Elements.{All-head, All-tail}
+use Rattle.std.proofs.lemmas.Bool.{and_parts, lt-ltb, ltb-true, ne_eqb}
+use Rattle.std.proofs.lemmas.List.{drop-append-le, get_or-take, length-map, length-take-le, take-map, take_all}
+use Rattle.std.proofs.lemmas.List.Elements.{All-head, All-map, All-tail}
 use Rattle.std.proofs.lemmas.List.Sums.{prefix_len-le-length, prefix_len_passes}
-use Rattle.nap_reader.specs.Below.{Entry, Ghosts, memory, stream}
-use Rattle.nap_reader.proofs.Common.{OpenBody, Fault, Refusal, Input, ends_body, in_body, store_limit, cause_of, Advances, Counts, IsNextByte, Reads, Sets, coming, Comes, unread, BreaksInBody, Continues, ContinuesPast, Holding, IsRefused, RunAt, held_by, unread_of, GoesOn, is_of_body, Breaks, Conveys, IsLive, LeadsOn, Passes, StopsByte, as_it_was, StoreState, Outcome, Placed, bytes_of, front, refusal, shown_front}
+use Rattle.nap_reader.specs.Below.{Code, CodeSets, Entry, Ghosts, LexerState, Spells, StepsBy, Whole, control0_rows, memory, row_of, stream}
+use Rattle.nap_reader.proofs.Common.{Advances, Breaks, BreaksInBody, Came, CanAdvance, CannotShow, Comes, Continues, ContinuesPast, Conveys, Counts, Fault, GoesOn, Holding, Input, IsHeld, IsLive, IsNext, IsNextByte, IsRefused, LeadsOn, OpenBody, Outcome, Passes, Placed, Reads, Refusal, RunAt, Sets, Shows, Stops, StopsByte, StoreState, Works, after_body, all_at, as_it_was, at_byte, bound, bytes_of, cause_of, charged, closed, coming, ends_body, fed_of, front, grown, held_by, in_body, is_of_body, placed_at, refusal, shown_front, spaced, store_limit, unread, unread_of}
 use Rattle.nap_reader.specs.declared.fault.Fault.TheVariants as faults
 use Rattle.nap_reader.specs.declared.machine.Machine.{Machine}
-use Rattle.nap_reader.specs.Steps.{in_body as breaks_in_body}
-use Rattle.nap_reader.specs.Holding.{next_broke}
+use Rattle.nap_reader.specs.Steps.{Binds, in_body as breaks_in_body}
+use Rattle.nap_reader.specs.Holding.{ReadsOn, body_broke, next_broke}
 use Rattle.nap_reader.specs.Stream as model
-use Rattle.nap_reader.proofs.PartLemmas.{wants_next}
-use Rattle.nap_reader.proofs.FurtherLemmas.{came_same, counts_passed, counts_still, counts_then, goes_by, held_sets, passed_come, reads_still, same_comes}
-use Rattle.nap_reader.proofs.LeadsLemmas.{TookMore, leads_budget, leads_unrefused}
-use Rattle.nap_reader.proofs.OpenBodyLemmas.{IsPlain, byte_full, byte_kept, reads_on}
-use Rattle.nap_reader.proofs.StepLemmas.{conveys_nothing}
+use Rattle.nap_reader.proofs.PartLemmas.{wants_from, wants_next}
+use Rattle.nap_reader.proofs.FurtherLemmas.{came_same, comes_grown, coming_bytes, counts_passed, counts_still, counts_then, goes_by, held_parts, held_sets, next_same, passed_come, passed_none, reads_at, reads_still, same_comes, sets_then}
+use Rattle.nap_reader.proofs.ReadingLemmas.{TookMore, leads_budget, leads_shown, leads_unrefused}
+use Rattle.nap_reader.proofs.OpenBodyLemmas.{IsPlain, body_charged, body_over, body_shows, byte_full, byte_kept, escape_full, escape_held, escape_kept, escape_unrefused, reads_on}
+use Rattle.nap_reader.proofs.StepLemmas.{cannot_stops, conveys_nothing, stops_own}
+use Rattle.nap_reader.specs.Coming.{Keeps}
+use Rattle.nap_reader.proofs.ComingLemmas.{byte_comes, came_coming, can_pass, length-spaced, taken_next, text_next, unread-grown, byte-spaced}
+use Rattle.nap_codes.specs.declared.code.Step.{Step}
+use Rattle.nap_codes.specs.Lexer.{Steps}
+use Rattle.nap_reader.proofs.TakingLemmas.{held_is}
+use Rattle.nap_reader.proofs.PieceLemmas.{reaches_called}
+use Rattle.nap_reader.proofs.StreamLemmas.{length-all_at}
+use Rattle.nap_reader.proofs.SpelledLemmas.{escape_steps, escape_unfinished, escape_waits}
 
 -- Bytes of a body that is being defined.
 
@@ -77,9 +85,6 @@ leads_still g t h h' xs next some left run passes = record {
 
 -- What stops there.
 
-pub stops_own : {S : Type 0} (g : Ghosts S) (t : S) (h : Holding) (x : Placed) (u : S) (r : Refusal) → cause_of r.fault ≡ stream → ((s : S) (o : Outcome) (pending : List Placed) → Continues g s o t h (x ∷ pending) → IsRefused g s o u h r) → StopsByte g t h x u r
-stops_own g t h x u r is refuses = record { own = λ own. refuses; broke = λ broke. absurd (broke is) }
-
 -- memory is wanting in a body
 pub stops_body : {S : Type 0} (g : Ghosts S) (t : S) (h : Holding) (x : Placed) (b : OpenBody) → h.open_body ≡ Some b → ((s : S) (known : List Entry) (o : Outcome) → ContinuesPast g s known o t h (x ∷ []) → BreaksInBody g s known o t h.machine.left memory) →
     StopsByte g t h x t (refusal faults.Memory x.place)
@@ -88,19 +93,8 @@ stops_body g t h x b opened part = record {
   broke = λ broke. breaks_in_body (record { body = b; is = opened; place = refl; part = part });
 }
 
--- a byte calls or shows a body that can't be charged, or for which memory is wanting
-pub cannot_stops : {S : Type 0} (g : Ghosts S) (t : S) (h : Holding) (x : Placed) (left : ℕ) (m : model.Machine) (bytes : List ℕ) {fault : Fault} → left ≡ m.left →
-    ((s : S) (o : Outcome) (pending : List Placed) (k : Continues g s o t h (x ∷ pending)) → front h.machine (k.rest ++ x ∷ pending) ≡ shown_front m x.place bytes pending) →
-    (0 < length bytes → length bytes ≤ m.left → Breaks g t h x t (refusal faults.Memory x.place)) →
-    ((fault ≡ faults.Budget) × (left < length bytes)) ⊎ ((fault ≡ faults.Memory) × (0 < length bytes) × (length bytes ≤ left)) → StopsByte g t h x t (refusal fault x.place)
-cannot_stops g t h x left m bytes same acting breaks (inl (is, many)) =
-    subst (λ (fault : Fault). StopsByte g t h x t (refusal fault x.place)) (sym is)
-    (stops_own g t h x t (refusal faults.Budget x.place) refl (λ s o pending k. leads_budget k m x.place bytes pending (acting s o pending k) (omega (arith, many, same))))
-cannot_stops g t h x left m bytes same acting breaks (inr (is, some, few)) =
-    subst (λ (fault : Fault). StopsByte g t h x t (refusal fault x.place)) (sym is) (record { own = λ own. (let bad : ⊥ = cc in absurd bad); broke = λ broke. breaks some (omega (arith, few, same)) })
-
 -- Bytes of a body, no more than it has room for, and another for which it has none.
-module _ {S : Type 0} (g : Ghosts S) (t : S) (h : Holding) (b : OpenBody) (opened : h.open_body ≡ Some b) (none : b.escape ≡ None) where
+module _ {S : Type 0} (g : Ghosts S) (t : S) (h : Holding) {b : OpenBody} (opened : h.open_body ≡ Some b) (none : b.escape ≡ None) where
   pub byte_lacks : (x : Placed) → IsPlain x.byte → store_limit - h.machine.stored - length h.body ≢ 0 → StopsByte g t h x t (refusal faults.Memory x.place)
   byte_lacks x plain some =
       stops_body g t h x b opened
@@ -129,11 +123,11 @@ module _ {S : Type 0} (g : Ghosts S) (t : S) (h : Holding) (b : OpenBody) (opene
       )
 
 -- What the input keeps of the bytes that come next, and how it goes on.
-module _ {input mid after : Input} {piece text all body : List ℕ} {n place : ℕ} {b : OpenBody} {xs : List Placed} (sets : Sets input mid (record input.store { bytes = all; body = body }) (Some b))
-    (kept : unread all input.frames.stack.items ≡ unread_of input) (adv : Advances mid after n) (reads : Reads input piece) (comes : Comes mid.store.bytes mid.frames.stack.items piece mid.at mid.fed text place) (few : n ≤ length text)
+module _ {input mid after : Input} {piece all body : List ℕ} {n : ℕ} {b : OpenBody} {xs : List Placed} (sets : Sets input mid (record input.store { bytes = all; body = body }) (Some b))
+    (kept : unread all input.frames.stack.items ≡ unread_of input) (adv : Advances mid after n) (reads : Reads input piece) (slice : (text : List ℕ) × (place : ℕ) × Comes mid.store.bytes mid.frames.stack.items piece mid.at mid.fed text place × (n ≤ length text))
     (is : take n (coming input piece) ≡ xs) where
   pub kept_counts : Counts input after piece n
-  kept_counts = counts_then n (omega arith) (counts_still reads sets.still.same) (counts_passed (reads_still reads sets.still.same) adv.passed comes few)
+  kept_counts = counts_then n (omega arith) (counts_still reads sets.still.same) (counts_passed (reads_still reads sets.still.same) adv.passed slice.2 slice.3)
 
   pub kept_goes : {S : Type 0} {g : Ghosts S} {m : Machine S g} → TookMore g → IsLive m → 0 < length xs → Passes g m.sink (held_by m input) xs m.sink (held_at (held_by m input) b b.escape body) [] → GoesOn piece m input m after
   kept_goes {S} {g} {m} more live some passes =
@@ -141,7 +135,7 @@ module _ {input mid after : Input} {piece text all body : List ℕ} {n place : �
       goes_by more (record {
         counts = kept_counts;
         works = record { live = live; clear = λ clear. clear };
-        came = rw is at (came_same n (same_comes sets kept) (passed_come (reads_still reads sets.still.same) adv.passed comes few (ap (λ (t : StoreState). unread t.bytes after.frames.stack.items) (sym adv.store))));
+        came = rw is at (came_same n (same_comes sets kept) (passed_come (reads_still reads sets.still.same) adv.passed slice.2 slice.3 (ap (λ (t : StoreState). unread t.bytes after.frames.stack.items) (sym adv.store))));
         leads = rw held (leads_still g m.sink (held_by m input) (held_at (held_by m input) b b.escape body) xs (bytes_of (unread_of after) ++ drop after.at piece) some refl refl passes);
       })
 
@@ -166,3 +160,287 @@ store_other is = cc
 
 pub memory_other : faults.Memory ≢ faults.Sink
 memory_other is = cc
+
+-- What an input keeps of the body that is being defined.
+
+-- No ESC is held.
+module _ {S : Type 0} {g : Ghosts S} (m : Machine S g) {input : Input} {piece : List ℕ} {b : OpenBody} (opened : input.body ≡ Some b) (none : b.escape ≡ None) (reads : Reads input piece) where
+  abbrev h : Holding
+  h = held_by m input
+
+  -- bytes of a slice
+  module _ {first step : ℕ} {text : List ℕ} {ended : Bool} (next : IsNext input piece first step text ended) where
+    slice_bytes : (n : ℕ) → n ≤ length text → bytes_of (take n (coming input piece)) ≡ take n text
+    slice_bytes n few =
+        sym (take-map (λ (x : Placed). x.byte) n (coming input piece)) ∙ taken_next input piece text first next.comes n few
+
+    parts : (more : List Placed) × (coming input piece ≡ spaced first step text ++ more)
+    parts = text_next input piece text first next.comes step next.of_piece next.of_body
+
+    slice_length : (n : ℕ) → n ≤ length text → length (take n (coming input piece)) ≡ n
+    slice_length n few =
+        length-take-le n (coming input piece) (omega (arith, few, ap (λ (xs : List Placed). length xs) parts.1, length-append (spaced first step text) parts.0, length-spaced first step text))
+
+    -- there is another behind those that were passed
+    pub fill_passes : {mid : Input} (room : ℕ) → room < length text → Advances input mid room → CanAdvance mid 1
+    fill_passes {mid} room less adv = by (coming mid piece) refl
+      where
+        counts : Counts input mid piece room
+        counts = counts_passed reads adv.passed next.comes (omega (arith, less))
+
+        split : coming input piece ≡ take room (coming input piece) ++ coming mid piece
+        split =
+            came_coming (unread_of input) (unread_of mid) piece input.at mid.at input.fed mid.fed (take room (coming input piece))
+            (passed_come reads adv.passed next.comes (omega (arith, less)) (ap (λ (store : StoreState). unread store.bytes mid.frames.stack.items) (sym adv.store))) counts.fed
+
+        by : (xs : List Placed) → coming mid piece ≡ xs → CanAdvance mid 1
+        by [] none =
+            absurd
+            (omega (
+              arith,
+              less,
+              slice_length room (omega (arith, less)),
+              ap (λ (xs : List Placed). length xs) split,
+              length-append (take room (coming input piece)) (coming mid piece),
+              ap (λ (xs : List Placed). length xs) none,
+              ap (λ (xs : List Placed). length xs) parts.1,
+              length-append (spaced first step text) parts.0,
+              length-spaced first step text,
+            ))
+        by (x ∷ xs) some = can_pass (record { reads = counts.reads; rest = xs; is = some })
+
+    -- the first of them is the byte that comes next
+    pub first_plain : {byte place : ℕ} → IsNextByte input piece byte place → IsPlain byte → 0 < prefix_len is_of_body text
+    unfolding spaced
+    first_plain {byte} {place} one plain = by text next.some parts
+      where
+        by : (bytes : List ℕ) → 0 < length bytes → (more : List Placed) × (coming input piece ≡ spaced first step bytes ++ more) → 0 < prefix_len is_of_body bytes
+        by [] some parts = absurd (omega (arith, some))
+        by (b ∷ bs) some parts =
+            let same : b ≡ byte = ap (λ (xs : List Placed). get_or (bytes_of xs) 0 0) (sym parts.1 ∙ one.is) in
+            let is : is_of_body b ≡ true = rw (same, ne_eqb byte 27 plain.other, lt-ltb byte 128 plain.low) refl in
+            rw is (omega arith)
+
+    -- The body has no room for the one with this index.
+    pub body_fills : (room : ℕ) → room < prefix_len is_of_body text → input.store.stored + length input.store.body + room ≡ store_limit →
+        Stops g m.sink h (coming input piece) (length text) room m.sink (refusal faults.Store (first + step * room))
+    body_fills room less full =
+        let within = prefix_len-le-length is_of_body text in
+        let few : room < length text = omega (arith, less, within) in
+        let there = ap (drop room) parts.1 ∙ drop-append-le room (spaced first step text) parts.0 (omega (arith, few, length-spaced first step text)) ∙ ap (λ (xs : List Placed). xs ++ parts.0) (byte-spaced first step text room few) in
+        let fill =
+        bytes_fill g m.sink h opened none (take room (coming input piece)) _ (subst (All IsPlain) (sym (slice_bytes room (omega (arith, less, within)))) (plain_in_front text room (omega (arith, less)))) (plain_there text room less)
+        (omega (arith, full, slice_length room (omega (arith, less, within)))) in
+        at_byte _ _ there fill.0 fill.1
+
+    -- It has room for so many.
+    module _ {new : Input} {count : ℕ} (keeps : Keeps input new piece count) (fit : (0 < count) × (count ≤ prefix_len is_of_body text)) where
+      within : count ≤ length text
+      within = omega (arith, fit.1, prefix_len-le-length is_of_body text)
+
+      sets : Sets input keeps.mid (grown input.store (take count (bytes_of (coming input piece)))) (Some b)
+      sets = subst (Sets input keeps.mid (grown input.store (take count (bytes_of (coming input piece))))) opened keeps.sets
+
+      kept : unread (input.store.bytes ++ take count (bytes_of (coming input piece))) input.frames.stack.items ≡ unread_of input
+      kept = unread-grown input.store.bytes (take count (bytes_of (coming input piece))) input.frames.stack.items input.framed
+
+      pub keeps_counts : Counts input new piece count
+      keeps_counts = kept_counts sets kept keeps.passes reads (text, first, comes_grown (take count (bytes_of (coming input piece))) sets refl next.comes, within) refl
+
+      pub keeps_goes : TookMore g → IsLive m → input.store.stored + length input.store.body + count ≤ store_limit → GoesOn piece m input m new
+      keeps_goes more live room =
+          let xs = take count (coming input piece) in
+          let size = slice_length count within in
+          let passes : Passes g m.sink h xs m.sink (held_at h b b.escape (input.store.body ++ take count (bytes_of (coming input piece)))) [] =
+          subst (λ (escape : Option ℕ). Passes g m.sink h xs m.sink (held_at h b escape (input.store.body ++ take count (bytes_of (coming input piece)))) []) (sym none)
+          (subst (λ (bytes : List ℕ). Passes g m.sink h xs m.sink (held_at h b None (input.store.body ++ bytes)) []) (sym (take-map (λ (x : Placed). x.byte) count (coming input piece)))
+          (bytes_kept g m.sink xs h b opened none (subst (All IsPlain) (sym (slice_bytes count within)) (plain_in_front text count fit.1)) (omega (arith, room, size)) (omega (arith, fit.0, size)))) in
+          kept_goes sets kept keeps.passes reads (text, first, comes_grown (take count (bytes_of (coming input piece))) sets refl next.comes, within) refl more live (omega (arith, fit.0, size)) passes
+
+  -- An ESC comes, and is held.
+  module _ {mid after : Input} {place : ℕ} (next : IsNextByte input piece 27 place) (sets : Sets input mid input.store (Some (record { name = b.name; show = b.show; escape = Some place }))) (adv : Advances mid after 1) where
+    pub holds_counts : Counts input after piece 1
+    holds_counts = let c = byte_comes (next_same next (same_comes sets refl)) in kept_counts sets refl adv reads c refl
+
+    pub holds_goes : TookMore g → IsLive m → GoesOn piece m input m after
+    holds_goes more live =
+        let c = byte_comes (next_same next (same_comes sets refl)) in
+        kept_goes sets refl adv reads c (ap (take 1) next.is) more live (omega arith)
+        (λ s o pending k. escape_held (reads_on opened k none) refl)
+
+-- An ESC is held, and the byte that comes behind it doesn't end the body.
+module _ {S : Type 0} {g : Ghosts S} (m : Machine S g) {input : Input} {piece : List ℕ} {b : OpenBody} {byte place : ℕ} (behind : BehindEscape input piece b byte place false) (low : byte < 128) where
+  abbrev hold : Holding
+  hold = held_by m input
+
+  abbrev x : Placed
+  x = placed_at byte place
+
+  abbrev room : ℕ
+  room = store_limit - input.store.stored - length input.store.body
+
+  -- no room for the ESC
+  pub escape_fills : room ≡ 0 → StopsByte g m.sink hold x m.sink (refusal faults.Store behind.escape)
+  escape_fills full = stops_own g m.sink hold x m.sink (refusal faults.Store behind.escape) refl (λ s o pending k. escape_full behind.opened k behind.held low behind.ends full)
+
+  -- the ESC is of the body
+  abbrev hold' : Holding
+  hold' = record hold { body = input.store.body ++ 27 ∷ [] }
+
+  escape_is_kept : room ≢ 0 → (s : S) (o : Outcome) (pending : List Placed) → Continues g s o m.sink hold (x ∷ pending) → ReadsOn g s o m.sink hold' b x pending
+  escape_is_kept some s o pending k = escape_kept behind.opened k behind.held low behind.ends some
+
+  -- no room for the byte
+  pub byte_fills : room ≡ 1 → byte ≢ 27 → StopsByte g m.sink hold x m.sink (refusal faults.Store place)
+  byte_fills one plain =
+      stops_own g m.sink hold x m.sink (refusal faults.Store place) refl
+      (λ s o pending k. byte_full (escape_is_kept (omega (arith, one)) s o pending k) (record { low = low; other = plain }) (omega (arith, one, length-append input.store.body (27 ∷ []))))
+
+  -- no memory
+  pub both_lack : room ≢ 0 → (byte ≡ 27) ⊎ (room ≢ 1) → StopsByte g m.sink hold x m.sink (refusal faults.Memory place)
+  both_lack some two =
+      stops_body g m.sink hold x b behind.opened
+      (λ s known o k. next_broke (wants_next k (escape_unrefused behind.opened k.continues behind.held low behind.ends some two)))
+
+  -- It is of the body.
+  module _ {first : Input} (room_is : room ≢ 0) (sets : Sets input first (grown input.store (27 ∷ [])) (Some (record { name = b.name; show = b.show; escape = None }))) where
+    same : unread (input.store.bytes ++ 27 ∷ []) input.frames.stack.items ≡ unread_of input
+    same = unread-grown input.store.bytes (27 ∷ []) input.frames.stack.items input.framed
+
+    pub first_left : unread input.store.bytes first.frames.stack.items ≡ unread_of first
+    first_left = ap (unread input.store.bytes) sets.still.frames ∙ sym (same_comes sets same).frames
+
+    pub next_still : IsNextByte first piece byte place
+    next_still = next_same behind.next (same_comes sets same)
+
+    -- The byte is an ESC, which is held.
+    module _ {mid after : Input} (is : byte ≡ 27) (then : Sets first mid first.store (Some (record { name = b.name; show = b.show; escape = Some place }))) (adv : Advances mid after 1) where
+      both : Sets input mid (grown input.store (27 ∷ [])) (Some (record { name = b.name; show = b.show; escape = Some place }))
+      both = sets_then sets (subst (λ (store : StoreState). Sets first mid store (Some (record { name = b.name; show = b.show; escape = Some place }))) sets.store_is then)
+
+      pub again_counts : Counts input after piece 1
+      again_counts = let c = byte_comes (next_same behind.next (same_comes both same)) in kept_counts both same adv behind.next.reads c refl
+
+      pub again_goes : TookMore g → IsLive m → GoesOn piece m input m after
+      again_goes more live =
+          let c = byte_comes (next_same behind.next (same_comes both same)) in
+          kept_goes both same adv behind.next.reads c (ap (take 1) behind.next.is) more live (omega arith)
+          (λ s o pending k. escape_held (escape_is_kept room_is s o pending k) (ap (λ (n : ℕ). placed_at n place) is))
+
+    -- The byte is of the body, too.
+    module _ {after : Input} (plain : byte ≢ 27) (keeps : Keeps first after piece 1) where
+      pair : Sets input keeps.mid (grown (grown input.store (27 ∷ [])) (byte ∷ [])) (Some (record { name = b.name; show = b.show; escape = None }))
+      pair =
+          sets_then sets
+          (subst (λ (store : StoreState). Sets first keeps.mid (grown store (byte ∷ [])) (Some (record { name = b.name; show = b.show; escape = None }))) sets.store_is
+          (subst (Sets first keeps.mid (grown first.store (byte ∷ []))) sets.body (rw next_still.is at keeps.sets)))
+
+      same_pair : unread ((input.store.bytes ++ 27 ∷ []) ++ byte ∷ []) input.frames.stack.items ≡ unread_of input
+      same_pair =
+          ap (λ (bytes : List ℕ). unread bytes input.frames.stack.items) (append_assoc input.store.bytes (27 ∷ []) (byte ∷ [])) ∙ unread-grown input.store.bytes (27 ∷ byte ∷ []) input.frames.stack.items input.framed
+
+      pub pair_counts : Counts input after piece 1
+      pair_counts = let c = byte_comes (next_same behind.next (same_comes pair same_pair)) in kept_counts pair same_pair keeps.passes behind.next.reads c refl
+
+      pub pair_goes : TookMore g → IsLive m → room ≢ 1 → GoesOn piece m input m after
+      pair_goes more live two =
+          let c = byte_comes (next_same behind.next (same_comes pair same_pair)) in
+          kept_goes pair same_pair keeps.passes behind.next.reads c (ap (take 1) behind.next.is) more live (omega arith)
+          (λ s o pending k. byte_kept (escape_is_kept room_is s o pending k) (record { low = low; other = plain }) (omega (arith, room_is, two, length-append input.store.body (27 ∷ []))))
+
+-- the byte that comes next
+pub next_byte : {input : Input} {piece : List ℕ} {first step : ℕ} {text : List ℕ} {ended : Bool} → Reads input piece → IsNext input piece first step text ended → IsNextByte input piece (get_or text 0 0) first
+unfolding spaced
+next_byte {input} {piece} {first} {step} {text} reads next =
+    by text next.some (text_next input piece text first next.comes step next.of_piece next.of_body)
+  where
+    by : (bytes : List ℕ) → 0 < length bytes → (more : List Placed) × (coming input piece ≡ spaced first step bytes ++ more) → IsNextByte input piece (get_or bytes 0 0) first
+    by [] some parts = absurd (omega (arith, some))
+    by (b ∷ bs) some parts = record { reads = reads; rest = spaced (first + step) step bs ++ parts.0; is = parts.1 }
+
+-- What the end of a body does.
+
+-- This byte ends the open body, with the ESC that is held.
+module _ {S : Type 0} {g : Ghosts S} (m : Machine S g) {input : Input} {piece : List ℕ} {b : OpenBody} {byte place : ℕ} (ending : BehindEscape input piece b byte place true) where
+  abbrev held_end : Holding
+  held_end = held_by m input
+
+  abbrev ender : Placed
+  ender = placed_at byte place
+
+  abbrev bytes : List ℕ
+  bytes = input.store.body ++ 27 ∷ byte ∷ []
+
+  next_is : bytes_of (unread_of input) ++ drop input.at piece ≡ byte ∷ bytes_of ending.next.rest
+  next_is = sym (coming_bytes input piece) ∙ ap bytes_of ending.next.is
+
+  -- It is bound, and no run is open.
+  pub bound_goes : {m' : Machine S g} {after : Input} (step : Step) → TookMore g → b.show ≡ false → Sets input after (closed input.store b.name) None → Works m m' → (m'.work ≡ m.work) × (m'.sink ≡ m.sink) × (m'.open_run ≡ None) → Steps m.lexer 27 step m'.lexer → GoesOn piece m input m' after
+  bound_goes {m'} {after} step more hidden sets works (work, sink, closed_run) steps =
+      let held = held_sets m' input after sets.store_is sets.body sets.still.same.budget sets.still.charged in
+      let kept : unread input.store.bytes after.frames.stack.items ≡ unread_of after = ap (λ (t : StoreState). unread t.bytes after.frames.stack.items) (sym sets.store_is) in
+      let slice = byte_comes ending.next in
+      let binds : Binds held_end (held_by m' after) = record {
+        body = b;
+        is = ending.opened;
+        place = ending.escape;
+        held = ending.held;
+        hidden = hidden;
+        holds = λ rested.
+            held
+            ∙ held_is (record held_end { machine = after_body held_end.machine b.name held_end.body; open_body = None; body = [] }) m' m.work (record { sets = m.lexer.sets; half = 27 ∷ [] }) None work (escape_steps m.lexer step m'.lexer rested steps) closed_run;
+        left = ap (λ (h : Holding). h.machine.left) held;
+        between = sets.body;
+        closed = closed_run;
+        waits = escape_waits m.lexer m'.lexer step steps;
+      } in
+      let still : bytes_of (unread_of after) ++ drop after.at piece ≡ byte ∷ bytes_of ending.next.rest =
+      ap₂ (λ (xs : List Placed) (n : ℕ). bytes_of xs ++ drop n piece) (same_comes sets refl).frames sets.still.same.at ∙ next_is in
+      goes_by more (record {
+        counts = counts_passed ending.next.reads (passed_none sets.still) slice.2 (omega arith);
+        works = works;
+        came = passed_come ending.next.reads (passed_none sets.still) slice.2 (omega arith) kept;
+        leads = subst (λ (t : S). LeadsOn g m.sink held_end t (held_by m' after) [] (bytes_of (unread_of after) ++ drop after.at piece)) (sym sink) (record {
+          conveys = conveys_nothing g m.sink held_end;
+          acted = bound byte (bytes_of ending.next.rest) still ending.ends refl binds;
+          typed = λ set rested chars. absurd (binds.waits rested);
+        });
+      })
+
+  module _ (shown : b.show ≡ true) where
+    shows : (s : S) (o : Outcome) (pending : List Placed) (k : Continues g s o m.sink held_end (ender ∷ pending)) → front held_end.machine (k.rest ++ ender ∷ pending) ≡ shown_front (after_body held_end.machine b.name held_end.body) place bytes pending
+    shows s o pending k = body_shows ending.opened k ending.held ending.ends shown
+
+    -- It is shown, and no run is open.
+    pub shown_goes : {m' : Machine S g} {mid after : Input} → TookMore g → Advances input mid 1 → Shows mid after (closed input.store b.name) None bytes place → Works m m' → (m'.work ≡ m.work) × (m'.sink ≡ m.sink) × (m'.open_run ≡ None) → m'.lexer ≡ m.lexer → GoesOn piece m input m' after
+    shown_goes {m'} {mid} {after} more adv shows_it works (work, sink, closed_run) lexer old before by =
+        let few : length bytes ≤ input.budget - input.charged = omega (arith, shows_it.few, adv.passed.budget, adv.passed.charged) in
+        let m1 : model.Machine = charged (after_body held_end.machine b.name held_end.body) (length bytes) in
+        let held : held_by m' after ≡ record held_end { machine = m1; open_run = None; run = []; open_body = None; body = [] } =
+        held_parts m' input after (omega (arith, shows_it.same.budget, adv.passed.budget, shows_it.charged, adv.passed.charged)) shows_it.names shows_it.stored shows_it.open_bytes shows_it.body
+        ∙ held_is (record held_end { machine = m1; open_body = None; body = [] }) m' m.work m.lexer None work lexer closed_run in
+        let passes : Passes g m.sink held_end (ender ∷ []) m'.sink (held_by m' after) (all_at place bytes) =
+        λ s o pending k.
+        subst (λ (t : S). Continues g s o t (held_by m' after) (all_at place bytes ++ pending)) (sym sink)
+        (leads_shown k (after_body held_end.machine b.name held_end.body) place bytes pending (shows s o pending k) few (held_by m' after) (ap (λ (h : Holding). h.machine) held)
+        (subst (IsHeld []) (sym held) (body_over ending.opened k m1 refl))) in
+        let slice = byte_comes ending.next in
+        let counts = counts_passed ending.next.reads adv.passed slice.2 slice.3 in
+        let came : Came (unread_of input) (unread_of mid) piece input.at mid.at (fed_of old + input.at) (ender ∷ []) =
+        rw (ending.next.is, by.fed) at (passed_come ending.next.reads adv.passed slice.2 slice.3 (ap (λ (t : StoreState). unread t.bytes mid.frames.stack.items) (sym adv.store))) in
+        reads_at old by (counts_then 1 (omega arith) counts (counts_still counts.reads shows_it.same)) works
+        (rw (shows_it.same.at, shows_it.unread)
+        (reaches_called more by.reaches (all_at place bytes) came passes (bytes_of ending.next.rest) next_is
+        (omega (arith, few, ap (λ (h : Holding). h.machine.left) held, length-all_at place bytes)) (λ n here. All-map (λ (y : Placed). y.place ≡ n) (λ (b : ℕ). placed_at b place) bytes (λ i d less. here)) closed_run))
+
+    -- It can't be shown.
+    pub shown_stops : {mid after : Input} {fault : Fault} → Advances input mid 1 → CannotShow mid after bytes fault → StopsByte g m.sink held_end ender m.sink (refusal fault place)
+    shown_stops {mid} adv cannot =
+        cannot_stops (mid.budget - mid.charged) (after_body held_end.machine b.name held_end.body) bytes (omega (arith, adv.passed.budget, adv.passed.charged)) shows
+        (λ some few.
+        breaks_in_body (record {
+          body = b;
+          is = ending.opened;
+          place = refl;
+          part = λ s known o k. body_broke (body_charged ending.opened k.continues ending.held ending.ends shown (omega (arith, few, length-append input.store.body (27 ∷ byte ∷ [])))) (wants_from k);
+        })) cannot.reason

@@ -10,10 +10,9 @@ use Rattle.nap_reader.specs.Bodies as bodies
 use Rattle.nap_reader.specs.Bodies.{one_further, stores}
 use Rattle.nap_reader.specs.Course as course
 use Rattle.nap_reader.specs.Holding.{held_escape, past, AreOfBody, AtBody, ReadsOn}
-use Rattle.nap_reader.proofs.HeldLemmas.{place_at-behind}
-use Rattle.nap_reader.proofs.LeadsLemmas.{front_body, leads_left, leads_shown, leads_to_refusal, leads_past, leads_shift, leads_unrefused}
-use Rattle.nap_reader.proofs.ReadingLemmas.{nothing_yet, code_goes_on, holds_nothing}
+use Rattle.nap_reader.proofs.ReadingLemmas.{place_at-behind, front_body, leads_left, leads_shown, leads_to_refusal, leads_past, leads_shift, leads_unrefused, code_goes_on, holds_nothing}
 use Rattle.nap_reader.proofs.StreamLemmas.{bytes_of-append, outcome_from-front}
+use Rattle.nap_reader.proofs.SpelledLemmas.{escape_unfinished, nothing_yet}
 
 -- What the next byte of an open body does.
 
@@ -91,19 +90,6 @@ past-none : (f : BodyFront) → past 0 f ≡ f
 past-none bodies.unfinished = refl
 past-none (bodies.refused fault i) = ap (bodies.refused fault) (omega arith)
 past-none (bodies.ended k) = ap bodies.ended (omega arith)
-
--- ESC is a half-read code
-pub escape_unfinished : (sets : CodeSets) → codes.front sets (27 ∷ []) ≡ codes.unfinished
-unfolding codes.front codes.control0_front row_of control0_rows codes.one_further codes.more_front codes.escape_front
-escape_unfinished sets = refl
-
--- what the lexer does with ESC
-pub escape_steps : (old : LexerState) (step : Step) (new : LexerState) → old.half ≡ [] → StepsBy (codes.front old.sets (old.half ++ 27 ∷ [])) old 27 step new →
-    new ≡ record { sets = old.sets; half = 27 ∷ [] }
-escape_steps old step new none h =
-    let front : codes.front old.sets (old.half ++ 27 ∷ []) ≡ codes.unfinished = ap (λ (bs : List ℕ). codes.front old.sets (bs ++ 27 ∷ [])) none ∙ escape_unfinished old.sets in
-    let k = subst (λ (f : codes.Front). StepsBy f old 27 step new) front h in
-    k.1 ∙ ap (λ (bs : List ℕ). record { sets = old.sets; half = bs ++ 27 ∷ [] }) none
 
 -- a body begins
 pub body_begins : (b : OpenBody) (h : Holding) → b.escape ≡ None → h.machine.mode ≡ in_body b.name b.show → h.body ≡ [] → h.open_run ≡ None → h.half ≡ [] →

@@ -1,12 +1,19 @@
 -- Operand bytes at the front, and their words.
-use Rattle.std.proofs.Common.{◌≡◌, ◌⊎◌, inr, Bool, false, ℕ, ◌-◌, ◌%◌, ◌<◌, ◌≤◌, true, leb, ltb, None, MatchOption, IfSome, List, [], ◌∷◌, ◌++◌, map, Option, Some, sym, take, drop, get_or, length, All, subst, refl, ap, ap₂, ◌∙◌, arith, append_assoc}
-use Rattle.std.proofs.lemmas.List.{length-drop, length-map, length-take-le, map-append, take-append-drop, take_all, get_or-drop, get_or-take}
-use Rattle.std.proofs.lemmas.List.Sums.{prefix_len-le-length, prefix_len_passes, prefix_len_stops}
+-- Bytes of a range at the front, seen by blocks through the mask of those that are others.
+use Rattle.std.proofs.Common.{◌%◌, ◌&&◌, ◌*◌, ◌+◌, ◌++◌, ◌-◌, ◌<◌, All, Bool, Fits, IfSome, List, MatchOption, None, Option, Some, [], ◌^◌, ap, append_assoc, ap₂, arith, cond, drop, eqb, false, get_or, inr, leb, length, ltb, map, not, refl, replicate, subst, suc, sym, take, true, w8, ◌||◌, ℕ, ◌∙◌, ◌∷◌, ◌≡◌, ◌≤◌, ◌⊎◌}
+use Rattle.std.proofs.lemmas.List.{drop-drop, get_or-drop, get_or-take, length-drop, length-map, length-take-le, map-append, take-append-drop, take_all}
+use Rattle.std.proofs.lemmas.List.Sums.{prefix_len-drop_yes, prefix_len-le-length, prefix_len_passes, prefix_len_stops}
 use Rattle.std.proofs.lemmas.List.Elements.{All-head, All-tail}
-use Rattle.std.proofs.lemmas.Bool.{leb-true, ltb-true, and_parts}
+use Rattle.std.proofs.lemmas.Bool.{and_parts, eq-eqb, le-leb, leb-false, leb-true, lt-leb, ltb-false, ltb-true, ne_eqb}
 use Rattle.std.specs.List.{prefix_len}
-use Rattle.nap_reader.specs.Below.{carried, run_limit}
-use Rattle.nap_reader.proofs.Common.{OpenRun, run_by, IsOver, IsWholeRun, is_operand_byte}
+use Rattle.nap_reader.specs.Below.{IsTyped, TextStep, carried, format_effector, run_limit}
+use Rattle.nap_reader.proofs.Common.{IsOver, IsWholeRun, OpenRun, is_from, is_of_text, is_operand_byte, run_by}
+use Rattle.std.proofs.lemmas.Simd.{chunk-drop, leading_from_mask_l, length-chunk, mask_l-mod, trailing_mask_l}
+use Rattle.std.proofs.lemmas.List.Folds.{length-prefix_len, prefix_len-append}
+use Rattle.std.proofs.Math.Bool.{or-true}
+use Rattle.std.specs.Option.{is_some}
+use lib.Lanes.{Each1, chunk, mask_l, top, zip2}
+use lib.Count.{count_trailing_zeros}
 
 pub operands_in_front : (bytes : List ℕ) (n : ℕ) → n ≤ prefix_len is_operand_byte bytes → All (λ b. is_operand_byte b ≡ true) (take n bytes)
 operands_in_front bytes n few = λ k d within.
@@ -79,3 +86,107 @@ pub more_words : (open_run : Option OpenRun) (opened : OpenRun) (bytes more : Li
 more_words open_run opened bytes more is all =
     words_kept open_run opened (bytes ++ more) is ∙ map-append (λ b. b % 64) bytes more
     ∙ ap₂ (λ (xs ys : List ℕ). xs ++ ys) (sym (words_kept open_run opened bytes is)) (same_words more all)
+
+abbrev pub is_other : ℕ → ℕ → Bool
+is_other least b = not (is_from least b)
+
+-- ---- the mask of a block
+
+abbrev pub at_most : ℕ → ℕ → ℕ
+at_most a b = cond (leb a b) 255 0
+
+abbrev pub minus : ℕ → ℕ → ℕ
+minus a b = (a + (256 - b)) % 256
+
+other_byte : (least b : ℕ) → least < 128 → b < 256 → (low high : Bool) → leb least b ≡ low → ltb b 128 ≡ high → top 7 (at_most (128 - least) (minus b least)) ≡ not (low && high)
+other_byte least b small fits false high e f = rw (le-leb (128 - least) (minus b least) (omega (arith, leb-false least b e))) refl
+other_byte least b small fits true false e f = rw (le-leb (128 - least) (minus b least) (omega (arith, leb-true least b e, ltb-false b 128 f))) refl
+other_byte least b small fits true true e f = rw (lt-leb (128 - least) (minus b least) (omega (arith, leb-true least b e, ltb-true b 128 f))) refl
+
+other_lanes : (least : ℕ) (v : List ℕ) → least < 128 → Each1 (Fits w8) v → map (top 7) (zip2 at_most (replicate (length v) (128 - least)) (zip2 minus v (replicate (length v) least))) ≡ map (is_other least) v
+other_lanes least [] small fits = refl
+other_lanes least (b ∷ v) small fits = ap₂ (λ x xs. x ∷ xs) (other_byte least b small fits.0.fits (leb least b) (ltb b 128) refl refl) (other_lanes least v small fits.1)
+
+pub other_mask : (least : ℕ) (v : List ℕ) → least < 128 → length v ≡ 32 → Each1 (Fits w8) v → mask_l (map (top 7) (zip2 at_most (replicate 32 (128 - least)) (zip2 minus v (replicate 32 least)))) % 2 ^ 64 ≡ mask_l (map (is_other least) v)
+other_mask least v small long fits =
+    ap (λ n. mask_l (map (top 7) (zip2 at_most (replicate n (128 - least)) (zip2 minus v (replicate n least)))) % 2 ^ 64) (sym long)
+    ∙ ap (λ l. mask_l l % 2 ^ 64) (other_lanes least v small fits)
+    ∙ mask_l-mod (map (is_other least) v) 64 (omega (arith, length-map v (is_other least), long))
+
+-- ---- the bytes at the front of what is left
+
+not-not : (b : Bool) → b ≡ not (not b)
+not-not true = refl
+not-not false = refl
+
+same_run : (least : ℕ) (bytes : List ℕ) → prefix_len (is_from least) bytes ≡ prefix_len (λ b. not (is_other least b)) bytes
+same_run least [] = refl
+same_run least (b ∷ bytes) = ap₂ (λ x n. cond x (1 + n) 0) (not-not (is_from least b)) (same_run least bytes)
+
+none_other : (x : Bool) (n l m : ℕ) → n ≤ l → cond (not x) (1 + n) 0 ≡ 1 + l → (n ≡ l → m ≡ 0) → cond x 1 0 + 2 * m ≡ 0
+none_other true n l m le e rest = let no : ⊥ = omega arith in absurd no
+none_other false n l m le e rest = let none = rest (omega arith) in omega arith
+
+all_pass : (least : ℕ) (bytes : List ℕ) → prefix_len (λ b. not (is_other least b)) bytes ≡ length bytes → mask_l (map (is_other least) bytes) ≡ 0
+all_pass least [] e = refl
+all_pass least (b ∷ bytes) e = none_other (is_other least b) _ (length bytes) _ (prefix_len-le-length (λ x. not (is_other least x)) bytes) (omega arith) (all_pass least bytes)
+
+by_block : (least : ℕ) (piece : List ℕ) (i n : ℕ) → prefix_len (is_from least) (drop i piece) ≡ cond (eqb (prefix_len (is_from least) (chunk i n piece)) (length (chunk i n piece))) (length (chunk i n piece) + prefix_len (is_from least) (drop (i + n) piece)) (prefix_len (is_from least) (chunk i n piece))
+by_block least piece i n = ap (prefix_len (is_from least)) (chunk-drop i n piece) ∙ prefix_len-append (is_from least) (chunk i n piece) (drop (i + n) piece)
+
+-- a block of such bytes alone
+pub past_block : (least : ℕ) (piece : List ℕ) (i n : ℕ) → i + n ≤ length piece → mask_l (map (is_other least) (chunk i n piece)) ≡ 0 → prefix_len (is_from least) (drop i piece) ≡ n + prefix_len (is_from least) (drop (i + n) piece)
+past_block least piece i n room none =
+    let block = chunk i n piece in
+    by_block least piece i n ∙ ap (λ x. cond x (length block + prefix_len (is_from least) (drop (i + n) piece)) (prefix_len (is_from least) block)) (eq-eqb _ _ (same_run least block ∙ leading_from_mask_l (is_other least) block none))
+    ∙ ap (λ k. k + prefix_len (is_from least) (drop (i + n) piece)) (length-chunk i n piece room)
+
+-- a block in which they end
+pub in_block : (least : ℕ) (piece : List ℕ) (i n : ℕ) → i + n ≤ length piece → n ≤ 64 → 0 < mask_l (map (is_other least) (chunk i n piece)) → prefix_len (is_from least) (drop i piece) ≡ count_trailing_zeros 64 (mask_l (map (is_other least) (chunk i n piece)))
+in_block least piece i n room short some =
+    let block = chunk i n piece in
+    by_block least piece i n ∙ ap (λ x. cond x (length block + prefix_len (is_from least) (drop (i + n) piece)) (prefix_len (is_from least) block)) (ne_eqb _ _ (λ (e : prefix_len (is_from least) block ≡ length block). omega (arith, all_pass least block (sym (same_run least block) ∙ e))))
+    ∙ same_run least block ∙ sym (trailing_mask_l (is_other least) 64 block (omega (arith, length-chunk i n piece room)) some)
+
+-- ---- the bytes at the front
+
+pub at_front : (test : ℕ → Bool) (piece bytes : List ℕ) → bytes ≡ take (prefix_len test piece) piece → (length bytes ≤ length piece) × (take (length bytes) piece ≡ bytes)
+at_front test piece bytes is =
+    let counted : length bytes ≡ prefix_len test piece = ap (λ (xs : List ℕ). length xs) is ∙ length-prefix_len test piece in
+    (omega (arith, counted, prefix_len-le-length test piece), ap (λ (n : ℕ). take n piece) counted ∙ sym is)
+
+-- ---- bytes of a text
+
+-- so many at the front are of it, and then comes none from 20 to 7F
+abbrev pub PassesGraphic : List ℕ → ℕ → Type 0
+PassesGraphic xs n = (prefix_len is_of_text xs ≡ n + prefix_len is_of_text (drop n xs)) × (prefix_len (is_from 32) (drop n xs) ≡ 0)
+
+-- this is so of those from 20 to 7F at the front
+pub past_graphic : (xs : List ℕ) → PassesGraphic xs (prefix_len (is_from 32) xs)
+past_graphic [] = (refl, refl)
+past_graphic (b ∷ xs) = by (is_from 32 b) refl (past_graphic xs)
+  where
+    by : (is : Bool) → is_from 32 b ≡ is → PassesGraphic xs (prefix_len (is_from 32) xs) → PassesGraphic (b ∷ xs) (cond is (1 + prefix_len (is_from 32) xs) 0)
+    by true e rest =
+        let of : is_of_text b ≡ true = ap (λ (x : Bool). is_some (format_effector b) || x) e ∙ or-true (is_some (format_effector b)) in
+        let all : prefix_len is_of_text (b ∷ xs) ≡ 1 + prefix_len is_of_text xs = ap (λ (x : Bool). cond x (1 + prefix_len is_of_text xs) 0) of in
+        let further : suc (prefix_len (is_from 32) xs) ≡ 1 + prefix_len (is_from 32) xs = omega arith in
+        subst (PassesGraphic (b ∷ xs)) further (omega (arith, all, rest.0), rest.1)
+    by false e rest = (omega arith, ap (λ (x : Bool). cond x (1 + prefix_len (is_from 32) xs) 0) e)
+
+-- and so it is of a move by itself with those from 20 to 7F behind it
+pub past_effector : (xs : List ℕ) (at n : ℕ) → at < length xs → is_some (format_effector (get_or xs at 0)) ≡ true → n ≡ prefix_len (is_from 32) (drop (at + 1) xs) →
+    (prefix_len is_of_text (drop at xs) ≡ 1 + n + prefix_len is_of_text (drop (at + 1 + n) xs)) × (prefix_len (is_from 32) (drop (at + 1 + n) xs) ≡ 0)
+past_effector xs at n within is counted =
+    let past : PassesGraphic (drop (at + 1) xs) n = subst (PassesGraphic (drop (at + 1) xs)) (sym counted) (past_graphic (drop (at + 1) xs)) in
+    let there : drop n (drop (at + 1) xs) ≡ drop (at + 1 + n) xs = drop-drop n (at + 1) xs in
+    let one = prefix_len-drop_yes is_of_text xs at 0 within (ap (λ (x : Bool). x || is_from 32 (get_or xs at 0)) is) in (
+      omega (arith, one, past.0, ap (prefix_len is_of_text) there),
+      sym (ap (prefix_len (is_from 32)) there) ∙ past.1,
+    )
+
+-- a byte of a text is a move by itself, or a code of a set
+pub of_text_is : (b : ℕ) → is_of_text b ≡ true → IsTyped b
+of_text_is b is none =
+    let both = and_parts (leb 32 b) (ltb b 128) (ap (λ (step : Option TextStep). is_some step || is_from 32 b) (sym none) ∙ is) in
+    (leb-true 32 b both.0, omega (arith, ltb-true b 128 both.1))

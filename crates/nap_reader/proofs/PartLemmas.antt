@@ -9,10 +9,9 @@ use Rattle.nap_draw.specs.Draws as draws
 use Rattle.nap_reader.specs.Course as course
 use Rattle.nap_reader.specs.Breaking.{TakesPart}
 use Rattle.nap_reader.specs.Holding.{BreaksPast, BreaksNext, body_broke, charged_broke, next_broke, some_broke}
-use Rattle.nap_reader.proofs.HeldLemmas.{half_read_pauses}
-use Rattle.nap_reader.proofs.LeadsLemmas.{Known, Lawful, by_front, rule_part, was_failed}
-use Rattle.nap_reader.proofs.ReadingLemmas.{nothing_yet}
+use Rattle.nap_reader.proofs.ReadingLemmas.{half_read_pauses, Known, Lawful, by_front, rule_part, was_failed}
 use Rattle.nap_reader.proofs.StreamLemmas.{outcome_from-front, outcome_from-left, outcome_from-append}
+use Rattle.nap_reader.proofs.SpelledLemmas.{nothing_yet}
 
 -- A character or a control acts.
 

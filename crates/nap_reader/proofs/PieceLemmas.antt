@@ -5,9 +5,9 @@ use Rattle.nap_reader.specs.Below.{Entry, Ghosts, Cause, stream, memory, device}
 use Rattle.nap_reader.proofs.Common.{Refusal, Reader, placed_at, Placed, Machine, Outcome, begun, bytes_of, outcome_from, placed_from, BreaksFrom, cause_of, Continues, Holding, IsOwn, RunAt, LeadsTo, Reaches, IsBroken, Stands, StopsBy, budget_of, fed_of, refusal_of, Acted, as_it_was, Came, Conveys, LeadsOn, Passes, StaysInText, of_body, of_piece}
 use Rattle.nap_reader.specs.Pieces.{Amid}
 use Rattle.nap_reader.specs.Standing.{IsKnown}
-use Rattle.nap_reader.proofs.BreakingLemmas.{uses_breaks}
+use Rattle.nap_reader.proofs.BreakLemmas.{uses_breaks}
 use Rattle.nap_reader.proofs.ComingLemmas.{came_none}
-use Rattle.nap_reader.proofs.LeadsLemmas.{Lawful, TookMore, leads_entries, leads_left, leads_machine, leads_more, leads_unrefused}
+use Rattle.nap_reader.proofs.ReadingLemmas.{Lawful, TookMore, leads_entries, leads_left, leads_machine, leads_more, leads_unrefused}
 use Rattle.nap_reader.proofs.PartLemmas.{breaks_behind}
 use Rattle.nap_reader.proofs.StandingLemmas.{taken_more}
 use Rattle.nap_reader.proofs.StepLemmas.{IsAt, acted_then, all_front, all_rest, left_acted, passes_acted, run_acted, typed_then}
@@ -133,7 +133,7 @@ module _ {S : Type 0} {g : Ghosts S} {old : Reader S g} {piece : List ℕ} {at :
         (subst (Continues g s (begun (budget_of old) ((p ++ take i piece) ++ get_or piece i 0 ∷ [])) u h') empty (known_amid leads.live inside further stood))
 
   -- or to the piece
-  module _ (until : ℕ) (empty : frames ≡ []) (is : xs ≡ placed_from (fed_of old + at) (take (length xs) (drop at piece))) (moved : until ≡ at + length xs) (inside : until ≤ length piece) where
+  module _ {until : ℕ} (empty : frames ≡ []) (is : xs ≡ placed_from (fed_of old + at) (take (length xs) (drop at piece))) (moved : until ≡ at + length xs) (inside : until ≤ length piece) where
     abbrev bytes : List ℕ
     bytes = take (length xs) (drop at piece)
 
@@ -180,7 +180,7 @@ module _ {S : Type 0} {g : Ghosts S} {old : Reader S g} {piece : List ℕ} {at :
       }
   advances {rest} {until} (of_piece empty none is moved inside) =
       let comes : came ≡ came ++ rest = sym (ap (λ (ys : List Placed). came ++ ys) none ∙ append-nil came) in
-      subst (LeadsTo old piece until u h') comes (record { live = leads.live; within = inside; alone = ends_alone until empty is moved inside; amid = called_by until empty is moved inside })
+      subst (LeadsTo old piece until u h') comes (record { live = leads.live; within = inside; alone = ends_alone empty is moved inside; amid = called_by empty is moved inside })
 
 -- What leads to a sink and to what is held, and then on.
 module _ {S : Type 0} {g : Ghosts S} {old : Reader S g} {piece : List ℕ} {at : ℕ} {t : S} {h : Holding} {frames : List Placed} (more : TookMore g) (by : Reaches old piece at t h frames) where
@@ -194,7 +194,7 @@ module _ {S : Type 0} {g : Ghosts S} {old : Reader S g} {piece : List ℕ} {at :
     there = λ n all. All-nil (IsAt n);
     run = λ n all run. c.run n all (run_acted n by.acted run);
     called = λ some. absurd (omega (arith, some));
-    passes = λ s o pending k. c.passes s o pending (passes_acted g by.sink by.holding t h next x more (λ b cs there. ap (λ (zs : List ℕ). get_or zs 0 0) (sym first ∙ there)) by.acted s o (xs ++ pending) k);
+    passes = λ s o pending k. c.passes s o pending (passes_acted more (λ b cs there. ap (λ (zs : List ℕ). get_or zs 0 0) (sym first ∙ there)) by.acted k);
   })
 
   -- Bytes that come next lead on.
@@ -234,7 +234,7 @@ module _ {S : Type 0} {g : Ghosts S} {old : Reader S g} {piece : List ℕ} {at :
       there = λ n all. there n (All-head (IsAt n) x [] all);
       run = λ n all run. subst (RunAt n) (sym closed) tt;
       called = λ some. (x, refl, subst (RunAt x.place) (sym closed) tt);
-      passes = λ s o pending k. passes s o pending (passes_acted g by.sink by.holding t h next x more (λ c cs then. ap (λ (zs : List ℕ). get_or zs 0 0) (sym first ∙ then)) by.acted s o pending k);
+      passes = λ s o pending k. passes s o pending (passes_acted more (λ c cs then. ap (λ (zs : List ℕ). get_or zs 0 0) (sym first ∙ then)) by.acted k);
     }) came_first;
     acted = as_it_was refl refl;
     typed = λ set rested chars. (refl, refl);

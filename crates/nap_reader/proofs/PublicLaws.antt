@@ -12,11 +12,9 @@ use Rattle.nap_reader.specs.Holding.{IsOpenRun}
 use Rattle.nap_reader.specs.Kinds.{kind_of}
 use Rattle.nap_reader.specs.Laws.{FrontAfterFront, IsRun, RunActs, RunWaits, IsAlone, CodeActs}
 use Rattle.nap_reader.specs.Stream.{Placed, Machine, bytes_of, words_of, is_operand_byte, run_length, drawn_front, code_front}
-pub use Rattle.nap_reader.proofs.BrokenLemmas.{begun_comes_first, end_breaks_among, fed_breaks_among}
-use Rattle.nap_reader.proofs.HeldLemmas.{front_code, front_run, open_run_pauses}
+pub use Rattle.nap_reader.proofs.LegalLemmas.{begun_comes_first, end_breaks_among, fed_breaks_among, accepted_is_legal, read_values_are_in_range}
+use Rattle.nap_reader.proofs.ReadingLemmas.{front_code, front_run, open_run_pauses}
 pub use Rattle.nap_reader.proofs.LawLemmas.{more_bytes_keep_entries, more_bytes_keep_refusal, pieces_agree}
-pub use Rattle.nap_reader.proofs.LegalLemmas.{accepted_is_legal}
-pub use Rattle.nap_reader.proofs.LegalLemmas.{read_values_are_in_range}
 use Rattle.nap_reader.proofs.StreamLemmas.{outcome_from-front}
 
 -- The proofs of the laws.
@@ -66,5 +64,5 @@ pub code_acts : CodeActs
 code_acts m c before last after ys is =
     let size : length before + 1 ≡ length (bytes_of before ++ last.byte ∷ []) =
     omega (arith, length-append (bytes_of before) (last.byte ∷ []), length-map before (λ (y : Placed). y.byte)) in
-    front_code m before last ys (bytes_of before) c (length before + 1) after is.mode refl is.names size
+    front_code m before last ys is.mode refl is.names size
     ∙ alone_front (record m { sets = after }) c last.place ys is.alone

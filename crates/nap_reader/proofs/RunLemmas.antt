@@ -1,6 +1,6 @@
 use Rattle.std.proofs.Common.{ℕ, ◌+◌, ◌-◌, ◌≡◌, ◌≤◌, List, [], ◌∷◌, ◌++◌, map, length, All, true, None, Some, sym, arith, append-nil, append_assoc, length-append, ◌<◌, Bool, false, take, drop, get_or, inl, inr, refl, ap, ◌∙◌, subst}
 use Rattle.std.proofs.lemmas.List.Elements.{All-head, All-tail}
-use Rattle.nap_reader.proofs.ReadingLemmas.{word_joins, word_too_many}
+use Rattle.nap_reader.proofs.ReadingLemmas.{word_joins, word_too_many, TookMore}
 use Rattle.std.specs.List.{prefix_len}
 use Rattle.std.proofs.lemmas.List.{drop-append-le, drop-map, drop_more, length-map, length-take-le, take-append-le, take-map}
 use Rattle.std.proofs.lemmas.List.Sums.{prefix_len-le-length, prefix_len_passes}
@@ -11,16 +11,14 @@ use Rattle.nap_reader.specs.declared.machine.Machine.{Machine}
 use Rattle.nap_reader.specs.declared.machine.Request.TheVariants as requests
 use Rattle.nap_reader.specs.Carried.{NoCharacters}
 use Rattle.nap_reader.specs.Steps.{Executes, FailsRun, TellsSink, CodeTakes}
-use Rattle.nap_reader.proofs.MachineLemmas.{held_is, no_some, stop_takes, Drew, LeftBy, asked_is, leaves_from, asks_takes, own_tells}
+use Rattle.nap_reader.proofs.TakingLemmas.{held_is, stop_takes, Drew, LeftBy, asked_is, leaves_from, asks_takes, own_tells, leads_behind, stops_behind, takes_behind, takes_then}
 use Rattle.nap_reader.proofs.OperandLemmas.{as_many_words, more_words, operands_in_front, run_over, same_words}
-use Rattle.nap_reader.proofs.SliceLemmas.{first_of, split_bytes}
-use Rattle.nap_reader.proofs.StepLemmas.{conveys_nothing, stops_run}
+use Rattle.nap_reader.proofs.ComingLemmas.{first_of, split_bytes}
+use Rattle.nap_reader.proofs.StepLemmas.{no_some, conveys_nothing, stops_run}
 use Rattle.nap_reader.proofs.StreamLemmas.{bytes_of-append, place_at-append}
 use Rattle.nap_draw.specs.Draws as draws
 use Rattle.nap_reader.specs.declared.machine.codes.CodeOutcome.TheVariants as outcomes
 use Rattle.nap_reader.proofs.CodesLemmas.{StartsRun, open_at, run_opened}
-use Rattle.nap_reader.proofs.LeadsLemmas.{TookMore}
-use Rattle.nap_reader.proofs.TakingLemmas.{leads_behind, stops_behind, takes_behind, takes_then}
 
 -- A stretch of bytes is its bytes in turn.
 

@@ -3,7 +3,7 @@ use Rattle.std.proofs.lemmas.List.{take_all, take_more, take-append-drop, take-a
 use Rattle.nap_reader.specs.Below.{Ghosts, Cause, stream, memory, device}
 use Rattle.nap_reader.proofs.Common.{Refusal, Reader, Machine, begun, cause_of, Continues, holding_of, IsBroken, StopsAt, StopsBy, Stands, budget_of, fed_of, left_of, refusal_of, sink_of}
 use Rattle.nap_reader.specs.Standing.{IsKnown, AnswersBy, Answers}
-use Rattle.nap_reader.proofs.LeadsLemmas.{TookBroke, TookMore, WantsMore, leads_unrefused, leads_taken, leads_machine}
+use Rattle.nap_reader.proofs.ReadingLemmas.{TookBroke, TookMore, WantsMore, leads_unrefused, leads_taken, leads_machine}
 use Rattle.nap_reader.proofs.LawLemmas.{more_bytes_keep_refusal}
 
 -- a piece up to a byte, and that byte
@@ -36,15 +36,15 @@ known_stays : {S : Type 0} (g : Ghosts S) (s : S) (budget : ℕ) (p q : List ℕ
     IsKnown g s (begun budget p) t n (Some r) → IsKnown g s (begun budget (p ++ q)) t n (Some r)
 known_stays g s budget p q t n r h = rw (more_bytes_keep_refusal budget p q r h.refusal) h
 
-broken_stays : {S : Type 0} (g : Ghosts S) (s : S) (budget : ℕ) (p q : List ℕ) (t : S) (n : ℕ) (r : Refusal) (i : ℕ) → i < length p →
+broken_stays : {S : Type 0} {g : Ghosts S} {s : S} {budget : ℕ} {t : S} {n : ℕ} {r : Refusal} (p q : List ℕ) (i : ℕ) → i < length p →
     IsBroken g s budget (take i p) (slice_index p i) t n r → IsBroken g s budget (take i (p ++ q)) (slice_index (p ++ q) i) t n r
-broken_stays g s budget p q t n r i within h = rw (take-append-le i p q (omega (arith, within)), get_or_append_left p q 0 i within) h
+broken_stays p q i within h = rw (take-append-le i p q (omega (arith, within)), get_or_append_left p q 0 i within) h
 
 answers_stay : {S : Type 0} (g : Ghosts S) (s : S) (budget : ℕ) (p q : List ℕ) (t : S) (n : ℕ) (r : Refusal) (cause : Cause) →
     AnswersBy g s budget p t n r cause → AnswersBy g s budget (p ++ q) t n r cause
 answers_stay g s budget p q t n r stream h = known_stays g s budget p q t n r h
-answers_stay g s budget p q t n r memory (i, within, h) = (i, omega (arith, within, length-append p q), broken_stays g s budget p q t n r i within h)
-answers_stay g s budget p q t n r device (i, within, h) = (i, omega (arith, within, length-append p q), broken_stays g s budget p q t n r i within h)
+answers_stay g s budget p q t n r memory (i, within, h) = (i, omega (arith, within, length-append p q), broken_stays p q i within h)
+answers_stay g s budget p q t n r device (i, within, h) = (i, omega (arith, within, length-append p q), broken_stays p q i within h)
 
 stop_answers : {S : Type 0} (g : Ghosts S) (s : S) (budget : ℕ) (p : List ℕ) (b : ℕ) (t : S) (n : ℕ) (r : Refusal) (cause : Cause) →
     StopsBy g s budget p b t n r cause → AnswersBy g s budget (p ++ b ∷ []) t n r cause
@@ -86,9 +86,9 @@ stands_stopped {S} {g} reader r s p b q is h =
     (stop_answers g s (budget_of reader) p b (sink_of reader) (left_of reader) r (cause_of r.fault) h))
 
 -- a reader that was refused in a piece stands for the piece
-pub stands_behind_stop : {S : Type 0} {g : Ghosts S} (old new : Reader S g) (piece : List ℕ) (r : Refusal) (i : ℕ) → refusal_of new ≡ Some r → budget_of new ≡ budget_of old →
+pub stands_behind_stop : {S : Type 0} {g : Ghosts S} {old new : Reader S g} {piece : List ℕ} {r : Refusal} {i : ℕ} → refusal_of new ≡ Some r → budget_of new ≡ budget_of old →
     StopsAt old new piece r i → (s : S) (p : List ℕ) → Stands old s p → Stands new s (p ++ piece)
-stands_behind_stop {S} {g} old new piece r i refused budget stops s p h =
+stands_behind_stop {S} {g} {old} {new} {piece} {r} {i} refused budget stops s p h =
     subst (λ (q : List ℕ). Stands new s q) (taken_all p piece i stops.within)
     (stands_stopped new r s (p ++ take i piece) (get_or piece i 0) (drop (i + 1) piece) refused
     (subst (λ (budget : ℕ). StopsBy g s budget (p ++ take i piece) (get_or piece i 0) (sink_of new) (left_of new) r (cause_of r.fault)) (sym budget) (stops.there s p h)))

@@ -1,7 +1,7 @@
-use Rattle.std.proofs.Common.{length, arith, length-append, ℕ, ◌≡◌, List, [], ◌∷◌, ◌++◌, All, get_or, false, Some, None, refl, ap, sym, ◌∙◌, subst, append_assoc, append-nil}
+use Rattle.std.proofs.Common.{◌<◌, ◌≤◌, ◌⊎◌, inl, inr, length, arith, length-append, ℕ, ◌≡◌, List, [], ◌∷◌, ◌++◌, All, get_or, false, Some, None, refl, ap, sym, ◌∙◌, subst, append_assoc, append-nil}
 use Rattle.std.proofs.lemmas.List.Elements.{All-cons, All-head, All-nil, All-tail}
 use Rattle.nap_reader.specs.Below.{CodeFault, IsGraphic, Ghosts, DrawFault, stream}
-use Rattle.nap_reader.proofs.Common.{Refusal, after_drawing, code_fault, draw_fault, Placed, Outcome, bytes_of, is_operand, is_operand_byte, cause_of, Holding, Continues, ContinuesPast, IsRefused, RunAt, Acted, ActsRun, Breaks, Conveys, LeadsOn, StaysInText, StopsByte, StopsRun, StopsText, ahead, as_it_was, at_word, bound, in_code}
+use Rattle.nap_reader.proofs.Common.{Refusal, after_drawing, code_fault, draw_fault, Placed, Outcome, bytes_of, is_operand, is_operand_byte, cause_of, Holding, Continues, ContinuesPast, IsRefused, RunAt, Acted, ActsRun, Breaks, Conveys, LeadsOn, StaysInText, StopsByte, StopsRun, StopsText, ahead, as_it_was, at_word, bound, in_code, Fault, shown_front, refusal}
 use Rattle.nap_codes.specs.declared.code.Code.TheVariants as code
 use Rattle.nap_codes.specs.declared.code.CodeFault.TheVariants as code_faults
 use Rattle.nap_codes.specs.Front as codes
@@ -12,10 +12,11 @@ use Rattle.nap_reader.specs.Stream as model
 use Rattle.nap_reader.specs.Stream.{front}
 use Rattle.nap_reader.specs.Steps.{BreaksCode, behind_run, in_body, in_run}
 use Rattle.nap_reader.proofs.PartLemmas.{some_in_body}
-use Rattle.nap_reader.proofs.LeadsLemmas.{TookMore, leads_on, leads_to_fault}
-use Rattle.nap_reader.proofs.MachineLemmas.{no_some}
+use Rattle.nap_reader.proofs.ReadingLemmas.{TookMore, leads_on, leads_to_fault, none_held, over, leads_budget}
 use Rattle.nap_reader.proofs.OpenBodyLemmas.{body_bound, held_body, same_done}
-use Rattle.nap_reader.proofs.ReadingLemmas.{none_held, over}
+
+pub no_some : {A : Type 0} {x : A} → Some x ≡ None → ⊥
+no_some e = cc
 
 -- What a reader does with one byte, by what stands at the front then.
 
@@ -55,19 +56,19 @@ stops_run {g = g} {h = h} {x = x} {u = u} other stops = record {
 }
 
 -- What was held leads on to the byte that comes, whether the opcode of the open run has acted or not.
-module _ {S : Type 0} (g : Ghosts S) (t : S) (h : Holding) (u : S) (h' : Holding) (next : List ℕ) (x : Placed) (more : TookMore g) (first : (b : ℕ) (bs : List ℕ) → next ≡ b ∷ bs → x.byte ≡ b) where
-  pub passes_acted : Acted g t h u h' next → (s : S) (o : Outcome) (pending : List Placed) → Continues g s o t h (x ∷ pending) → Continues g s o u h' (x ∷ pending)
-  passes_acted (as_it_was sink holding) s o pending k =
+module _ {S : Type 0} {g : Ghosts S} {t : S} {h : Holding} {u : S} {h' : Holding} {next : List ℕ} {x : Placed} (more : TookMore g) (first : (b : ℕ) (bs : List ℕ) → next ≡ b ∷ bs → x.byte ≡ b) where
+  pub passes_acted : {s : S} {o : Outcome} {pending : List Placed} → Acted g t h u h' next → Continues g s o t h (x ∷ pending) → Continues g s o u h' (x ∷ pending)
+  passes_acted {s} {o} {pending} (as_it_was sink holding) k =
       subst (λ (t : S). Continues g s o t h' (x ∷ pending)) (sym sink) (subst (λ (h : Holding). Continues g s o t h (x ∷ pending)) (sym holding) k)
-  passes_acted (ahead b bs is other acts) s o pending k = passes_run more acts (ap is_operand_byte (first b bs is) ∙ other) k
-  passes_acted (bound b bs is ends sink binds) s o pending k =
+  passes_acted (ahead b bs is other acts) k = passes_run more acts (ap is_operand_byte (first b bs is) ∙ other) k
+  passes_acted {s} {o} {pending} (bound b bs is ends sink binds) k =
       subst (λ (t : S). Continues g s o t h' (x ∷ pending)) (sym sink)
       (subst (λ (held : Holding). Continues g s o t held (x ∷ pending)) (sym (binds.holds (held_body binds.is k).at.half))
       (body_bound binds.is k binds.held (ap bodies.ends_body (first b bs is) ∙ ends) binds.hidden))
 
-  pub stops_acted : Acted g t h u h' next → (v : S) (r : Refusal) → StopsByte g u h' x v r → StopsByte g t h x v r
-  stops_acted (as_it_was sink holding) v r stops = subst (λ (t : S). StopsByte g t h x v r) sink (subst (λ (h : Holding). StopsByte g u h x v r) holding stops)
-  stops_acted (ahead b bs is other acts) v r stops =
+  pub stops_acted : {v : S} {r : Refusal} → Acted g t h u h' next → StopsByte g u h' x v r → StopsByte g t h x v r
+  stops_acted {v} {r} (as_it_was sink holding) stops = subst (λ (t : S). StopsByte g t h x v r) sink (subst (λ (h : Holding). StopsByte g u h x v r) holding stops)
+  stops_acted {v} {r} (ahead b bs is other acts) stops =
       let x_other = ap is_operand_byte (first b bs is) ∙ other in
       record {
         own = λ own s o pending k.
@@ -77,9 +78,9 @@ module _ {S : Type 0} (g : Ghosts S) (t : S) (h : Holding) (u : S) (h' : Holding
             behind_run u h' x_other acts
             (breaks_code (ap (λ (h : Holding). h.open_body) acts.holds ∙ acts.between) (ap (λ (h : Holding). h.open_run) acts.holds) (stops.broke broke));
       }
-  stops_acted (bound b bs is ends sink binds) v r stops = record {
+  stops_acted {v} {r} (bound b bs is ends sink binds) stops = record {
     own = λ own s o pending k.
-        let there = stops.own own s o pending (passes_acted (bound b bs is ends sink binds) s o pending k) in
+        let there = stops.own own s o pending (passes_acted (bound b bs is ends sink binds) k) in
         (there.0, there.1, there.2 ∙ binds.left);
     broke = λ broke.
         let code = breaks_code binds.between binds.closed (stops.broke broke) in
@@ -169,7 +170,7 @@ module _ {S : Type 0} {g : Ghosts S} {t : S} {h : Holding} {u : S} {h' : Holding
             then.run n (all_rest n xs (x ∷ ys) all) (run_acted n first.acted (c.run n (all_front n xs (x ∷ ys) all) before));
         passes = λ s o pending k.
             then.passes s o pending
-            (passes_acted g c.sink c.holding u h' next x more byte first.acted s o (ys ++ pending)
+            (passes_acted more byte first.acted
             (c.passes s o ((x ∷ ys) ++ pending) (subst (Continues g s o t h) (append_assoc xs (x ∷ ys) pending) k)));
         none = λ none. absurd (omega (arith, ap length none, length-append xs (x ∷ ys)));
       }
@@ -193,25 +194,41 @@ module _ {S : Type 0} {g : Ghosts S} {t : S} {h : Holding} {u : S} {h' : Holding
   }
 
   -- They lead to a byte that is refused or breaks, or to characters of which one does.
-  pub stops_then : (ys : List Placed) (x : Placed) (rest : List ℕ) (v : S) (r : Refusal) → next ≡ bytes_of ys ++ x.byte ∷ rest → (c : Conveys g u h' ys) → StopsByte g c.sink c.holding x v r →
+  pub stops_then : {x : Placed} {v : S} {r : Refusal} (ys : List Placed) (rest : List ℕ) → next ≡ bytes_of ys ++ x.byte ∷ rest → (c : Conveys g u h' ys) → StopsByte g c.sink c.holding x v r →
       (k : Conveys g t h (xs ++ ys)) × StopsByte g k.sink k.holding x v r
   unfolding conveys_then
-  stops_then [] x rest v r is c stops =
+  stops_then {x} {v} {r} [] rest is c stops =
       let same = c.none refl in
       let at = first.conveys in
       let byte = λ (b : ℕ) (bs : List ℕ) (there : next ≡ b ∷ bs). let same : x.byte ∷ rest ≡ b ∷ bs = sym is ∙ there in ap (λ (zs : List ℕ). get_or zs 0 0) same in
-      let here = stops_acted g at.sink at.holding u h' next x more byte first.acted v r (subst (λ (held : Holding). StopsByte g u held x v r) same.1 (subst (λ (w : S). StopsByte g w c.holding x v r) same.0 stops)) in
+      let here = stops_acted more byte first.acted (subst (λ (held : Holding). StopsByte g u held x v r) same.1 (subst (λ (w : S). StopsByte g w c.holding x v r) same.0 stops)) in
       subst (λ (zs : List Placed). (k : Conveys g t h zs) × StopsByte g k.sink k.holding x v r) (sym (append-nil xs)) (at, here)
-  stops_then (y ∷ ys) x rest v r is c stops = (conveys_then y ys (bytes_of ys ++ x.byte ∷ rest) is c, stops)
+  stops_then {x} (y ∷ ys) rest is c stops = (conveys_then y ys (bytes_of ys ++ x.byte ∷ rest) is c, stops)
 
-  pub halts_then : (ys : List Placed) (rest text : List ℕ) (i : ℕ) (v : S) (r : Refusal) → next ≡ bytes_of ys ++ rest → (c : Conveys g u h' ys) → StopsText g c.sink c.holding text i v r →
+  pub halts_then : {text : List ℕ} {i : ℕ} {v : S} {r : Refusal} (ys : List Placed) (rest : List ℕ) → next ≡ bytes_of ys ++ rest → (c : Conveys g u h' ys) → StopsText g c.sink c.holding text i v r →
       (k : Conveys g t h (xs ++ ys)) × StopsText g k.sink k.holding text i v r
   unfolding conveys_then
-  halts_then [] rest text i v r is c stops =
+  halts_then {text} {i} {v} {r} [] rest is c stops =
       let same = c.none refl in
       let at = first.conveys in
       let here : StopsText g u h' text i v r = subst (λ (held : Holding). StopsText g u held text i v r) same.1 (subst (λ (w : S). StopsText g w c.holding text i v r) same.0 stops) in
       let still = first.typed here.set here.text_is.rested here.text_is.chars in
       let there : StopsText g at.sink at.holding text i v r = subst (λ (held : Holding). StopsText g at.sink held text i v r) still.1 (subst (λ (w : S). StopsText g w h' text i v r) still.0 here) in
       subst (λ (zs : List Placed). (k : Conveys g t h zs) × StopsText g k.sink k.holding text i v r) (sym (append-nil xs)) (at, there)
-  halts_then (y ∷ ys) rest text i v r is c stops = (conveys_then y ys (bytes_of ys ++ rest) is c, stops)
+  halts_then (y ∷ ys) rest is c stops = (conveys_then y ys (bytes_of ys ++ rest) is c, stops)
+
+-- What stops at a byte.
+
+pub stops_own : {S : Type 0} (g : Ghosts S) (t : S) (h : Holding) (x : Placed) (u : S) (r : Refusal) → cause_of r.fault ≡ stream → ((s : S) (o : Outcome) (pending : List Placed) → Continues g s o t h (x ∷ pending) → IsRefused g s o u h r) → StopsByte g t h x u r
+stops_own g t h x u r is refuses = record { own = λ own. refuses; broke = λ broke. absurd (broke is) }
+
+-- a byte calls or shows a body that can't be charged, or for which memory is wanting
+pub cannot_stops : {S : Type 0} {g : Ghosts S} {t : S} {h : Holding} {x : Placed} {fault : Fault} (left : ℕ) (m : model.Machine) (bytes : List ℕ) → left ≡ m.left →
+    ((s : S) (o : Outcome) (pending : List Placed) (k : Continues g s o t h (x ∷ pending)) → front h.machine (k.rest ++ x ∷ pending) ≡ shown_front m x.place bytes pending) →
+    (0 < length bytes → length bytes ≤ m.left → Breaks g t h x t (refusal faults.Memory x.place)) →
+    ((fault ≡ faults.Budget) × (left < length bytes)) ⊎ ((fault ≡ faults.Memory) × (0 < length bytes) × (length bytes ≤ left)) → StopsByte g t h x t (refusal fault x.place)
+cannot_stops {g = g} {t = t} {h = h} {x = x} left m bytes same acting breaks (inl (is, many)) =
+    subst (λ (fault : Fault). StopsByte g t h x t (refusal fault x.place)) (sym is)
+    (stops_own g t h x t (refusal faults.Budget x.place) refl (λ s o pending k. leads_budget k m x.place bytes pending (acting s o pending k) (omega (arith, many, same))))
+cannot_stops {g = g} {t = t} {h = h} {x = x} left m bytes same acting breaks (inr (is, some, few)) =
+    subst (λ (fault : Fault). StopsByte g t h x t (refusal fault x.place)) (sym is) (record { own = λ own. (let bad : ⊥ = cc in absurd bad); broke = λ broke. breaks some (omega (arith, few, same)) })

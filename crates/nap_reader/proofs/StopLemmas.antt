@@ -3,9 +3,9 @@ use Rattle.std.proofs.lemmas.List.{drop_at, length-drop, length-map, length-take
 use Rattle.std.proofs.lemmas.List.Elements.{All-head, All-tail}
 use Rattle.nap_reader.specs.Below.{Ghosts, fault_of}
 use Rattle.nap_reader.proofs.Common.{Fault, Refusal, Reader, draw_fault, placed_at, Machine, Outcome, Placed, begun, bytes_of, place_at, placed_from, refusal, BreaksFrom, cause_of, Continues, Holding, LeadsTo, Reaches, StopsAt, budget_of, fed_of, left_of, sink_of, Breaks, Came, Conveys, Stops, StopsByte, StopsText, at_byte, in_text, of_body, of_piece}
-use Rattle.nap_reader.proofs.BreakLemmas.{breaks_byte, breaks_place, breaks_there}
+use Rattle.nap_reader.proofs.BreakLemmas.{breaks_byte, breaks_place, breaks_inside}
 use Rattle.nap_reader.proofs.ComingLemmas.{came_coming, came_next, came_none, came_take, length-placed}
-use Rattle.nap_reader.proofs.LeadsLemmas.{Lawful, leads_left, leads_machine, leads_unrefused}
+use Rattle.nap_reader.proofs.ReadingLemmas.{Lawful, leads_left, leads_machine, leads_unrefused}
 use Rattle.nap_reader.proofs.PartLemmas.{breaks_more, cut}
 use Rattle.nap_reader.proofs.PieceLemmas.{broken_amid, first_placed, known_amid, known_with, leads_past, length_taken, stops_by}
 use Rattle.nap_reader.proofs.StepLemmas.{IsAt, all_front, left_acted, stops_acted}
@@ -73,7 +73,7 @@ module _ {S : Type 0} {g : Ghosts S} {old : Reader S g} {piece : List ℕ} {at :
               (breaks_place (fed_of old + i) (All-head (IsAt (fed_of old + i)) x rest (subst (All (IsAt (fed_of old + i))) front amid.there)) amid.run (stops.broke is))
               (λ s o k.
               let less = cut (x ∷ []) rest (subst (Continues g s o t h) front k) in
-              breaks_more less.1 less.2 (breaks_there laws less.3 is (stops.broke is))));
+              breaks_more less.1 less.2 (breaks_inside laws less.3 is (stops.broke is))));
         },
       )
 
@@ -116,7 +116,7 @@ place_at-taken (x ∷ xs) (suc n) (suc i) less = place_at-taken xs n i (omega (a
 
 -- Where what came so far leads to a byte that is refused or breaks, or to characters of which one does.
 module _ {S : Type 0} {g : Ghosts S} {old : Reader S g} {piece : List ℕ} {at : ℕ} {t : S} {h : Holding} {frames : List Placed} (by : Reaches old piece at t h frames) (laws : Lawful g) (many : ℕ)
-    (alone : length frames ≡ 0 → at + many ≤ length piece) (inside : 0 < length frames → many ≤ length frames) where
+    (fit : (length frames ≡ 0 → at + many ≤ length piece) × (0 < length frames → many ≤ length frames)) where
   abbrev all : List Placed
   all = frames ++ placed_from (fed_of old + at) (drop at piece)
 
@@ -127,7 +127,7 @@ module _ {S : Type 0} {g : Ghosts S} {old : Reader S g} {piece : List ℕ} {at :
   next_is = bytes_of-append frames (placed_from (fed_of old + at) (drop at piece)) ∙ ap (λ (bs : List ℕ). bytes_of frames ++ bs) (bytes_of-placed (fed_of old + at) (drop at piece))
 
   all_long : many ≤ length all
-  all_long = grind (arith, alone, inside, length-append frames (placed_from (fed_of old + at) (drop at piece)), length-placed (fed_of old + at) (drop at piece), length-drop at piece)
+  all_long = grind (arith, fit.0, fit.1, length-append frames (placed_from (fed_of old + at) (drop at piece)), length-placed (fed_of old + at) (drop at piece), length-drop at piece)
 
   -- so many of those that come next came
   module _ (n : ℕ) (few : n ≤ many) where
@@ -138,7 +138,7 @@ module _ {S : Type 0} {g : Ghosts S} {old : Reader S g} {piece : List ℕ} {at :
     rest = drop n frames
 
     came : Came frames rest piece at until (fed_of old + at) (take n all)
-    came = came_take frames piece at (fed_of old + at) n by.leads.within (λ empty. omega (arith, few, alone empty)) (λ some. omega (arith, few, inside some))
+    came = came_take frames piece at (fed_of old + at) n by.leads.within (λ empty. omega (arith, few, fit.0 empty)) (λ some. omega (arith, few, fit.1 some))
 
     then_is : drop n all ≡ rest ++ placed_from (fed_of old + until) (drop until piece)
     then_is =
@@ -146,18 +146,18 @@ module _ {S : Type 0} {g : Ghosts S} {old : Reader S g} {piece : List ℕ} {at :
         ∙ drop_at (take n all) (rest ++ placed_from (fed_of old + until) (drop until piece)) n (length-take-le n all (omega (arith, few, all_long)))
 
     -- what leads there
-    reached : {left : ℕ} (same : left ≡ h.machine.left) (P : S → Holding → Type 0) → (c : Conveys g t h (take n all)) → P c.sink c.holding → (n ≡ 0 → P t h → P by.sink by.holding) →
-        (u : S) × (held : Holding) × LeadsTo old piece until u held rest × (left ≡ held.machine.left) × P u held
-    reached {left} same P c here first = by_first (take n all) refl
+    reached : (P : S → Holding → Type 0) → (c : Conveys g t h (take n all)) → P c.sink c.holding → (n ≡ 0 → P t h → P by.sink by.holding) →
+        (u : S) × (held : Holding) × LeadsTo old piece until u held rest × (h.machine.left ≡ held.machine.left) × P u held
+    reached P c here first = by_first (take n all) refl
       where
-        by_first : (xs : List Placed) → take n all ≡ xs → (u : S) × (held : Holding) × LeadsTo old piece until u held rest × (left ≡ held.machine.left) × P u held
+        by_first : (xs : List Placed) → take n all ≡ xs → (u : S) × (held : Holding) × LeadsTo old piece until u held rest × (h.machine.left ≡ held.machine.left) × P u held
         by_first [] gone =
             let gone_is = c.none gone in
             let still = came_none frames rest piece at until (fed_of old + at) (take n all) gone came in (
               by.sink,
               by.holding,
               subst (λ (m : ℕ). LeadsTo old piece m by.sink by.holding rest) (sym still.1) (subst (LeadsTo old piece at by.sink by.holding) (sym still.0) by.leads),
-              omega (arith, same, left_acted by.acted),
+              left_acted by.acted,
               first (omega (arith, ap length gone, length-take-le n all (omega (arith, few, all_long)))) (subst (P t) gone_is.1 (subst (λ (w : S). P w c.holding) gone_is.0 here)),
             )
         by_first (y ∷ ys) some =
@@ -165,17 +165,17 @@ module _ {S : Type 0} {g : Ghosts S} {old : Reader S g} {piece : List ℕ} {at :
             sym next_is ∙ ap bytes_of (sym (take-append-drop n all)) ∙ bytes_of-append (take n all) (drop n all) ∙ ap (λ (zs : List Placed). bytes_of zs ++ bytes_of (drop n all)) some in
             let past = subst (λ (zs : List Placed). (c : Conveys g t h zs) → Came frames rest piece at until (fed_of old + at) zs → LeadsTo old piece until c.sink c.holding rest) (sym some)
             (leads_past laws.more by (bytes_of ys ++ bytes_of (drop n all)) front) in
-            (c.sink, c.holding, past c came, omega (arith, same, c.left), here)
+            (c.sink, c.holding, past c came, sym c.left, here)
 
   -- It stops there. The bytes of the input are counted up to and with the one that stops it.
   pub stops_reached : {r : Refusal} {index : ℕ} (new : Reader S g) → left_of new ≡ h.machine.left → index ≤ many → Stops g t h all many index (sink_of new) r → fed_of new ≡ fed_of old + at + (index + 1 - length frames) → (i : ℕ) × StopsAt old new piece r i
   stops_reached {r} {index} new left few (at_byte x behind is c stops) fed =
       let (u, held, leads, same, there) =
-      reached index few left (λ (u : S) (held : Holding). StopsByte g u held x (sink_of new) r) c stops
+      reached index few (λ (u : S) (held : Holding). StopsByte g u held x (sink_of new) r) c stops
       (λ zero here.
       let first : next ≡ x.byte ∷ bytes_of behind = sym next_is ∙ ap bytes_of (ap (λ (m : ℕ). drop m all) (sym zero) ∙ is) in
-      stops_acted g by.sink by.holding t h next x laws.more (λ b bs e. ap (λ (zs : List ℕ). get_or zs 0 0) (sym first ∙ e)) by.acted (sink_of new) r here) in
-      stops_byte new leads same laws there
+      stops_acted laws.more (λ b bs e. ap (λ (zs : List ℕ). get_or zs 0 0) (sym first ∙ e)) by.acted here) in
+      stops_byte new leads (left ∙ same) laws there
       (came_next (rest index few) piece (until index few) (fed_of old + until index few) x behind leads.within (sym (then_is index few) ∙ is)) (omega (arith, fed, length-drop index frames))
   stops_reached {r} new left few (in_text first taken size is less inside_slice place c stops) fed =
       let few' : first ≤ many = omega (arith, inside_slice) in
@@ -184,13 +184,13 @@ module _ {S : Type 0} {g : Ghosts S} {old : Reader S g} {piece : List ℕ} {at :
       let behind = rest first few' in
       let left_there = length-drop first frames in
       let (u, held, leads, same, there) =
-      reached first few' left (λ (u : S) (held : Holding). StopsText g u held (bytes_of texts) taken (sink_of new) r) c stops
+      reached first few' (λ (u : S) (held : Holding). StopsText g u held (bytes_of texts) taken (sink_of new) r) c stops
       (λ zero here.
       let typed = by.typed here.set here.text_is.rested here.text_is.chars in
       subst (λ (held : Holding). StopsText g by.sink held (bytes_of texts) taken (sink_of new) r) typed.1 (subst (λ (w : S). StopsText g w h (bytes_of texts) taken (sink_of new) r) typed.0 here)) in
-      stops_text new leads same laws there
+      stops_text new leads (left ∙ same) laws there
       (subst (Came behind (drop size behind) piece from (from + (size - length behind)) (fed_of old + from)) (ap (take size) (sym (then_is first few')))
-      (came_take behind piece from (fed_of old + from) size leads.within (λ empty. grind (arith, empty, left_there, less, inside_slice, alone, inside)) (λ some. grind (arith, some, left_there, inside_slice, inside))))
+      (came_take behind piece from (fed_of old + from) size leads.within (λ empty. grind (arith, empty, left_there, less, inside_slice, fit.0, fit.1)) (λ some. grind (arith, some, left_there, inside_slice, fit.1))))
       (place_at-taken (drop first all) size taken less ∙ place_at-drop all first taken ∙ ap (place_at all) (sym is) ∙ place)
       (omega (arith, less, length-take-le size (drop first all) (omega (arith, inside_slice, all_long, length-drop first all))))
-      (grind (arith, left_there, is, less, fed, inside_slice, inside))
+      (grind (arith, left_there, is, less, fed, inside_slice, fit.1))

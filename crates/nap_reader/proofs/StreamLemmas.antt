@@ -1,30 +1,118 @@
-use Rattle.std.proofs.Common.{ℕ, zero, suc, ◌+◌, ◌-◌, ◌≡◌, ◌≢◌, ◌<◌, ◌≤◌, List, [], ◌∷◌, ◌++◌, All, length, take, drop, Result, Ok, Err, Bool, true, false, cond, eqb, ltb, refl, ap, ◌∙◌, arith, sym, subst, append_assoc, length-append, length-drop}
+use Rattle.std.proofs.Common.{◌+◌, ◌++◌, ◌-◌, ◌<◌, All, Bool, Err, List, None, Ok, Option, Result, Some, [], ap, append_assoc, arith, cond, drop, eqb, false, length, length-append, length-drop, ltb, refl, subst, suc, sym, take, true, zero, ℕ, ◌∙◌, ◌∷◌, ◌≡◌, ◌≢◌, ◌≤◌}
+use Rattle.nap_reader.specs.Course.{Lessens, Stays, act, continue, continue_by, go, onward, outcome, pause, prepend, refuse}
 use Rattle.std.specs.Prelude.{⊤}
-use Rattle.std.proofs.lemmas.Bool.{ltb-true, ltb-false, lt-ltb, eqb-true, eqb-false}
+use Rattle.std.proofs.lemmas.Bool.{eqb-false, eqb-true, lt-ltb, ltb-false, ltb-true}
 use Rattle.std.proofs.lemmas.Bool.Decides.{nat_tests}
 use Rattle.std.proofs.Math.ListN.{drop_of_length-le}
-use Rattle.std.proofs.lemmas.List.{length-map, take-append-le, drop-append-le}
-use Rattle.std.proofs.lemmas.List.Elements.{All-nil, All-cons}
-use Rattle.std.proofs.lemmas.List.Folds.{prefix_len-append, length-prefix_len}
+use Rattle.std.proofs.lemmas.List.{drop-append-le, length-map, take-append-le}
+use Rattle.std.proofs.lemmas.List.Elements.{All-cons, All-nil}
+use Rattle.std.proofs.lemmas.List.Folds.{length-prefix_len, prefix_len-append}
 use Rattle.std.proofs.lemmas.List.Sums.{prefix_len-le-length}
-use Rattle.nap_reader.specs.Below.{Code, CodeSets, Opcode, Entry, DrawFault, Work, code_rule, Drawn, rule, run_limit}
-use Rattle.nap_reader.proofs.Common.{Refusal, Kind, kind_of, Lessens, Mode, between, in_body, body_of, body_front, store_limit, onward, continue, Placed, Machine, Unfinished, Front, bytes_of, words_of, half_read, is_operand, is_operand_byte, run_length, refusal, all_at, drawn_front, opcode_front, shown_front, code_front, place_at, front_by, after_body, bound_front, body_front_by, front_in, front, outcome_from, placed_from, start_machine, begun}
+use Rattle.nap_reader.specs.Below.{Code, CodeSets, DrawFault, Drawn, Entry, Opcode, Work, code_rule, rule, run_limit}
+use Rattle.nap_reader.proofs.Common.{Front, Kind, Lessens, Machine, Mode, Placed, Refusal, Unfinished, after_body, all_at, begun, between, body_front, body_front_by, body_of, bound_front, bytes_of, code_front, continue, drawn_front, front, front_by, front_in, half_read, in_body, is_operand, is_operand_byte, kind_of, onward, opcode_front, outcome_from, place_at, placed_from, refusal, run_length, shown_front, start_machine, store_limit, words_of}
 use Rattle.nap_values.specs.Laws.{IsWord}
 use Rattle.nap_codes.specs.declared.code.Code.TheVariants as code
 use Rattle.nap_codes.specs.Front as codes
-use Rattle.nap_codes.proofs.PublicLaws.{whole_stays, refused_stays, whole_length, refused_index}
+use Rattle.nap_codes.proofs.PublicLaws.{refused_index, refused_stays, whole_length, whole_stays}
 use Rattle.nap_draw.specs.Codes.{IsMade}
 use Rattle.nap_reader.specs.declared.fault.Fault.TheVariants as faults
 use Rattle.nap_reader.specs.declared.kind.Kind.TheVariants as kinds
 use Rattle.nap_reader.specs.Bodies as bodies
 use Rattle.nap_reader.specs.Course as course
-use Rattle.nap_reader.specs.Course.{Stays}
 use Rattle.nap_reader.specs.Stream as model
 use Rattle.nap_reader.specs.Stream.{ends_of, left_of, run_front}
-use Rattle.nap_reader.proofs.BodyLemmas as settled
-use Rattle.nap_reader.proofs.BodyLemmas.{Settled, waits, ends, body_front-Settled, definition_length}
-use Rattle.nap_reader.proofs.CourseLemmas.{Falls, outcome-front, outcome-append, outcome-falls}
-use Rattle.nap_reader.proofs.KindLemmas.{KindMade, front_kind_made}
+use Rattle.nap_reader.proofs.SpelledLemmas as settled
+use Rattle.nap_reader.proofs.SpelledLemmas.{KindMade, Settled, body_front-Settled, definition_length, ends, front_kind_made, waits}
+
+pub prepend-append : {M E F U B : Type 0} (ds es : List E) (o : course.Outcome M E F U B) → prepend (ds ++ es) o ≡ prepend ds (prepend es o)
+prepend-append ds es o = rw append_assoc refl
+
+pub continue-prepend : {M E F U B : Type 0} (next : M → List B → course.Outcome M E F U B) (es : List E) (o : course.Outcome M E F U B) (ys : List B) →
+    continue next (prepend es o) ys ≡ prepend es (continue next o ys)
+continue-prepend {M} {E} {F} {U} {B} next es o ys = at o.refusal
+  where
+    at : (r : Option F) → continue_by next r (prepend es o) ys ≡ prepend es (continue_by next r o ys)
+    at (Some f) = refl
+    at None = prepend-append es o.entries (next o.machine (o.rest ++ ys))
+
+-- no code that acts raises this count
+abbrev pub Falls : {M E F U B : Type 0} → (M → List B → course.Front M E F U B) → (M → ℕ) → Type 0
+Falls {M} {E} {F} {U} {B} front count = (m : M) (xs : List B) (es : List E) (m' : M) (ys : List B) →
+    front m xs ≡ act es m' ys → count m' ≤ count m
+
+module _ {M E F U B : Type 0} (front : M → List B → course.Front M E F U B) (left count : M → ℕ) (falls : Falls front count) where
+  go-falls : (f : ℕ) (m : M) (xs : List B) → count (go front f m xs).machine ≤ count m
+  unfolding go
+  go-falls zero m xs = omega arith
+  go-falls (suc f) m xs = at (front m xs) refl (λ m' ys. go-falls f m' ys)
+    where
+      at : (n : course.Front M E F U B) → front m xs ≡ n → ((m' : M) (ys : List B) → count (go front f m' ys).machine ≤ count m') →
+          count (onward (go front f) m xs n).machine ≤ count m
+      at (pause u) e ih = omega arith
+      at (refuse x) e ih = omega arith
+      at (act es m' ys) e ih = omega (arith, ih m' ys, falls m xs es m' ys e)
+
+  -- what comes of an input doesn't raise it
+  pub outcome-falls : (m : M) (xs : List B) → count (outcome front left m xs).machine ≤ count m
+  unfolding outcome
+  outcome-falls m xs = go-falls (suc (length xs + left m)) m xs
+
+module _ {M E F U B : Type 0} (front : M → List B → course.Front M E F U B) (left : M → ℕ) (lessens : Lessens front left) where
+  -- fronts to spare change nothing
+  go-spare : (f g : ℕ) (m : M) (xs : List B) → length xs + left m < f → length xs + left m < g →
+      go front f m xs ≡ go front g m xs
+  unfolding go
+  go-spare zero g m xs hf hg = absurd (omega arith)
+  go-spare (suc f) zero m xs hf hg = absurd (omega arith)
+  go-spare (suc f) (suc g) m xs hf hg =
+      at (front m xs) refl (λ m' ys h h'. go-spare f g m' ys h h')
+    where
+      at : (n : course.Front M E F U B) → front m xs ≡ n →
+          ((m' : M) (ys : List B) → length ys + left m' < f → length ys + left m' < g → go front f m' ys ≡ go front g m' ys) →
+          onward (go front f) m xs n ≡ onward (go front g) m xs n
+      at (pause u) e ih = refl
+      at (refuse x) e ih = refl
+      at (act es m' ys) e ih =
+          let less = lessens m xs es m' ys e in
+          ap (prepend es) (ih m' ys (omega arith) (omega arith))
+
+  -- what comes of an input is what its front gives, and then what comes of the rest
+  pub outcome-front : (m : M) (xs : List B) → outcome front left m xs ≡ onward (outcome front left) m xs (front m xs)
+  unfolding outcome go
+  outcome-front m xs = at (front m xs) refl
+    where
+      at : (n : course.Front M E F U B) → front m xs ≡ n →
+          onward (go front (length xs + left m)) m xs n ≡ onward (outcome front left) m xs n
+      at (pause u) e = refl
+      at (refuse x) e = refl
+      at (act es m' ys) e =
+          let less = lessens m xs es m' ys e in
+          ap (prepend es) (go-spare (length xs + left m) (suc (length ys + left m')) m' ys less (omega arith))
+
+module _ {M E F U B : Type 0} (front : M → List B → course.Front M E F U B) (left : M → ℕ) (lessens : Lessens front left) (stays : Stays front) where
+  in_pieces : (f : ℕ) (m : M) (xs ys : List B) → length xs + left m < f →
+      outcome front left m (xs ++ ys) ≡ continue (outcome front left) (outcome front left m xs) ys
+  in_pieces zero m xs ys h = absurd (omega arith)
+  in_pieces (suc f) m xs ys h = at (front m xs) refl (λ m' zs h'. in_pieces f m' zs ys h')
+    where
+      whole : (m : M) (xs : List B) → outcome front left m xs ≡ onward (outcome front left) m xs (front m xs)
+      whole = outcome-front front left lessens
+
+      at : (n : course.Front M E F U B) → front m xs ≡ n →
+          ((m' : M) (zs : List B) → length zs + left m' < f →
+          outcome front left m' (zs ++ ys) ≡ continue (outcome front left) (outcome front left m' zs) ys) →
+          outcome front left m (xs ++ ys) ≡ continue (outcome front left) (outcome front left m xs) ys
+      at (pause u) e ih = sym (rw (whole m xs, e) refl)
+      at (refuse x) e ih = rw (whole m xs, e, whole m (xs ++ ys), stays.refusing m xs x ys e) refl
+      at (act es m' zs) e ih =
+          let less = lessens m xs es m' zs e in
+          rw (whole m xs, e, whole m (xs ++ ys), stays.acting m xs es m' zs ys e, ih m' zs (omega arith))
+          (sym (continue-prepend (outcome front left) es (outcome front left m' zs) ys))
+
+  -- what comes of an input in two pieces
+  pub outcome-append : (m : M) (xs ys : List B) →
+      outcome front left m (xs ++ ys) ≡ continue (outcome front left) (outcome front left m xs) ys
+  outcome-append m xs ys = in_pieces (suc (length xs + left m)) m xs ys (omega arith)
 
 -- What each front comes to: what it puts, and what is left behind it.
 
@@ -252,11 +340,11 @@ front-stays = record {
 
 -- what comes of a list is what its front gives, and then what comes of the rest
 pub outcome_from-front : (m : Machine) (xs : List Placed) → outcome_from m xs ≡ onward outcome_from m xs (front m xs)
-outcome_from-front = outcome-front Machine Entry Refusal Unfinished Placed front left_of front-lessens
+outcome_from-front = outcome-front front left_of front-lessens
 
 -- what comes of a list in two pieces
 pub outcome_from-append : (m : Machine) (xs ys : List Placed) → outcome_from m (xs ++ ys) ≡ continue outcome_from (outcome_from m xs) ys
-outcome_from-append = outcome-append Machine Entry Refusal Unfinished Placed front left_of front-lessens front-stays
+outcome_from-append = outcome-append front left_of front-lessens front-stays
 
 pub placed_from-append : (n : ℕ) (p q : List ℕ) → placed_from n (p ++ q) ≡ placed_from n p ++ placed_from (n + length p) q
 unfolding placed_from
@@ -273,4 +361,4 @@ begun-append budget p q =
 
 -- what comes of a list leaves no more to charge
 pub outcome_from-left : (m : Machine) (xs : List Placed) → (outcome_from m xs).machine.left ≤ m.left
-outcome_from-left = outcome-falls Machine Entry Refusal Unfinished Placed front left_of (λ m. m.left) front-falls
+outcome_from-left = outcome-falls front left_of (λ m. m.left) front-falls

@@ -14,14 +14,12 @@ use Rattle.nap_draw.specs.Codes.{code_as, text, typed_code}
 use Rattle.nap_draw.specs.Rule.{drawn}
 use Rattle.nap_draw.proofs.PublicLaws.{typed_rule}
 use Rattle.nap_reader.specs.declared.kind.Kind.TheVariants as kinds
-use Rattle.nap_reader.proofs.CourseLemmas.{prepend-append}
-use Rattle.nap_reader.proofs.HeldLemmas.{front_code, half_read_pauses}
-use Rattle.nap_reader.proofs.StreamLemmas.{bytes_of-placed, outcome_from-front}
-use Rattle.nap_reader.proofs.LeadsLemmas.{Lawful, TookMore, fails_part, is_between, leads_more, was_failed}
-use Rattle.nap_reader.proofs.ReadingLemmas.{nothing_yet, rest_of_nothing, is_half, holds_nothing}
-use Rattle.nap_reader.proofs.BreakingLemmas.{brings_breaks}
+use Rattle.nap_reader.proofs.StreamLemmas.{prepend-append, bytes_of-placed, outcome_from-front}
+use Rattle.nap_reader.proofs.ReadingLemmas.{front_code, half_read_pauses, Lawful, TookMore, fails_part, is_between, leads_more, was_failed, rest_of_nothing, is_half, holds_nothing}
+use Rattle.nap_reader.proofs.BreakLemmas.{brings_breaks}
 use Rattle.nap_reader.proofs.PieceLemmas.{length_taken, stops_by, taken_further}
 use Rattle.nap_reader.specs.Steps.{IsText}
+use Rattle.nap_reader.proofs.SpelledLemmas.{nothing_yet}
 
 -- A stretch of a text is its characters, and the moves among them, in turn.
 
@@ -67,7 +65,7 @@ text_acts m set (x ∷ xs) pending mode are all =
     let m' : Machine = record m { work = (drawn m.work (e ∷ [])).work } in
     outcome_from-front m (x ∷ rest)
     ∙ ap (onward outcome_from m (x ∷ rest))
-    (front_code m [] x rest [] (typed_code set b) 1 m.sets mode refl (are_typed m.sets set are b (All-head IsTyped b (bytes_of xs) all)) refl
+    (front_code m [] x rest mode refl (are_typed m.sets set are b (All-head IsTyped b (bytes_of xs) all)) refl
     ∙ ap (λ (k : Kind). code_front m k x.place rest) (typed_acts (format_effector b) set b)
     ∙ ap (drawn_front m x.place rest) (typed_rule m.work set b))
     ∙ ap (prepend (e ∷ [])) (text_acts m' set xs pending mode are (All-tail IsTyped b (bytes_of xs) all))
@@ -208,7 +206,7 @@ module _ {S : Type 0} {g : Ghosts S} {s : S} {o : Outcome} {t : S} {h : Holding}
       at sink_faults.Write (inr broke) = inr (first, halt.next, halt.rest ++ behind, parts, laws.broken s t u k.done halt.es halt.next k.taken broke)
 
 -- Characters come.
-module _ {S : Type 0} {g : Ghosts S} {s : S} {t : S} {h : Holding} {set : CharSet} (budget : ℕ) (p : List ℕ) {q₀ : List ℕ} (k : Continues g s (begun budget p) t h []) (in_text : IsText h set q₀) where
+module _ {S : Type 0} {g : Ghosts S} {s : S} {t : S} {h : Holding} {set : CharSet} (budget : ℕ) (p : List ℕ) {q : List ℕ} (k : Continues g s (begun budget p) t h []) (in_text : IsText h set q) where
   comes : (q : List ℕ) → All IsTyped q → begun budget (p ++ q) ≡ prepend (k.done ++ text h.machine.work.state set q) (paused (with_text h.machine set q) [] (Some nothing))
   unfolding leads_more
   comes q all =
@@ -219,13 +217,13 @@ module _ {S : Type 0} {g : Ghosts S} {s : S} {t : S} {h : Holding} {set : CharSe
       ∙ sym (prepend-append k.done (text h.machine.work.state set q) (paused (with_text h.machine set q) [] (Some nothing)))
 
   -- the next one wasn't taken, or broke
-  text_breaks : {q : List ℕ} {i : ℕ} {u : S} {fault : SinkFault} {left : ℕ} {r : Refusal} (halt : HaltsIn g h.machine.work.state set q i t u fault) (is : IsTextOf h.machine.work.state set q halt.es halt.next) → All IsTyped q → left ≡ h.machine.left →
+  text_breaks : {i : ℕ} {u : S} {fault : SinkFault} {left : ℕ} {r : Refusal} (halt : HaltsIn g h.machine.work.state set q i t u fault) (is : IsTextOf h.machine.work.state set q halt.es halt.next) → left ≡ h.machine.left →
       r.place ≡ length p + i → (cause_of r.fault ≡ memory → g.wants s ((k.done ++ halt.es) ++ halt.next ∷ [])) → TookPart g s (k.done ++ halt.es) (halt.next ∷ []) u (cause_of r.fault) →
       IsBroken g s budget (p ++ is.before) is.byte u left r
-  text_breaks {u = u} {r = r} halt is typed same place wants part =
+  text_breaks {u = u} {r = r} halt is same place wants part =
       let before = is.before in
       let b = is.byte in
-      let all = subst (All IsTyped) is.parts typed in
+      let all = subst (All IsTyped) is.parts in_text.typed in
       let s' = h.machine.work.state in
       let known = k.done ++ halt.es in
       let past : Outcome = prepend known (paused (with_text h.machine set before) [] (Some nothing)) in
@@ -256,13 +254,13 @@ module _ {S : Type 0} {g : Ghosts S} {s : S} {t : S} {h : Holding} {set : CharSe
         charged = let is = ap (λ (o : Outcome). o.machine.left) further in omega (arith, is, same);
       }
 
-  text_broken : {q : List ℕ} {i : ℕ} {u : S} (fault : SinkFault) {left place : ℕ} → Lawful g → (halt : HaltsIn g h.machine.work.state set q i t u fault) (is : IsTextOf h.machine.work.state set q halt.es halt.next) → All IsTyped q →
+  text_broken : {i : ℕ} {u : S} (fault : SinkFault) {left place : ℕ} → Lawful g → (halt : HaltsIn g h.machine.work.state set q i t u fault) (is : IsTextOf h.machine.work.state set q halt.es halt.next) →
       left ≡ h.machine.left → place ≡ length p + i → IsBroken g s budget (p ++ is.before) is.byte u left (refusal (draw_fault (fault_of fault)) place)
-  text_broken {u = u} sink_faults.Memory laws halt is all same there =
+  text_broken {u = u} sink_faults.Memory laws halt is same there =
       let joined : k.done ++ ((halt.es ++ halt.next ∷ []) ++ []) ≡ (k.done ++ halt.es) ++ halt.next ∷ [] =
       ap (λ (es : List Entry). k.done ++ es) (append-nil (halt.es ++ halt.next ∷ [])) ∙ sym (append_assoc k.done halt.es (halt.next ∷ [])) in
-      text_breaks halt is all same there (λ _. subst (g.wants s) joined (laws.wants s t k.done (halt.es ++ halt.next ∷ []) [] k.taken halt.halted.1)) (inl (laws.more s t u k.done halt.es k.taken halt.halted.0))
-  text_broken {u = u} sink_faults.Write laws halt is all same there = text_breaks halt is all same there (λ own. let bad : ⊥ = cc in absurd bad) (part halt.halted)
+      text_breaks halt is same there (λ _. subst (g.wants s) joined (laws.wants s t k.done (halt.es ++ halt.next ∷ []) [] k.taken halt.halted.1)) (inl (laws.more s t u k.done halt.es k.taken halt.halted.0))
+  text_broken {u = u} sink_faults.Write laws halt is same there = text_breaks halt is same there (λ own. let bad : ⊥ = cc in absurd bad) (part halt.halted)
     where
       part : Halted g halt.es halt.next t u sink_faults.Write → TookPart g s (k.done ++ halt.es) (halt.next ∷ []) u device
       part (inl (failed, stays, empty)) =
@@ -297,7 +295,7 @@ text_stops {S} {g} {old} {piece} {at} {t} {h} {q = q} {i = i} {r = r} new leads 
     (subst (λ (q : List ℕ). IsBroken g s (budget_of old) q (get_or piece (at + i) 0) (sink_of new) (left_of new) (refusal (draw_fault (fault_of stops.fault)) r.place))
     (taken_further p piece is.before at first ∙ ap (λ (j : ℕ). p ++ take (at + j) piece) (sym count))
     (subst (λ (b : ℕ). IsBroken g s (budget_of old) ((p ++ take at piece) ++ is.before) b (sink_of new) (left_of new) (refusal (draw_fault (fault_of stops.fault)) r.place)) (sym there)
-    (text_broken {set = stops.set} (budget_of old) (p ++ take at piece) (leads.alone empty s p stood) stops.text_is stops.fault laws halt is stops.text_is.typed left
+    (text_broken {set = stops.set} (budget_of old) (p ++ take at piece) (leads.alone empty s p stood) stops.text_is stops.fault laws halt is left
     (omega (arith, place, length_taken p piece at leads.within, stood.fed leads.live))))) in
     record {
       within = omega (arith, less, long, leads.within);

@@ -29,11 +29,11 @@ returns-in_err-read_out-in-Err-Refused-clause-collected g c =
     let h = subst (λ (f : FeedFault). Feeds I old new s p start mid (Err f)) refused.field-0-is (feeds s c.new-reader.ensures.stands) in
     let fails = subst (λ (f : FeedFault). FailsBy (g.S.Sink.failed (sink_of new)) (Err f)) refused.field-0-is (refused.ensures.fails (ap g.S.Sink.failed c.new-reader.ensures.sink ∙ c.requires.works)) in
     let (more, rest, out) = c.in_err-read_out-in-Err-Refused.ensures.read in
-    let few = reads_few I old new s p start mid refused.refusal h c.feed_from.ensures.budget fails.0 more in
+    let few = reads_few h in
     let most = reads_limit - (c.calls.result - c.calls-before.result) in
     let reads : I.calls end - I.calls start ≡ (I.calls mid - I.calls start) + (I.calls end - I.calls mid) = omega (arith, refused.ensures.more, c.read_out.ensures.more) in
     let all : most + (I.calls mid - I.calls start) ≡ reads_limit = omega (arith, c.calls.ensures, c.calls-before.ensures, refused.ensures.few, refused.ensures.more) in
-    let cut = cut_off (reading I start mid) (reading I mid end) (reading I start end) p more few h.ends.0 refl refl refl refl reads most all
+    let cut = cut_off {first = reading I start mid} {second = reading I mid end} {whole = reading I start end} p more (record { joins = refl; before = refl; failed = refl; left = refl; reads = reads }) few h.ends.0 most all
     c.in_err-read_out-in-Err-Refused.field-0.0 out in
     let e = err_from_is_err_and c.from_residual.result c.from_residual.ensures.1 in
     (p ++ more, Consumes-trans _ _ _ p more read rest, rw (e.1) cut)
@@ -54,13 +54,13 @@ returns-clause-collected g c =
     let h = subst (λ (f : FeedFault). Feeds I old new s p start mid (Err f)) refused.field-0-is (feeds s c.new-reader.ensures.stands) in
     let fails = subst (λ (f : FeedFault). FailsBy (g.S.Sink.failed (sink_of new)) (Err f)) refused.field-0-is (refused.ensures.fails (ap g.S.Sink.failed c.new-reader.ensures.sink ∙ c.requires.works)) in
     let (more, rest, out) = c.in_ok-read_out-in-Err-Refused.ensures.read in
-    let few = reads_few I old new s p start mid r h c.feed_from.ensures.budget fails.0 more in
+    let few = reads_few h in
     let reads : I.calls end - I.calls start ≡ (I.calls mid - I.calls start) + (I.calls end - I.calls mid) = omega (arith, refused.ensures.more, c.read_out.ensures.more) in
-    let why = refused_whole I old new s p start mid r h c.feed_from.ensures.budget fails.0 more in (
+    let why = refused_whole h c.feed_from.ensures.budget fails.0 more in (
       p ++ more,
       Consumes-trans _ _ _ p more read rest,
       (
-        read_whole (reading I start mid) (reading I mid end) (reading I start end) p more few h.ends.0 refl refl refl refl reads out,
+        read_whole {first = reading I start mid} {second = reading I mid end} {whole = reading I start end} p more (record { joins = refl; before = refl; failed = refl; left = refl; reads = reads }) few h.ends.0 out,
         record { collects = subst (λ (budget : ℕ). RefusedBy g.S.Sink s budget (p ++ more) r (cause_of r.fault)) c.new-reader.ensures.budget why },
       ),
     )

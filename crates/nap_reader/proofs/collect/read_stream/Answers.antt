@@ -21,7 +21,13 @@ returns-in_err-feed g c =
     let (i, stops) = c.in_err-feed.ensures.stops unrefused in
     let there = subst (λ (b : ℕ). StopsBy S s b ([] ++ take i stream) (slice_index stream i) (sink_of new) (left_of new) r (cause_of r.fault)) c.new-reader.ensures.budget
     (stops.there s [] stands) in
-    let refused = refused_behind new s budget [] stream [] i r stops.within (c.feed.ensures.budget ∙ c.new-reader.ensures.budget) c.in_err-feed.ensures.answered
-    (c.feed.ensures.stands s [] stands) there (λ is. c.in_err-feed.ensures.failed unrefused (device_fault r.fault is)) in
+    let refused = refused_behind {before = []} {last = stream} {i = i} [] (record {
+      within = stops.within;
+      budget_is = c.feed.ensures.budget ∙ c.new-reader.ensures.budget;
+      refused = c.in_err-feed.ensures.answered;
+      stands = c.feed.ensures.stands s [] stands;
+      stops = there;
+      fails = λ is. c.in_err-feed.ensures.failed unrefused (device_fault r.fault is);
+    }) in
     let e = err_from_is_err_and c.from_residual.result c.from_residual.ensures.1 in
     rw (e.1, e.2) (record { collects = subst (λ (p : List ℕ). RefusedBy S s budget p r (cause_of r.fault)) (append-nil stream) refused })

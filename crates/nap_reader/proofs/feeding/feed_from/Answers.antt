@@ -4,7 +4,7 @@ use Rattle.std.proofs.KnownBytes.{Consumes-nil, Consumes-trans, Consumes-kept}
 use Rattle.std.proofs.Math.Bool.{or-true}
 use Rattle.std.proofs.lemmas.Result.{err_from_is_err_and}
 use Rattle.nap_reader.specs.declared.feeding.FeedFault.TheVariants as feed_fault
-use Rattle.nap_reader.proofs.FeedLemmas.{Gave, feeds_on, feeds_refused, flag_stays}
+use Rattle.nap_reader.proofs.CollectLemmas.{Gave, feeds_on, feeds_refused, flag_stays}
 use Rattle.nap_reader.proofs.feeding.feed_from.Goals as goal
 
 -- a read failed
@@ -15,7 +15,7 @@ returns-in_default-clause-feeds g c =
       Consumes-kept _ _ _ p read c.in_default.ensures.bytes,
       λ s h.
           let so : Gave g.I.Inlet c.args.input.now c.loop.input c.read.new.self p = record { gave = read; reads = omega (arith, c.loop.invariant.calls, gave); once = omega (arith, c.in_default.ensures.calls) } in
-          feeds_on c.args.reader.now s so (Err feed_fault.Read) (stands s h) c.loop.invariant.budget c.loop.invariant.unrefused
+          feeds_on so (Err feed_fault.Read) (stands s h) c.loop.invariant.budget c.loop.invariant.unrefused
           (Consumes-kept _ _ _ [] (Consumes-nil _) c.in_default.ensures.bytes) (
             inl (record {
               failed = c.in_default.ensures.failed ∙ or-true _;
@@ -38,7 +38,7 @@ returns-then-count-eq0-clause-feeds g c =
       subst (Consumes (g.I.Inlet.left c.args.input.now) (g.I.Inlet.left c.read.new.self)) same (Consumes-trans _ _ _ p piece read c.in-Ok.ensures.bytes.0),
       λ s h.
           let so : Gave g.I.Inlet c.args.input.now c.loop.input c.read.new.self p = record { gave = read; reads = omega (arith, c.loop.invariant.calls, gave); once = omega (arith, c.in-Ok.ensures.calls) } in
-          feeds_on c.args.reader.now s so (Ok tt) (stands s h) c.loop.invariant.budget c.loop.invariant.unrefused
+          feeds_on so (Ok tt) (stands s h) c.loop.invariant.budget c.loop.invariant.unrefused
           (subst (Consumes (g.I.Inlet.left c.loop.input) (g.I.Inlet.left c.read.new.self)) none c.in-Ok.ensures.bytes.0) (
             record {
               none_failed = none_failed;
@@ -61,7 +61,7 @@ returns-in_err-feed-clause-feeds g c =
       λ s h.
           let stops = c.in_err-feed.ensures.stops c.loop.invariant.unrefused in
           let so : Gave g.I.Inlet c.args.input.now c.loop.input c.read.new.self p = record { gave = read; reads = omega (arith, c.loop.invariant.calls, gave); once = omega (arith, c.in-Ok.ensures.calls) } in
-          rw (fault.1, fault.2) (feeds_refused c.args.reader.now s so (stands s h) c.loop.invariant.budget c.loop.invariant.unrefused
+          rw (fault.1, fault.2) (feeds_refused so (stands s h) c.loop.invariant.budget c.loop.invariant.unrefused
           (c.feed.ensures.stands s p (stands s h)) c.in_err-feed.ensures.answered stops.1 none_failed c.in-Ok.ensures.bytes.0),
     )
 
@@ -95,7 +95,7 @@ returns-clause-feeds g c =
       read,
       λ s h.
           let so : Gave g.I.Inlet c.args.input.now c.loop.input c.loop.input p = record { gave = read; reads = omega (arith, c.loop.invariant.calls, gave); once = omega arith } in
-          feeds_on c.args.reader.now s so (Err feed_fault.Read) (stands s h) c.loop.invariant.budget c.loop.invariant.unrefused (Consumes-nil _) (
+          feeds_on so (Err feed_fault.Read) (stands s h) c.loop.invariant.budget c.loop.invariant.unrefused (Consumes-nil _) (
             inr (record {
               none_failed = c.loop.invariant.flag;
               often = omega (arith, c.loop.invariant.calls, c.loop-test.false);

@@ -5,7 +5,7 @@ use Rattle.std.specs.List.{prefix_len}
 use Rattle.std.specs.Option.{is_some}
 use Rattle.nap_list.specs.Batches.{IsTyped}
 use Rattle.nap_reader.specs.Prefix.{is_from, is_of_text}
-use Rattle.nap_reader.proofs.PrefixLemmas.{of_text_is, past_effector, past_graphic}
+use Rattle.nap_reader.proofs.OperandLemmas.{of_text_is, past_effector, past_graphic}
 use Rattle.nap_reader.proofs.text.text_bytes.Goals as goal
 
 pub loop-at-init : goal.loop-at-init

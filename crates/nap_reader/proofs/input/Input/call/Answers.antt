@@ -1,7 +1,7 @@
 use Rattle.std.proofs.Common.{◌≡◌, ◌+◌, ◌++◌, [], ◌∷◌, ℕ, List, inl, inr, length, refl, ap, sym, ◌∙◌, subst, arith}
 use Rattle.std.proofs.lemmas.List.{nil_from_length}
 use Rattle.nap_reader.proofs.Common.{Frame, body_of, Shows, FramesIn, unread, all_at}
-use Rattle.nap_reader.proofs.FrameLemmas.{frames-push, length-part, length-unread-push, unread-push}
+use Rattle.nap_reader.proofs.ComingLemmas.{frames-push, length-part, length-unread-push, unread-push}
 use Rattle.nap_reader.proofs.input.Input.call.Goals as goal
 use Rattle.nap_reader.proofs.input.Input.call.Goals.{After-span-span}
 

@@ -1,7 +1,7 @@
 use Rattle.std.proofs.Common.{◌≡◌, ◌+◌, ◌-◌, ◌≤◌, ◌<◌, ◌++◌, [], ◌∷◌, ℕ, List, length, refl, ap, sym, ◌∙◌, subst, arith, length-append}
 use Rattle.nap_reader.proofs.Common.{Frame, FramesIn, unread, Span, StoreState, Placed, all_at}
 use Rattle.nap_reader.specs.Stored.{part_at}
-use Rattle.nap_reader.proofs.FrameLemmas.{frames-push, frames-store, length-part, length-unread-push, unread-push, unread-store}
+use Rattle.nap_reader.proofs.ComingLemmas.{frames-push, frames-store, length-part, length-unread-push, unread-push, unread-store}
 use Rattle.nap_reader.proofs.input.Input.show.Goals as goal
 
 -- how many bytes come next

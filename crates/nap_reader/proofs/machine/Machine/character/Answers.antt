@@ -5,7 +5,7 @@ use Rattle.nap_codes.specs.declared.code.Code.TheVariants as code
 use Rattle.nap_codes.specs.Laws.{IsGraphic}
 use Rattle.nap_reader.specs.Faults.{draw_fault}
 use Rattle.nap_reader.proofs.CodesLemmas.{IsAlone, alone_acts, alone_stops}
-use Rattle.nap_reader.proofs.SliceLemmas.{first_byte}
+use Rattle.nap_reader.proofs.ComingLemmas.{first_byte}
 use Rattle.nap_reader.proofs.StepLemmas.{sink_fault}
 use Rattle.nap_reader.proofs.machine.Machine.character.Given.{Over}
 use Rattle.nap_reader.proofs.machine.Machine.character.Goals.{In-Some}

@@ -3,9 +3,9 @@ use Rattle.nap_codes.specs.declared.code.Code.TheVariants as code
 use Rattle.nap_codes.specs.Front as codes
 use Rattle.nap_reader.specs.Faults.{draw_fault}
 use Rattle.nap_reader.proofs.CodesLemmas.{IsAlone, alone_acts, alone_nothing, alone_stops}
-use Rattle.nap_reader.proofs.KindLemmas.{front_made}
+use Rattle.nap_reader.proofs.SpelledLemmas.{front_made}
 use Rattle.nap_reader.proofs.ReadingLemmas.{code_of}
-use Rattle.nap_reader.proofs.SliceLemmas.{first_byte}
+use Rattle.nap_reader.proofs.ComingLemmas.{first_byte}
 use Rattle.nap_reader.proofs.StepLemmas.{sink_fault}
 use Rattle.nap_reader.proofs.machine.Machine.code.Given.{Over}
 use Rattle.nap_reader.proofs.machine.Machine.code.Goals.{In-Effector}

@@ -5,7 +5,7 @@ use Rattle.nap_reader.proofs.Common.{IsLive, Request, Refuses, Takes, bytes_of, 
 use Rattle.nap_reader.specs.declared.machine.Machine.{Machine}
 use Rattle.nap_reader.specs.Framed.{spaced}
 use Rattle.nap_reader.proofs.ComingLemmas.{bytes_of-spaced, length-spaced, place_at-spaced}
-use Rattle.nap_reader.proofs.LeadsLemmas.{TookMore}
+use Rattle.nap_reader.proofs.ReadingLemmas.{TookMore}
 use Rattle.nap_reader.proofs.TakingLemmas.{Took, left_bytes, place_at-drop, takes_then, took, took_all, took_none}
 use Rattle.nap_reader.proofs.machine.Machine.codes.Goals as goal
 

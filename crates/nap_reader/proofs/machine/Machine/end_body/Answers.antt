@@ -1,10 +1,9 @@
 use Rattle.std.proofs.Common.{◌≡◌, ◌++◌, ◌∷◌, [], Bool, false, true, not, None, refl, sym, subst, arith}
 use Rattle.nap_reader.proofs.Common.{CannotShow, Shows, StoreState, closed}
 use Rattle.nap_reader.proofs.ComingLemmas.{byte_comes, can_pass}
-use Rattle.nap_reader.proofs.DefineLemmas.{behind_escape}
-use Rattle.nap_reader.proofs.EndBodyLemmas.{bound_goes, shown_goes, shown_stops}
+use Rattle.nap_reader.proofs.DefineLemmas.{behind_escape, bound_goes, shown_goes, shown_stops}
 use Rattle.nap_reader.proofs.FurtherLemmas.{byte_passed, byte_stops, counts_passed, counts_still, counts_then, own_fault, passed_still}
-use Rattle.nap_reader.proofs.LeadsLemmas.{Lawful}
+use Rattle.nap_reader.proofs.ReadingLemmas.{Lawful}
 use Rattle.nap_reader.proofs.machine.Machine.end_body.Goals as goal
 
 was_not : (b : Bool) → not b ≡ false → b ≡ true
@@ -22,7 +21,7 @@ pub returns-then-not-body-clause-goes : goal.returns-then-not-body-clause-goes
 returns-then-not-body-clause-goes g c = λ piece next.
     let live = c.requires.live in
     bound_goes c.args.self.now (behind_escape c.requires.open c.requires.held next c.requires.ends) c.step.result g.met.S.Sink.took_more (is_not c.args.body.show c.if-not-body.true) c.bind.ensures
-    (record { live = record { live = live.live; agrees = live.agrees }; clear = λ clear. clear }) refl refl refl c.step.ensures.steps
+    (record { live = record { live = live.live; agrees = live.agrees }; clear = λ clear. clear }) (refl, refl, refl) c.step.ensures.steps
 
 pub returns-in-Ok-clause-counts : goal.returns-in-Ok-clause-counts
 returns-in-Ok-clause-counts g c = λ piece next.
@@ -36,7 +35,7 @@ returns-in-Ok-clause-goes g c = λ piece next.
     let adv = c.advance.ensures in
     let shows = subst (λ (store : StoreState). Shows c.advance.new.self c.show.new.self (closed store c.args.body.name) None (store.body ++ 0x1B ∷ c.args.next.byte ∷ []) c.args.next.place) adv.store c.in-Ok.ensures in
     shown_goes c.args.self.now (behind_escape c.requires.open c.requires.held next c.requires.ends) (was_not c.args.body.show c.if-not-body.false) g.met.S.Sink.took_more adv shows
-    (record { live = record { live = live.live; agrees = live.agrees }; clear = λ clear. clear }) refl refl refl refl
+    (record { live = record { live = live.live; agrees = live.agrees }; clear = λ clear. clear }) (refl, refl, refl) refl
 
 pub returns-in-Err-clause-goes : goal.returns-in-Err-clause-goes
 returns-in-Err-clause-goes g c =

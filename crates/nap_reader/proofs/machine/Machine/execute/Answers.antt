@@ -2,7 +2,7 @@ use Rattle.std.proofs.Common.{ℕ, List, None, Ok, Err, refl, ap, subst}
 use Rattle.nap_reader.specs.Below.{carried, Drawn, rule}
 use Rattle.nap_reader.proofs.Common.{draw_fault}
 use Rattle.nap_draw.specs.Acts.{Acts, told}
-use Rattle.nap_reader.proofs.MachineLemmas.{executes, fails_run}
+use Rattle.nap_reader.proofs.TakingLemmas.{executes, fails_run}
 use Rattle.nap_reader.proofs.StepLemmas.{sink_fault}
 use Rattle.nap_reader.proofs.machine.Machine.execute.Goals as goal
 

@@ -8,7 +8,7 @@ use Rattle.nap_reader.specs.declared.fault.Fault.TheVariants as faults
 use Rattle.nap_reader.specs.declared.machine.Machine.{Machine}
 use Rattle.nap_reader.specs.Framed.{spaced}
 use Rattle.nap_reader.proofs.ComingLemmas.{bytes_of-spaced, length-spaced, place_at-spaced}
-use Rattle.nap_reader.proofs.MachineLemmas.{lacked, worked}
+use Rattle.nap_reader.proofs.TakingLemmas.{lacked, worked}
 use Rattle.nap_reader.proofs.RunLemmas.{Joins, operands_in, run_acts, run_lacks, run_stops, run_too_long, run_waits}
 use Rattle.nap_reader.proofs.machine.Machine.join.Given.{Over}
 use Rattle.nap_reader.proofs.machine.Machine.join.Goals.{After-execute, Else-is_err, else-count-slice-via-then-count-slice+else-not-ended, else-count-slice-via-else-count-slice}

@@ -4,10 +4,9 @@ use Rattle.nap_reader.proofs.Common.{Input, Advances, CanAdvance, IsNextByte, co
 use Rattle.nap_reader.specs.declared.fault.Fault.TheVariants as faults
 use Rattle.nap_reader.specs.Carried.{HasName}
 use Rattle.nap_reader.proofs.ComingLemmas.{byte_comes, can_pass}
-use Rattle.nap_reader.proofs.DefineLemmas.{byte_lacks, memory_other, store_other}
+use Rattle.nap_reader.proofs.DefineLemmas.{byte_lacks, memory_other, store_other, body_fills, fill_passes, first_plain, holds_counts, holds_goes, keeps_counts, keeps_goes}
 use Rattle.nap_reader.proofs.FurtherLemmas.{byte_passed, byte_stops, counts_less, latches_own, next_same, passed_then, same_comes, stops_from}
-use Rattle.nap_reader.proofs.KeepLemmas.{body_fills, fill_passes, first_plain, holds_counts, holds_goes, keeps_counts, keeps_goes}
-use Rattle.nap_reader.proofs.LeadsLemmas.{Lawful}
+use Rattle.nap_reader.proofs.ReadingLemmas.{Lawful}
 use Rattle.nap_reader.proofs.machine.Machine.keep.Goals as goal
 
 pub hold_escape-requires : goal.hold_escape-requires
@@ -94,7 +93,7 @@ returns-in_default-keep-clause-goes g c =
     rw c.refuse-in_default-keep.ensures.answer
     (byte_stops laws c.requires.next c.refuse-in_default-keep.ensures.latched.is c.refuse-in_default-keep.ensures.latched.sink memory_other
     (byte_passed c.requires.next adv.passed)
-    (byte_lacks g.S.Sink m.sink (held_by m c.args.input.now) c.args.body c.requires.open c.requires.held (placed_at c.args.next.byte c.args.next.place) (record { low = c.requires.low; other = c.if-next-eq27.false })
+    (byte_lacks g.S.Sink m.sink (held_by m c.args.input.now) c.requires.open c.requires.held (placed_at c.args.next.byte c.args.next.place) (record { low = c.requires.low; other = c.if-next-eq27.false })
     (omega (arith, some, c.body_bytes-count.ensures, c.room-room.ensures, c.if-count-room.false))))
 
 pub returns : goal.returns
@@ -104,6 +103,6 @@ returns g c =
     let first = first_plain m c.requires.open c.requires.held c.requires.next.reads next c.requires.next (record { low = c.requires.low; other = c.if-next-eq27.false }) in
     record {
       same = refl;
-      counts = counts_less 1 (omega (arith, first, c.body_bytes-count.ensures)) (keeps_counts m c.requires.open c.requires.held c.requires.next.reads next c.in-Ok.ensures.ok (omega (arith, first, c.body_bytes-count.ensures)) (omega (arith, c.body_bytes-count.ensures)));
-      goes = keeps_goes m c.requires.open c.requires.held c.requires.next.reads next c.in-Ok.ensures.ok (omega (arith, first, c.body_bytes-count.ensures)) (omega (arith, c.body_bytes-count.ensures)) g.met.S.Sink.took_more c.requires.live (omega (arith, c.room-room.ensures, c.if-count-room.false));
+      counts = counts_less 1 (omega (arith, first, c.body_bytes-count.ensures)) (keeps_counts m c.requires.open c.requires.held c.requires.next.reads next c.in-Ok.ensures.ok (omega (arith, first, c.body_bytes-count.ensures), omega (arith, c.body_bytes-count.ensures)));
+      goes = keeps_goes m c.requires.open c.requires.held c.requires.next.reads next c.in-Ok.ensures.ok (omega (arith, first, c.body_bytes-count.ensures), omega (arith, c.body_bytes-count.ensures)) g.met.S.Sink.took_more c.requires.live (omega (arith, c.room-room.ensures, c.if-count-room.false));
     }

@@ -4,10 +4,9 @@ use Rattle.nap_reader.proofs.Common.{Input, store_limit, Advances, CanAdvance, S
 use Rattle.nap_reader.specs.declared.fault.Fault.TheVariants as faults
 use Rattle.nap_reader.specs.Carried.{HasName}
 use Rattle.nap_reader.proofs.ComingLemmas.{byte_comes, can_pass}
-use Rattle.nap_reader.proofs.DefineLemmas.{behind_escape, memory_other, store_other}
+use Rattle.nap_reader.proofs.DefineLemmas.{behind_escape, memory_other, store_other, again_counts, again_goes, both_lack, byte_fills, escape_fills, first_left, next_still, pair_counts, pair_goes}
 use Rattle.nap_reader.proofs.FurtherLemmas.{byte_passed, byte_stops, next_same, passed_none, passed_then, same_comes}
-use Rattle.nap_reader.proofs.KeepLemmas.{again_counts, again_goes, both_lack, byte_fills, escape_fills, first_left, next_still, pair_counts, pair_goes}
-use Rattle.nap_reader.proofs.LeadsLemmas.{Lawful}
+use Rattle.nap_reader.proofs.ReadingLemmas.{Lawful}
 use Rattle.nap_reader.proofs.machine.Machine.keep_escape.Goals as goal
 use Rattle.nap_reader.proofs.machine.Machine.keep_escape.Goals.{else-room-eq1-via-then-room-eq1+else-next-ne27, else-room-eq1-via-else-room-eq1}
 

@@ -1,7 +1,7 @@
 use Rattle.std.proofs.Common.{◌≡◌, ◌+◌, ◌-◌, ℕ, List, Some, length, take, drop, refl, ap, arith}
 use Rattle.std.proofs.lemmas.List.{length-drop, take_all}
 use Rattle.nap_reader.proofs.ComingLemmas.{length-spaced}
-use Rattle.nap_reader.proofs.MachineLemmas.{takes_at}
+use Rattle.nap_reader.proofs.TakingLemmas.{takes_at}
 use Rattle.nap_reader.proofs.RunLemmas.{open_takes}
 use Rattle.nap_reader.proofs.machine.Machine.open.Goals as goal
 

@@ -7,10 +7,9 @@ use Rattle.nap_reader.specs.declared.fault.Fault.TheVariants as faults
 use Rattle.nap_reader.specs.declared.machine.Request.TheVariants as requests
 use Rattle.nap_reader.specs.Framed.{spaced}
 use Rattle.nap_reader.proofs.CodesLemmas.{call_takes, IsRuled, acts, binds, Lexes, fault_takes, half_takes, macro_takes, nothing_takes, opcode_read, rested, ruled_stops, ruled_takes, strays_takes}
-use Rattle.nap_reader.proofs.TakingLemmas.{takes_same}
+use Rattle.nap_reader.proofs.TakingLemmas.{takes_same, takes_at}
 use Rattle.nap_reader.proofs.ComingLemmas.{bytes_of-spaced, length-spaced}
-use Rattle.nap_reader.proofs.KindLemmas.{front_made}
-use Rattle.nap_reader.proofs.MachineLemmas.{takes_at}
+use Rattle.nap_reader.proofs.SpelledLemmas.{front_made}
 use Rattle.nap_reader.proofs.ReadingLemmas.{code_of, fault_of, more_of}
 use Rattle.nap_reader.proofs.StepLemmas.{sink_fault}
 use Rattle.nap_reader.proofs.machine.Machine.other.Given.{Over}

@@ -2,8 +2,7 @@ use Rattle.std.proofs.Common.{ℕ, ◌≡◌, ◌+◌, ◌-◌, ◌*◌, ap, sym
 use Rattle.std.proofs.lemmas.Result.{err_from_is_err_and}
 use Rattle.nap_reader.specs.Pieces.{ReadsTo, Turn}
 use Rattle.nap_reader.proofs.ComingLemmas.{length-spaced}
-use Rattle.nap_reader.proofs.FurtherLemmas.{begin_reads, comes_rested, reads_piece, smaller, stops_piece, stops_then}
-use Rattle.nap_reader.proofs.TurnLemmas.{leaves_live, turn_is, turn_less}
+use Rattle.nap_reader.proofs.FurtherLemmas.{begin_reads, comes_rested, reads_piece, smaller, stops_piece, stops_then, leaves_live, turn_is, turn_less}
 use Rattle.nap_reader.proofs.machine.Machine.read.Goals as goal
 use Rattle.nap_reader.proofs.machine.Machine.read.Goals.{After-place_of-place}
 

@@ -3,12 +3,12 @@ use Rattle.std.proofs.lemmas.Result.{err_from_is_err_and}
 use Rattle.nap_reader.proofs.Common.{placed_at, held_by, IsLive, refusal}
 use Rattle.nap_reader.specs.declared.fault.Fault.TheVariants as faults
 use Rattle.nap_reader.proofs.ComingLemmas.{can_pass}
-use Rattle.nap_reader.proofs.DefineLemmas.{stops_own}
 use Rattle.nap_reader.proofs.FurtherLemmas.{byte_passed, byte_stops, counts_still, counts_then, smaller, stops_then}
-use Rattle.nap_reader.proofs.KeepLemmas.{next_byte}
+use Rattle.nap_reader.proofs.DefineLemmas.{next_byte}
 use Rattle.nap_reader.proofs.OpenBodyLemmas.{byte_eighth}
-use Rattle.nap_reader.proofs.LeadsLemmas.{Lawful}
+use Rattle.nap_reader.proofs.ReadingLemmas.{Lawful}
 use Rattle.nap_reader.proofs.machine.Machine.take_body.Goals as goal
+use Rattle.nap_reader.proofs.StepLemmas.{stops_own}
 
 pub loop-input-init : goal.loop-input-init
 loop-input-init g c = record {

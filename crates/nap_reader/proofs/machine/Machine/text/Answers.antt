@@ -5,7 +5,7 @@ use Rattle.nap_reader.specs.Below.{TextStep, IsGraphic, format_effector, IsTyped
 use Rattle.nap_reader.proofs.Common.{is_of_text, Codes}
 use Rattle.nap_codes.proofs.PublicLaws.{format_effector_front}
 use Rattle.nap_reader.proofs.CodesLemmas.{IsTextOf, text_halts, text_taken}
-use Rattle.nap_reader.proofs.PrefixLemmas.{at_front}
+use Rattle.nap_reader.proofs.OperandLemmas.{at_front}
 use Rattle.nap_reader.proofs.machine.Machine.text.Given.{Over}
 use Rattle.nap_reader.proofs.machine.Machine.text.Goals.{Else-text-lt2}
 use Rattle.nap_reader.proofs.machine.Machine.text.Goals as goal

@@ -3,8 +3,8 @@ use Rattle.nap_reader.specs.Below.{CodeSets, set_at}
 use denote.Enum.Bare.{same_true}
 use Rattle.nap_codes.specs.contracts.code_set.CodeSet.{the_type}
 use Rattle.nap_codes.specs.declared.code_set.CodeSet.TheVariants.{Macros}
-use Rattle.nap_reader.proofs.CodesLemmas.{calls_by_name, calls_by_shift}
 use Rattle.nap_reader.proofs.machine.front.call_bytes.Goals as goal
+use Rattle.nap_reader.proofs.SpelledLemmas.{calls_by_name, calls_by_shift}
 
 pub returns-then-eq : goal.returns-then-eq
 returns-then-eq c =

@@ -1,5 +1,5 @@
 use Rattle.std.proofs.Common.{arith}
-use Rattle.nap_reader.proofs.FrameLemmas.{frames-unread}
+use Rattle.nap_reader.proofs.ComingLemmas.{frames-unread}
 use Rattle.nap_reader.proofs.reader.Reader.charged.Goals as goal
 
 pub returns-clause-bounded : goal.returns-clause-bounded

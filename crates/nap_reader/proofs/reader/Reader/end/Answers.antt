@@ -3,10 +3,8 @@ use Rattle.nap_reader.specs.Below.{device, stream}
 use Rattle.nap_reader.proofs.Common.{cause_of, IsOwn, holding_of, Stands, Outcome, begun, means, with_run}
 use Rattle.nap_reader.specs.Holding.{ClosesInto}
 use Rattle.nap_reader.specs.Standing.{IsTaken}
-use Rattle.nap_reader.proofs.BreakingLemmas.{in_run}
-use Rattle.nap_reader.proofs.EndLemmas.{EndsRun, body_ended, ended_is, ends_run, ends_works, refused_at_end, stops_at_end}
-use Rattle.nap_reader.proofs.LeadsLemmas.{Lawful, leads_unrefused}
-use Rattle.nap_reader.proofs.ReadingLemmas.{on_ok_by, if_err_by}
+use Rattle.nap_reader.proofs.BreakLemmas.{broke_in_run, EndsRun, body_ended, ended_is, ends_run, ends_works, refused_at_end, stops_at_end}
+use Rattle.nap_reader.proofs.ReadingLemmas.{Lawful, leads_unrefused, on_ok_by, if_err_by}
 use Rattle.nap_reader.proofs.reader.Reader.end.Goals as goal
 use Rattle.nap_reader.proofs.reader.Reader.end.Goals.{After-check_finished, In-Err, In_default-end_run}
 
@@ -28,7 +26,7 @@ returns-in-Err-clause-refused g c = λ own s p h.
     refused_at_end c.args.self.now.input.budget p own (leads_unrefused (h.continues c.in_default.is)) (closes g (goal.at.returns-in-Err-clause-refused g c).In-Err s p h)
 
 pub returns-in-Err-clause-breaks : goal.returns-in-Err-clause-breaks
-returns-in-Err-clause-breaks g c = λ live broke s p h. in_run c.args.self.now.input.budget p broke (closes g (goal.at.returns-in-Err-clause-breaks g c).In-Err s p h)
+returns-in-Err-clause-breaks g c = λ live broke s p h. broke_in_run c.args.self.now.input.budget p broke (closes g (goal.at.returns-in-Err-clause-breaks g c).In-Err s p h)
 
 pub returns-in-Err-clause-failed : goal.returns-in-Err-clause-failed
 returns-in-Err-clause-failed g c = λ live is. c.in-Err.ensures.acts.1.0 is

@@ -1,6 +1,6 @@
 use Rattle.std.proofs.Common.{◌≡◌, ◌-◌, ◌+◌, ◌++◌, ◌∷◌, [], List, ℕ, length, set, ap, append_assoc, ◌∙◌}
 use Rattle.nap_reader.specs.Stored.{StoreState, shown}
-use Rattle.nap_reader.proofs.StoreLemmas.{state_of, bound_grown}
+use Rattle.nap_reader.proofs.ComingLemmas.{state_of, bound_grown}
 use Rattle.nap_reader.proofs.store.Store.show.Goals as goal
 
 pub returns-clause-ok : goal.returns-clause-ok
