@@ -12,6 +12,7 @@ use Rattle.nap_reader.specs.Steps.{Binds, in_body as breaks_in_body}
 use Rattle.nap_reader.specs.Holding.{ReadsOn, body_broke, next_broke}
 use Rattle.nap_reader.specs.Stream as model
 use Rattle.nap_reader.proofs.PartLemmas.{wants_from, wants_next}
+use Rattle.nap_reader.specs.Pieces.{Goes}
 use Rattle.nap_reader.proofs.FurtherLemmas.{came_same, comes_grown, coming_bytes, counts_passed, counts_still, counts_then, goes_by, held_parts, held_sets, next_same, passed_come, passed_none, reads_at, reads_still, same_comes, sets_then}
 use Rattle.nap_reader.proofs.ReadingLemmas.{TookMore, leads_budget, leads_shown, leads_unrefused}
 use Rattle.nap_reader.proofs.OpenBodyLemmas.{IsPlain, body_charged, body_over, body_shows, byte_full, byte_kept, escape_full, escape_held, escape_kept, escape_unrefused, reads_on}
@@ -126,14 +127,11 @@ module _ {S : Type 0} (g : Ghosts S) (t : S) (h : Holding) {b : OpenBody} (opene
 module _ {input mid after : Input} {piece all body : List ℕ} {n : ℕ} {b : OpenBody} {xs : List Placed} (sets : Sets input mid (record input.store { bytes = all; body = body }) (Some b))
     (kept : unread all input.frames.stack.items ≡ unread_of input) (adv : Advances mid after n) (reads : Reads input piece) (slice : (text : List ℕ) × (place : ℕ) × Comes mid.store.bytes mid.frames.stack.items piece mid.at mid.fed text place × (n ≤ length text))
     (is : take n (coming input piece) ≡ xs) where
-  pub kept_counts : Counts input after piece n
-  kept_counts = counts_then n (omega arith) (counts_still reads sets.still.same) (counts_passed (reads_still reads sets.still.same) adv.passed slice.2 slice.3)
-
-  pub kept_goes : {S : Type 0} {g : Ghosts S} {m : Machine S g} → TookMore g → IsLive m → 0 < length xs → Passes g m.sink (held_by m input) xs m.sink (held_at (held_by m input) b b.escape body) [] → GoesOn piece m input m after
+  pub kept_goes : {S : Type 0} {g : Ghosts S} {m : Machine S g} → TookMore g → IsLive m → 0 < length xs → Passes g m.sink (held_by m input) xs m.sink (held_at (held_by m input) b b.escape body) [] → Goes piece n m input m after
   kept_goes {S} {g} {m} more live some passes =
       let held = held_sets m input after (adv.store ∙ sets.store_is) (adv.body ∙ sets.body) (adv.passed.budget ∙ sets.still.same.budget) (adv.passed.charged ∙ sets.still.charged) in
       goes_by more (record {
-        counts = kept_counts;
+        counts = counts_then n (omega arith) (counts_still reads sets.still.same) (counts_passed (reads_still reads sets.still.same) adv.passed slice.2 slice.3);
         works = record { live = live; clear = λ clear. clear };
         came = rw is at (came_same n (same_comes sets kept) (passed_come (reads_still reads sets.still.same) adv.passed slice.2 slice.3 (ap (λ (t : StoreState). unread t.bytes after.frames.stack.items) (sym adv.store))));
         leads = rw held (leads_still g m.sink (held_by m input) (held_at (held_by m input) b b.escape body) xs (bytes_of (unread_of after) ++ drop after.at piece) some refl refl passes);
@@ -244,10 +242,7 @@ module _ {S : Type 0} {g : Ghosts S} (m : Machine S g) {input : Input} {piece : 
       kept : unread (input.store.bytes ++ take count (bytes_of (coming input piece))) input.frames.stack.items ≡ unread_of input
       kept = unread-grown input.store.bytes (take count (bytes_of (coming input piece))) input.frames.stack.items input.framed
 
-      pub keeps_counts : Counts input new piece count
-      keeps_counts = kept_counts sets kept keeps.passes reads (text, first, comes_grown (take count (bytes_of (coming input piece))) sets refl next.comes, within) refl
-
-      pub keeps_goes : TookMore g → IsLive m → input.store.stored + length input.store.body + count ≤ store_limit → GoesOn piece m input m new
+      pub keeps_goes : TookMore g → IsLive m → input.store.stored + length input.store.body + count ≤ store_limit → Goes piece count m input m new
       keeps_goes more live room =
           let xs = take count (coming input piece) in
           let size = slice_length count within in
@@ -259,10 +254,7 @@ module _ {S : Type 0} {g : Ghosts S} (m : Machine S g) {input : Input} {piece : 
 
   -- An ESC comes, and is held.
   module _ {mid after : Input} {place : ℕ} (next : IsNextByte input piece 27 place) (sets : Sets input mid input.store (Some (record { name = b.name; show = b.show; escape = Some place }))) (adv : Advances mid after 1) where
-    pub holds_counts : Counts input after piece 1
-    holds_counts = let c = byte_comes (next_same next (same_comes sets refl)) in kept_counts sets refl adv reads c refl
-
-    pub holds_goes : TookMore g → IsLive m → GoesOn piece m input m after
+    pub holds_goes : TookMore g → IsLive m → Goes piece 1 m input m after
     holds_goes more live =
         let c = byte_comes (next_same next (same_comes sets refl)) in
         kept_goes sets refl adv reads c (ap (take 1) next.is) more live (omega arith)
@@ -318,10 +310,7 @@ module _ {S : Type 0} {g : Ghosts S} (m : Machine S g) {input : Input} {piece : 
       both : Sets input mid (grown input.store (27 ∷ [])) (Some (record { name = b.name; show = b.show; escape = Some place }))
       both = sets_then sets (subst (λ (store : StoreState). Sets first mid store (Some (record { name = b.name; show = b.show; escape = Some place }))) sets.store_is then)
 
-      pub again_counts : Counts input after piece 1
-      again_counts = let c = byte_comes (next_same behind.next (same_comes both same)) in kept_counts both same adv behind.next.reads c refl
-
-      pub again_goes : TookMore g → IsLive m → GoesOn piece m input m after
+      pub again_goes : TookMore g → IsLive m → Goes piece 1 m input m after
       again_goes more live =
           let c = byte_comes (next_same behind.next (same_comes both same)) in
           kept_goes both same adv behind.next.reads c (ap (take 1) behind.next.is) more live (omega arith)
@@ -339,10 +328,7 @@ module _ {S : Type 0} {g : Ghosts S} (m : Machine S g) {input : Input} {piece : 
       same_pair =
           ap (λ (bytes : List ℕ). unread bytes input.frames.stack.items) (append_assoc input.store.bytes (27 ∷ []) (byte ∷ [])) ∙ unread-grown input.store.bytes (27 ∷ byte ∷ []) input.frames.stack.items input.framed
 
-      pub pair_counts : Counts input after piece 1
-      pair_counts = let c = byte_comes (next_same behind.next (same_comes pair same_pair)) in kept_counts pair same_pair keeps.passes behind.next.reads c refl
-
-      pub pair_goes : TookMore g → IsLive m → room ≢ 1 → GoesOn piece m input m after
+      pub pair_goes : TookMore g → IsLive m → room ≢ 1 → Goes piece 1 m input m after
       pair_goes more live two =
           let c = byte_comes (next_same behind.next (same_comes pair same_pair)) in
           kept_goes pair same_pair keeps.passes behind.next.reads c (ap (take 1) behind.next.is) more live (omega arith)
@@ -375,7 +361,7 @@ module _ {S : Type 0} {g : Ghosts S} (m : Machine S g) {input : Input} {piece : 
   next_is = sym (coming_bytes input piece) ∙ ap bytes_of ending.next.is
 
   -- It is bound, and no run is open.
-  pub bound_goes : {m' : Machine S g} {after : Input} (step : Step) → TookMore g → b.show ≡ false → Sets input after (closed input.store b.name) None → Works m m' → (m'.work ≡ m.work) × (m'.sink ≡ m.sink) × (m'.open_run ≡ None) → Steps m.lexer 27 step m'.lexer → GoesOn piece m input m' after
+  pub bound_goes : {m' : Machine S g} {after : Input} (step : Step) → TookMore g → b.show ≡ false → Sets input after (closed input.store b.name) None → Works m m' → (m'.work ≡ m.work) × (m'.sink ≡ m.sink) × (m'.open_run ≡ None) → Steps m.lexer 27 step m'.lexer → Goes piece 0 m input m' after
   bound_goes {m'} {after} step more hidden sets works (work, sink, closed_run) steps =
       let held = held_sets m' input after sets.store_is sets.body sets.still.same.budget sets.still.charged in
       let kept : unread input.store.bytes after.frames.stack.items ≡ unread_of after = ap (λ (t : StoreState). unread t.bytes after.frames.stack.items) (sym sets.store_is) in
@@ -412,8 +398,8 @@ module _ {S : Type 0} {g : Ghosts S} (m : Machine S g) {input : Input} {piece : 
     shows s o pending k = body_shows ending.opened k ending.held ending.ends shown
 
     -- It is shown, and no run is open.
-    pub shown_goes : {m' : Machine S g} {mid after : Input} → TookMore g → Advances input mid 1 → Shows mid after (closed input.store b.name) None bytes place → Works m m' → (m'.work ≡ m.work) × (m'.sink ≡ m.sink) × (m'.open_run ≡ None) → m'.lexer ≡ m.lexer → GoesOn piece m input m' after
-    shown_goes {m'} {mid} {after} more adv shows_it works (work, sink, closed_run) lexer old before by =
+    shown_on : {m' : Machine S g} {mid after : Input} → TookMore g → Advances input mid 1 → Shows mid after (closed input.store b.name) None bytes place → Works m m' → (m'.work ≡ m.work) × (m'.sink ≡ m.sink) × (m'.open_run ≡ None) → m'.lexer ≡ m.lexer → GoesOn piece m input m' after
+    shown_on {m'} {mid} {after} more adv shows_it works (work, sink, closed_run) lexer old before by =
         let few : length bytes ≤ input.budget - input.charged = omega (arith, shows_it.few, adv.passed.budget, adv.passed.charged) in
         let m1 : model.Machine = charged (after_body held_end.machine b.name held_end.body) (length bytes) in
         let held : held_by m' after ≡ record held_end { machine = m1; open_run = None; run = []; open_body = None; body = [] } =
@@ -432,6 +418,12 @@ module _ {S : Type 0} {g : Ghosts S} (m : Machine S g) {input : Input} {piece : 
         (rw (shows_it.same.at, shows_it.unread)
         (reaches_called more by.reaches (all_at place bytes) came passes (bytes_of ending.next.rest) next_is
         (omega (arith, few, ap (λ (h : Holding). h.machine.left) held, length-all_at place bytes)) (λ n here. All-map (λ (y : Placed). y.place ≡ n) (λ (b : ℕ). placed_at b place) bytes (λ i d less. here)) closed_run))
+
+    pub shown_goes : {m' : Machine S g} {mid after : Input} → TookMore g → Advances input mid 1 → Shows mid after (closed input.store b.name) None bytes place → Works m m' → (m'.work ≡ m.work) × (m'.sink ≡ m.sink) × (m'.open_run ≡ None) → m'.lexer ≡ m.lexer → Goes piece 0 m input m' after
+    shown_goes more adv shows_it works same lexer =
+        let slice = byte_comes ending.next in
+        let counts = counts_passed ending.next.reads adv.passed slice.2 slice.3 in
+        record { counts = counts_then 0 (omega arith) counts (counts_still counts.reads shows_it.same); on = shown_on more adv shows_it works same lexer }
 
     -- It can't be shown.
     pub shown_stops : {mid after : Input} {fault : Fault} → Advances input mid 1 → CannotShow mid after bytes fault → StopsByte g m.sink held_end ender m.sink (refusal fault place)

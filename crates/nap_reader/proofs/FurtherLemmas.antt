@@ -6,7 +6,7 @@ use Rattle.nap_reader.specs.declared.fault.Fault.TheVariants as faults
 use Rattle.nap_reader.specs.declared.machine.Machine.{Machine}
 use Rattle.nap_reader.specs.Coming.{Stays, StillComes}
 use Rattle.nap_reader.specs.Holding.{machine_of, mode_of}
-use Rattle.nap_reader.specs.Pieces.{ReadsPiece, ReadsTo, RefusesPiece, StopsFrom, StopsPiece, TakesPiece, Turn}
+use Rattle.nap_reader.specs.Pieces.{Goes, ReadsPiece, ReadsTo, RefusesPiece, StopsFrom, StopsPiece, TakesPiece, Turn}
 use Rattle.nap_reader.specs.Steps.{Latches}
 use Rattle.nap_reader.proofs.ComingLemmas.{byte_comes, bytes_of-spaced, came_coming, came_next, came_take, came_within, can_pass, comes_still, fits, frames-unread, length-placed, length-spaced, passed_rest, passed_to, place_at-spaced, text_next}
 use Rattle.nap_reader.proofs.ReadingLemmas.{Lawful, TookMore, holds_half, holds_nothing, is_between, is_half, leads_shown}
@@ -237,14 +237,26 @@ pub record GoesBy {S : Type 0} {g : Ghosts S} (m m' : Machine S g) (input input'
   pub came : Came (unread_of input) (unread_of input') piece input.at input'.at input.fed xs
   pub leads : LeadsOn g m.sink (held_by m input) m'.sink (held_by m' input') xs (bytes_of (unread_of input') ++ drop input'.at piece)
 
-pub goes_by : {S : Type 0} {g : Ghosts S} {m m' : Machine S g} {input input' : Input} {piece : List ℕ} {n : ℕ} {xs : List Placed} → TookMore g → GoesBy m m' input input' piece n xs → GoesOn piece m input m' input'
-goes_by {m = m} {m' = m'} {input = input} {input' = input'} {piece = piece} {xs = xs} more by old before reads =
+pub goes_by : {S : Type 0} {g : Ghosts S} {m m' : Machine S g} {input input' : Input} {piece : List ℕ} {n : ℕ} {xs : List Placed} → TookMore g → GoesBy m m' input input' piece n xs → Goes piece n m input m' input'
+goes_by {m = m} {m' = m'} {input = input} {input' = input'} {piece = piece} {xs = xs} more by =
     let whole : bytes_of (unread_of input) ++ drop input.at piece ≡ bytes_of xs ++ (bytes_of (unread_of input') ++ drop input'.at piece) =
     sym (coming_bytes input piece)
     ∙ ap bytes_of (came_coming (unread_of input) (unread_of input') piece input.at input'.at input.fed input'.fed xs by.came by.counts.fed)
     ∙ bytes_of-append xs (coming input' piece) ∙ ap (λ (bs : List ℕ). bytes_of xs ++ bs) (coming_bytes input' piece) in
-    reads_at old reads by.counts by.works
-    (reaches_on more reads.reaches xs (subst (λ (n : ℕ). Came (unread_of input) (unread_of input') piece input.at input'.at n xs) reads.fed by.came) by.leads whole)
+    record {
+      counts = by.counts;
+      on = λ old before reads.
+          reads_at old reads by.counts by.works
+          (reaches_on more reads.reaches xs (subst (λ (n : ℕ). Came (unread_of input) (unread_of input') piece input.at input'.at n xs) reads.fed by.came) by.leads whole);
+    }
+
+-- less is counted
+pub goes_less : {S : Type 0} {g : Ghosts S} {m m' : Machine S g} {input input' : Input} {piece : List ℕ} {n : ℕ} (k : ℕ) → k ≤ n → Goes piece n m input m' input' → Goes piece k m input m' input'
+goes_less k few goes = record { counts = counts_less k few goes.counts; on = goes.on }
+
+-- further, and further
+pub goes_then : {S : Type 0} {g : Ghosts S} {m m' m'' : Machine S g} {input input' input'' : Input} {piece : List ℕ} {n k : ℕ} → Goes piece n m input m' input' → Goes piece k m' input' m'' input'' → Goes piece n m input m'' input''
+goes_then {n = n} first later = record { counts = counts_then n (omega arith) first.counts later.counts; on = λ old before by. later.on old before (first.on old before by) }
 
 -- the byte that comes next was passed
 pub byte_passed : {input after : Input} {piece : List ℕ} {byte place : ℕ} (next : IsNextByte input piece byte place) → Passed input after 1 → PassedTo input after piece (length (byte_comes next).0) 0
@@ -395,10 +407,10 @@ smaller {A} {old} {new} {input} {input'} {piece} {n} reads counts which = by whi
     by (inl more) = let less = less_comes reads counts in omega (arith, less, more, one new)
     by (inr (none, opened)) = let less = less_comes reads counts in omega (arith, less, ap is_open none, some old opened)
 
-pub match_goes : {S A E : Type 0} {g : Ghosts S} {m m' : Machine S g} {input input' : Input} {piece : List ℕ} (m'' : Machine S g) (input'' : Input) (r : Result A E) → GoesOn piece m input m' input' →
-    MatchResult r (λ _. GoesOn piece m' input' m'' input'') (λ _. StopsFrom piece m' input' m'' input'') → MatchResult r (λ _. GoesOn piece m input m'' input'') (λ _. StopsFrom piece m input m'' input'')
-match_goes m'' input'' (Ok a) first then = λ old before by. then old before (first old before by)
-match_goes m'' input'' (Err e) first then = stops_then first then
+pub match_goes : {S A E : Type 0} {g : Ghosts S} {m m' : Machine S g} {input input' : Input} {piece : List ℕ} {n : ℕ} (m'' : Machine S g) (input'' : Input) (r : Result A E) → Goes piece n m input m' input' →
+    MatchResult r (λ _. Goes piece 0 m' input' m'' input'') (λ _. StopsFrom piece m' input' m'' input'') → MatchResult r (λ _. Goes piece n m input m'' input'') (λ _. StopsFrom piece m input m'' input'')
+match_goes m'' input'' (Ok a) first later = goes_then first later
+match_goes m'' input'' (Err e) first later = stops_then first.on later
 
 -- Where nothing comes, no body is read.
 pub comes_rested : (input : Input) (piece : List ℕ) → coming input piece ≡ [] → input.frames.stack.items ≡ []
@@ -484,7 +496,7 @@ module _ {S : Type 0} {g : Ghosts S} {from now : Machine S g} {input : Input} {p
 
     -- The reader has come further.
     pub turn_goes : {after : Input} → TookMore g → LeadsOn g from.sink (held_by from input) now.sink (asked (held_by now input) request) (take count (coming input piece)) (bytes_of (drop count (coming input piece))) →
-        held_by now after ≡ asked (held_by now input) request → SameComes input' after → Works from now → GoesOn piece from input now after
+        held_by now after ≡ asked (held_by now input) request → SameComes input' after → Works from now → Goes piece count from input now after
     turn_goes {after} more leads held same works = goes_by {xs = take count (coming input piece)} more (record {
       counts = counts_then count (omega arith) turn_counts (counts_still turn_counts.reads same.same);
       works = works;
@@ -565,8 +577,8 @@ module _ {S : Type 0} {g : Ghosts S} {from now : Machine S g} {input input' : In
       subst (λ (ns : List (List ℕ)). front calls.holding.machine (c.rest ++ x ∷ pending) ≡ shown_front (held_by now input).machine x.place (body_of ns name) pending) (sym names) (calls.front_is s o pending c)
 
   -- The body comes next.
-  pub call_goes : {after : Input} → TookMore g → Works from now → Shows input' after input'.store input'.body bytes place → GoesOn piece from input now after
-  call_goes {after} more works shows old before by =
+  call_on : {after : Input} → TookMore g → Works from now → Shows input' after input'.store input'.body bytes place → GoesOn piece from input now after
+  call_on {after} more works shows old before by =
       let m = (held_by now input).machine in
       let fed = fed_of old + until in
       let before_is = came_within (unread_of input) rest piece input.at until input.fed (take index all) turn.reads.within came_before in
@@ -602,6 +614,9 @@ module _ {S : Type 0} {g : Ghosts S} {from now : Machine S g} {input input' : In
       (reaches_called more there (all_at x.place bytes) last passes (bytes_of calls.behind) (sym next_then ∙ ap bytes_of calls.is)
       (omega (arith, calls.left, few, ap (λ (h : Holding). h.machine.left) held, length-all_at x.place bytes))
       (λ n here. All-map (λ (y : Placed). y.place ≡ n) (λ (b : ℕ). record { byte = b; place = x.place }) bytes (λ i d less. here)) (ap (λ (h : Holding). h.open_run) held ∙ calls.rested)))
+
+  pub call_goes : {after : Input} → TookMore g → Works from now → Shows input' after input'.store input'.body bytes place → Goes piece count from input now after
+  call_goes more works shows = let counts = turn_counts turn adv in record { counts = counts_then count (omega arith) counts (counts_still counts.reads shows.same); on = call_on more works shows }
 
   -- It can't be charged, or memory is wanting for it.
   pub call_refuses : {after : Input} {fault : Fault} {m' : Machine S g} → Lawful g → Works from now → CannotShow input' after bytes fault → m'.refusal ≡ Some (refusal fault place) → m'.sink ≡ now.sink →

@@ -6,7 +6,7 @@ use Rattle.nap_reader.specs.declared.input.Input.{Input}
 use Rattle.nap_reader.specs.declared.machine.Machine.{Machine}
 use Rattle.nap_reader.specs.declared.machine.Request.{Request}
 use Rattle.nap_reader.specs.declared.reader.Reader.{Reader}
-use Rattle.nap_reader.specs.Coming.{IsNext, Reads}
+use Rattle.nap_reader.specs.Coming.{Counts, IsNext, Reads}
 use Rattle.nap_reader.specs.Framed.{placed_at, spaced}
 use Rattle.nap_reader.specs.Holding.{Continues, Holding, RunAt, held_by, unread_of}
 use Rattle.nap_reader.specs.Standing.{Stands, StopsAt, budget_of, charged_of, fed_of, refusal_of, sink_of, turns_of}
@@ -59,6 +59,11 @@ pub record ReadsTo {S : Type 0} {g : Ghosts S} (old : Reader S g) (piece : List 
 abbrev pub GoesOn : {S : Type 0} {g : Ghosts S} → List ℕ → Machine S g → Input → Machine S g → Input → Type 0
 GoesOn {S} {g} piece machine input machine' input' =
     (old : Reader S g) → refusal_of old ≡ None → ReadsTo old piece machine input → ReadsTo old piece machine' input'
+
+-- So many bytes were read at least, and it has.
+pub record Goes {S : Type 0} {g : Ghosts S} (piece : List ℕ) (count : ℕ) (machine : Machine S g) (input : Input) (machine' : Machine S g) (input' : Input) : Type 0 where
+  pub counts : Counts input input' piece count
+  pub on : GoesOn piece machine input machine' input'
 
 -- All of the piece was taken.
 pub record TakesPiece {S : Type 0} {g : Ghosts S} (old new : Reader S g) (piece : List ℕ) : Type 0 where

@@ -12,8 +12,8 @@ use nap_list::Sink;
 pub(crate) struct Refused;
 
 impl<S: Sink> Machine<S> {
-    ghost use Rattle.nap_reader.specs.Coming.{Counts, Reads, coming};
-    ghost use Rattle.nap_reader.specs.Pieces.{GoesOn, StopsFrom, Turn};
+    ghost use Rattle.nap_reader.specs.Coming.{Reads, coming};
+    ghost use Rattle.nap_reader.specs.Pieces.{Goes, StopsFrom, Turn};
     ghost use Rattle.nap_reader.specs.Steps.{IsLive, Refuses};
 
     /// Takes bytes of the body that is being defined, where one is, until it is over or nothing comes.
@@ -24,8 +24,7 @@ impl<S: Sink> Machine<S> {
         ensures live { OnOk result (IsLive self.new) }
         ensures run { OnOk result (self.old.open_run ≡ None → self.new.open_run ≡ None) }
         ensures ends { OnOk result ((input.new.body ≡ None) ⊎ (coming input.new piece.now ≡ [])) }
-        ensures counts { OnOk result (Counts input.old input.new piece.now 0) }
-        ensures goes { MatchResult result (λ _. GoesOn piece.now self.old input.old self.new input.new) (λ _. StopsFrom piece.now self.old input.old self.new input.new) }
+        ensures goes { MatchResult result (λ _. Goes piece.now 0 self.old input.old self.new input.new) (λ _. StopsFrom piece.now self.old input.old self.new input.new) }
     {
         if input.body.is_none() {
             return Ok(());
@@ -47,10 +46,9 @@ impl<S: Sink> Machine<S> {
         ensures live { OnOk result (IsLive self.new) }
         ensures run { OnOk result (self.old.open_run ≡ None → self.new.open_run ≡ None) }
         ensures ends { OnOk result ((input.new.body ≡ None) ⊎ (coming input.new piece.now ≡ [])) }
-        ensures counts { OnOk result (Counts input.old input.new piece.now taken.count) }
         ensures on { OnOk result (taken.request ≢ Request.Stop) }
         ensures goes { (old : Machine S S.Sink) → Turn old self.old input.old piece.now taken.count taken.request place →
-            MatchResult result (λ _. GoesOn piece.now old input.old self.new input.new) (λ _. StopsFrom piece.now old input.old self.new input.new) }
+            MatchResult result (λ _. Goes piece.now taken.count old input.old self.new input.new) (λ _. StopsFrom piece.now old input.old self.new input.new) }
     {
         input.advance(taken.count);
         match taken.request {

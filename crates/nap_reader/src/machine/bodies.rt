@@ -15,8 +15,8 @@ pub(super) struct Next {
 }
 
 impl<S: Sink> Machine<S> {
-    ghost use Rattle.nap_reader.specs.Coming.{Counts, IsNextByte, Reads, coming};
-    ghost use Rattle.nap_reader.specs.Pieces.{GoesOn, StopsFrom};
+    ghost use Rattle.nap_reader.specs.Coming.{IsNextByte, Reads, coming};
+    ghost use Rattle.nap_reader.specs.Pieces.{Goes, StopsFrom};
     ghost use Rattle.nap_reader.specs.Steps.{IsLive};
 
     /// Takes bytes of the body that is being defined, until it is over or nothing comes.
@@ -27,8 +27,7 @@ impl<S: Sink> Machine<S> {
         ensures live { OnOk result (IsLive self.new) }
         ensures run { OnOk result (self.old.open_run ≡ None → self.new.open_run ≡ None) }
         ensures ends { OnOk result ((input.new.body ≡ None) ⊎ (coming input.new piece.now ≡ [])) }
-        ensures counts { OnOk result (Counts input.old input.new piece.now 0) }
-        ensures goes { MatchResult result (λ _. GoesOn piece.now self.old input.old self.new input.new) (λ _. StopsFrom piece.now self.old input.old self.new input.new) }
+        ensures goes { MatchResult result (λ _. Goes piece.now 0 self.old input.old self.new input.new) (λ _. StopsFrom piece.now self.old input.old self.new input.new) }
     {
         while let Some(body) = input.body {
             let Some((slice, _)) = input.next_slice(piece) else {
@@ -66,8 +65,7 @@ impl<S: Sink> Machine<S> {
         requires next { IsNextByte input.old piece.now next.byte next.place }
         requires low { next.byte < 0x80 }
         ensures same { OnOk result (self.new ≡ self.old) }
-        ensures counts { OnOk result (Counts input.old input.new piece.now 1) }
-        ensures goes { MatchResult result (λ _. GoesOn piece.now self.old input.old self.new input.new) (λ _. StopsFrom piece.now self.old input.old self.new input.new) }
+        ensures goes { MatchResult result (λ _. Goes piece.now 1 self.old input.old self.new input.new) (λ _. StopsFrom piece.now self.old input.old self.new input.new) }
     {
         if next.byte == 0x1B {
             input.hold_escape(body, next.place);

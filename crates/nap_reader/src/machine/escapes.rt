@@ -10,8 +10,8 @@ use crate::input::Input;
 use nap_list::Sink;
 
 impl<S: Sink> Machine<S> {
-    ghost use Rattle.nap_reader.specs.Coming.{Counts, IsNextByte};
-    ghost use Rattle.nap_reader.specs.Pieces.{GoesOn, StopsFrom};
+    ghost use Rattle.nap_reader.specs.Coming.{IsNextByte};
+    ghost use Rattle.nap_reader.specs.Pieces.{Goes, StopsFrom};
     ghost use Rattle.nap_reader.specs.Steps.{IsLive};
 
     /// The ESC that is held is of the body, since this byte comes behind it, and so is the byte, or it is held itself.
@@ -29,8 +29,7 @@ impl<S: Sink> Machine<S> {
         requires low { next.byte < 0x80 }
         requires other { bodies.ends_body next.byte ≡ false }
         ensures same { OnOk result (self.new ≡ self.old) }
-        ensures counts { OnOk result (Counts input.old input.new piece.now 1) }
-        ensures goes { MatchResult result (λ _. GoesOn piece.now self.old input.old self.new input.new) (λ _. StopsFrom piece.now self.old input.old self.new input.new) }
+        ensures goes { MatchResult result (λ _. Goes piece.now 1 self.old input.old self.new input.new) (λ _. StopsFrom piece.now self.old input.old self.new input.new) }
     {
         let room = input.store.room();
         if room == 0 {
@@ -72,9 +71,8 @@ impl<S: Sink> Machine<S> {
         ensures live { OnOk result (IsLive self.new) }
         ensures closed { self.new.open_run ≡ None }
         ensures over { OnOk result (input.new.body ≡ None) }
-        ensures counts { (piece : List ℕ) → IsNextByte input.old piece next.byte next.place → OnOk result (Counts input.old input.new piece 0) }
         ensures goes { (piece : List ℕ) → IsNextByte input.old piece next.byte next.place →
-            MatchResult result (λ _. GoesOn piece self.old input.old self.new input.new) (λ _. StopsFrom piece self.old input.old self.new input.new) }
+            MatchResult result (λ _. Goes piece 0 self.old input.old self.new input.new) (λ _. StopsFrom piece self.old input.old self.new input.new) }
     {
         // (no run is open in a body)
         self.open_run = None;

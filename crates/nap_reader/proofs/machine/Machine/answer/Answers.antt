@@ -15,7 +15,6 @@ returns-in-Nothing g c =
       live = (turn_as requests.Nothing c.in-Nothing.is c.requires.turn.1).takes.leaves.live;
       run = λ none. none;
       ends = inl (adv.body ∙ c.requires.turn.1.between);
-      counts = turn_counts c.requires.turn.1 adv;
       on = λ stop. let bad : requests.Nothing ≡ requests.Stop = sym c.in-Nothing.is ∙ stop in cc;
       goes = λ old turn.
           let t = turn_as requests.Nothing c.in-Nothing.is turn in
@@ -27,12 +26,10 @@ pub returns-in-Clear : goal.returns-in-Clear
 returns-in-Clear g c =
     let adv = c.advance.ensures in
     let sets = c.clear.ensures in
-    let counts = turn_counts c.requires.turn.1 adv in
     record {
       live = (turn_as requests.Clear c.in-Clear.is c.requires.turn.1).takes.leaves.live;
       run = λ none. none;
       ends = inl (sets.body ∙ adv.body ∙ c.requires.turn.1.between);
-      counts = counts_then c.args.taken.count (omega arith) counts (counts_still counts.reads sets.still.same);
       on = λ stop. let bad : requests.Clear ≡ requests.Stop = sym c.in-Clear.is ∙ stop in cc;
       goes = λ old turn.
           let t = turn_as requests.Clear c.in-Clear.is turn in
@@ -47,12 +44,10 @@ call-requires g c = (turn_takes (turn_as (requests.Call c.in-Call.name) c.in-Cal
 pub returns-in-Ok : goal.returns-in-Ok
 returns-in-Ok g c =
     let adv = c.advance.ensures in
-    let counts = turn_counts c.requires.turn.1 adv in
     record {
       live = (turn_as (requests.Call c.in-Call.name) c.in-Call.is c.requires.turn.1).takes.leaves.live;
       run = λ none. none;
       ends = inl (c.in-Ok.ensures.body ∙ adv.body ∙ c.requires.turn.1.between);
-      counts = counts_then c.args.taken.count (omega arith) counts (counts_still counts.reads c.in-Ok.ensures.same);
       on = λ stop. let bad : requests.Call c.in-Call.name ≡ requests.Stop = sym c.in-Call.is ∙ stop in cc;
       goes = λ old turn.
           let t = turn_as (requests.Call c.in-Call.name) c.in-Call.is turn in
@@ -76,14 +71,6 @@ take_body-requires-clause-live g c = (turn_as (requests.Define c.in-Define.name 
 
 pub take_body-requires-clause-reads : goal.take_body-requires-clause-reads
 take_body-requires-clause-reads g c = reads_still (turn_counts c.requires.turn.1 c.advance.ensures).reads c.open_body.ensures.still.same
-
-pub returns-in-Define-clause-counts : goal.returns-in-Define-clause-counts
-returns-in-Define-clause-counts g c =
-    on_ok_by c.take_body.result (λ a is.
-    let counts = turn_counts c.requires.turn.1 c.advance.ensures in
-    let opened = counts_still counts.reads c.open_body.ensures.still.same in
-    counts_then c.args.taken.count (omega arith) counts
-    (counts_then 0 (omega arith) opened (subst (λ r. OnOk r (Counts c.open_body.new.self c.take_body.new.input c.args.piece.now 0)) is c.take_body.ensures.counts)))
 
 pub returns-in-Define-clause-on : goal.returns-in-Define-clause-on
 returns-in-Define-clause-on g c = on_ok_by c.take_body.result (λ a is stop. let bad : requests.Define c.in-Define.name c.in-Define.show ≡ requests.Stop = sym c.in-Define.is ∙ stop in cc)

@@ -2,8 +2,5 @@ use Rattle.std.proofs.Common.{refl}
 use Rattle.nap_reader.proofs.FurtherLemmas.{counts_still}
 use Rattle.nap_reader.proofs.machine.Machine.define.Goals as goal
 
-pub returns-then-is_none-clause-counts : goal.returns-then-is_none-clause-counts
-returns-then-is_none-clause-counts g c = counts_still c.requires.reads (record { budget = refl; at = refl; fed = refl; turns = refl })
-
 pub returns-then-is_none-clause-goes : goal.returns-then-is_none-clause-goes
-returns-then-is_none-clause-goes g c = λ old before by. by
+returns-then-is_none-clause-goes g c = record { counts = counts_still c.requires.reads (record { budget = refl; at = refl; fed = refl; turns = refl }); on = λ old before by. by }

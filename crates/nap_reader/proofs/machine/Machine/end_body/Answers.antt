@@ -23,12 +23,6 @@ returns-then-not-body-clause-goes g c = λ piece next.
     bound_goes c.args.self.now (behind_escape c.requires.open c.requires.held next c.requires.ends) c.step.result g.met.S.Sink.took_more (is_not c.args.body.show c.if-not-body.true) c.bind.ensures
     (record { live = record { live = live.live; agrees = live.agrees }; clear = λ clear. clear }) (refl, refl, refl) c.step.ensures.steps
 
-pub returns-in-Ok-clause-counts : goal.returns-in-Ok-clause-counts
-returns-in-Ok-clause-counts g c = λ piece next.
-    let slice = byte_comes next in
-    let counts = counts_passed next.reads c.advance.ensures.passed slice.2 slice.3 in
-    counts_then 0 (omega arith) counts (counts_still counts.reads c.in-Ok.ensures.same)
-
 pub returns-in-Ok-clause-goes : goal.returns-in-Ok-clause-goes
 returns-in-Ok-clause-goes g c = λ piece next.
     let live = c.requires.live in

@@ -4,8 +4,8 @@ use Rattle.nap_reader.proofs.Common.{Input, Advances, CanAdvance, IsNextByte, co
 use Rattle.nap_reader.specs.declared.fault.Fault.TheVariants as faults
 use Rattle.nap_reader.specs.Carried.{HasName}
 use Rattle.nap_reader.proofs.ComingLemmas.{byte_comes, can_pass}
-use Rattle.nap_reader.proofs.DefineLemmas.{byte_lacks, memory_other, store_other, body_fills, fill_passes, first_plain, holds_counts, holds_goes, keeps_counts, keeps_goes}
-use Rattle.nap_reader.proofs.FurtherLemmas.{byte_passed, byte_stops, counts_less, latches_own, next_same, passed_then, same_comes, stops_from}
+use Rattle.nap_reader.proofs.DefineLemmas.{byte_lacks, memory_other, store_other, body_fills, fill_passes, first_plain, holds_goes, keeps_goes}
+use Rattle.nap_reader.proofs.FurtherLemmas.{byte_passed, byte_stops, goes_less, latches_own, next_same, passed_then, same_comes, stops_from}
 use Rattle.nap_reader.proofs.ReadingLemmas.{Lawful}
 use Rattle.nap_reader.proofs.machine.Machine.keep.Goals as goal
 
@@ -20,7 +20,6 @@ returns-then-next-eq27 g c =
     let next = subst (λ (n : ℕ). IsNextByte c.args.input.now c.args.piece.now n c.args.next.place) c.if-next-eq27.true c.requires.next in
     record {
       same = refl;
-      counts = holds_counts c.args.self.now c.requires.open c.requires.held c.requires.next.reads next c.hold_escape.ensures c.advance.ensures;
       goes = holds_goes c.args.self.now c.requires.open c.requires.held c.requires.next.reads next c.hold_escape.ensures c.advance.ensures g.met.S.Sink.took_more c.requires.live;
     }
 
@@ -103,6 +102,5 @@ returns g c =
     let first = first_plain m c.requires.open c.requires.held c.requires.next.reads next c.requires.next (record { low = c.requires.low; other = c.if-next-eq27.false }) in
     record {
       same = refl;
-      counts = counts_less 1 (omega (arith, first, c.body_bytes-count.ensures)) (keeps_counts m c.requires.open c.requires.held c.requires.next.reads next c.in-Ok.ensures.ok (omega (arith, first, c.body_bytes-count.ensures), omega (arith, c.body_bytes-count.ensures)));
-      goes = keeps_goes m c.requires.open c.requires.held c.requires.next.reads next c.in-Ok.ensures.ok (omega (arith, first, c.body_bytes-count.ensures), omega (arith, c.body_bytes-count.ensures)) g.met.S.Sink.took_more c.requires.live (omega (arith, c.room-room.ensures, c.if-count-room.false));
+      goes = goes_less 1 (omega (arith, first, c.body_bytes-count.ensures)) (keeps_goes m c.requires.open c.requires.held c.requires.next.reads next c.in-Ok.ensures.ok (omega (arith, first, c.body_bytes-count.ensures), omega (arith, c.body_bytes-count.ensures)) g.met.S.Sink.took_more c.requires.live (omega (arith, c.room-room.ensures, c.if-count-room.false)));
     }

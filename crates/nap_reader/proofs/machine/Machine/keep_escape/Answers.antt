@@ -4,7 +4,7 @@ use Rattle.nap_reader.proofs.Common.{Input, store_limit, Advances, CanAdvance, S
 use Rattle.nap_reader.specs.declared.fault.Fault.TheVariants as faults
 use Rattle.nap_reader.specs.Carried.{HasName}
 use Rattle.nap_reader.proofs.ComingLemmas.{byte_comes, can_pass}
-use Rattle.nap_reader.proofs.DefineLemmas.{behind_escape, memory_other, store_other, again_counts, again_goes, both_lack, byte_fills, escape_fills, first_left, next_still, pair_counts, pair_goes}
+use Rattle.nap_reader.proofs.DefineLemmas.{behind_escape, memory_other, store_other, again_goes, both_lack, byte_fills, escape_fills, first_left, next_still, pair_goes}
 use Rattle.nap_reader.proofs.FurtherLemmas.{byte_passed, byte_stops, next_same, passed_none, passed_then, same_comes}
 use Rattle.nap_reader.proofs.ReadingLemmas.{Lawful}
 use Rattle.nap_reader.proofs.machine.Machine.keep_escape.Goals as goal
@@ -73,7 +73,6 @@ returns-then-next-eq27 g c =
     let some = c.if-room-eq0.false in
     record {
       same = refl;
-      counts = again_counts c.args.self.now behind c.requires.low (omega (arith, c.room-room.ensures, some)) c.in-Ok.ensures.ok c.if-next-eq27.true c.hold_escape.ensures c.advance-then-next-eq27.ensures;
       goes = again_goes c.args.self.now behind c.requires.low (omega (arith, c.room-room.ensures, some)) c.in-Ok.ensures.ok c.if-next-eq27.true c.hold_escape.ensures c.advance-then-next-eq27.ensures g.met.S.Sink.took_more c.requires.live;
     }
 
@@ -130,6 +129,5 @@ returns g c =
     ] in
     record {
       same = refl;
-      counts = pair_counts c.args.self.now behind c.requires.low (omega (arith, c.room-room.ensures, some)) c.in-Ok.ensures.ok c.if-next-eq27.false c.in-Ok-keep.ensures.ok;
       goes = pair_goes c.args.self.now behind c.requires.low (omega (arith, c.room-room.ensures, some)) c.in-Ok.ensures.ok c.if-next-eq27.false c.in-Ok-keep.ensures.ok g.met.S.Sink.took_more c.requires.live two;
     }

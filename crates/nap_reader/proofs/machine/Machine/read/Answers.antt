@@ -18,9 +18,9 @@ define-requires-clause-reads g c = begin_reads c.args.input.now c.begin.new.self
 pub loop-slice-init : goal.loop-slice-init
 loop-slice-init g c = record {
   live = c.in_ok-define.ensures.live;
-  reads = c.in_ok-define.ensures.counts.reads;
+  reads = c.in_ok-define.ensures.goes.counts.reads;
   ends = c.in_ok-define.ensures.ends;
-  goes = λ old before by. c.in_ok-define.ensures.goes old before (subst (λ i. ReadsTo {S = g.row.S.Denot} {g = g.S.Sink} old c.args.piece.now c.args.self.now i) (sym c.begin.ensures) by);
+  goes = λ old before by. c.in_ok-define.ensures.goes.on old before (subst (λ i. ReadsTo {S = g.row.S.Denot} {g = g.S.Sink} old c.args.piece.now c.args.self.now i) (sym c.begin.ensures) by);
 }
 
 pub returns-in_err-define-clause-reads : goal.returns-in_err-define-clause-reads
@@ -39,19 +39,19 @@ answer-requires-clause-turn g c = (c.loop-slice.self, turned g (goal.at.answer-r
 
 pub loop-slice-preserved : goal.loop-slice-preserved
 loop-slice-preserved g c =
-    let turn = turned g (goal.at.loop-slice-preserved g c).After-place_of-place in
+    let goes = c.in_ok-answer.ensures.goes c.loop-slice.self (turned g (goal.at.loop-slice-preserved g c).After-place_of-place) in
     record {
       live = c.in_ok-answer.ensures.live;
-      reads = c.in_ok-answer.ensures.counts.reads;
+      reads = goes.counts.reads;
       ends = c.in_ok-answer.ensures.ends;
-      goes = λ old before by. c.in_ok-answer.ensures.goes c.loop-slice.self turn old before (c.loop-slice.invariant.goes old before by);
+      goes = λ old before by. goes.on old before (c.loop-slice.invariant.goes old before by);
     }
 
 pub loop-slice-smaller : goal.loop-slice-smaller
 loop-slice-smaller g c =
     let next = c.in-Some.ensures in
     let text = next.some in
-    smaller c.loop-slice.invariant.reads c.in_ok-answer.ensures.counts
+    smaller c.loop-slice.invariant.reads (c.in_ok-answer.ensures.goes c.loop-slice.self (turned g (goal.at.loop-slice-smaller g c).After-place_of-place)).counts
     (turn_less c.loop-slice.self c.take-taken.new.self c.answer.new.self c.take-taken.ensures (omega (arith, text, length-spaced c.in-Some.slice.place c.in-Some.slice.step c.in-Some.slice.bytes.now)) c.in_ok-answer.ensures.on
     c.in_ok-answer.ensures.run)
 

@@ -3,7 +3,7 @@ use Rattle.std.proofs.lemmas.Result.{err_from_is_err_and}
 use Rattle.nap_reader.proofs.Common.{placed_at, held_by, IsLive, refusal}
 use Rattle.nap_reader.specs.declared.fault.Fault.TheVariants as faults
 use Rattle.nap_reader.proofs.ComingLemmas.{can_pass}
-use Rattle.nap_reader.proofs.FurtherLemmas.{byte_passed, byte_stops, counts_still, counts_then, smaller, stops_then}
+use Rattle.nap_reader.proofs.FurtherLemmas.{byte_passed, byte_stops, counts_still, goes_then, smaller, stops_then}
 use Rattle.nap_reader.proofs.DefineLemmas.{next_byte}
 use Rattle.nap_reader.proofs.OpenBodyLemmas.{byte_eighth}
 use Rattle.nap_reader.proofs.ReadingLemmas.{Lawful}
@@ -14,8 +14,7 @@ pub loop-input-init : goal.loop-input-init
 loop-input-init g c = record {
   live = c.requires.live;
   run = λ none. none;
-  counts = counts_still c.requires.reads (record { budget = refl; at = refl; fed = refl; turns = refl });
-  goes = λ old before by. by;
+  goes = record { counts = counts_still c.requires.reads (record { budget = refl; at = refl; fed = refl; turns = refl }); on = λ old before by. by };
 }
 
 pub returns-in_default-next_slice-clause-ends : goal.returns-in_default-next_slice-clause-ends
@@ -25,7 +24,7 @@ pub returns-in_default-next_slice-clause-goes : goal.returns-in_default-next_sli
 returns-in_default-next_slice-clause-goes g c = c.loop-input.invariant.goes
 
 pub advance-requires : goal.advance-requires
-advance-requires g c = can_pass (next_byte c.loop-input.invariant.counts.reads c.in-Some-next_slice.ensures)
+advance-requires g c = can_pass (next_byte c.loop-input.invariant.goes.counts.reads c.in-Some-next_slice.ensures)
 
 some_body : {A : Type 0} {x : A} → Some x ≡ None → ⊥
 some_body e = cc
@@ -40,18 +39,18 @@ returns-then-next-ge128-clause-goes g c =
     let h = held_by m c.loop-input.input in
     let place = c.in-Some-next_slice.slice.place in
     let byte = get_or c.in-Some-next_slice.slice.bytes.now 0 0 in
-    let next = next_byte c.loop-input.invariant.counts.reads c.in-Some-next_slice.ensures in
+    let next = next_byte c.loop-input.invariant.goes.counts.reads c.in-Some-next_slice.ensures in
     rw c.refuse.ensures.answer
-    (stops_then c.loop-input.invariant.goes
+    (stops_then c.loop-input.invariant.goes.on
     (byte_stops laws next c.refuse.ensures.latched.is c.refuse.ensures.latched.sink eighth_other (byte_passed next c.advance.ensures.passed)
     (stops_own g.S.Sink m.sink h (placed_at byte place) m.sink (refusal faults.EighthBit place) refl
     (λ s o pending k. byte_eighth c.in-Some.is k c.if-next-ge128.true))))
 
 pub keep-requires-clause-next : goal.keep-requires-clause-next
-keep-requires-clause-next g c = next_byte c.loop-input.invariant.counts.reads c.in-Some-next_slice.ensures
+keep-requires-clause-next g c = next_byte c.loop-input.invariant.goes.counts.reads c.in-Some-next_slice.ensures
 
 pub loop-input-smaller-in-Continue-1 : goal.loop-input-smaller-in-Continue-1
-loop-input-smaller-in-Continue-1 g c = smaller c.loop-input.invariant.counts.reads c.in_ok-keep-in-None.ensures.counts (inl (omega arith))
+loop-input-smaller-in-Continue-1 g c = smaller c.loop-input.invariant.goes.counts.reads c.in_ok-keep-in-None.ensures.goes.counts (inl (omega arith))
 
 pub loop-input-preserved-in-Continue-1 : goal.loop-input-preserved-in-Continue-1
 loop-input-preserved-in-Continue-1 g c =
@@ -60,20 +59,19 @@ loop-input-preserved-in-Continue-1 g c =
     record {
       live = subst (λ m. IsLive {S = g.row.S.Denot} {g = g.S.Sink} m) (sym same) so.live;
       run = λ none. ap (λ m. m.open_run) same ∙ so.run none;
-      counts = counts_then 0 (omega arith) so.counts c.in_ok-keep-in-None.ensures.counts;
-      goes = λ old before by. c.in_ok-keep-in-None.ensures.goes old before (so.goes old before by);
+      goes = goes_then so.goes c.in_ok-keep-in-None.ensures.goes;
     }
 
 pub returns-in_err-keep-in-None-clause-goes : goal.returns-in_err-keep-in-None-clause-goes
 returns-in_err-keep-in-None-clause-goes g c =
     let e = err_from_is_err_and c.from_residual.result c.from_residual.ensures.1 in
-    rw e.1 (stops_then c.loop-input.invariant.goes c.in_err-keep-in-None.ensures.goes)
+    rw e.1 (stops_then c.loop-input.invariant.goes.on c.in_err-keep-in-None.ensures.goes)
 
 pub end_body-requires-clause-held : goal.end_body-requires-clause-held
 end_body-requires-clause-held g c = ap is_some c.in-Some-escape.is
 
 pub end_body-requires-clause-next : goal.end_body-requires-clause-next
-end_body-requires-clause-next g c = (c.args.piece.now, next_byte c.loop-input.invariant.counts.reads c.in-Some-next_slice.ensures)
+end_body-requires-clause-next g c = (c.args.piece.now, next_byte c.loop-input.invariant.goes.counts.reads c.in-Some-next_slice.ensures)
 
 pub end_body-requires-clause-ends : goal.end_body-requires-clause-ends
 end_body-requires-clause-ends g c = sym c.ends_body.ensures ∙ c.if-ends_body.true
@@ -81,36 +79,35 @@ end_body-requires-clause-ends g c = sym c.ends_body.ensures ∙ c.if-ends_body.t
 pub returns-in_err-end_body-in-Some-escape-clause-goes : goal.returns-in_err-end_body-in-Some-escape-clause-goes
 returns-in_err-end_body-in-Some-escape-clause-goes g c =
     let e = err_from_is_err_and c.from_residual-in_err-end_body-in-Some-escape.result c.from_residual-in_err-end_body-in-Some-escape.ensures.1 in
-    let next = next_byte c.loop-input.invariant.counts.reads c.in-Some-next_slice.ensures in
-    rw e.1 (stops_then c.loop-input.invariant.goes (c.in_err-end_body-in-Some-escape.ensures.goes c.args.piece.now next))
+    let next = next_byte c.loop-input.invariant.goes.counts.reads c.in-Some-next_slice.ensures in
+    rw e.1 (stops_then c.loop-input.invariant.goes.on (c.in_err-end_body-in-Some-escape.ensures.goes c.args.piece.now next))
 
 pub loop-input-smaller-then-ends_body : goal.loop-input-smaller-then-ends_body
 loop-input-smaller-then-ends_body g c =
-    let next = next_byte c.loop-input.invariant.counts.reads c.in-Some-next_slice.ensures in
-    smaller c.loop-input.invariant.counts.reads (c.in_ok-end_body-in-Some-escape.ensures.counts c.args.piece.now next) (inr (c.in_ok-end_body-in-Some-escape.ensures.over, λ none. some_body (sym c.in-Some.is ∙ none)))
+    let next = next_byte c.loop-input.invariant.goes.counts.reads c.in-Some-next_slice.ensures in
+    smaller c.loop-input.invariant.goes.counts.reads (c.in_ok-end_body-in-Some-escape.ensures.goes c.args.piece.now next).counts (inr (c.in_ok-end_body-in-Some-escape.ensures.over, λ none. some_body (sym c.in-Some.is ∙ none)))
 
 pub loop-input-preserved-then-ends_body : goal.loop-input-preserved-then-ends_body
 loop-input-preserved-then-ends_body g c =
     let so = c.loop-input.invariant in
-    let next = next_byte so.counts.reads c.in-Some-next_slice.ensures in
+    let next = next_byte so.goes.counts.reads c.in-Some-next_slice.ensures in
     record {
       live = c.in_ok-end_body-in-Some-escape.ensures.live;
       run = λ none. c.in_ok-end_body-in-Some-escape.ensures.closed;
-      counts = counts_then 0 (omega arith) so.counts (c.in_ok-end_body-in-Some-escape.ensures.counts c.args.piece.now next);
-      goes = λ old before by. c.in_ok-end_body-in-Some-escape.ensures.goes c.args.piece.now next old before (so.goes old before by);
+      goes = goes_then so.goes (c.in_ok-end_body-in-Some-escape.ensures.goes c.args.piece.now next);
     }
 
 pub keep_escape-requires-clause-held : goal.keep_escape-requires-clause-held
 keep_escape-requires-clause-held g c = ap is_some c.in-Some-2.is
 
 pub keep_escape-requires-clause-next : goal.keep_escape-requires-clause-next
-keep_escape-requires-clause-next g c = next_byte c.loop-input.invariant.counts.reads c.in-Some-next_slice.ensures
+keep_escape-requires-clause-next g c = next_byte c.loop-input.invariant.goes.counts.reads c.in-Some-next_slice.ensures
 
 pub keep_escape-requires-clause-other : goal.keep_escape-requires-clause-other
 keep_escape-requires-clause-other g c = sym c.ends_body.ensures ∙ c.if-ends_body.false
 
 pub loop-input-smaller : goal.loop-input-smaller
-loop-input-smaller g c = smaller c.loop-input.invariant.counts.reads c.in_ok-keep_escape-in-Some-2.ensures.counts (inl (omega arith))
+loop-input-smaller g c = smaller c.loop-input.invariant.goes.counts.reads c.in_ok-keep_escape-in-Some-2.ensures.goes.counts (inl (omega arith))
 
 pub loop-input-preserved : goal.loop-input-preserved
 loop-input-preserved g c =
@@ -119,11 +116,10 @@ loop-input-preserved g c =
     record {
       live = subst (λ m. IsLive {S = g.row.S.Denot} {g = g.S.Sink} m) (sym same) so.live;
       run = λ none. ap (λ m. m.open_run) same ∙ so.run none;
-      counts = counts_then 0 (omega arith) so.counts c.in_ok-keep_escape-in-Some-2.ensures.counts;
-      goes = λ old before by. c.in_ok-keep_escape-in-Some-2.ensures.goes old before (so.goes old before by);
+      goes = goes_then so.goes c.in_ok-keep_escape-in-Some-2.ensures.goes;
     }
 
 pub returns-in_err-keep_escape-in-Some-2-clause-goes : goal.returns-in_err-keep_escape-in-Some-2-clause-goes
 returns-in_err-keep_escape-in-Some-2-clause-goes g c =
     let e = err_from_is_err_and c.from_residual-in_err-keep_escape-in-Some-2.result c.from_residual-in_err-keep_escape-in-Some-2.ensures.1 in
-    rw e.1 (stops_then c.loop-input.invariant.goes c.in_err-keep_escape-in-Some-2.ensures.goes)
+    rw e.1 (stops_then c.loop-input.invariant.goes.on c.in_err-keep_escape-in-Some-2.ensures.goes)
