@@ -251,6 +251,10 @@ goes_by {m = m} {m' = m'} {input = input} {input' = input'} {piece = piece} {xs 
     }
 
 -- less is counted
+-- Where nothing is read, nothing changes.
+pub goes_nowhere : {S : Type 0} {g : Ghosts S} {m : Machine S g} {input : Input} {piece : List ℕ} → Reads input piece → Goes piece 0 m input m input
+goes_nowhere reads = record { counts = counts_still reads (record { budget = refl; at = refl; fed = refl; turns = refl }); on = λ old before by. by }
+
 pub goes_less : {S : Type 0} {g : Ghosts S} {m m' : Machine S g} {input input' : Input} {piece : List ℕ} {n : ℕ} (k : ℕ) → k ≤ n → Goes piece n m input m' input' → Goes piece k m input m' input'
 goes_less k few goes = record { counts = counts_less k few goes.counts; on = goes.on }
 

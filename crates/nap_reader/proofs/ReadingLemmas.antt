@@ -17,9 +17,8 @@ use Rattle.nap_list.specs.Putting as puts
 use Rattle.nap_draw.specs.Draws as draws
 use Rattle.nap_reader.specs.Bodies as bodies
 use Rattle.nap_reader.specs.Holding.{IsHalf, IsHeldBy, held_escape, past, unfinished_by, unfinished_of}
-use Rattle.nap_codes.specs.declared.opcode.Opcode.TheVariants as opcodes
 use Rattle.nap_codes.specs.Laws.{IsInRange}
-use Rattle.nap_codes.specs.Tables.{left_out_opcode}
+use Rattle.nap_draw.proofs.PublicLaws.{opcodes_are_drawn}
 use Rattle.nap_codes.specs.CodeSets.{start_sets}
 use Rattle.nap_codes.specs.declared.code.Step.TheVariants as steps
 use Rattle.nap_reader.specs.declared.kind.Kind.TheVariants as kinds
@@ -426,18 +425,11 @@ pub opcode_of_kind : (c : Code) (op : Opcode) → kind_of c ≡ kinds.Opens op �
 opcode_of_kind (code.Op op') op e = let same : op' ≡ op = cc in ap code.Op same
 opcode_of_kind _ op e = let bad : ⊥ = cc in absurd bad
 
-drawn_of : (op : Opcode) → left_out_opcode op ≡ None → IsDrawn op
-unfolding left_out_opcode
-drawn_of opcodes.IncrementalPoint e = let bad : ⊥ = cc in absurd bad
-drawn_of opcodes.IncrementalLine e = let bad : ⊥ = cc in absurd bad
-drawn_of opcodes.IncrementalPolyFilled e = let bad : ⊥ = cc in absurd bad
-drawn_of _ e = tt
-
 -- an opcode that opens a run has a rule
 pub opens_drawn : (sets : CodeSets) (xs : List ℕ) (c : Code) (n : ℕ) (after : CodeSets) (op : Opcode) → codes.front sets xs ≡ codes.whole c n after →
     kind_of c ≡ kinds.Opens op → IsDrawn op
 opens_drawn sets xs c n after op e kind =
-    drawn_of op (subst IsInRange (opcode_of_kind c op kind) (code_ranges sets xs c n after e))
+    opcodes_are_drawn op (subst IsInRange (opcode_of_kind c op kind) (code_ranges sets xs c n after e))
 
 pub on_ok_by : {A E P : Type 0} (r : Result A E) → ((a : A) → r ≡ Ok a → P) → OnOk r P
 on_ok_by (Ok a) f = f a refl

@@ -240,14 +240,14 @@ module _ {S : Type 0} {g : Ghosts S} {s : S} {t : S} {h : Holding} {set : CharSe
               some = λ none. let bad : ⊥ = cc in bad;
               wants = wants;
               next = record {
-              more = halt.next ∷ [];
-              adds =
-                  ap (λ (o : Outcome). o.entries) further
-                  ∙ append-nil (k.done ++ text s' set (before ++ b ∷ []))
-                  ∙ ap (λ (es : List Entry). k.done ++ es) (text_more s' set before (b ∷ []) ∙ ap (λ (es : List Entry). text s' set before ++ es) (one_char (walk s' (text s' set before)) set b)
-                  ∙ ap₂ (λ (es : List Entry) (e : Entry). es ++ e ∷ []) (sym is.front) (sym is.next)) ∙ sym (append_assoc k.done halt.es (halt.next ∷ []));
-              unrefused = ap (λ (o : Outcome). o.refusal) further;
-              part = part;
+                more = halt.next ∷ [];
+                adds =
+                    ap (λ (o : Outcome). o.entries) further
+                    ∙ append-nil (k.done ++ text s' set (before ++ b ∷ []))
+                    ∙ ap (λ (es : List Entry). k.done ++ es) (text_more s' set before (b ∷ []) ∙ ap (λ (es : List Entry). text s' set before ++ es) (one_char (walk s' (text s' set before)) set b)
+                    ∙ ap₂ (λ (es : List Entry) (e : Entry). es ++ e ∷ []) (sym is.front) (sym is.next)) ∙ sym (append_assoc k.done halt.es (halt.next ∷ []));
+                unrefused = ap (λ (o : Outcome). o.refusal) further;
+                part = part;
               };
             });
         left = let is = ap (λ (o : Outcome). o.machine.left) there in omega (arith, is, same);

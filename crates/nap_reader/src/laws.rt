@@ -9,32 +9,38 @@ ghost use Rattle.nap_reader.specs.declared.store.TheConstants.{STORE_LIMIT};
 use nap_list::Sink;
 
 /// What a stream means is told front after front, with no bound on how many there are.
+#[tactic(auto, using(crate::proofs::PublicLaws::front_after_front))]
 pub fn front_after_front()
     ensures { FrontAfterFront }
 {}
 
 /// An opcode acts by its rule once a byte comes behind its run that is no operand byte, and waits until then.
+#[tactic(auto, using(crate::proofs::PublicLaws::run_acts, crate::proofs::PublicLaws::run_waits))]
 pub fn opcodes_take_their_runs()
     ensures acts { RunActs }
     ensures waits { RunWaits }
 {}
 
 /// A character, a control, a shift or a designation acts by its rule, or adds nothing, whatever stands behind it.
+#[tactic(auto, using(crate::proofs::PublicLaws::code_acts))]
 pub fn codes_act_alone()
     ensures { CodeActs }
 {}
 
 /// More bytes behind a stream change no entry that it has given: its entries come first in those of the longer stream.
+#[tactic(auto, using(crate::proofs::PublicLaws::more_bytes_keep_entries))]
 pub fn more_bytes_keep_entries()
     ensures { MoreBytesKeepEntries }
 {}
 
 /// More bytes behind a stream that is refused change nothing at all.
+#[tactic(auto, using(crate::proofs::PublicLaws::more_bytes_keep_refusal))]
 pub fn more_bytes_keep_refusal()
     ensures { MoreBytesKeepRefusal }
 {}
 
 /// What is known of a stream doesn't depend on how it is cut into pieces.
+#[tactic(auto, using(crate::proofs::PublicLaws::pieces_agree))]
 pub fn pieces_agree()
     ensures { PiecesAgree }
 {}
@@ -50,6 +56,7 @@ pub fn read_values_are_in_range()
 {}
 
 /// The entries of what has begun come first in those of the whole stream.
+#[tactic(auto, using(crate::proofs::PublicLaws::begun_comes_first))]
 pub fn begun_comes_first()
     ensures { BegunComesFirst }
 {}
@@ -60,6 +67,7 @@ pub fn fed_breaks_among<S: Sink>()
 {}
 
 /// A reader that broke at the opcode that acts at the end of a stream leaves a part of the entries of the stream.
+#[tactic(auto, using(crate::proofs::PublicLaws::end_breaks_among))]
 pub fn end_breaks_among<S: Sink>()
     ensures { EndBreaksAmong S.Sink }
 {}

@@ -18,6 +18,7 @@ impl<S: Sink> Machine<S> {
 
     /// Takes bytes of the body that is being defined, where one is, until it is over or nothing comes.
     #[inline(always)]
+    #[tactic(auto, using(crate::proofs::FurtherLemmas::goes_nowhere))]
     pub(super) fn define(&mut self, input: &mut Input, piece: &[u8]) -> Result<(), Refused>
         requires live { IsLive self.old }
         requires reads { Reads input.old piece.now }

@@ -3,7 +3,7 @@ use Rattle.std.proofs.lemmas.Result.{err_from_is_err_and}
 use Rattle.nap_reader.proofs.Common.{placed_at, held_by, IsLive, refusal}
 use Rattle.nap_reader.specs.declared.fault.Fault.TheVariants as faults
 use Rattle.nap_reader.proofs.ComingLemmas.{can_pass}
-use Rattle.nap_reader.proofs.FurtherLemmas.{byte_passed, byte_stops, counts_still, goes_then, smaller, stops_then}
+use Rattle.nap_reader.proofs.FurtherLemmas.{byte_passed, byte_stops, goes_nowhere, goes_then, smaller, stops_then}
 use Rattle.nap_reader.proofs.DefineLemmas.{next_byte}
 use Rattle.nap_reader.proofs.OpenBodyLemmas.{byte_eighth}
 use Rattle.nap_reader.proofs.ReadingLemmas.{Lawful}
@@ -14,7 +14,7 @@ pub loop-input-init : goal.loop-input-init
 loop-input-init g c = record {
   live = c.requires.live;
   run = λ none. none;
-  goes = record { counts = counts_still c.requires.reads (record { budget = refl; at = refl; fed = refl; turns = refl }); on = λ old before by. by };
+  goes = goes_nowhere c.requires.reads;
 }
 
 pub returns-in_default-next_slice-clause-ends : goal.returns-in_default-next_slice-clause-ends

@@ -1,5 +1,0 @@
-use Rattle.nap_reader.proofs.PublicLaws.{more_bytes_keep_refusal}
-use Rattle.nap_reader.proofs.laws.more_bytes_keep_refusal.Goals as goal
-
-pub returns : goal.returns
-returns c = more_bytes_keep_refusal
