@@ -1,6 +1,6 @@
 use Rattle.std.proofs.Common.{◌++◌, ◌<◌, Bool, Err, IsSome, List, None, Ok, Option, Result, Some, [], ap, append-nil, append_assoc, arith, cond, false, inl, inr, length, length-append, refl, subst, sym, true, ℕ, ◌∙◌, ◌∷◌, ◌≡◌, ◌≢◌, ◌≤◌, ◌⊎◌}
-use Rattle.nap_reader.specs.Below.{Cause, DrawFault, Drawn, Entry, Ghosts, device, memory, rule, run_limit, stream}
-use Rattle.nap_reader.proofs.Common.{ActsRun, Breaks, BreaksAt, BreaksBetween, BreaksFrom, BreaksInBody, BreaksInRun, BreaksSome, Continues, ContinuesPast, Holding, Input, IsHeld, IsHeldIn, IsLive, IsOpenBody, Machine, OpenBody, OpenRun, Outcome, Placed, Refusal, RunAt, StopsRun, TookPart, Unfinished, Works, after_drawing, asked, asks_if, at_word, begun, cause_of, closed_by, draw_fault, drawn_front, ended_by, front, half_read, held_by, in_code, is_operand, is_operand_byte, means, outcome_from, placed_at, placed_from, refusal, with_code, with_drawn, with_run}
+use Rattle.nap_reader.specs.Below.{Cause, DrawFault, Drawn, Entry, Ghosts, memory, rule, run_limit, stream}
+use Rattle.nap_reader.proofs.Common.{ActsRun, Breaks, BreaksAt, BreaksBetween, BreaksFrom, BreaksInBody, BreaksInRun, BreaksSome, Continues, ContinuesPast, Holding, Input, IsHeld, IsHeldIn, IsLive, IsOpenBody, Machine, OpenBody, OpenRun, Outcome, Placed, Refusal, RunAt, StopsRun, TookPart, Unfinished, Works, after_drawing, asked, asks_if, at_word, begun, cause_of, closed_by, draw_fault, ended_by, front, half_read, held_by, in_code, is_operand, is_operand_byte, means, outcome_from, placed_at, placed_from, refusal, with_code, with_drawn, with_run}
 use Rattle.nap_draw.specs.Draws as draws
 use Rattle.nap_draw.specs.declared.fault.DrawFault.TheVariants as draw_faults
 use Rattle.nap_reader.specs.declared.fault.Fault.TheVariants as faults
@@ -11,13 +11,10 @@ use Rattle.nap_reader.specs.Standing.{IsTaken}
 use Rattle.nap_reader.specs.Holding.{BeginsAll, BreaksNext, BreaksPast, ClosesInto, Ends, body_broke, charged_broke, next_broke, run_broke, run_refused, some_broke, unfinished_by}
 use Rattle.nap_reader.specs.declared.machine.Machine as struct
 use Rattle.nap_reader.specs.Steps.{Executes, behind_run, in_body, in_run}
-use Rattle.nap_reader.proofs.ReadingLemmas.{Lawful, TookMore, by_front, holds_between, is_between, is_open_run, leads_entries, leads_machine, leads_more, leads_on, leads_taken, leads_unfinished, leads_unrefused, none_held, over, rule_part, same_cause, word_joins}
+use Rattle.nap_reader.proofs.ReadingLemmas.{Lawful, TookMore, by_front, is_open_run, leads_entries, leads_machine, leads_more, leads_on, leads_taken, leads_unfinished, leads_unrefused, none_held, over, rule_part, word_joins}
 use Rattle.nap_reader.proofs.LawLemmas.{more_bytes_keep_entries}
 use Rattle.nap_reader.proofs.PartLemmas.{body_breaks_from, breaks_longer, rule_breaks, some_in_body, wants_from}
-use Rattle.nap_codes.specs.Front as codes
-use Rattle.nap_reader.proofs.OpenBodyLemmas.{held_body}
 use Rattle.nap_reader.proofs.StepLemmas.{passes_run}
-use Rattle.nap_reader.proofs.SpelledLemmas.{nothing_yet}
 
 -- what is unfinished behind p is what is held
 module _ {S : Type 0} {g : Ghosts S} {s : S} {o : Outcome} {t : S} {h : Holding} (k : Continues g s o t h []) where

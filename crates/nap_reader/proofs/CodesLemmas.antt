@@ -1,13 +1,10 @@
-use Rattle.std.proofs.Common.{ℕ, ◌≡◌, ◌<◌, List, [], ◌∷◌, ◌++◌, All, Bool, false, length, take, drop, Option, Some, None, Result, inl, refl, ap, sym, ◌∙◌, subst, arith, ◌≢◌, ◌⊎◌, inr, true, ap₂, length-append, ◌≤◌, get_or}
-use Rattle.std.proofs.lemmas.List.{length-map, take-append-le, take-map, drop_more}
+use Rattle.std.proofs.Common.{ℕ, ◌≡◌, ◌<◌, List, [], ◌∷◌, ◌++◌, All, Bool, false, length, take, drop, Option, Some, None, Result, inl, refl, ap, sym, ◌∙◌, subst, arith, ◌≢◌, true, ap₂, length-append, ◌≤◌}
+use Rattle.std.proofs.lemmas.List.{length-map, take-append-le, take-map}
 use Rattle.std.proofs.lemmas.List.Elements.{All-head}
 use Rattle.nap_codes.specs.declared.code.Code.TheVariants as code
 use Rattle.nap_codes.specs.Front as codes
-use Rattle.nap_draw.specs.declared.fault.DrawFault.TheVariants as draw_faults
-use Rattle.nap_draw.specs.Acts.{GivesSome, WantsBy}
 use Rattle.nap_draw.specs.Codes as draws_codes
 use Rattle.nap_draw.specs.Codes.{text}
-use Rattle.nap_draw.specs.Draws as draws
 use Rattle.nap_draw.specs.Rule.{drawn}
 use Rattle.nap_reader.specs.declared.fault.Fault.TheVariants as faults
 use Rattle.nap_reader.specs.declared.kind.Kind.TheVariants as kinds
@@ -17,16 +14,15 @@ use Rattle.nap_reader.specs.Holding.{some_broke}
 use Rattle.nap_reader.specs.Stream as model
 use Rattle.nap_reader.specs.Stream.{front}
 use Rattle.nap_reader.proofs.PartLemmas.{Fails, code_breaks}
-use Rattle.nap_reader.proofs.TakingLemmas.{Drew, LeftBy, left_is, leaves_from, one_takes, stop_takes, own_tells}
-use Rattle.nap_reader.proofs.SpelledLemmas.{KindMade, acts_itself, binds_code, front_kind_made, opcode_alone, byte_calls, name_calls, nothing_yet}
+use Rattle.nap_reader.proofs.TakingLemmas.{Drew, LeftBy, left_is, one_takes, stop_takes, own_tells}
+use Rattle.nap_reader.proofs.SpelledLemmas.{KindMade, acts_itself, binds_code, front_kind_made, opcode_alone}
 use Rattle.nap_reader.proofs.ReadingLemmas.{Lawful, TookMore, is_between, leads_on, leads_to_fault, leads_past, leads_to_refusal, byte_refused, code_goes_on, run_opens, nothing_half, opcode_of_kind, opens_drawn, code_over, code_ends}
 use Rattle.nap_reader.proofs.OpenBodyLemmas.{body_begins}
-use Rattle.nap_reader.proofs.ReadingLemmas as reading
 use Rattle.nap_reader.proofs.StepLemmas.{IsAt, code_fault_own, conveys_nothing, leads_nowhere}
 use Rattle.nap_reader.proofs.TextLemmas.{text_passes, with_text, halts_less}
 use Rattle.std.proofs.lemmas.Bool.{false≢true}
-use Rattle.nap_reader.specs.Below.{Code, CodeFault, CharSet, CodeSets, Opcode, Entry, Ghosts, IsTyped, DrawFault, Work, code_rule, DrawsBy, fault_of, Drawn, LexerState, SinkFault, HaltsAfter, shows_of, set_at, IsGraphic}
-use Rattle.nap_reader.proofs.Common.{Refusal, Request, in_body, AllCharacters, code_fault, draw_fault, Continues, Holding, RunAt, kind_of, Calls, IsOpcodeByte, LeadsOn, Passes, StopsByte, TakesBy, as_it_was, asked, in_code, IsLive, Leaves, Takes, Works, at_byte, with_machine, Codes, Stops, in_text, Outcome, Placed, bytes_of, drawn_front, refusal, place_at, IsHeld, Kind, code_front}
+use Rattle.nap_reader.specs.Below.{Code, CodeFault, CharSet, CodeSets, Opcode, Entry, Ghosts, IsTyped, DrawFault, Work, code_rule, fault_of, Drawn, LexerState, SinkFault, HaltsAfter, shows_of}
+use Rattle.nap_reader.proofs.Common.{Refusal, Request, in_body, code_fault, draw_fault, Continues, Holding, RunAt, kind_of, Calls, IsOpcodeByte, LeadsOn, Passes, StopsByte, TakesBy, as_it_was, asked, in_code, IsLive, Leaves, Takes, Works, at_byte, with_machine, Codes, Stops, in_text, Outcome, Placed, bytes_of, drawn_front, refusal, place_at, IsHeld, Kind, code_front}
 use Rattle.nap_codes.specs.declared.code.CodeFault.TheVariants as code_faults
 use Rattle.nap_codes.proofs.PublicLaws.{one_byte_opcode}
 use Rattle.nap_list.specs.declared.sink.SinkFault.TheVariants as sink_faults
@@ -34,8 +30,6 @@ use Rattle.nap_list.specs.Putting.{Tells}
 use Rattle.nap_reader.specs.declared.machine.Machine.{Machine}
 use Rattle.nap_reader.specs.declared.machine.codes.CodeOutcome.TheVariants as outcomes
 use Rattle.nap_reader.proofs.ComingLemmas.{first_of}
-use Rattle.nap_codes.specs.declared.code_set.CodeSet.TheVariants.{Macros}
-use Rattle.nap_codes.specs.Tables as tables
 use Rattle.nap_reader.proofs.StreamLemmas.{place_at-append}
 
 -- One code, where nothing is open.

@@ -1,11 +1,11 @@
-use Rattle.std.proofs.Common.{◌*◌, ◌+◌, ◌++◌, ◌-◌, ◌<◌, All, Bool, IsSome, List, None, Option, Some, [], ap, append_assoc, ap₂, arith, drop, eq-eqb, eqb, false, get_or, inl, inr, length, length-append, ltb, not, refl, subst, sym, take, true, ℕ, ◌∙◌, ◌∷◌, ◌≡◌, ◌≢◌, ◌≤◌, ◌⊎◌}
+use Rattle.std.proofs.Common.{◌*◌, ◌+◌, ◌++◌, ◌-◌, ◌<◌, All, Bool, IsSome, List, None, Option, Some, [], ap, append_assoc, ap₂, arith, drop, eq-eqb, eqb, false, get_or, length, length-append, ltb, not, refl, subst, sym, take, true, ℕ, ◌∙◌, ◌∷◌, ◌≡◌, ◌≢◌, ◌≤◌, ◌⊎◌}
 use Rattle.std.specs.List.{prefix_len}
 use Rattle.std.proofs.lemmas.Bool.{and_parts, lt-ltb, ltb-true, ne_eqb}
-use Rattle.std.proofs.lemmas.List.{drop-append-le, get_or-take, length-map, length-take-le, take-map, take_all}
+use Rattle.std.proofs.lemmas.List.{drop-append-le, get_or-take, length-map, length-take-le, take-map}
 use Rattle.std.proofs.lemmas.List.Elements.{All-head, All-map, All-tail}
 use Rattle.std.proofs.lemmas.List.Sums.{prefix_len-le-length, prefix_len_passes}
-use Rattle.nap_reader.specs.Below.{Code, CodeSets, Entry, Ghosts, LexerState, Spells, StepsBy, Whole, control0_rows, memory, row_of, stream}
-use Rattle.nap_reader.proofs.Common.{Advances, Breaks, BreaksInBody, Came, CanAdvance, CannotShow, Comes, Continues, ContinuesPast, Conveys, Counts, Fault, GoesOn, Holding, Input, IsHeld, IsLive, IsNext, IsNextByte, IsRefused, LeadsOn, OpenBody, Outcome, Passes, Placed, Reads, Refusal, RunAt, Sets, Shows, Stops, StopsByte, StoreState, Works, after_body, all_at, as_it_was, at_byte, bound, bytes_of, cause_of, charged, closed, coming, ends_body, fed_of, front, grown, held_by, in_body, is_of_body, placed_at, refusal, shown_front, spaced, store_limit, unread, unread_of}
+use Rattle.nap_reader.specs.Below.{Entry, Ghosts, memory}
+use Rattle.nap_reader.proofs.Common.{Advances, Breaks, BreaksInBody, Came, CanAdvance, CannotShow, Comes, Continues, ContinuesPast, Conveys, Counts, Fault, GoesOn, Holding, Input, IsHeld, IsLive, IsNext, IsNextByte, LeadsOn, OpenBody, Outcome, Passes, Placed, Reads, RunAt, Sets, Shows, Stops, StopsByte, StoreState, Works, after_body, all_at, as_it_was, at_byte, bound, bytes_of, charged, closed, coming, ends_body, fed_of, front, grown, held_by, in_body, is_of_body, placed_at, refusal, shown_front, spaced, store_limit, unread, unread_of}
 use Rattle.nap_reader.specs.declared.fault.Fault.TheVariants as faults
 use Rattle.nap_reader.specs.declared.machine.Machine.{Machine}
 use Rattle.nap_reader.specs.Steps.{Binds, in_body as breaks_in_body}
@@ -14,7 +14,7 @@ use Rattle.nap_reader.specs.Stream as model
 use Rattle.nap_reader.proofs.PartLemmas.{wants_from, wants_next}
 use Rattle.nap_reader.specs.Pieces.{Goes}
 use Rattle.nap_reader.proofs.FurtherLemmas.{came_same, comes_grown, coming_bytes, counts_passed, counts_still, counts_then, goes_by, held_parts, held_sets, next_same, passed_come, passed_none, reads_at, reads_still, same_comes, sets_then}
-use Rattle.nap_reader.proofs.ReadingLemmas.{TookMore, leads_budget, leads_shown, leads_unrefused}
+use Rattle.nap_reader.proofs.ReadingLemmas.{TookMore, leads_shown, leads_unrefused}
 use Rattle.nap_reader.proofs.OpenBodyLemmas.{IsPlain, body_charged, body_over, body_shows, byte_full, byte_kept, escape_full, escape_held, escape_kept, escape_unrefused, reads_on}
 use Rattle.nap_reader.proofs.StepLemmas.{cannot_stops, conveys_nothing, stops_own}
 use Rattle.nap_reader.specs.Coming.{Keeps}
@@ -24,7 +24,7 @@ use Rattle.nap_codes.specs.Lexer.{Steps}
 use Rattle.nap_reader.proofs.TakingLemmas.{held_is}
 use Rattle.nap_reader.proofs.PieceLemmas.{reaches_called}
 use Rattle.nap_reader.proofs.StreamLemmas.{length-all_at}
-use Rattle.nap_reader.proofs.SpelledLemmas.{escape_steps, escape_unfinished, escape_waits}
+use Rattle.nap_reader.proofs.SpelledLemmas.{escape_steps, escape_waits}
 
 -- Bytes of a body that is being defined.
 

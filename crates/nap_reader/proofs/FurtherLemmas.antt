@@ -9,7 +9,7 @@ use Rattle.nap_reader.specs.Holding.{machine_of, mode_of}
 use Rattle.nap_reader.specs.Pieces.{Goes, ReadsPiece, ReadsTo, RefusesPiece, StopsFrom, StopsPiece, TakesPiece, Turn}
 use Rattle.nap_reader.specs.Steps.{Latches}
 use Rattle.nap_reader.proofs.ComingLemmas.{byte_comes, bytes_of-spaced, came_coming, came_next, came_take, came_within, can_pass, comes_still, fits, frames-unread, length-placed, length-spaced, passed_rest, passed_to, place_at-spaced, text_next}
-use Rattle.nap_reader.proofs.ReadingLemmas.{Lawful, TookMore, holds_half, holds_nothing, is_between, is_half, leads_shown}
+use Rattle.nap_reader.proofs.ReadingLemmas.{Lawful, TookMore, holds_nothing, is_between, is_half, leads_shown}
 use Rattle.nap_reader.proofs.PieceLemmas.{reaches_called, reaches_on}
 use Rattle.nap_reader.proofs.StandingLemmas.{stands_behind_stop, stands_by}
 use Rattle.nap_reader.proofs.StepLemmas.{cannot_stops, conveys_nothing}

@@ -2,7 +2,7 @@ use Rattle.std.proofs.Common.{◌+◌, ◌++◌, ◌<◌, All, Bool, Err, List, 
 use Rattle.std.proofs.Math.Seq.{take-append-add}
 use Rattle.std.proofs.lemmas.List.{get_or-append-add}
 use Rattle.nap_reader.specs.Below.{Cause, DrawFault, Drawn, Entry, Ghosts, Opcode, Opened, Work, device, memory, rule, stream, walk}
-use Rattle.nap_reader.proofs.Common.{BreaksAt, BreaksBetween, BreaksFrom, Front, IsBroken, Machine, Outcome, Placed, Refusal, StopsBy, TookFront, TookPart, Unfinished, begun, cause_of, closed_by, ended_by, front, go, is_operand_byte, means, nothing, onward, open_body, open_run, outcome, placed_from, start_machine, with_code, with_definition, with_drawn, with_end, with_run, with_run_by}
+use Rattle.nap_reader.proofs.Common.{BreaksAt, BreaksBetween, BreaksFrom, Front, IsBroken, Machine, Outcome, Placed, Refusal, StopsBy, Unfinished, begun, cause_of, closed_by, ended_by, front, go, is_operand_byte, means, nothing, onward, open_body, open_run, outcome, placed_from, start_machine, with_code, with_definition, with_drawn, with_end, with_run, with_run_by}
 use Rattle.nap_reader.specs.Breaking.{BreaksWith, CanLackAt, LacksWithin}
 use Rattle.nap_reader.specs.Laws.{AcceptedIsLegal, BegunComesFirst, BreaksAmong, EndBreaksAmong, FedBreaksAmong, ReadValuesAreInRange, WantsSome}
 use Rattle.nap_reader.specs.Stream.{half_code}

@@ -1,10 +1,8 @@
 use Rattle.std.proofs.Common.{ℕ, ◌+◌, ◌-◌, ◌≡◌, ◌≢◌, ◌<◌, ◌≤◌, ◌⊎◌, inl, inr, List, [], ◌∷◌, ◌++◌, length, take, drop, Bool, true, false, cond, eqb, leb, Option, Some, None, refl, ap, sym, ◌∙◌, subst, arith, append_assoc, append-nil, length-append}
 use Rattle.std.proofs.lemmas.List.{drop_at, length-map, take_at}
 use Rattle.std.proofs.lemmas.Bool.Decides.{nat_tests}
-use Rattle.nap_reader.specs.Below.{CodeSets, row_of, control0_rows, LexerState, StepsBy, Entry, Ghosts}
-use Rattle.nap_reader.proofs.Common.{OpenBody, Fault, Mode, between, in_body, BodyFront, ends_body, store_limit, body_front, prepend, onward, Placed, Machine, Outcome, bytes_of, refusal, place_at, after_body, all_at, charged, bound_front, shown_front, body_front_by, front, outcome_from, Holding, IsOpenBody, IsHeld, IsHeldIn, IsRefused, Continues}
-use Rattle.nap_codes.specs.declared.code.Step.{Step}
-use Rattle.nap_codes.specs.Front as codes
+use Rattle.nap_reader.specs.Below.{Entry, Ghosts}
+use Rattle.nap_reader.proofs.Common.{OpenBody, Fault, Mode, between, in_body, BodyFront, ends_body, store_limit, body_front, prepend, onward, Placed, Machine, Outcome, bytes_of, refusal, place_at, after_body, charged, bound_front, shown_front, body_front_by, front, outcome_from, Holding, IsOpenBody, IsHeld, IsHeldIn, IsRefused, Continues}
 use Rattle.nap_reader.specs.declared.fault.Fault.TheVariants as faults
 use Rattle.nap_reader.specs.Bodies as bodies
 use Rattle.nap_reader.specs.Bodies.{one_further, stores}
@@ -12,7 +10,7 @@ use Rattle.nap_reader.specs.Course as course
 use Rattle.nap_reader.specs.Holding.{held_escape, past, AreOfBody, AtBody, ReadsOn}
 use Rattle.nap_reader.proofs.ReadingLemmas.{place_at-behind, front_body, leads_left, leads_shown, leads_to_refusal, leads_past, leads_shift, leads_unrefused, code_goes_on, holds_nothing}
 use Rattle.nap_reader.proofs.StreamLemmas.{bytes_of-append, outcome_from-front}
-use Rattle.nap_reader.proofs.SpelledLemmas.{escape_unfinished, nothing_yet}
+use Rattle.nap_reader.proofs.SpelledLemmas.{escape_unfinished}
 
 -- What the next byte of an open body does.
 

@@ -1,4 +1,4 @@
-use Rattle.std.proofs.Common.{length-append, ℕ, ◌≡◌, ◌≢◌, ◌<◌, ◌≤◌, List, [], ◌∷◌, ◌++◌, length, Some, None, Result, Ok, refl, ap, sym, ◌∙◌, subst, inl, inr, ltb, arith, append-nil, Bool, true, false, Option, append_assoc}
+use Rattle.std.proofs.Common.{length-append, ℕ, ◌≡◌, ◌≢◌, ◌<◌, ◌≤◌, List, [], ◌∷◌, ◌++◌, length, Some, None, Result, Ok, refl, ap, sym, ◌∙◌, subst, inl, inr, ltb, arith, append-nil, true, false, Option, append_assoc}
 use Rattle.std.proofs.lemmas.Bool.{cond-false, le-ltb}
 use Rattle.nap_reader.proofs.Common.{body_front, front}
 use Rattle.nap_reader.specs.Below.{Entry, Ghosts, DrawFault, Cause, stream, memory, device, Drawn}

@@ -3,11 +3,11 @@ use Rattle.std.proofs.lemmas.Bool.{cond-false, cond-true, le-ltb, lt-ltb}
 use Rattle.std.proofs.lemmas.Bool.Decides.{nat_tests}
 use Rattle.std.proofs.lemmas.List.{drop_at, length-map, take_at}
 use Rattle.std.proofs.lemmas.List.Folds.{length-prefix_len, prefix_len-append}
-use Rattle.nap_reader.specs.Below.{Cause, Code, CodeFault, CodeSets, DrawFault, Drawn, Entry, Ghosts, IsDrawn, LexerState, Opcode, StepsBy, code_rule, device, memory, rule, run_limit, stream}
-use Rattle.nap_reader.proofs.Common.{BreaksBetween, Continues, Front, Holding, IsHeld, IsHeldIn, IsOpenBody, IsOpenRun, IsRefused, Kind, Machine, Mode, OpenBody, OpenRun, Outcome, Placed, Refusal, TookPart, after_drawing, all_at, begun, between, body_front, body_front_by, body_of, bytes_of, cause_of, charged, code_fault, code_front, continue, draw_fault, drawn_front, front, front_by, front_in, half_read, in_body, is_operand, kind_of, onward, opcode_front, outcome_from, paused, place_at, placed_from, prepend, refusal, run_length, shown_front, start_machine, store_limit, words_of}
+use Rattle.nap_reader.specs.Below.{Code, CodeFault, CodeSets, DrawFault, Drawn, Entry, Ghosts, IsDrawn, LexerState, Opcode, StepsBy, device, rule, run_limit, stream}
+use Rattle.nap_reader.proofs.Common.{Continues, Front, Holding, IsHeld, IsHeldIn, IsOpenBody, IsOpenRun, IsRefused, Machine, Mode, OpenBody, OpenRun, Outcome, Placed, Refusal, TookPart, all_at, begun, between, body_front, body_front_by, bytes_of, cause_of, charged, code_fault, code_front, continue, draw_fault, drawn_front, front, front_by, front_in, half_read, in_body, is_operand, kind_of, onward, opcode_front, outcome_from, paused, place_at, placed_from, prepend, refusal, run_length, shown_front, start_machine, store_limit, words_of}
 use Rattle.nap_codes.specs.declared.code.Code.TheVariants as code
 use Rattle.nap_codes.specs.Front as codes
-use Rattle.nap_codes.proofs.PublicLaws.{code_ranges, one_byte_opcode, refused_stays, whole_stays}
+use Rattle.nap_codes.proofs.PublicLaws.{code_ranges, refused_stays, whole_stays}
 use Rattle.nap_reader.specs.declared.fault.Fault.TheVariants as faults
 use Rattle.nap_reader.specs.Course as course
 use Rattle.nap_reader.specs.Stream as model

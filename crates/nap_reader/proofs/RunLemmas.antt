@@ -1,17 +1,17 @@
-use Rattle.std.proofs.Common.{ℕ, ◌+◌, ◌-◌, ◌≡◌, ◌≤◌, List, [], ◌∷◌, ◌++◌, map, length, All, true, None, Some, sym, arith, append-nil, append_assoc, length-append, ◌<◌, Bool, false, take, drop, get_or, inl, inr, refl, ap, ◌∙◌, subst}
+use Rattle.std.proofs.Common.{ℕ, ◌+◌, ◌-◌, ◌≡◌, ◌≤◌, List, [], ◌∷◌, ◌++◌, map, length, All, true, None, Some, sym, arith, append-nil, append_assoc, length-append, ◌<◌, Bool, take, drop, get_or, inl, inr, refl, ap, ◌∙◌, subst}
 use Rattle.std.proofs.lemmas.List.Elements.{All-head, All-tail}
 use Rattle.nap_reader.proofs.ReadingLemmas.{word_joins, word_too_many, TookMore}
 use Rattle.std.specs.List.{prefix_len}
 use Rattle.std.proofs.lemmas.List.{drop-append-le, drop-map, drop_more, length-map, length-take-le, take-append-le, take-map}
 use Rattle.std.proofs.lemmas.List.Sums.{prefix_len-le-length, prefix_len_passes}
 use Rattle.nap_reader.specs.Below.{Ghosts, run_limit, CharSet, CodeSets, DrawsBy, carried, Opcode, DrawFault, Drawn, rule}
-use Rattle.nap_reader.proofs.Common.{OpenRun, Placed, Outcome, bytes_of, is_operand_byte, place_at, refusal, after_drawing, Holding, Continues, run_by, Refusal, AllCharacters, ActsRun, Conveys, IsLive, IsOver, LeadsOn, Refuses, Stops, StopsRun, Takes, ahead, as_it_was, asked, asks_if, at_byte, at_word, with_machine, Codes, IsOpcodeByte, IsWholeRun, TakesBy, Request, draw_fault}
+use Rattle.nap_reader.proofs.Common.{OpenRun, Placed, Outcome, bytes_of, is_operand_byte, place_at, refusal, after_drawing, Holding, Continues, run_by, Refusal, AllCharacters, ActsRun, Conveys, IsLive, IsOver, LeadsOn, Refuses, Stops, StopsRun, Takes, ahead, as_it_was, asked, asks_if, at_byte, at_word, with_machine, Codes, IsOpcodeByte, IsWholeRun, Request, draw_fault}
 use Rattle.nap_reader.specs.declared.fault.Fault.TheVariants as faults
 use Rattle.nap_reader.specs.declared.machine.Machine.{Machine}
 use Rattle.nap_reader.specs.declared.machine.Request.TheVariants as requests
 use Rattle.nap_reader.specs.Carried.{NoCharacters}
 use Rattle.nap_reader.specs.Steps.{Executes, FailsRun, TellsSink, CodeTakes}
-use Rattle.nap_reader.proofs.TakingLemmas.{held_is, stop_takes, Drew, LeftBy, asked_is, leaves_from, asks_takes, own_tells, leads_behind, stops_behind, takes_behind, takes_then}
+use Rattle.nap_reader.proofs.TakingLemmas.{held_is, stop_takes, Drew, LeftBy, asked_is, asks_takes, own_tells, leads_behind, stops_behind, takes_then}
 use Rattle.nap_reader.proofs.OperandLemmas.{as_many_words, more_words, operands_in_front, run_over, same_words}
 use Rattle.nap_reader.proofs.ComingLemmas.{first_of, split_bytes}
 use Rattle.nap_reader.proofs.StepLemmas.{no_some, conveys_nothing, stops_run}

@@ -3,7 +3,7 @@ use Rattle.std.proofs.lemmas.List.{take_all, take_more, take-append-drop, take-a
 use Rattle.nap_reader.specs.Below.{Ghosts, Cause, stream, memory, device}
 use Rattle.nap_reader.proofs.Common.{Refusal, Reader, Machine, begun, cause_of, Continues, holding_of, IsBroken, StopsAt, StopsBy, Stands, budget_of, fed_of, left_of, refusal_of, sink_of}
 use Rattle.nap_reader.specs.Standing.{IsKnown, AnswersBy, Answers}
-use Rattle.nap_reader.proofs.ReadingLemmas.{TookBroke, TookMore, WantsMore, leads_unrefused, leads_taken, leads_machine}
+use Rattle.nap_reader.proofs.ReadingLemmas.{leads_unrefused, leads_taken, leads_machine}
 use Rattle.nap_reader.proofs.LawLemmas.{more_bytes_keep_refusal}
 
 -- a piece up to a byte, and that byte

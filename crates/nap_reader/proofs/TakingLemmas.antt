@@ -4,16 +4,16 @@ use Rattle.nap_reader.specs.declared.machine.Machine.{Machine}
 use Rattle.nap_reader.proofs.OperandLemmas.{words_kept}
 use Rattle.std.proofs.lemmas.Bool.{false≢true}
 use Rattle.nap_reader.specs.Below.{DrawFault, Drawn, DrawsBy, Ghosts, LexerState, Work, carried, rule}
-use Rattle.nap_reader.proofs.Common.{ActsRun, Calls, Codes, Conveys, Fault, Holding, IsLive, IsOver, LeadsOn, Leaves, OpenRun, Placed, Refusal, Refuses, Request, Stops, StopsByte, StopsRun, StopsText, Takes, TakesBy, Works, after_drawing, asked, asks_if, at_byte, bytes_of, draw_fault, in_text, no_names, place_at, placed_at, refusal, run_by, with_machine}
+use Rattle.nap_reader.proofs.Common.{ActsRun, Calls, Conveys, Fault, Holding, IsLive, IsOver, LeadsOn, Leaves, OpenRun, Placed, Refusal, Request, Stops, StopsByte, StopsRun, StopsText, Takes, TakesBy, Works, after_drawing, asked, asks_if, at_byte, bytes_of, draw_fault, in_text, no_names, place_at, placed_at, refusal, run_by, with_machine}
 use Rattle.nap_reader.specs.declared.fault.Fault.TheVariants as faults
 use Rattle.nap_reader.specs.declared.machine.Request.TheVariants as requests
 use Rattle.nap_reader.specs.Framed.{spaced}
 use Rattle.nap_reader.specs.Steps.{Progresses, TellsSink}
 use Rattle.nap_reader.proofs.ComingLemmas.{byte-spaced}
-use Rattle.std.proofs.lemmas.List.{drop-append-le, drop-drop, drop-map, length-drop, length-map, take-append-drop}
+use Rattle.std.proofs.lemmas.List.{drop-append-le, drop-drop, drop-map, length-drop, take-append-drop}
 use Rattle.nap_reader.proofs.ReadingLemmas.{TookMore}
 use Rattle.nap_reader.proofs.StepLemmas.{halts_then, leads_nowhere, leads_then, stops_then}
-use Rattle.nap_reader.proofs.StreamLemmas.{bytes_of-append, place_at-append}
+use Rattle.nap_reader.proofs.StreamLemmas.{bytes_of-append}
 
 -- What is held where a machine is known.
 

@@ -1,4 +1,4 @@
-use Rattle.std.specs.Prelude.{⊤, ◌≡◌, ◌≢◌, ◌<◌, ◌≤◌, ◌⊎◌, ◌-◌, ◌+◌, ◌++◌, ℕ, false, List, [], ◌∷◌, Option, Some, None, length}
+use Rattle.std.specs.Prelude.{⊤, ◌≡◌, ◌≢◌, ◌<◌, ◌≤◌, ◌-◌, ◌+◌, ◌++◌, ℕ, false, List, [], ◌∷◌, Option, Some, None, length}
 use Rattle.nap_reader.specs.Below.{carried, CodeSets, Ghosts, Entry, Cause, stream, memory, run_limit}
 use Rattle.nap_codes.specs.declared.code.Code.TheVariants as code
 use Rattle.nap_codes.specs.Front as codes

@@ -1,7 +1,7 @@
-use Rattle.std.proofs.Common.{◌≡◌, OnOk, inl, refl, ap, sym, ◌∙◌, subst, arith}
-use Rattle.nap_reader.proofs.Common.{no_names, Counts, StoreState}
+use Rattle.std.proofs.Common.{◌≡◌, inl, refl, ap, sym, ◌∙◌}
+use Rattle.nap_reader.proofs.Common.{no_names, StoreState}
 use Rattle.nap_reader.specs.declared.machine.Request.TheVariants as requests
-use Rattle.nap_reader.proofs.FurtherLemmas.{counts_still, counts_then, held_sets, match_goes, reads_still, same_comes, call_goes, call_refuses, stop_passes, turn_as, turn_counts, turn_goes, turn_passes, turn_stops, turn_takes}
+use Rattle.nap_reader.proofs.FurtherLemmas.{held_sets, match_goes, reads_still, same_comes, call_goes, call_refuses, stop_passes, turn_as, turn_counts, turn_goes, turn_passes, turn_stops, turn_takes}
 use Rattle.nap_reader.proofs.ReadingLemmas.{on_ok_by, Lawful}
 use Rattle.nap_reader.proofs.machine.Machine.answer.Goals as goal
 

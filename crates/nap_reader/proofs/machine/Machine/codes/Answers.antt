@@ -1,7 +1,7 @@
 use Rattle.std.proofs.Common.{◌≡◌, ◌<◌, ◌+◌, ◌-◌, ℕ, List, Bool, None, length, take, drop, inr, refl, ap, sym, ◌∙◌, subst, arith}
 use Rattle.std.proofs.lemmas.List.{length-drop, take_all}
 use Rattle.nap_reader.specs.Below.{Ghosts}
-use Rattle.nap_reader.proofs.Common.{IsLive, Request, Refuses, Takes, bytes_of, place_at, refusal}
+use Rattle.nap_reader.proofs.Common.{Request, Refuses, Takes, bytes_of, place_at, refusal}
 use Rattle.nap_reader.specs.declared.machine.Machine.{Machine}
 use Rattle.nap_reader.specs.Framed.{spaced}
 use Rattle.nap_reader.proofs.ComingLemmas.{bytes_of-spaced, length-spaced, place_at-spaced}

@@ -1,8 +1,8 @@
-use Rattle.std.proofs.Common.{◌≡◌, ◌++◌, ◌∷◌, [], Bool, false, true, not, None, refl, sym, subst, arith}
+use Rattle.std.proofs.Common.{◌≡◌, ◌++◌, ◌∷◌, [], Bool, false, true, not, None, refl, sym, subst}
 use Rattle.nap_reader.proofs.Common.{CannotShow, Shows, StoreState, closed}
-use Rattle.nap_reader.proofs.ComingLemmas.{byte_comes, can_pass}
+use Rattle.nap_reader.proofs.ComingLemmas.{can_pass}
 use Rattle.nap_reader.proofs.DefineLemmas.{behind_escape, bound_goes, shown_goes, shown_stops}
-use Rattle.nap_reader.proofs.FurtherLemmas.{byte_passed, byte_stops, counts_passed, counts_still, counts_then, own_fault, passed_still}
+use Rattle.nap_reader.proofs.FurtherLemmas.{byte_passed, byte_stops, own_fault, passed_still}
 use Rattle.nap_reader.proofs.ReadingLemmas.{Lawful}
 use Rattle.nap_reader.proofs.machine.Machine.end_body.Goals as goal
 
