@@ -1,4 +1,7 @@
 //! An outlet whose bytes are counted.
+ghost use Rattle.std.specs.Prelude.{◌≤◌, false, length, take};
+ghost use Rattle.nap_canon.specs.declared.output.Output.{Output};
+ghost use Rattle.nap_canon.specs.Batches.{SentUpTo};
 ghost use Rattle.nap_canon.specs.Sinking.{Sends, sending};
 ghost use Rattle.nap_canon.specs.SinkLaws.{sends_none, sends_more, sends_cut};
 
@@ -12,21 +15,15 @@ pub(crate) struct Output<O: Outlet + Drop> {
     pub(crate) written: u64,
 }
 
-impl<O: Outlet + Drop> ByteSink for Output<O> {
-    type Fault = DeviceFault;
-
-    ghost sent = { λ s bytes broke t. Sends (sending O.Outlet s.outlet s.written) bytes broke (sending O.Outlet t.outlet t.written) };
-
-    #[inline]
-    fn take(&mut self, bytes: &[u8]) -> Result<(), DeviceFault> {
-        match self.take_counted(bytes) {
-            Ok(()) => Ok(()),
-            Err(_) => Err(DeviceFault),
-        }
-    }
-
-    fn take_counted(&mut self, bytes: &[u8]) -> Result<(), usize> {
-        let mut taken = 0;
+impl<O: Outlet + Drop> Output<O> {
+    /// Takes the bytes from this index on; those before it were taken. An error has how many of all were taken.
+    #[inline(never)]
+    fn take_rest(&mut self, bytes: &[u8], first: usize) -> Result<(), usize>
+        requires { first ≤ length bytes.now }
+        ensures { (s : Output O) → Sends (sending O.Outlet s.outlet s.written) (take first bytes.now) false (sending O.Outlet self.old.outlet self.old.written) →
+            SentUpTo (λ x bytes broke y. Sends (sending O.Outlet x.outlet x.written) bytes broke (sending O.Outlet y.outlet y.written)) s bytes.now self.new result }
+    {
+        let mut taken = first;
         while taken < bytes.len() {
             let count = match self.outlet.write(&bytes[taken..]) {
                 Ok(count) => count,
@@ -34,6 +31,36 @@ impl<O: Outlet + Drop> ByteSink for Output<O> {
             };
             self.written = self.written.saturating_add(count as u64);
             taken += count;
+        }
+        Ok(())
+    }
+}
+
+impl<O: Outlet + Drop> ByteSink for Output<O> {
+    type Fault = DeviceFault;
+
+    ghost sent = { λ s bytes broke t. Sends (sending O.Outlet s.outlet s.written) bytes broke (sending O.Outlet t.outlet t.written) };
+
+    #[inline(always)]
+    fn take(&mut self, bytes: &[u8]) -> Result<(), DeviceFault> {
+        match self.take_counted(bytes) {
+            Ok(()) => Ok(()),
+            Err(_) => Err(DeviceFault),
+        }
+    }
+
+    // One write takes most pieces whole; what another leaves stands apart, so that this is short where it is inlined.
+    #[inline(always)]
+    fn take_counted(&mut self, bytes: &[u8]) -> Result<(), usize> {
+        if bytes.is_empty() {
+            return Ok(());
+        }
+        let Ok(count) = self.outlet.write(bytes) else {
+            return Err(0);
+        };
+        self.written = self.written.saturating_add(count as u64);
+        if count < bytes.len() {
+            return self.take_rest(bytes, count);
         }
         Ok(())
     }

@@ -4,7 +4,7 @@ ghost use Rattle.nap_canon.specs.Text.{gl_of, length_of, is_joined};
 ghost use Rattle.nap_canon.specs.Gathering.{room_limit};
 
 use nap_codes::GSet;
-use nap_reader::RUN_LIMIT;
+use nap_draw::RUN_LIMIT;
 
 /// A run of operands after their opcode.
 #[derive(Clone, Copy, PartialEq, Eq, Drop)]

@@ -1,38 +1,19 @@
-use Rattle.std.proofs.Common.{◌≤◌, ℕ, List, arith, subst, take, drop, length, length-drop}
+use Rattle.std.proofs.Common.{◌∙◌, sym, arith}
+use Rattle.std.proofs.lemmas.Bool.{eqb-false}
 use Rattle.std.specs.Prelude.{slice_index}
-use Rattle.std.specs.Io.KnownBytes.{Appends}
 use Rattle.nap_canon.specs.Sinking.{sending}
+use Rattle.nap_canon.specs.SinkLaws.{sends_none}
 use Rattle.nap_canon.proofs.sinks.CutLemmas.{none_taken}
-use Rattle.nap_canon.proofs.sinks.SinkingLemmas.{takes_more, rest_of}
 use Rattle.nap_canon.proofs.output.OutputByteSink.take_counted.Goals as goal
 
-pub loop-taken-preserved : goal.loop-taken-preserved
-loop-taken-preserved g c =
-    let O = g.O.Outlet in
-    let count = c.in-Ok.count in
-    let i = c.loop-taken.taken in
+pub returns-in_default : goal.returns-in_default
+returns-in_default g c =
+    let s = c.args.self.now in
     let bytes = c.args.bytes.now in
-    let few : count ≤ length (drop i bytes) = subst (λ (xs : List ℕ). count ≤ length xs) (rest_of i bytes) c.in-Ok.ensures.bound in
+    let failed = c.in_default.ensures in
     record {
-      within = omega (arith, length-drop i bytes, few);
-      sent = takes_more O (sending O c.args.self.now.outlet c.args.self.now.written) c.loop-taken.self.outlet c.write.new.self
-          c.loop-taken.self.written c.saturating_add-self.result i count bytes c.loop-taken.invariant.sent few
-          (subst (λ (xs : List ℕ). Appends (O.taken c.loop-taken.self.outlet) (O.taken c.write.new.self) (take count xs)) (rest_of i bytes) c.in-Ok.ensures.bytes)
-          c.in-Ok.ensures.failed
-          c.in-Ok.ensures.write_failed
-          c.in-Ok.ensures.flushes
-          (omega arith)
-          c.saturating_add-self.ensures;
-    }
-
-pub returns-in-Err : goal.returns-in-Err
-returns-in-Err g c =
-    let at = c.loop-taken in
-    let bytes = c.args.bytes.now in
-    record {
-      less = c.loop-taken-test.true;
-      mid = at.self;
-      front = at.invariant.sent;
-      next = none_taken g.O.Outlet at.self.outlet c.write.new.self at.self.written (slice_index bytes at.taken) c.in-Err.ensures.bytes
-          c.in-Err.ensures.failed c.in-Err.ensures.write_failed c.in-Err.ensures.flushes;
+      less = omega (arith, eqb-false _ 0 (sym c.is_empty.ensures ∙ c.if-is_empty.false));
+      mid = s;
+      front = sends_none (sending g.O.Outlet s.outlet s.written);
+      next = none_taken g.O.Outlet s.outlet c.write.new.self s.written (slice_index bytes 0) failed.bytes failed.failed failed.write_failed failed.flushes;
     }
