@@ -1,5 +1,5 @@
-use Rattle.std.proofs.Common.{rules, ℕ, ◌≡◌, if◌then◌else◌, is_ok, is_err, ◌-◌, ◌+◌, ◌<◌, ◌≤◌, List, [], ◌∷◌, ◌++◌, Bool, false, Result, Ok, Err, OnOk, Option, Some, None, codes, flat_map, map, length, take, drop, get_or, add-one, refl, ap, sym, ◌∙◌, append-nil, append_assoc, length-append, arith}
-use Rattle.std.proofs.lemmas.List.{take_more}
+use Rattle.std.proofs.Common.{rules, ℕ, zero, suc, ◌≡◌, if◌then◌else◌, is_ok, is_err, ◌-◌, ◌+◌, ◌<◌, ◌≤◌, List, [], ◌∷◌, ◌++◌, Bool, false, Result, Ok, Err, OnOk, Option, Some, None, codes, flat_map, map, length, take, drop, get_or, add-one, refl, ap, sym, ◌∙◌, append-nil, append_assoc, length-append, length-take, arith}
+use Rattle.std.proofs.lemmas.List.{take-take, take_more}
 use Rattle.std.proofs.lemmas.List.Concat.{flat_map-append}
 use Rattle.std.proofs.Math.Seq.{drop-append_seam, take-append_seam}
 use Rattle.std.specs.Str.{IsUtf8}
@@ -11,19 +11,20 @@ use Rattle.nap_codes.specs.Tables.{format_effector}
 use Rattle.nap_codes.proofs.PublicLaws.{format_effector_front}
 use Rattle.nap_list.specs.declared.attribute.Hand.{Hand}
 use Rattle.nap_list.specs.declared.attribute.Ink.{Ink}
+use Rattle.nap_list.specs.declared.attribute.Pen.{Pen}
 use Rattle.nap_list.specs.declared.attribute.Pen.TheVariants.{After}
 use Rattle.nap_list.specs.declared.entry.Entry.{Entry}
 use Rattle.nap_list.specs.declared.entry.Entry.TheVariants as entries
 use Rattle.nap_list.specs.declared.state.Drawing.{Drawing}
-use Rattle.nap_list.specs.State.{ink_of}
+use Rattle.nap_list.specs.State.{hand_of, ink_of}
 use Rattle.nap_list.specs.declared.batch.Batch.{Batch}
 use Rattle.nap_list.specs.declared.batch.Batch.TheVariants as batches
-use Rattle.nap_list.specs.Batches.{point_on, lines_on, text_in, typed, typed_as, listed}
-use Rattle.nap_list.specs.BatchLaws.{points_front, lines_front, text_front}
+use Rattle.nap_list.specs.Batches.{last_of, point_on, lines_on, text_in, typed, typed_as, listed}
+use Rattle.nap_list.specs.BatchLaws.{points_front, lines_front, text_front, points_rest, lines_rest}
 use Rattle.nap_list.specs.Putting.{SinkShows, shows}
 use Rattle.nap_lines.specs.Lines.{line, ink_text, pen_text, move_text, colour_text, look_text, hand_text, set_text}
 use Rattle.nap_lines.specs.Listing.{Listed, Lists, lines}
-use Rattle.nap_lines.specs.Batches.{point_front, point_end, line_front, char_front, move_front, typed_front_as, typed_front, written_text, lines_with, Goes}
+use Rattle.nap_lines.specs.Batches.{point_front, point_end, line_front, char_front, move_front, typed_front_as, typed_front, written_text, lines_with, pen_at, Goes}
 
 -- The lines of a batch.
 
@@ -163,27 +164,65 @@ letters_are_lines set hand (c ∷ cs) =
 pub ended : (room pushed cleared end : List ℕ) → room ≡ end ++ pushed → pushed ≡ codes "\n" ++ cleared → cleared ≡ [] → room ≡ end ++ 10 ∷ []
 ended room pushed cleared end is push clear = is ∙ ap (λ (bytes : List ℕ). end ++ bytes) (push ∙ ap (λ (bytes : List ℕ). codes "\n" ++ bytes) clear)
 
--- the lines of a batch, of which so many were written
+-- so many were written of a part
+pub few_of : {A : Type 0} (few xs : List A) (m n : ℕ) → few ≡ take m xs → n ≤ length few → n ≤ m
+few_of few xs m n is less = omega (arith, ap length is, length-take m xs, less)
 
-pub points_written : (b : Batch) (points : _) (d : _) (n : ℕ) (old new room : List ℕ) → b ≡ batches.Points points d → room ≡ point_end d.now.pel d.now.colour ++ 10 ∷ [] →
-    new ≡ old ++ flat_map (λ at. point_front at ++ room) (take n points.now) → new ≡ old ++ lines (take n (listed b))
-points_written b points d n old new room is end text =
+-- the lines of a batch from one entry on, of which so many were written
+
+pub points_written : (b : Batch) (points : _) (d : _) (first m n : ℕ) (old new room : List ℕ) (few : List Coordinates) → b ≡ batches.Points points d → n ≤ m →
+    room ≡ point_end d.now.pel d.now.colour ++ 10 ∷ [] → few ≡ take m (drop first points.now) →
+    new ≡ old ++ flat_map (λ at. point_front at ++ room) (take n few) → new ≡ old ++ lines (take n (drop first (listed b)))
+points_written b points d first m n old new room few is less end slice text =
     let bytes =
     text
-    ∙ ap (λ (end : List ℕ). old ++ flat_map (λ at. point_front at ++ end) (take n points.now)) end
-    ∙ ap (λ (bytes : List ℕ). old ++ bytes) (dots_are_lines d.now (take n points.now))
-    ∙ ap (λ (list : List Entry). old ++ lines list) (points_front d.now points.now n) in
+    ∙ ap (λ (end : List ℕ). old ++ flat_map (λ at. point_front at ++ end) (take n few)) end
+    ∙ ap (λ (bytes : List ℕ). old ++ bytes) (dots_are_lines d.now (take n few))
+    ∙ ap (λ (points : List Coordinates). old ++ lines (map (point_on d.now) points)) (ap (take n) slice ∙ take-take n m (drop first points.now) less)
+    ∙ ap (λ (list : List Entry). old ++ lines list) (points_front d.now (drop first points.now) n)
+    ∙ ap (λ (list : List Entry). old ++ lines (take n list)) (points_rest d.now points.now first) in
     rw is bytes
 
-pub lines_written : (b : Batch) (from : _) (points : _) (d : _) (n : ℕ) (old new room : List ℕ) → b ≡ batches.Lines from points d → room ≡ codes " " ++ ink_text (ink_of d.now) ++ 10 ∷ [] →
-    new ≡ old ++ lines_with room from (take n points.now) → new ≡ old ++ lines (take n (listed b))
-lines_written b from points d n old new room is end text =
+pub lines_written : (b : Batch) (from : _) (points : _) (d : _) (first m n : ℕ) (start : Coordinates) (old new room : List ℕ) (few : List Coordinates) → b ≡ batches.Lines from points d → n ≤ m →
+    room ≡ codes " " ++ ink_text (ink_of d.now) ++ 10 ∷ [] → start ≡ last_of from (take first points.now) → few ≡ take m (drop first points.now) →
+    new ≡ old ++ lines_with room start (take n few) → new ≡ old ++ lines (take n (drop first (listed b)))
+lines_written b from points d first m n start old new room few is less end begins slice text =
     let bytes =
     text
-    ∙ ap (λ (end : List ℕ). old ++ lines_with end from (take n points.now)) end
-    ∙ ap (λ (bytes : List ℕ). old ++ bytes) (lines_are_lines d.now from (take n points.now))
-    ∙ ap (λ (list : List Entry). old ++ lines list) (lines_front d.now from points.now n) in
+    ∙ ap (λ (end : List ℕ). old ++ lines_with end start (take n few)) end
+    ∙ ap (λ (bytes : List ℕ). old ++ bytes) (lines_are_lines d.now start (take n few))
+    ∙ ap (λ (points : List Coordinates). old ++ lines (lines_on d.now start points)) (ap (take n) slice ∙ take-take n m (drop first points.now) less)
+    ∙ ap (λ (at : Coordinates). old ++ lines (lines_on d.now at (take n (drop first points.now)))) begins
+    ∙ ap (λ (list : List Entry). old ++ lines list) (lines_front d.now (last_of from (take first points.now)) (drop first points.now) n)
+    ∙ ap (λ (list : List Entry). old ++ lines (take n list)) (lines_rest d.now from points.now first) in
     rw is bytes
+
+-- characters of a text from one on: behind the first the pen is as text leaves it
+text_rest : (set : CharSet) (hand : Hand) (codes : List ℕ) (n : ℕ) → text_in set (record hand { pen = After }) (drop n codes) ≡ drop n (text_in set (record hand { pen = After }) codes)
+unfolding text_in
+text_rest set hand codes zero = refl
+text_rest set hand [] (suc n) = refl
+text_rest set hand (c ∷ cs) (suc n) = text_rest set hand cs n
+
+text_behind : (set : CharSet) (hand : Hand) (codes : List ℕ) (n : ℕ) → text_in set (record hand { pen = pen_at hand.pen n }) (drop n codes) ≡ drop n (text_in set hand codes)
+unfolding text_in
+text_behind set hand codes zero = refl
+text_behind set hand [] (suc n) = refl
+text_behind set hand (c ∷ cs) (suc n) = text_rest set hand cs n
+
+pub part_written : (b : Batch) (set : CharSet) (bytes : _) (pen : Pen) (d : _) (first m n : ℕ) (hand : Hand) (old new few : List ℕ) → b ≡ batches.Text set bytes pen d → n ≤ m →
+    hand ≡ record (hand_of d.now) { pen = pen_at pen first } → few ≡ take m (drop first bytes.now) →
+    new ≡ old ++ lines (take n (text_in set hand few)) → new ≡ old ++ lines (take n (drop first (listed b)))
+part_written b set bytes pen d first m n hand old new few is less in_hand slice text =
+    let whole : Hand = record (hand_of d.now) { pen = pen } in
+    let all =
+    text
+    ∙ ap (λ (hand : Hand). old ++ lines (take n (text_in set hand few))) in_hand
+    ∙ ap (λ (few : List ℕ). old ++ lines (take n (text_in set (record whole { pen = pen_at pen first }) few))) slice
+    ∙ ap (λ (list : List Entry). old ++ lines (take n list)) (text_front set (record whole { pen = pen_at pen first }) (drop first bytes.now) m)
+    ∙ ap (λ (list : List Entry). old ++ lines list) (take-take n m (text_in set (record whole { pen = pen_at pen first }) (drop first bytes.now)) less)
+    ∙ ap (λ (list : List Entry). old ++ lines (take n list)) (text_behind set whole bytes.now first) in
+    rw is all
 
 -- the lines of a text, of which the first has a pen of its own
 pub text_written : (set : CharSet) (hand : Hand) (all others : List ℕ) (first n : ℕ) (old mid new bytes room : List ℕ) → all ≡ first ∷ others → mid ≡ old ++ bytes →

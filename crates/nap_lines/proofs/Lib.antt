@@ -1,1 +1,4 @@
 pub mod BatchLemmas
+pub mod KeptLemmas
+pub mod PrintLemmas
+pub mod ShapeLemmas

@@ -1,10 +1,12 @@
-use Rattle.std.specs.Prelude.{ℕ, ◌≡◌, List, [], ◌∷◌, ◌++◌, Option, Some, None, codes}
+use Rattle.std.specs.Prelude.{ℕ, zero, suc, ◌≡◌, List, [], ◌∷◌, ◌++◌, Option, Some, None, codes}
 use Rattle.nap_values.specs.Coordinates.{Coordinates, Displacement}
 use Rattle.nap_codes.specs.declared.code_set.CharSet.{CharSet}
 use Rattle.nap_codes.specs.declared.control.TextStep.{TextStep}
 use Rattle.nap_codes.specs.Tables.{format_effector}
 use Rattle.nap_list.specs.declared.attribute.Colour.{Colour}
 use Rattle.nap_list.specs.declared.attribute.Hand.{Hand}
+use Rattle.nap_list.specs.declared.attribute.Pen.{Pen}
+use Rattle.nap_list.specs.declared.attribute.Pen.TheVariants.{After}
 use Rattle.nap_lines.specs.Lines.{point_text, move_text, colour_text, look_text, set_text, step_text, code_text}
 
 -- Lines of like entries: each has a front of its own, and they share an end.
@@ -35,6 +37,11 @@ typed_front set code = typed_front_as (format_effector code) set code
 -- what characters are drawn with, but for their pen
 abbrev pub written_text : Hand → List ℕ
 written_text hand = codes " colour=" ++ colour_text hand.colour ++ codes " text=" ++ look_text hand.text
+
+-- where the pen is for the character at an index of a text that begins at this one
+abbrev pub pen_at : Pen → ℕ → Pen
+pen_at pen zero = pen
+pen_at pen (suc n) = After
 
 -- lines from this point to the first, and on from each to the next, each with this end
 unfoldable pub lines_with : List ℕ → Coordinates → List Coordinates → List ℕ

@@ -25,7 +25,7 @@ pub lists_none : (s : Listed) → Lists s [] s
 unfolding walk
 lists_none s = record { text = sym (append-nil s.text); state = refl }
 
-lines_join : (d e : List Entry) → lines (d ++ e) ≡ lines d ++ lines e
+pub lines_join : (d e : List Entry) → lines (d ++ e) ≡ lines d ++ lines e
 lines_join [] e = refl
 lines_join (x ∷ d) e =
     ap (λ (bytes : List ℕ). (line x ++ 10 ∷ []) ++ bytes) (lines_join d e) ∙ sym (append_assoc (line x ++ 10 ∷ []) (lines d) (lines e))

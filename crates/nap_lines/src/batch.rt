@@ -3,12 +3,12 @@ ghost use Rattle.std.specs.Prelude.{◌≡◌, ◌+◌, ◌-◌, ◌≤◌, ◌+
 ghost use Rattle.std.specs.Str.{IsUtf8};
 ghost use Rattle.nap_list.specs.Batches.{listed, text_in};
 ghost use Rattle.nap_lines.specs.Listing.{lines};
-ghost use Rattle.nap_lines.specs.Batches.{point_front, point_end, line_front, char_front, move_front, typed_front, lines_with};
+ghost use Rattle.nap_lines.specs.Batches.{point_front, point_end, line_front, char_front, move_front, typed_front, lines_with, pen_at};
 ghost use Rattle.nap_lines.specs.Writing.{line_limit};
 
 use crate::tail::Tail;
 use nap_codes::{CharSet, TextStep, format_effector};
-use nap_list::{Batch, Colour, Hand};
+use nap_list::{Batch, Colour, Hand, Pen, start_at};
 use nap_values::{Move, Point};
 use std::alloc::AllocError;
 
@@ -103,15 +103,18 @@ fn write_lines(room: &mut Tail, text: &mut Vec<u8>, from: Point, points: &[Point
     ensures text { text.new.items ≡ text.old.items ++ lines_with room.old from (take result points.now) }
 {
     let end = room.len();
-    let mut from = from;
+    let mut kept = room.point_kept(from);
     let mut written = 0;
     for to in points {
         room.keep(end);
-        room.line_front(from, *to);
+        let next = room.point_kept(*to);
+        room.push(" ");
+        room.put_kept(&kept);
+        room.push("LINE ");
         if text.extend_from_slice(room.as_slice()).is_err() {
             return written;
         }
-        from = *to;
+        kept = next;
         written += 1;
     }
     written
@@ -191,18 +194,46 @@ fn write_text(room: &mut Tail, text: &mut Vec<u8>, set: CharSet, codes: &[u8], h
     write_letters(room, text, set, others) + 1
 }
 
-/// Writes a line for each entry of a batch. Returns how many it wrote: fewer if memory runs out.
+/// So many items, from this index on.
 #[inline(always)]
-pub(crate) fn write_batch(room: &mut Tail, text: &mut Vec<u8>, batch: &Batch) -> usize
-    ensures count { result ≤ length (listed batch.now) }
-    ensures text { text.new.items ≡ text.old.items ++ lines (take result (listed batch.now)) }
+fn part<X>(items: &[X], first: usize, count: usize) -> &[X]
+    requires { first + count ≤ length items.now }
+    ensures { result.now ≡ take count (drop first items.now) }
+{
+    &items[first..first + count]
+}
+
+/// Where the pen is for the character at an index of a text that begins at this one.
+#[inline(always)]
+fn pen_at(pen: Pen, index: usize) -> Pen
+    ensures { result ≡ pen_at pen index }
+{
+    if index == 0 {
+        return pen;
+    }
+    Pen::After
+}
+
+/// Writes a line for each of so many entries of a batch, from this index on. Returns how many it wrote: fewer if memory runs
+/// out.
+#[inline(always)]
+pub(crate) fn write_batch(
+    room: &mut Tail,
+    text: &mut Vec<u8>,
+    batch: &Batch,
+    first: usize,
+    count: usize,
+) -> usize
+    requires { first + count ≤ length (listed batch.now) }
+    ensures count { result ≤ count }
+    ensures text { text.new.items ≡ text.old.items ++ lines (take result (drop first (listed batch.now))) }
 {
     match batch {
         Batch::Points { points, drawing } => {
             room.clear();
             room.push("\n");
             room.dot_end(drawing.pel, &drawing.colour);
-            write_dots(room, text, points)
+            write_dots(room, text, part(points, first, count))
         }
         Batch::Lines {
             from,
@@ -212,7 +243,8 @@ pub(crate) fn write_batch(room: &mut Tail, text: &mut Vec<u8>, batch: &Batch) ->
             room.clear();
             room.push("\n");
             room.inked(&drawing.ink());
-            write_lines(room, text, *from, points)
+            let from = start_at(*from, points, first);
+            write_lines(room, text, from, part(points, first, count))
         }
         Batch::Text {
             set,
@@ -221,11 +253,11 @@ pub(crate) fn write_batch(room: &mut Tail, text: &mut Vec<u8>, batch: &Batch) ->
             drawing,
         } => {
             let hand = Hand {
-                pen: *pen,
+                pen: pen_at(*pen, first),
                 colour: drawing.colour,
                 text: drawing.text,
             };
-            write_text(room, text, *set, codes, &hand)
+            write_text(room, text, *set, part(codes, first, count), &hand)
         }
     }
 }

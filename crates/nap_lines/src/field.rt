@@ -1,10 +1,11 @@
 //! The fields of a line, each in front of what stands.
 ghost use Rattle.std.specs.Prelude.{◌≡◌, ◌+◌, ◌≤◌, [], ◌∷◌, ◌++◌, codes, decimal, length};
 ghost use Rattle.nap_lines.specs.Lines.{point_text, move_text, grb_text, colour_text, pen_text, texture_text, mask_size_text, ink_text, size_text, flag_text, flags_text, look_text, hand_text, fill_text, set_text, step_text, area_text, mark_text, cursor_text, mask_text};
+ghost use Rattle.std.specs.Str.{IsUtf8};
 ghost use Rattle.nap_lines.specs.Batches.{written_text};
 ghost use Rattle.nap_lines.specs.Writing.{line_limit};
 
-use crate::tail::Tail;
+use crate::tail::{Kept, Tail};
 use nap_codes::{CharSet, CursorKind, Mask, Size, TextStep};
 use nap_list::{Area, CharSize, Colour, Hand, Ink, Origin, Pen, Preset, TextLook, Texture};
 use nap_values::{Addr, Grb, Move, Point, Word};
@@ -33,10 +34,25 @@ impl Tail {
         requires room { length self.old + 21 ≤ line_limit }
         ensures text { self.new ≡ point_text point ++ self.old }
         ensures size { length self.new ≤ length self.old + 21 }
+        ensures utf8 { IsUtf8 (point_text point) }
     {
         self.number(point.y());
         self.push(",");
         self.number(point.x());
+    }
+
+    /// A point, and a copy of its text.
+    #[inline(always)]
+    pub(crate) fn point_kept(&mut self, point: Point) -> Kept
+        requires room { length self.old + 24 ≤ line_limit }
+        ensures text { self.new ≡ point_text point ++ self.old }
+        ensures size { length self.new ≤ length self.old + 21 }
+        ensures kept { result ≡ point_text point }
+        ensures few { length result ≤ 21 }
+    {
+        let end = self.len();
+        self.point(point);
+        self.first(self.len() - end)
     }
 
     /// A displacement, or a size.

@@ -5,7 +5,11 @@ mod batch;
 mod field;
 mod line;
 mod line_sink;
+mod printer;
+mod sending;
+mod shape;
 mod tail;
 
 pub use line::{append_line, line_of};
 pub use line_sink::LineSink;
+pub use printer::{LINE_MEMORY, LinePrinter};

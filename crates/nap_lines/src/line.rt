@@ -226,7 +226,11 @@ impl Tail {
 }
 
 // Points, each after a space.
-fn write_points(room: &mut Tail, text: &mut Vec<u8>, points: &[Point]) -> Result<(), AllocError>
+pub(crate) fn write_points(
+    room: &mut Tail,
+    text: &mut Vec<u8>,
+    points: &[Point],
+) -> Result<(), AllocError>
     ensures { Writes text.old.items (points_text points.now) text.new.items result }
 {
     for point in points {

@@ -66,7 +66,7 @@ impl Sink for LineSink {
 
     #[inline(always)]
     fn put_batch(&mut self, batch: &Batch) -> Result<(), BatchFault> {
-        let taken = write_batch(&mut self.room, &mut self.text, batch);
+        let taken = write_batch(&mut self.room, &mut self.text, batch, 0, batch.len());
         self.state.step_front(batch, taken);
         BatchFault::unless_all(taken, batch)
     }

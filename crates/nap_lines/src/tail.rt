@@ -103,6 +103,36 @@ impl Tail {
         self.at = write_digits(u64::from(number), &mut self.bytes, self.at);
     }
 
+    /// A copy of the first bytes, so many of them.
+    #[inline(always)]
+    pub(crate) fn first(&self, count: usize) -> Kept
+        requires within { count ≤ length self.now }
+        requires few { count ≤ 24 }
+        requires room { length self.now + 24 ≤ line_limit + count }
+        requires utf8 { IsUtf8 (take count self.now) }
+        ensures { result ≡ take count self.now }
+    {
+        let end = self.at + count;
+        let mut bytes = [0; KEPT];
+        bytes.copy_from_slice(&self.bytes[end - KEPT..end]);
+        Kept {
+            bytes,
+            from: KEPT - count,
+        }
+    }
+
+    /// Bytes that were kept, in front.
+    #[inline(always)]
+    pub(crate) fn put_kept(&mut self, kept: &Kept)
+        requires room { length self.old + 24 ≤ line_limit }
+        ensures text { self.new ≡ kept.now ++ self.old }
+        ensures size { length self.new ≡ length kept.now + length self.old }
+    {
+        let end = self.at;
+        self.bytes[end - KEPT..end].copy_from_slice(&kept.bytes);
+        self.at = end - (KEPT - kept.from);
+    }
+
     /// A number that may be below zero.
     pub(crate) fn signed(&mut self, number: i32)
         requires room { length self.old + 11 ≤ line_limit }
@@ -134,6 +164,27 @@ impl Tail {
     {
         self.put(&[digit(code / 16), digit(code % 16)]);
     }
+}
+
+/// Room for the text of a point.
+const KEPT: usize = 24;
+
+/// Text that was copied, at the end of its room: as many bytes as are moved at once.
+#[derive(Drop)]
+pub(crate) struct Kept {
+    bytes: [u8; KEPT],
+    from: usize,
+}
+
+impl Model for Kept {
+    ghost use Rattle.std.specs.Prelude.{ℕ, List, ◌≤◌, drop};
+    ghost use Rattle.std.specs.Str.{IsUtf8};
+
+    ghost Value = { List ℕ };
+
+    ghost view = { λ k. drop k.from k.bytes };
+
+    ghost invariant = { λ k. record { within : k.from ≤ 24; utf8 : IsUtf8 (drop k.from k.bytes) } };
 }
 
 /// A hexadecimal digit.

@@ -1,11 +1,24 @@
-use Rattle.std.proofs.Common.{ℕ, ◌+◌, List, [], ◌++◌, refl, sym, append-nil, length, take, ap, ◌∙◌, arith, length-append}
+use Rattle.std.proofs.Common.{ℕ, ◌≡◌, ◌+◌, List, ◌++◌, codes, append_assoc, refl, sym, append-nil, length, take, ap, ◌∙◌, arith, length-append}
+use Rattle.nap_values.specs.Coordinates.{Coordinates}
+use Rattle.nap_lines.specs.Lines.{point_text}
 use Rattle.nap_lines.specs.Batches.{line_front, lines_with}
 use Rattle.nap_lines.proofs.BatchLemmas.{appended, kept, text_goes, goes_first, goes_line, goes_on}
 use Rattle.nap_lines.proofs.batch.write_lines.Goals as goal
 
+-- the front of a line, made from the back
+made_front : (from to : Coordinates) (end pointed spaced started named kept : List ℕ) → pointed ≡ point_text to ++ end → spaced ≡ codes " " ++ pointed → started ≡ kept ++ spaced →
+    named ≡ codes "LINE " ++ started → kept ≡ point_text from → named ≡ line_front from to ++ end
+made_front from to end pointed spaced started named kept point space start name is =
+    name
+    ∙ ap (λ (bytes : List ℕ). codes "LINE " ++ bytes) (start ∙ ap (λ (kept : List ℕ). kept ++ spaced) is ∙ ap (λ (bytes : List ℕ). point_text from ++ bytes) (space ∙ ap (λ (bytes : List ℕ). codes " " ++ bytes) point))
+    ∙ parts (codes "LINE ") (point_text from) (codes " ") (point_text to) end
+  where
+    parts : (l p s q e : List ℕ) → l ++ (p ++ (s ++ (q ++ e))) ≡ (l ++ p ++ s ++ q) ++ e
+    parts l p s q e = simp append_assoc
+
 pub loop-to-init : goal.loop-to-init
 unfolding lines_with
-loop-to-init c = record { front = []; room = refl; written = refl; text = sym (append-nil c.args.text.now.items); goes = goes_first c.args.room.now c.args.from }
+loop-to-init c = record { front = point_text c.args.from; room = c.point_kept-kept.ensures.text; written = refl; at = c.args.from; kept = c.point_kept-kept.ensures.kept; few = c.point_kept-kept.ensures.few; text = sym (append-nil c.args.text.now.items); goes = goes_first c.args.room.now c.args.from }
 
 pub keep-requires-clause-within : goal.keep-requires-clause-within
 keep-requires-clause-within c =
@@ -20,16 +33,19 @@ pub loop-to-preserved : goal.loop-to-preserved
 loop-to-preserved c =
     let invariant = c.loop-to.invariant in
     let end = c.args.room.now in
-    let at = c.loop-to.from in
+    let at = invariant.at in
     let to = c.to-item.result in
     let i = c.loop-to.to-index in
     let points = c.args.points.now in
-    let room = c.line_front.ensures ∙ ap (λ (bytes : List ℕ). line_front at to ++ bytes) (c.keep.ensures ∙ kept c.loop-to.room invariant.front end c.len-end.result invariant.room c.len-end.ensures.count) in
+    let room = made_front at to c.keep.new.self c.point_kept-next.new.self c.push.new.self c.put_kept.new.self c.push-in-loop-to.new.self c.loop-to.kept c.point_kept-next.ensures.text c.push.ensures.text c.put_kept.ensures.text c.push-in-loop-to.ensures.text invariant.kept ∙ ap (λ (bytes : List ℕ). line_front at to ++ bytes) (c.keep.ensures ∙ kept c.loop-to.room invariant.front end c.len-end.result invariant.room c.len-end.ensures.count) in
     let line = c.as_slice.ensures.bytes ∙ room in
     record {
       front = line_front at to;
       room = room;
       written = ap (λ n. n + 1) invariant.written;
+      at = to;
+      kept = c.point_kept-next.ensures.kept;
+      few = c.point_kept-next.ensures.few;
       text =
           text_goes c.args.text.now.items c.loop-to.text.items c.extend_from_slice.new.self.items (lines_with end c.args.from (take i points))
           (lines_with end c.args.from (take (i + 1) points)) (line_front at to ++ end) invariant.text

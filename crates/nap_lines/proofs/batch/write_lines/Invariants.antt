@@ -1,12 +1,17 @@
-use Rattle.std.proofs.Common.{ℕ, List, ◌≡◌, ◌++◌, take}
+use Rattle.std.proofs.Common.{ℕ, List, ◌≡◌, ◌≤◌, ◌++◌, length, take}
+use Rattle.nap_values.specs.Coordinates.{Coordinates}
+use Rattle.nap_lines.specs.Lines.{point_text}
 use Rattle.nap_lines.specs.Batches.{lines_with, Goes}
 use Rattle.nap_lines.proofs.batch.write_lines.Given as goal
 
 abbrev pub invariant-loop-to : goal.invariant-loop-to
 invariant-loop-to l = record {
   front : List ℕ;
-  room : l.room ≡ front ++ l.initial.room;
+  room : l.room ≡ front ++ l.fn.room;
   written : l.written ≡ l.to-index;
-  text : l.text.items ≡ l.initial.text.items ++ lines_with l.initial.room l.initial.from (take l.to-index l.points);
-  goes : Goes l.initial.room l.initial.from (take l.to-index l.points) l.from;
+  at : Coordinates;
+  kept : l.kept ≡ point_text at;
+  few : length l.kept ≤ 21;
+  text : l.text.items ≡ l.fn.text.items ++ lines_with l.fn.room l.fn.from (take l.to-index l.points);
+  goes : Goes l.fn.room l.fn.from (take l.to-index l.points) at;
 }

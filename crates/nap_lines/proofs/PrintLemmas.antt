@@ -1,0 +1,254 @@
+use Rattle.std.proofs.Common.{ℕ, ◌≡◌, ◌+◌, ◌-◌, ◌^◌, ◌<◌, ◌≤◌, ◌||◌, true, false, List, [], ◌∷◌, ◌++◌, length, take, drop, min, Result, Ok, Err, OnOk, refl, ap, sym, subst, ◌∙◌, inl, inr, append-nil, take-add, length-drop, arith}
+use Rattle.std.proofs.lemmas.List.{length-take-le, take-append-drop, take_all}
+use Rattle.std.proofs.KnownBytes.{Appends-kept, Appends-nil}
+use Rattle.std.specs.Io.KnownBytes.{Appends, Keeps}
+use Rattle.std.specs.Result.{IsErrAnd}
+use Rattle.nap_list.specs.declared.device.DeviceFault.{DeviceFault}
+use Rattle.nap_list.specs.declared.device.outlet.Outlet as outlet
+use Rattle.nap_list.specs.declared.entry.Entry.{Entry}
+use Rattle.nap_list.specs.declared.sink.BatchFault.{BatchFault}
+use Rattle.nap_list.specs.declared.sink.SinkFault.{SinkFault}
+use Rattle.nap_list.specs.declared.sink.SinkFault.TheVariants as faults
+use Rattle.nap_list.specs.declared.state.State.{State}
+use Rattle.nap_list.specs.Putting.{SinkShows, Put, BreaksAfter, HaltsAfter, PutSome, Tells, TakesAll, shows}
+use Rattle.nap_list.specs.PuttingLaws.{stops_behind, wanting_put}
+use Rattle.nap_list.specs.State.{walk}
+use Rattle.nap_lines.specs.Lines.{line}
+use Rattle.nap_lines.specs.Listing.{lines, lines_join}
+use Rattle.nap_lines.specs.Printing.{Sending, sending, Sends, Passes, Sent, Closes, Printing, shown, Took, Broke, StopsAt, Prints, taken_of}
+use Rattle.nap_lines.specs.PrintingLaws.{sends_more, passes_none, passes_more, passes_on, took_none}
+
+-- Bytes that an outlet takes, write after write.
+
+counted_on : (n count k : ℕ) → n ≤ 2 ^ 64 - 1 → k ≡ min (n + count) (2 ^ 64 - 1) → k ≡ n + min count (2 ^ 64 - 1 - n)
+counted_on n count k small is = omega arith
+
+-- one write takes a part of the rest
+pub sends_part : {O : Type 0} (o : outlet.Ghosts O) (s : Sending) (t u : O) (n k i count : ℕ) (xs : List ℕ) → Sends s (take i xs) (sending o t n) →
+    count ≤ length (drop i xs) → Appends (o.taken t) (o.taken u) (take count (drop i xs)) → o.failed u ≡ (o.failed t || false) →
+    o.write_failed u ≡ (o.write_failed t || false) → o.flushes u ≡ o.flushes t → n ≤ 2 ^ 64 - 1 → k ≡ min (n + count) (2 ^ 64 - 1) → Sends s (take (i + count) xs) (sending o u k)
+sends_part o s t u n k i count xs so_far few appended failed write_failed flushes small counted =
+    let piece : List ℕ = take count (drop i xs) in
+    let more : Sends (sending o t n) piece (sending o u k) = record {
+      taken = appended;
+      count = counted_on n count k small counted ∙ ap (λ (l : ℕ). n + min l (2 ^ 64 - 1 - n)) (sym (length-take-le count (drop i xs) few));
+      fails = false;
+      failed = failed;
+      write_failed = write_failed;
+      flushes = flushes;
+    } in
+    subst (λ (bytes : List ℕ). Sends s bytes (sending o u k)) (sym (take-add i count xs)) (sends_more s (sending o t n) (sending o u k) (take i xs) piece so_far more)
+
+-- a write fails, and takes nothing
+pub sends_failing : {O : Type 0} (o : outlet.Ghosts O) (s : Sending) (t u : O) (n : ℕ) (bytes : List ℕ) → Sends s bytes (sending o t n) → Keeps (o.taken t) (o.taken u) →
+    o.failed u ≡ (o.failed t || true) → o.write_failed u ≡ (o.write_failed t || true) → o.flushes u ≡ o.flushes t → Sends s bytes (sending o u n)
+sends_failing o s t u n bytes so_far kept failed write_failed flushes =
+    let none : Sends (sending o t n) [] (sending o u n) = record {
+      taken = Appends-kept (o.taken t) (o.taken t) (o.taken u) [] (Appends-nil (o.taken t)) kept;
+      count = omega arith;
+      fails = true;
+      failed = failed;
+      write_failed = write_failed;
+      flushes = flushes;
+    } in
+    subst (λ (bytes : List ℕ). Sends s bytes (sending o u n)) (append-nil bytes) (sends_more s (sending o t n) (sending o u n) bytes [] so_far none)
+
+-- a first part was sent
+pub part_passes : (s : Sending) (t : Sending) (i : ℕ) (xs : List ℕ) → Sends s (take i xs) t → Passes s [] xs (drop i xs) t
+part_passes s t i xs sent = record { sent = take i xs; parts = sym (take-append-drop i xs); sends = sent }
+
+-- the piece from i on is the rest
+pub rest_of : (i : ℕ) (xs : List ℕ) → take (length xs - i) (drop i xs) ≡ drop i xs
+rest_of i xs = take_all (length xs - i) (drop i xs) (omega (arith, length-drop i xs))
+
+-- What was held is sent.
+
+-- bytes that come first are those that were held
+held_first : (s t : Sending) (held left : List ℕ) → Passes s [] held left t → Passes s held [] left t
+held_first s t held left h = record { sent = h.sent; parts = append-nil held ∙ h.parts; sends = h.sends }
+
+module _ {O : Type 0} (o : outlet.Ghosts O) (w u : O) (m n : ℕ) (held bytes : List ℕ) (v : State) (is : bytes ≡ held) where
+  abbrev before : Printing O
+  before = record { outlet = w; written = m; held = held; state = v }
+
+  pub sent_all : (now : List ℕ) → now ≡ [] → Sends (sending o w m) bytes (sending o u n) × (o.failed u ≡ o.failed w) → Sent o before (record { outlet = u; written = n; held = now; state = v }) (Ok tt)
+  sent_all now none sent = (
+    record { sent = bytes; parts = append-nil held ∙ sym is ∙ sym (append-nil bytes) ∙ ap (λ (left : List ℕ). bytes ++ left) (sym none); sends = sent.0 },
+    sent.1,
+    refl,
+  )
+
+  pub sent_part : (f : DeviceFault) → ((left : List ℕ) × Passes (sending o w m) [] bytes left (sending o u n)) × (o.failed u ≡ true) →
+      Sent o before (record { outlet = u; written = n; held = held; state = v }) (Err f)
+  sent_part f sent = (
+    (sent.0.0, held_first (sending o w m) (sending o u n) held sent.0.0 (subst (λ (bytes : List ℕ). Passes (sending o w m) [] bytes sent.0.0 (sending o u n)) is sent.0.1)),
+    sent.1,
+    refl,
+  )
+
+-- a printer is closed
+
+pub closes_failed : {O : Type 0} (o : outlet.Ghosts O) (s : Printing O) → o.failed s.outlet ≡ true → Closes o s s.outlet s.written
+closes_failed o s set = record {
+  left = s.held;
+  passes = passes_none (shown o s) s.held;
+  all = λ works. (let bad : true ≡ false = sym set ∙ works in cc);
+  still = λ _. (refl, refl);
+}
+
+pub closes_by : {O : Type 0} (o : outlet.Ghosts O) (s t : Printing O) (r : Result (Unit {0}) DeviceFault) → o.failed s.outlet ≡ false → Sent o s t r → OnOk r (t.held ≡ []) →
+    Closes o s t.outlet t.written
+closes_by o s t (Ok done) works sent none = record {
+  left = t.held;
+  passes = sent.0;
+  all = λ _. none;
+  still = λ set. (let bad : true ≡ false = sym set ∙ works in cc);
+}
+closes_by o s t (Err fault) works sent none = record {
+  left = sent.0.0;
+  passes = sent.0.1;
+  all = λ clear. (let bad : true ≡ false = sym sent.1 ∙ clear in cc);
+  still = λ set. (let bad : true ≡ false = sym set ∙ works in cc);
+}
+
+-- Lines behind what is held.
+
+pub one_line : (e : Entry) → line e ++ 10 ∷ [] ≡ lines (e ∷ [])
+one_line e = sym (append-nil (line e ++ 10 ∷ []))
+
+-- bytes were held too, and then what is held was passed on
+pub held_on : (s t : Sending) (held now bytes left : List ℕ) → now ≡ held ++ bytes → Passes s now [] left t → Passes s held bytes left t
+held_on s t held now bytes left is h = record { sent = h.sent; parts = sym is ∙ sym (append-nil now) ∙ h.parts; sends = h.sends }
+
+-- more entries' lines behind the first ones
+pub lines_on : (s t : Sending) (held left now : List ℕ) (list : List Entry) (n more : ℕ) → Passes s held (lines (take n list)) left t →
+    now ≡ left ++ lines (take more (drop n list)) → Passes s held (lines (take (n + more) list)) now t
+lines_on s t held left now list n more h is =
+    let all : lines (take (n + more) list) ≡ lines (take n list) ++ lines (take more (drop n list)) =
+    ap lines (take-add n more list) ∙ lines_join (take n list) (take more (drop n list)) in
+    rw (all, is) (passes_on s t held left (lines (take n list)) (lines (take more (drop n list))) h)
+
+-- what was held went on
+pub sent_on : (s t u : Sending) (held mid left bytes : List ℕ) → Passes s held bytes mid t → Passes t mid [] left u → Passes s held bytes left u
+sent_on s t u held mid left bytes first second =
+    subst (λ (bytes : List ℕ). Passes s held bytes left u) (append-nil bytes) (passes_more s t u held mid left bytes [] first second)
+
+-- what was held is passed on, and then more entries' lines are made
+pub chunk : {O : Type 0} (o : outlet.Ghosts O) (s t m : Printing O) (list : List Entry) (n more : ℕ) (held now : List ℕ) (w : O) (k : ℕ) →
+    Passes (shown o s) s.held (lines (take n list)) t.held (shown o t) → Passes (shown o t) t.held [] m.held (shown o m) → w ≡ m.outlet → k ≡ m.written → held ≡ m.held →
+    now ≡ held ++ lines (take more (drop n list)) → Passes (shown o s) s.held (lines (take (n + more) list)) now (sending o w k)
+chunk o s t m list n more held now w k passes sent outlet written same is =
+    rw (outlet, written) (lines_on (shown o s) (shown o m) s.held m.held now list n more (sent_on (shown o s) (shown o t) (shown o m) s.held t.held m.held (lines (take n list)) passes sent)
+    (is ∙ ap (λ (held : List ℕ). held ++ lines (take more (drop n list))) same))
+
+pub prints_state : {O : Type 0} (o : outlet.Ghosts O) (s t : Printing O) (d : List Entry) (r : Result (Unit {0}) BatchFault) → Prints o s d t r → t.state ≡ s.state
+prints_state o s t d (Ok done) prints = prints.2
+prints_state o s t d (Err stop) prints = prints.2
+
+module _ {O : Type 0} (o : outlet.Ghosts O) where
+  -- a printer, as any sink shows
+  abbrev pub printer_shows : SinkShows (Printing O)
+  printer_shows = shows (λ s. s.state) (λ s d. Unit {0}) (λ s. o.failed s.outlet) (Took o) (Broke o)
+
+  -- The lines of a list were printed, and the state goes on.
+  module _ (s t : Printing O) (v : State) (d : List Entry) (works : o.failed s.outlet ≡ false) where
+    abbrev pub u : Printing O
+    u = record t { state = v }
+
+    not_failed : {A : Type 0} → o.failed s.outlet ≡ true → A
+    not_failed set = let bad : ⊥ = cc in absurd bad
+
+    took_front : (n : ℕ) → Passes (shown o s) s.held (lines (take n d)) t.held (shown o t) → o.failed t.outlet ≡ false → v ≡ walk s.state (take n d) → Took o s (take n d) u
+    took_front n passes clear is = record { passes = passes; failed = clear ∙ sym works; state = is }
+
+    -- a write failed behind so many
+    breaks : (n : ℕ) (left : List ℕ) → n < length d → Passes (shown o s) s.held (lines (take n d)) left (shown o t) → o.failed t.outlet ≡ true → v ≡ walk s.state (take n d) →
+        (rest : List Entry) → d ≡ take n d ++ rest → BreaksAfter (Broke o) s d n u
+    breaks n left less passes failed is [] parts = absurd (omega (arith, less, length-take-le n d (omega (arith, less)), ap length parts, ap length (append-nil (take n d))))
+    breaks n left less passes failed is (x ∷ rest) parts = record {
+      front = take n d;
+      next = x;
+      rest = rest;
+      parts = parts;
+      count = length-take-le n d (omega (arith, less));
+      broken = record {
+        left = left ++ lines (x ∷ []);
+        passes = rw (lines_join (take n d) (x ∷ [])) (passes_on (shown o s) (shown o t) s.held left (lines (take n d)) (lines (x ∷ [])) passes);
+        failed = failed;
+        state = is;
+      };
+    }
+
+    -- so many, and then memory ran out or a write failed
+    stopped : (n : ℕ) (fault : SinkFault) → StopsAt o s d n t fault → n < length d → v ≡ walk s.state (take n d) → HaltsAfter printer_shows d s u n fault × Tells printer_shows s u n fault
+    stopped n faults.Memory (passes, clear) less is = stops_behind printer_shows s u d n less works clear (took_front n passes clear is) (λ x. tt)
+    stopped n faults.Write ((left, passes), failed) less is = (
+      inr (breaks n left less passes failed is (drop n d) (sym (take-append-drop n d))),
+      record { write = λ _. failed; memory = λ e. (let bad : ⊥ = cc in absurd bad); none = λ set. not_failed set },
+    )
+
+    put_by : (r : Result (Unit {0}) BatchFault) → Prints o s d t r → v ≡ walk s.state (take (taken_of (length d) r) d) → Put printer_shows d s u r
+    put_by (Ok done) (passes, clear, _) is =
+        let all = take_all (length d) d (omega arith) in
+        record {
+          took = record { passes = subst (λ (d : List Entry). Passes (shown o s) s.held (lines d) t.held (shown o t)) refl passes; failed = clear ∙ sym works; state = is ∙ ap (walk s.state) all };
+          state = is ∙ ap (walk s.state) all;
+          works = λ _. clear;
+          none = λ set. not_failed set;
+        }
+    put_by (Err stop) (stops, less, _) is = stopped stop.taken stop.fault stops less is
+
+    -- as it is left
+    pub put_at : (w : O) (m : ℕ) (held : List ℕ) (r : Result (Unit {0}) BatchFault) → w ≡ t.outlet → m ≡ t.written → held ≡ t.held → Prints o s d t r →
+        v ≡ walk s.state (take (taken_of (length d) r) d) → Put printer_shows d s (record { outlet = w; written = m; held = held; state = v }) r
+    put_at w m held r outlet written same prints is = rw (outlet, written, same) (put_by r prints is)
+
+  -- One entry's line was held too, and then what is held was sent where it was much.
+  module _ (s m t : Printing O) (e : Entry) (shown_is : shown o m ≡ shown o s) (held_is : m.held ≡ s.held ++ lines (e ∷ [])) where
+    pub took_one : (w : O) (n : ℕ) (held : List ℕ) (v : State) (f : Unit {0}) → Sent o m t (Ok f) → o.failed m.outlet ≡ o.failed s.outlet → w ≡ t.outlet → n ≡ t.written → held ≡ t.held →
+        v ≡ walk s.state (e ∷ []) → Took o s (e ∷ []) (record { outlet = w; written = n; held = held; state = v })
+    took_one w n held v f sent same outlet written left state = rw (outlet, written, left) (record {
+      passes = held_on (shown o s) (shown o t) s.held m.held (lines (e ∷ [])) t.held held_is (subst (λ (x : Sending). Passes x m.held [] t.held (shown o t)) shown_is sent.0);
+      failed = sent.1 ∙ same;
+      state = state;
+    })
+
+    pub broke_one : (f : DeviceFault) → Sent o m t (Err f) → t.state ≡ s.state → Broke o s [] e t
+    unfolding walk
+    broke_one f sent state = record {
+      left = sent.0.0;
+      passes = held_on (shown o s) (shown o t) s.held m.held (lines (e ∷ [])) sent.0.0 held_is (subst (λ (x : Sending). Passes x m.held [] sent.0.0 (shown o t)) shown_is sent.0.1);
+      failed = sent.1;
+      state = state;
+    }
+
+  -- what that says of a shape
+
+  pub shape_taken : (s u : Printing O) (e : Entry) → o.failed s.outlet ≡ false → Took o s (e ∷ []) u → TakesAll printer_shows (e ∷ []) s u
+  shape_taken s u e works took = record {
+    took = took;
+    state = took.state;
+    works = λ _. took.failed ∙ works;
+    none = λ set. (let bad : ⊥ = cc in absurd bad);
+  }
+
+  pub shape_broken : (s u : Printing O) (e : Entry) → o.failed s.outlet ≡ false → Broke o s [] e u → PutSome {A = Unit {0}} printer_shows (e ∷ []) s u (Err faults.Write)
+  shape_broken s u e works broke = (
+    0,
+    inr (record { front = []; next = e; rest = []; parts = refl; count = refl; broken = broke }),
+    record { write = λ _. broke.failed; memory = λ is. (let bad : ⊥ = cc in absurd bad); none = λ set. (let bad : ⊥ = cc in absurd bad) },
+  )
+
+  pub shape_refused : (s : Printing O) (w : O) (n : ℕ) (old now : List ℕ) (v : State) (e : Entry) (r : Result (Unit {0}) SinkFault) →
+      record { outlet = w; written = n; held = old; state = v } ≡ s → now ≡ old → IsErrAnd r (λ fault. fault ≡ faults.Memory) → o.failed s.outlet ≡ false →
+      PutSome printer_shows (e ∷ []) s (record { outlet = w; written = n; held = now; state = v }) r
+  shape_refused s w n old now v e r is kept wants works =
+      let same : record { outlet = w; written = n; held = now; state = v } ≡ s = ap (λ (held : List ℕ). record { outlet = w; written = n; held = held; state = v }) kept ∙ is in
+      subst (λ (u : Printing O). PutSome printer_shows (e ∷ []) s u r) (sym same) (wanting_put printer_shows s e r wants (took_none o s) works tt)
+
+  pub shape_failed : (s : Printing O) (list : List Entry) → o.failed s.outlet ≡ true → PutSome {A = Unit {0}} printer_shows list s s (Err faults.Write)
+  shape_failed s list set = (
+    0,
+    inl (set, refl, refl),
+    record { write = λ _. set; memory = λ is. (let bad : ⊥ = cc in absurd bad); none = λ _. (refl, refl, refl) },
+  )

@@ -1,0 +1,23 @@
+//! Bytes that an outlet takes whole.
+ghost use Rattle.nap_lines.specs.Printing.{SentUpTo, sending};
+
+use nap_list::{DeviceFault, Outlet};
+
+/// Sends all the bytes, and counts those that the outlet takes; the count stays at the greatest `u64`.
+pub(crate) fn send_all<O: Outlet>(
+    outlet: &mut O,
+    written: &mut u64,
+    bytes: &[u8],
+) -> Result<(), DeviceFault>
+    ensures { SentUpTo (sending O.Outlet outlet.old written.old) bytes.now (sending O.Outlet outlet.new written.new) result }
+{
+    let mut taken = 0;
+    while taken < bytes.len() {
+        let Ok(count) = outlet.write(&bytes[taken..]) else {
+            return Err(DeviceFault);
+        };
+        *written = written.saturating_add(count as u64);
+        taken += count;
+    }
+    Ok(())
+}
