@@ -46,7 +46,7 @@ impl Tail {
     pub(crate) fn point_kept(&mut self, point: Point) -> Kept
         requires room { length self.old + 24 ≤ line_limit }
         ensures text { self.new ≡ point_text point ++ self.old }
-        ensures size { length self.new ≤ length self.old + 21 }
+        ensures size { length self.new ≡ length result + length self.old }
         ensures kept { result ≡ point_text point }
         ensures few { length result ≤ 21 }
     {
