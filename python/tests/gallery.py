@@ -24,11 +24,6 @@ def stored(name: str) -> bytes:
         return file.read()
 
 
-def logo() -> bytes:
-    """A service's logo."""
-    return stored("logo.nap")
-
-
 def _sun() -> StreamWriter:
     """A sun around the pen, which ends where it began."""
     body = StreamWriter(gl=PDI)

@@ -9,7 +9,6 @@ from hypothesis import given
 from hypothesis import strategies as st
 
 from conftest import file
-from gallery import logo
 from naplps.answers import Refusal
 from naplps.treating.changes import AROUND, WITHIN
 from naplps.treating.search import MOST_ASKED, TreatmentSearch
@@ -17,6 +16,7 @@ from naplps.treating.treatments import TREATMENTS, grade_of, treated, untreated
 from naplps_pages.curing import told_change
 from old_files import in_eight_bits, sauce
 from samples import POINT, with_parity
+from spelled import logo
 
 PAGE = logo()
 AT = PAGE.rindex(b"\x0f")                                       # (before the last text of the page)

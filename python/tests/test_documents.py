@@ -8,9 +8,9 @@ from urllib.parse import unquote
 import pytest
 
 from conftest import COMMAND, TOP, file
-from gallery import logo
 from packers import pack
 from samples import POINT, with_parity
+from spelled import logo
 
 STARTS = (("README.md", "    ", "pages/naplps-pages "), ("README.md", "    ", "./naplps "),
           ("docs/COLLECTIONS.md", "    ", "naplps-pages "),

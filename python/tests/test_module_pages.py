@@ -6,7 +6,6 @@ from hypothesis import given, settings
 
 import naplps as nap
 from conftest import TOP, file
-from gallery import logo
 from libraries import library_path
 from naplps import backends
 from naplps.entry_json import members_of
@@ -16,6 +15,7 @@ from naplps.program_backend import ProgramBackend
 from naplps.reading import read_line
 from naplps.writer import blocks, star
 from samples import BOMB, OUTSIDE, POINT, with_parity
+from spelled import logo
 from strategies import pages
 from stream_writer import StreamWriter
 

@@ -6,11 +6,11 @@ import subprocess
 import pytest
 
 from conftest import COMMAND, file
-from gallery import logo
 from naplps.answers import Refusal
 from naplps_pages import refusals
 from naplps_pages.cases import case_of
 from samples import POINT, with_parity
+from spelled import logo
 
 # Each code that is left out, and its bytes behind SO.
 LEFT_OUT = {"CAN": "18", "SDC": "1A", "NSR": "1F", "DEFT": "1B 42", "UNPROTECT": "1B 5F", "EDC1": "1B 51",

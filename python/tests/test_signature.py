@@ -59,25 +59,25 @@ def said_by_droid(some):
 
 
 def made():
-    """Pages and other files, and whether each is a page that the signature is for."""
+    """Pages and other files, and what the signature says of each."""
     chance = Random(1983)
-    some = [(picture(chance, number), True) for number in range(3000)]
-    some += [(page, True) for page in gallery.pages().values()]
-    some += [(writing(chance, number), False) for number in range(300)]
-    some += [(chance.randbytes(1000), False) for _ in range(1000)]
-    some += [(with_parity(picture(chance, number)), False) for number in range(20)]
+    some = [(picture(chance, number), LIKELY) for number in range(3000)]
+    some += [(page, LIKELY if name in gallery.SPELLED else CANONICAL) for name, page in gallery.pages().items()]
+    some += [(writing(chance, number), "") for number in range(300)]
+    some += [(chance.randbytes(1000), "") for _ in range(1000)]
+    some += [(with_parity(picture(chance, number)), "") for number in range(20)]
     return some
 
 
 def test_for_droid():
     some = made()
-    assert list(said_by_droid(data for data, _ in some)) == [LIKELY if is_page else "" for _, is_page in some]
+    assert list(said_by_droid(data for data, _ in some)) == [said for _, said in some]
 
 
 @needs_file
 def test_by_file(tmp_path):
     some = made()
-    assert said_by_file(tmp_path, [data for data, _ in some]) == [LIKELY if is_page else "" for _, is_page in some]
+    assert said_by_file(tmp_path, [data for data, _ in some]) == [said for _, said in some]
 
 
 @needs_file
