@@ -60,14 +60,20 @@ def _places(rows: List[Row], names: Dict[Row, str]) -> str:
     return "; ".join(f"{word}: {', '.join(edits)}" if edits else word for word, edits in told.items())
 
 
-def _bodies(rows: List[Row], names: Dict[Row, str]) -> str:
-    """The lines on the wrong bodies of a promise, those that the gate tries first; empty where there are none."""
+def _bodies(promise: str, rows: List[Row], names: Dict[Row, str]) -> str:
+    """The lines on the wrong bodies of a promise, those that the gate tries first; empty where there are none. What a
+    body does is told below the first promise that it breaks, and its name alone below the others."""
     groups: Dict[str, List[Row]] = {}
+    elsewhere: Dict[str, List[str]] = {}
     for row in sorted(rows, key=lambda row: PLACE_ORDER.index(row.place)):
-        groups.setdefault(row.does, []).append(row)
-    if not groups:
+        if row.promises[0] == promise:
+            groups.setdefault(row.does, []).append(row)
+        elif promise in row.promises:
+            elsewhere.setdefault(row.promises[0], []).append("one" if row.edit == NO_EDIT else f"`{names[row]}`")
+    lines = [f"{does} ({_places(group, names)})" for does, group in groups.items()]
+    lines += [f"breaks *{first}* too: {', '.join(edits)}" for first, edits in elsewhere.items()]
+    if not lines:
         return ""
-    lines = (f"{does} ({_places(group, names)})" for does, group in groups.items())
     return LEAD + "".join(
         textwrap.fill(line, WIDTH, initial_indent="- ", subsequent_indent="  ", break_long_words=False,
                       break_on_hyphens=False) + "\n" for line in lines) + "\n"
@@ -79,8 +85,8 @@ def with_bodies(text: str, rows: List[Row]) -> str:
     names = {row: row.edit if having[row.edit] == 1 else f"{row.crate}/{row.edit}" for row in rows}
 
     def filled(found: "re.Match[str]") -> str:
-        broken = [row for row in rows if found["name"] in row.promises]
-        return f"### {found['name']}\n{found['said']}{found['state']}\n{_bodies(broken, names)}"
+        bodies = _bodies(found["name"], rows, names)
+        return f"### {found['name']}\n{found['said']}{found['state']}\n{bodies}"
 
     bare = re.sub(r"\n{3,}", "\n\n", BODIES.sub("", text))
     return re.sub(r"\n{3,}", "\n\n", PROMISE.sub(filled, bare))

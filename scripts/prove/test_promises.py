@@ -44,7 +44,8 @@ A text is said.
 
 Refused is a body that
 
-- says nothing (apart: `low/text_is_empty`, `high/text_is_empty`)
+- says nothing (apart: `high/text_is_empty`)
+- breaks *Halves* too: `low/text_is_empty`
 
 ### Nothing
 
@@ -83,7 +84,7 @@ class Promises(unittest.TestCase):
         """What is written into a page that has none is what stands in one that has them."""
         bare = PAGE
         lead = "Refused is a body that\n\n"
-        for start in (f"{lead}- gives", f"{lead}- says nothing (apart: `low/text_is_empty`, "):
+        for start in (f"{lead}- gives", f"{lead}- says nothing (apart: `high/text_is_empty`"):
             at = bare.index(start)
             bare = bare[:at] + bare[bare.index("###", at):]
         with tempfile.TemporaryDirectory() as room:
