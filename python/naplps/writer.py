@@ -24,21 +24,16 @@ Place = Tuple[float, float]
 SIXTEENTH = 1 << 20
 
 
-def units(value: float) -> int:
-    """A coordinate in the steps that lines have; a whole side is the last of them."""
-    return min(round(value * ONE), ONE - 1)
-
-
-def position(place: Place) -> Position:
-    """A place or a size in steps."""
-    return units(place[0]), units(place[1])
-
-
 class PageWriter:
-    """The entries of a page, one after another. Each method gives the writer again."""
+    """The entries of a page, one after another. Each method gives the writer again.
 
-    def __init__(self) -> None:
+    Places and sizes go to the nearest of so many steps of the side, a power of two, as 256 of a screen with so many
+    pels across; without a number, of all that lines have. A whole side is the last position.
+    """
+
+    def __init__(self, steps: int = ONE) -> None:
         self.entries: List[Entry] = []
+        self._steps = steps
         self._state = PageState()
         # What was set; None where what stands is drawn with.
         self._pen: Optional[Pen] = None
@@ -63,6 +58,14 @@ class PageWriter:
         """The page, as the program makes it. Raises NotMade."""
         return make(self.entries)
 
+    def units(self, value: float) -> int:
+        """A coordinate in the units that lines have."""
+        return min(round(value * self._steps) * (ONE // self._steps), ONE - 1)
+
+    def position(self, place: Place) -> Position:
+        """A place or a size in these units."""
+        return self.units(place[0]), self.units(place[1])
+
     # -- what is drawn with
 
     def rgb(self, red: float, green: float, blue: float) -> "PageWriter":
@@ -82,7 +85,7 @@ class PageWriter:
 
     def pel(self, wide: float = 0.0, high: float = 0.0) -> "PageWriter":
         """The size of the pel."""
-        self._pel = position((wide, high))
+        self._pel = self.position((wide, high))
         return self
 
     def texture(self, line: int = 0, fill: int = 0, edge: bool = False) -> "PageWriter":
@@ -120,20 +123,20 @@ class PageWriter:
     def points(self, *places: Place) -> "PageWriter":
         """Points."""
         pel, colour, _ = self._ink
-        return self.add(*(Point(position(place), pel, colour) for place in places))
+        return self.add(*(Point(self.position(place), pel, colour) for place in places))
 
     def line(self, *places: Place) -> "PageWriter":
         """Lines from place to place."""
-        ends = list(map(position, places))
+        ends = list(map(self.position, places))
         return self.add(*(Line(start, end, *self._ink) for start, end in zip(ends, ends[1:])))
 
     def polygon(self, places: Sequence[Place], filled: bool = True) -> "PageWriter":
         """A polygon."""
-        return self.add(Poly(filled, tuple(map(position, places)), *self._ink))
+        return self.add(Poly(filled, tuple(map(self.position, places)), *self._ink))
 
     def rectangle(self, x: float, y: float, wide: float, high: float, filled: bool = True) -> "PageWriter":
         """A rectangle."""
-        return self.add(Rect(filled, position((x, y)), position((x + wide, y + high)), *self._ink))
+        return self.add(Rect(filled, self.position((x, y)), self.position((x + wide, y + high)), *self._ink))
 
     def circle(self, x: float, y: float, radius: float, filled: bool = True) -> "PageWriter":
         """A circle around a place."""
@@ -141,13 +144,13 @@ class PageWriter:
 
     def arc(self, places: Sequence[Place], filled: bool = False) -> "PageWriter":
         """An arc through three places, or a curve through more."""
-        return self.add(Arc(filled, tuple(map(position, places)), *self._ink))
+        return self.add(Arc(filled, tuple(map(self.position, places)), *self._ink))
 
     # -- text
 
     def to(self, x: float, y: float) -> "PageWriter":
         """The next character stands at a place."""
-        self._pen = position((x, y))
+        self._pen = self.position((x, y))
         return self
 
     def at(self, x: float, y: float, words: str, size: str = "") -> "PageWriter":

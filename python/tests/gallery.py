@@ -125,7 +125,7 @@ def mosaics() -> PageWriter:
 
 def palette() -> PageWriter:
     """Colours set in the map, bars in them, and one that blinks."""
-    page = PageWriter().clear()
+    page = PageWriter(1024).clear()
     for number in range(1, 15):
         share = (number - 1) / 13
         page.map(number, share, 0.5 + 0.5 * math.sin(share * math.pi), 1 - share)
@@ -138,7 +138,7 @@ def palette() -> PageWriter:
 
 def chart() -> PageWriter:
     """A chart of bars with fills, a line over them, and two axes."""
-    page = PageWriter().clear()
+    page = PageWriter(1024).clear()
     page.rgb(0.12, 0.12, 0.16).rectangle(0, 0, 1, 0.78)
     page.rgb(0.35, 0.35, 0.4).texture(1)
     for i in range(1, 6):

@@ -36,6 +36,13 @@ def test_shapes():
         f"ARC-OUTLINED 0,0 4194304,4194304 8388607,0 {ink} texture=0/none"]
 
 
+def test_steps():
+    page = PageWriter(256).points((0.5, 0.251), (1, 0)).pel(0.003, -0.003).points((0, 0))
+    assert lines_of(page) == [
+        "POINT 4194304,2097152 pel=0,0 colour=own-start", "POINT 8388607,0 pel=0,0 colour=own-start",
+        "POINT 0,0 pel=32768,-32768 colour=own-start"]
+
+
 def test_text():
     page = PageWriter().at(0.25, 0.5, "é", "double").flags(underline=True).text("½").move("APD").size("small")
     page.to(0.5, 0.5).character("mosaic", 0x21, 0x22).move("APS", 0x41, 0x42).clear().flags().text("A")
