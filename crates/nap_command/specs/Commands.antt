@@ -8,7 +8,7 @@ use Rattle.nap_reader.specs.Stream.{means}
 use Rattle.nap_reader.specs.Breaking.{BreaksWithin, LacksWithin}
 use Rattle.nap_canon.specs.declared.conversion.ConvertFault.{ConvertFault}
 use Rattle.nap_canon.specs.declared.conversion.ConvertFault.TheVariants as convert_fault
-use Rattle.nap_canon.specs.Converting.{Converts, StopsAtOnce}
+use Rattle.nap_canon.specs.Converting.{Converts, StopsAtOnce, count_of}
 use Rattle.nap_canon.specs.Streams.{IsAccepted, list_of, IsCanonicalOf}
 use Rattle.nap_command.specs.declared.answer.Verdict.{Verdict}
 use Rattle.nap_command.specs.declared.answer.Verdict.TheVariants as verdict
@@ -113,7 +113,7 @@ abbrev pub IsPartly : Command → List ℕ → Reading → List ℕ → Type 0
 IsPartly c p input q =
     ((whole : List ℕ) × (v : Verdict) × Finds c p input whole v × (take (length q) whole ≡ q)) ⊎ ((f : Failure) × Fails c p input f × (q ≡ []))
 
--- A command that prints at its end read the bytes p and printed q, and ended so. The output failed exactly where that is
+-- `check` or `canon` read the bytes p and printed q, and ended so. The output failed exactly where that is
 -- how it ended.
 abbrev pub EndsWhole : Command → List ℕ → Reading → List ℕ → Bool → Result Verdict Failure → Type 0
 EndsWhole c p input q false (Ok v) = Finds c p input q v
@@ -121,6 +121,34 @@ EndsWhole c p input q true (Ok v) = ⊥
 EndsWhole c p input q false (Err f) = (q ≡ []) × Fails c p input f
 EndsWhole c p input q true (Err (failure.Write taken)) = (taken ≡ length q) × IsPartly c p input q
 EndsWhole c p input q true (Err _) = ⊥
+
+-- Lines that are printed as they are made: where memory is wanting then, a front of them was.
+abbrev pub PrintsPart : Command → List ℕ → Reading → List ℕ → Failure → Type 0
+PrintsPart c p input q (failure.Refused r) = (r.fault ≡ fault.Memory) × ((whole : List ℕ) × Finds c p input whole verdict.Accepted × (take (length q) whole ≡ q))
+PrintsPart c p input q _ = ⊥
+
+-- `list` read the bytes p, and printed q once the whole page was accepted. Where it fails it prints nothing, but for memory
+-- that is wanting as lines are made.
+abbrev pub EndsListed : Command → List ℕ → Reading → List ℕ → Bool → Result Verdict Failure → Type 0
+EndsListed c p input q false (Ok v) = Finds c p input q v
+EndsListed c p input q true (Ok v) = ⊥
+EndsListed c p input q false (Err f) = Fails c p input f × ((q ≡ []) ⊎ PrintsPart c p input q f)
+EndsListed c p input q true (Err (failure.Write taken)) = (taken ≡ count_of q) × IsPartly c p input q
+EndsListed c p input q true (Err _) = ⊥
+
+-- how it ends whose page was read so, where the output took so many bytes and has failed or hasn't
+abbrev pub ended_so : {S : Type 0} → Result S Refusal → Result Verdict Failure
+ended_so (Ok s) = Ok verdict.Accepted
+ended_so (Err r) = Err (failure.Refused r)
+
+abbrev pub EndsSo : {S : Type 0} → Result S Refusal → ℕ → Bool → Result Verdict Failure → Type 0
+EndsSo found n true ended = ended ≡ Err (failure.Write n)
+EndsSo found n false ended = ended ≡ ended_so found
+
+-- a command that prints once it read all
+abbrev pub EndsByAction : Action → Command → List ℕ → Reading → List ℕ → Bool → Result Verdict Failure → Type 0
+EndsByAction action.List c p input q failed ended = EndsListed c p input q failed ended
+EndsByAction _ c p input q failed ended = EndsWhole c p input q failed ended
 
 -- how a command ends that converts a page
 abbrev pub ended_by : Result ℕ ConvertFault → Result Verdict Failure
@@ -146,7 +174,7 @@ pub record EndsExcluded (p : List ℕ) (input : Reading) (q : List ℕ) (failed 
 
 -- a command with or without `--stream`, and with or without `--hex`
 abbrev pub EndsBy : Bool → Bool → Command → List ℕ → Reading → List ℕ → Bool → Result Verdict Failure → Type 0
-EndsBy false hex c p input q failed ended = EndsWhole c p input q failed ended
+EndsBy false hex c p input q failed ended = EndsByAction c.action c p input q failed ended
 EndsBy true false c p input q failed ended = EndsStreamed c p input q failed ended
 EndsBy true true c p input q failed ended = EndsExcluded p input q failed ended
 

@@ -2,3 +2,4 @@ pub mod Failures
 pub mod Devices
 pub mod Commands
 pub mod Making
+pub mod Listing

@@ -56,7 +56,7 @@ fn is_blank(byte: u8) -> bool
 }
 
 /// The bytes that hexadecimal text spells, in digits of either case.
-fn bytes_of(alloc: Global, text: &[u8]) -> Result<Vec<u8>, Failure>
+pub(crate) fn bytes_of(alloc: Global, text: &[u8]) -> Result<Vec<u8>, Failure>
     ensures { MatchResult result (λ stream. IsStream true text.now stream.items) (FailsToSpell text.now) }
 {
     let digits: Vec<u8> = text

@@ -5,12 +5,13 @@ ghost use Rattle.nap_list.specs.Flushing.{FlushedOnce};
 ghost use Rattle.nap_list.specs.Limits.{reads_limit};
 ghost use Rattle.nap_list.specs.Reading.{reading};
 ghost use Rattle.nap_command.specs.Devices.{devices};
-ghost use Rattle.nap_command.specs.Commands.{EndsWhole, Ran, Tells, ended_by};
+ghost use Rattle.nap_command.specs.Commands.{EndsByAction, EndsWhole, Ran, Tells, ended_by};
 
 use crate::answer::{Verdict, find};
-use crate::command::Command;
+use crate::command::{Action, Command};
 use crate::device::write_whole;
 use crate::failure::Failure;
+use crate::listing::list;
 use nap_canon::{ConvertFault, convert};
 use nap_list::{Inlet, Outlet};
 use std::alloc::Global;
@@ -63,6 +64,32 @@ fn perform<I: Inlet, O: Outlet>(
     }
 }
 
+/// A command that prints once it has read all of its input.
+fn print_once_read<I: Inlet, O: Outlet + Drop>(
+    alloc: Global,
+    command: &Command,
+    input: &mut I,
+    output: O,
+) -> (O, Result<Verdict, Failure>)
+    requires calls { I.calls input.old < 2 ^ 63 }
+    requires works { O.failed output ≡ false }
+    ensures few { I.calls input.new ≤ I.calls input.old + reads_limit }
+    ensures ends { let seen = reading I.Inlet input.old input.new in
+        (p : List ℕ) × (q : List ℕ) × Consumes (I.left input.old) (I.left input.new) p × Appends (O.taken output) (O.taken result.0) q
+        × EndsByAction command.now.action command.now p seen q (O.failed result.0) result.1 }
+    ensures sends { O.failed result.0 ≡ false → O.sent result.0 ≡ true }
+    ensures flushes { FlushedOnce O.Outlet output result.0 }
+{
+    match command.action {
+        Action::List => list(alloc, command, input, output),
+        Action::Check | Action::Canon => {
+            let mut output = output;
+            let ended = perform(alloc, command, input, &mut output);
+            (output, ended)
+        }
+    }
+}
+
 /// How a command ends that converts a page.
 fn ended_by(converted: Result<u64, ConvertFault>) -> Result<Verdict, Failure>
     ensures { result ≡ ended_by converted }
@@ -89,8 +116,7 @@ pub fn execute<I: Inlet, O: Outlet + Drop, E: Outlet>(
         Ran I.Inlet command.now input.old input.new (seen input.old output errors.old) (seen input.new result.0 errors.new) result.1 }
 {
     if !command.stream {
-        let mut output = output;
-        let ended = perform(alloc, command, input, &mut output);
+        let (output, ended) = print_once_read(alloc, command, input, output);
         let status = conclude(ended, errors);
         return (output, status);
     }

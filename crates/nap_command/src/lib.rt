@@ -6,6 +6,7 @@ mod command;
 mod device;
 mod execution;
 mod failure;
+mod listing;
 mod make;
 mod name;
 

@@ -1,0 +1,190 @@
+//! `list` on its input and its output.
+ghost use Rattle.std.specs.Prelude.{◌≡◌, ◌+◌, ◌<◌, ◌≤◌, ◌^◌, ℕ, List, None, false, true, MatchResult};
+ghost use Rattle.std.specs.Io.KnownBytes.{Appends, Consumes, Keeps};
+ghost use Rattle.nap_list.specs.Flushing.{FlushedOnce, flushed};
+ghost use Rattle.nap_list.specs.Limits.{reads_limit};
+ghost use Rattle.nap_list.specs.Reading.{IsReadWhole, Reading, reading};
+ghost use Rattle.nap_list.specs.State.{start};
+ghost use Rattle.nap_reader.specs.Stream.{means};
+ghost use Rattle.nap_command.specs.Listing.{PrintsAgain};
+ghost use Rattle.nap_command.specs.Commands.{EndsListed, EndsSo, Fails, IsStream};
+
+use crate::answer::{Verdict, bytes_of};
+use crate::command::{Action, Command};
+use crate::device::{read_whole, write_whole};
+use crate::failure::Failure;
+use nap_lines::{LINE_MEMORY, LinePrinter};
+use nap_list::{CountSink, Inlet, Outlet};
+use nap_reader::{Budget, Reader, Refusal, read_stream};
+use std::alloc::Global;
+
+/// A page, and the memory that its lines are made in.
+#[derive(Drop)]
+struct Kept {
+    page: Vec<u8>,
+    memory: Vec<u8>,
+}
+
+/// The bytes of the page that a command reads: those of its input, or those that its hexadecimal text spells.
+fn keep<I: Inlet>(alloc: Global, command: &Command, input: &mut I) -> Result<Kept, Failure>
+    requires { I.calls input.old < 2 ^ 63 }
+    ensures few { I.calls input.new ≤ I.calls input.old + reads_limit }
+    ensures read { let seen = reading I.Inlet input.old input.new in
+        (p : List ℕ) × Consumes (I.left input.old) (I.left input.new) p
+        × MatchResult result (λ kept. IsReadWhole seen p × IsStream command.now.hex p kept.page.items) (Fails command.now p seen) }
+{
+    let text = read_whole(alloc, input)?;
+    let page = if command.hex {
+        bytes_of(alloc, text.as_slice())?
+    } else {
+        text
+    };
+    let memory = Vec::with_capacity(alloc, LINE_MEMORY)?;
+    Ok(Kept { page, memory })
+}
+
+/// How `list` ends whose output took so many bytes: it is flushed, unless a write has failed.
+fn ended<O: Outlet>(
+    output: &mut O,
+    written: u64,
+    read: Result<(), Refusal>,
+) -> Result<Verdict, Failure>
+    ensures taken { Keeps (O.taken output.old) (O.taken output.new) }
+    ensures failed { O.failed output.old ≡ true → O.failed output.new ≡ true }
+    ensures sent { O.failed output.new ≡ false → O.sent output.new ≡ true }
+    ensures flushes { O.flushes output.new ≡ flushed (O.failed output.old) (O.flushes output.old) }
+    ensures write_failed { O.write_failed output.new ≡ O.write_failed output.old }
+    ensures answer { EndsSo read written (O.failed output.new) result }
+{
+    if output.failed() || output.flush().is_err() {
+        return Err(Failure::Write(written));
+    }
+    match read {
+        Ok(()) => Ok(Verdict::Accepted),
+        Err(refusal) => Err(Failure::Refused(refusal)),
+    }
+}
+
+/// An output that was printed to: how many bytes it took, and why reading broke, if it did.
+#[derive(Drop)]
+struct Printed<O> {
+    output: O,
+    written: u64,
+    read: Result<(), Refusal>,
+}
+
+/// Prints the lines of an accepted page. Where reading breaks, what is held of them isn't printed.
+fn print_again<O: Outlet + Drop>(
+    alloc: Global,
+    budget: Budget,
+    page: &[u8],
+    printer: LinePrinter<O>,
+) -> Printed<O>
+    requires begun { printer.state ≡ start }
+    requires works { O.failed printer.outlet ≡ false }
+    requires accepted { (means budget page.now).refusal ≡ None }
+    ensures { PrintsAgain O.Outlet printer budget page.now result.output result.written result.read }
+{
+    let mut reader = Reader::new(alloc, budget, printer);
+    if let Err(refusal) = reader.feed(page) {
+        let (output, written) = reader.into_sink().stop();
+        return Printed {
+            output,
+            written,
+            read: Err(refusal),
+        };
+    }
+    match reader.finish() {
+        Ok(printer) => {
+            let (output, written) = printer.close();
+            Printed {
+                output,
+                written,
+                read: Ok(()),
+            }
+        }
+        Err(stopped) => {
+            let (output, written) = stopped.sink.stop();
+            Printed {
+                output,
+                written,
+                read: Err(stopped.refusal),
+            }
+        }
+    }
+}
+
+/// The page that a command reads and the memory for its lines, where it is accepted.
+fn keep_accepted<I: Inlet>(alloc: Global, command: &Command, input: &mut I) -> Result<Kept, Failure>
+    requires calls { I.calls input.old < 2 ^ 63 }
+    requires list { command.now.action ≡ Action.List }
+    ensures few { I.calls input.new ≤ I.calls input.old + reads_limit }
+    ensures read { let seen = reading I.Inlet input.old input.new in
+        (p : List ℕ) × Consumes (I.left input.old) (I.left input.new) p
+        × MatchResult result (λ kept. IsReadWhole seen p × IsStream command.now.hex p kept.page.items × ((means command.now.budget kept.page.items).refusal ≡ None)) (Fails command.now p seen) }
+{
+    let kept = keep(alloc, command, input)?;
+    let _ = read_stream(
+        alloc,
+        command.budget,
+        kept.page.as_slice(),
+        CountSink::new(),
+    )?;
+    Ok(kept)
+}
+
+/// Prints the lines of an accepted page, and flushes the output.
+fn print_lines<O: Outlet + Drop>(
+    alloc: Global,
+    command: &Command,
+    kept: Kept,
+    output: O,
+) -> (O, Result<Verdict, Failure>)
+    requires list { command.now.action ≡ Action.List }
+    requires works { O.failed output ≡ false }
+    requires accepted { (means command.now.budget kept.page.items).refusal ≡ None }
+    ensures ends { (q : List ℕ) × Appends (O.taken output) (O.taken result.0) q
+        × ((p : List ℕ) (seen : Reading) → IsReadWhole seen p → IsStream command.now.hex p kept.page.items → EndsListed command.now p seen q (O.failed result.0) result.1) }
+    ensures sends { O.failed result.0 ≡ false → O.sent result.0 ≡ true }
+    ensures flushes { FlushedOnce O.Outlet output result.0 }
+{
+    let Kept { page, memory } = kept;
+    let printer = LinePrinter::new(memory, output);
+    let Printed {
+        mut output,
+        written,
+        read,
+    } = print_again(alloc, command.budget, page.as_slice(), printer);
+    let answer = ended(&mut output, written, read);
+    (output, answer)
+}
+
+/// Prints the lines of the page that the input gives, and flushes the output also where that is nothing: once the whole page
+/// is accepted, as they are made. A failing output takes the place of the failure before it.
+pub(crate) fn list<I: Inlet, O: Outlet + Drop>(
+    alloc: Global,
+    command: &Command,
+    input: &mut I,
+    output: O,
+) -> (O, Result<Verdict, Failure>)
+    requires calls { I.calls input.old < 2 ^ 63 }
+    requires list { command.now.action ≡ Action.List }
+    requires works { O.failed output ≡ false }
+    ensures few { I.calls input.new ≤ I.calls input.old + reads_limit }
+    ensures ends { let seen = reading I.Inlet input.old input.new in
+        (p : List ℕ) × (q : List ℕ) × Consumes (I.left input.old) (I.left input.new) p × Appends (O.taken output) (O.taken result.0) q
+        × EndsListed command.now p seen q (O.failed result.0) result.1 }
+    ensures sends { O.failed result.0 ≡ false → O.sent result.0 ≡ true }
+    ensures flushes { FlushedOnce O.Outlet output result.0 }
+{
+    match keep_accepted(alloc, command, input) {
+        Ok(kept) => print_lines(alloc, command, kept, output),
+        Err(failure) => {
+            let mut output = output;
+            match write_whole(&mut output, &[]) {
+                Ok(()) => (output, Err(failure)),
+                Err(fault) => (output, Err(fault)),
+            }
+        }
+    }
+}
