@@ -127,7 +127,7 @@ class Lines(Page):
     """The lines of a page, which `make` makes again; or lines that are none's, which are told."""
 
     def __init__(self, page: Page, more: bytes = b"", refusal: Optional[str] = None) -> None:
-        super().__init__(f"lines of {page.name}, {len(more)} bytes more", page.lines + more, refusal=refusal)
+        super().__init__(f"lines of {page.name} {more.decode().strip()}", page.lines + more, refusal=refusal)
         self.pieces = page.pieces
         self.canonical = page.canonical
 
