@@ -5,13 +5,13 @@ ghost use Rattle.nap_list.specs.Flushing.{FlushedOnce};
 ghost use Rattle.nap_list.specs.Limits.{reads_limit};
 ghost use Rattle.nap_list.specs.Reading.{reading};
 ghost use Rattle.nap_command.specs.Devices.{devices};
-ghost use Rattle.nap_command.specs.Commands.{EndsByAction, EndsWhole, Ran, Tells, ended_by};
+ghost use Rattle.nap_command.specs.Commands.{EndsWhole, Ran, Tells, ended_by};
 
 use crate::answer::{Verdict, find};
-use crate::command::{Action, Command};
+use crate::command::Command;
 use crate::device::write_whole;
 use crate::failure::Failure;
-use crate::listing::list;
+use crate::printing::print_once_read;
 use nap_canon::{ConvertFault, convert};
 use nap_list::{Inlet, Outlet};
 use std::alloc::Global;
@@ -37,7 +37,7 @@ pub(crate) fn conclude<E: Outlet>(ended: Result<Verdict, Failure>, errors: &mut 
 
 /// Prints what a command finds, and flushes the output also where that is nothing. A failing output takes the place of
 /// the failure before it.
-fn perform<I: Inlet, O: Outlet>(
+pub(crate) fn perform<I: Inlet, O: Outlet>(
     alloc: Global,
     command: &Command,
     input: &mut I,
@@ -61,32 +61,6 @@ fn perform<I: Inlet, O: Outlet>(
             Ok(()) => Err(failure),
             Err(fault) => Err(fault),
         },
-    }
-}
-
-/// A command that prints once it has read all of its input.
-fn print_once_read<I: Inlet, O: Outlet + Drop>(
-    alloc: Global,
-    command: &Command,
-    input: &mut I,
-    output: O,
-) -> (O, Result<Verdict, Failure>)
-    requires calls { I.calls input.old < 2 ^ 63 }
-    requires works { O.failed output ≡ false }
-    ensures few { I.calls input.new ≤ I.calls input.old + reads_limit }
-    ensures ends { let seen = reading I.Inlet input.old input.new in
-        (p : List ℕ) × (q : List ℕ) × Consumes (I.left input.old) (I.left input.new) p × Appends (O.taken output) (O.taken result.0) q
-        × EndsByAction command.now.action command.now p seen q (O.failed result.0) result.1 }
-    ensures sends { O.failed result.0 ≡ false → O.sent result.0 ≡ true }
-    ensures flushes { FlushedOnce O.Outlet output result.0 }
-{
-    match command.action {
-        Action::List => list(alloc, command, input, output),
-        Action::Check | Action::Canon => {
-            let mut output = output;
-            let ended = perform(alloc, command, input, &mut output);
-            (output, ended)
-        }
     }
 }
 

@@ -6,9 +6,11 @@ mod command;
 mod device;
 mod execution;
 mod failure;
+mod keeping;
 mod listing;
 mod make;
 mod name;
+mod printing;
 
 pub use answer::{
     Printout, Verdict, answer_input, answer_stream, answer_text, count_line, refusal_line,

@@ -1,5 +1,5 @@
 //! `list` on its input and its output.
-ghost use Rattle.std.specs.Prelude.{◌≡◌, ◌+◌, ◌<◌, ◌≤◌, ◌^◌, ℕ, List, None, false, true, MatchResult};
+ghost use Rattle.std.specs.Prelude.{◌≡◌, ◌+◌, ◌<◌, ◌≤◌, ◌^◌, ℕ, List, None, false, true};
 ghost use Rattle.std.specs.Io.KnownBytes.{Appends, Consumes, Keeps};
 ghost use Rattle.nap_list.specs.Flushing.{FlushedOnce, flushed};
 ghost use Rattle.nap_list.specs.Limits.{reads_limit};
@@ -7,41 +7,17 @@ ghost use Rattle.nap_list.specs.Reading.{IsReadWhole, Reading, reading};
 ghost use Rattle.nap_list.specs.State.{start};
 ghost use Rattle.nap_reader.specs.Stream.{means};
 ghost use Rattle.nap_command.specs.Listing.{PrintsAgain};
-ghost use Rattle.nap_command.specs.Commands.{EndsListed, EndsSo, Fails, IsStream};
+ghost use Rattle.nap_command.specs.Commands.{EndsListed, EndsSo, IsStream};
 
-use crate::answer::{Verdict, bytes_of};
+use crate::answer::Verdict;
 use crate::command::{Action, Command};
-use crate::device::{read_whole, write_whole};
+use crate::device::write_whole;
 use crate::failure::Failure;
-use nap_lines::{LINE_MEMORY, LinePrinter};
-use nap_list::{CountSink, Inlet, Outlet};
-use nap_reader::{Budget, Reader, Refusal, read_stream};
+use crate::keeping::{Kept, keep_accepted};
+use nap_lines::LinePrinter;
+use nap_list::{Inlet, Outlet};
+use nap_reader::{Budget, Reader, Refusal};
 use std::alloc::Global;
-
-/// A page, and the memory that its lines are made in.
-#[derive(Drop)]
-struct Kept {
-    page: Vec<u8>,
-    memory: Vec<u8>,
-}
-
-/// The bytes of the page that a command reads: those of its input, or those that its hexadecimal text spells.
-fn keep<I: Inlet>(alloc: Global, command: &Command, input: &mut I) -> Result<Kept, Failure>
-    requires { I.calls input.old < 2 ^ 63 }
-    ensures few { I.calls input.new ≤ I.calls input.old + reads_limit }
-    ensures read { let seen = reading I.Inlet input.old input.new in
-        (p : List ℕ) × Consumes (I.left input.old) (I.left input.new) p
-        × MatchResult result (λ kept. IsReadWhole seen p × IsStream command.now.hex p kept.page.items) (Fails command.now p seen) }
-{
-    let text = read_whole(alloc, input)?;
-    let page = if command.hex {
-        bytes_of(alloc, text.as_slice())?
-    } else {
-        text
-    };
-    let memory = Vec::with_capacity(alloc, LINE_MEMORY)?;
-    Ok(Kept { page, memory })
-}
 
 /// How `list` ends whose output took so many bytes: it is flushed, unless a write has failed.
 fn ended<O: Outlet>(
@@ -112,25 +88,6 @@ fn print_again<O: Outlet + Drop>(
             }
         }
     }
-}
-
-/// The page that a command reads and the memory for its lines, where it is accepted.
-fn keep_accepted<I: Inlet>(alloc: Global, command: &Command, input: &mut I) -> Result<Kept, Failure>
-    requires calls { I.calls input.old < 2 ^ 63 }
-    requires list { command.now.action ≡ Action.List }
-    ensures few { I.calls input.new ≤ I.calls input.old + reads_limit }
-    ensures read { let seen = reading I.Inlet input.old input.new in
-        (p : List ℕ) × Consumes (I.left input.old) (I.left input.new) p
-        × MatchResult result (λ kept. IsReadWhole seen p × IsStream command.now.hex p kept.page.items × ((means command.now.budget kept.page.items).refusal ≡ None)) (Fails command.now p seen) }
-{
-    let kept = keep(alloc, command, input)?;
-    let _ = read_stream(
-        alloc,
-        command.budget,
-        kept.page.as_slice(),
-        CountSink::new(),
-    )?;
-    Ok(kept)
 }
 
 /// Prints the lines of an accepted page, and flushes the output.

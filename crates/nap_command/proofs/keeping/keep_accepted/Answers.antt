@@ -2,7 +2,7 @@ use Rattle.std.proofs.Common.{refl}
 use Rattle.std.proofs.lemmas.Result.{err_from_is_err_and}
 use Rattle.nap_list.specs.Reading.{reading}
 use Rattle.nap_command.proofs.ListingLemmas.{list_refuses, refusal_is}
-use Rattle.nap_command.proofs.listing.keep_accepted.Goals as goal
+use Rattle.nap_command.proofs.keeping.keep_accepted.Goals as goal
 
 pub returns-in_err-read_stream-clause-read : goal.returns-in_err-read_stream-clause-read
 returns-in_err-read_stream-clause-read g c =
