@@ -1,6 +1,5 @@
 """Signals that end the tool: they end its processes too, those too that have only just begun."""
 import signal
-import threading
 from contextlib import contextmanager
 from types import FrameType
 from typing import Iterator, Optional, Protocol, Set
@@ -42,6 +41,7 @@ class Ending:
     @contextmanager
     def starting(self, process: Ends) -> Iterator[None]:
         """Starts a process inside, and keeps it where signals are watched. Raises Stopped where one came meanwhile."""
+        import threading  # (which commands that start no process needn't wait for)
         is_held = self.is_watched and threading.current_thread() is threading.main_thread()
         if is_held:
             self.is_starting = True

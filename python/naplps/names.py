@@ -1,6 +1,5 @@
 """Names of files, as people are shown them and as JSON holds them."""
 import os
-import shlex
 import unicodedata
 from typing import Dict
 
@@ -38,6 +37,7 @@ def _shown(each: str) -> str:
 
 def quoted(name: str) -> str:
     """The name as a shell reads it; PAGE where it can't be shown on one line as it is, or is standard input."""
+    import shlex  # (which few commands need)
     return "PAGE" if name == "-" or shown(name) != name else shlex.quote(name)
 
 

@@ -25,6 +25,7 @@ _TWO = f" ({_POINT}) ({_POINT})"
 _SOME, _MORE = f"((?: {_POINT})+)", f"((?: {_POINT}){{3,}})"
 
 
+_XY = f"(-?{_NUMBER}),(-?{_NUMBER})"
 # What the lines of characters begin with.
 OFTEN = "CHAR "
 
@@ -39,7 +40,8 @@ def _position(text: str) -> Position:
 
 
 def _positions(text: str) -> Tuple[Position, ...]:
-    return tuple(map(_position, text.split()))
+    numbers = map(int, text.replace(",", " ").split())
+    return tuple(zip(numbers, numbers))
 
 
 def _numbers(text: str) -> Tuple[int, ...]:
@@ -54,6 +56,10 @@ def _pen(text: str) -> Pen:
 def _colour(text: str) -> Colour:
     kind, _, rest = text.partition(":")
     return Colour(kind, _numbers(rest) if rest else ())
+
+
+# (many entries of a page have the same pel)
+_pel = lru_cache(maxsize=1024)(_position)
 
 
 @lru_cache(maxsize=4096)
@@ -71,11 +77,26 @@ def _look(text: str) -> Look:
 
 
 def _ink(pel: str, colour: str, texture: str) -> Tuple[Position, Colour, Texture]:
-    return _position(pel), _colour(colour), _texture(texture)
+    return _pel(pel), _colour(colour), _texture(texture)
 
 
 def _hand(pen: str, colour: str, look: str) -> Tuple[Pen, Colour, Look]:
     return _pen(pen), _colour(colour), _look(look)
+
+
+def _point(it: Match[str]) -> Point:
+    x, y, pel, colour = it.groups()
+    return Point((int(x), int(y)), _pel(pel), _colour(colour))
+
+
+def _line(it: Match[str]) -> Line:
+    a, b, c, d, *ink = it.groups()
+    return Line((int(a), int(b)), (int(c), int(d)), *_ink(*ink))
+
+
+def _rect(filled: bool, it: Match[str]) -> Rect:
+    a, b, c, d, *ink = it.groups()
+    return Rect(filled, (int(a), int(b)), (int(c), int(d)), *_ink(*ink))
 
 
 def _move(it: Match[str]) -> TextMove:
@@ -89,13 +110,12 @@ def _field(it: Match[str]) -> Field:
 
 # The lines by their first words: what stands behind these, and what is made of its groups.
 _READERS: Dict[str, Tuple[str, Callable[[Match[str]], Entry]]] = {
-    "POINT": (f" ({_POINT}){_PEL}{_COLOUR}", lambda it: Point(_position(it[1]), _position(it[2]), _colour(it[3]))),
-    "LINE": (_TWO + _INK, lambda it: Line(_position(it[1]), _position(it[2]), *_ink(it[3], it[4], it[5]))),
+    "POINT": (f" {_XY}{_PEL}{_COLOUR}", _point),
+    "LINE": (f" {_XY} {_XY}{_INK}", _line),
     "ARC-OUTLINED": (_MORE + _INK, lambda it: Arc(False, _positions(it[1]), *_ink(it[2], it[3], it[4]))),
     "ARC-FILLED": (_MORE + _INK, lambda it: Arc(True, _positions(it[1]), *_ink(it[2], it[3], it[4]))),
-    "RECT-OUTLINED": (_TWO + _INK, lambda it: Rect(
-        False, _position(it[1]), _position(it[2]), *_ink(it[3], it[4], it[5]))),
-    "RECT-FILLED": (_TWO + _INK, lambda it: Rect(True, _position(it[1]), _position(it[2]), *_ink(it[3], it[4], it[5]))),
+    "RECT-OUTLINED": (f" {_XY} {_XY}{_INK}", lambda it: _rect(False, it)),
+    "RECT-FILLED": (f" {_XY} {_XY}{_INK}", lambda it: _rect(True, it)),
     "POLY-OUTLINED": (_SOME + _INK, lambda it: Poly(False, _positions(it[1]), *_ink(it[2], it[3], it[4]))),
     "POLY-FILLED": (_SOME + _INK, lambda it: Poly(True, _positions(it[1]), *_ink(it[2], it[3], it[4]))),
     "CHAR": (f" (primary|supplementary|mosaic|drcs) ({_HEX}){_HAND}", lambda it: Char(

@@ -14,10 +14,10 @@ _LINES = re.compile(
     r"|CHAR supplementary (..) pen=(\S+) colour=\S+ text=(\S+)\n"
     r"|MOVE (\S+) ?(?:(..) (..) )?pen=(\S+) colour=\S+ text=(\S+)\n"
     r"|TO-EOL pen=(\S+) colour=\S+ text=(\S+)\n"
-    r"|(?:CLEAR|RESET|FIELD|GLYPH|MASK|END)[^\n]*\n"
-    r"|[^\n]*\n")
+    r"|((?:CLEAR|RESET|FIELD|GLYPH|MASK|END)[^\n]*)\n"
+    r"|(?:(?:POINT|LINE|ARC|RECT|POLY)-?[^\n]*\n)+|[^\n]*\n")
 _PLACES = re.compile(r"^[0-9]+ ", re.MULTILINE)
-_FIELD = re.compile(r"FIELD (?:whole|(\S+) (\S+)) pen=\S+\n")
+_FIELD = re.compile(r"FIELD (?:whole|(\S+) (\S+)) pen=\S+")
 # RESET with such a number for the screen clears it.
 _SCREEN_CLEARED = (1, 2, 5, 6, 7)
 _WORD = re.compile(r"[^\W_]+")
@@ -72,8 +72,8 @@ class Screens:
         elif it[10] is not None or it[15] is not None:
             if not self.inside:
                 self._move(it)
-        else:
-            self._other(it[0])
+        elif it[17] is not None:
+            self._other(it[17])
 
     def _letters(self, it: Match[str]) -> None:
         """Characters of one look; of mosaics and glyphs only the places are taken."""

@@ -4,7 +4,7 @@ import contextlib
 import importlib
 import os
 import sys
-from functools import partial
+from functools import lru_cache, partial
 from typing import Any, Callable, List, NamedTuple, Optional, Tuple
 
 from naplps.limits import MOST_BUDGET, MOST_PAGE, USUAL_BUDGET, Limits
@@ -78,6 +78,24 @@ def seconds(text: str) -> float:
     return count
 
 
+class HelpFormatter(argparse.HelpFormatter):
+    """Help that is as wide as the terminal. (argparse makes one for each option, and asks shutil, which takes long.)"""
+
+    def __init__(self, prog: str) -> None:
+        super().__init__(prog, width=columns() - 2)
+
+
+@lru_cache(maxsize=None)
+def columns() -> int:
+    """The width of the terminal as shutil has it: that of the environment, of standard output, or 80."""
+    told = os.environ.get("COLUMNS", "")
+    if told.isdecimal() and int(told) > 0:
+        return int(told)
+    with contextlib.suppress(OSError, AttributeError, ValueError):
+        return os.get_terminal_size(sys.__stdout__.fileno()).columns or 80
+    return 80
+
+
 class Parser(argparse.ArgumentParser):
     """A parser that raises OSError where its help can't be printed, with each version of Python.
 
@@ -116,12 +134,14 @@ class Command(NamedTuple):
 def parser(named: str = "") -> Parser:
     """The words that are understood; of the commands the one that is named alone, if one is. (Each takes its time.)"""
     top = Parser(prog=TOOL, description="Files, pictures and reasons for NAPLPS pages.", allow_abbrev=False,
-                 epilog=f"`{TOOL} COMMAND --help` describes one command. {EPILOG}")
+                 formatter_class=HelpFormatter, epilog=f"`{TOOL} COMMAND --help` describes one command. {EPILOG}")
     top.add_argument("-V", "--version", action="version", version=f"{TOOL} {VERSION}")
-    commands = top.add_subparsers(dest="command", metavar="COMMAND", required=True)
+    # (without the name argparse makes the text of the usage, which takes long)
+    commands = top.add_subparsers(dest="command", metavar="COMMAND", required=True, prog=TOOL)
     for title in [named] if named in COMMANDS else COMMANDS:
         command = COMMANDS[title]
         one = commands.add_parser(title, help=command.help, epilog=command.epilog, allow_abbrev=False,
+                                  formatter_class=HelpFormatter,
                                   description=command.help[0].upper() + command.help[1:] + ".")
         one.set_defaults(parser=one)
         one.options = command.options

@@ -2,8 +2,7 @@
 
 Macros are followed, since a body may change the sets or begin a code that ends behind the call.
 """
-from dataclasses import dataclass
-from typing import Dict, Iterator, List, Optional, Tuple
+from typing import Dict, Iterator, List, NamedTuple, Optional, Tuple
 
 # Steps are bytes that are taken, also those of macros.
 MOST_STEPS = 300_000
@@ -29,8 +28,7 @@ OTHER_ESCAPES = {0x20: "announcer", 0x21: "designation of a C0 set", 0x22: "desi
                  0x25: "switch to another coding system", 0x26: "revision number", 0x27: "code of ISO 2022"}
 
 
-@dataclass(frozen=True)
-class Code:
+class Code(NamedTuple):
     """A code: its bytes in the page, the offset of the byte with which it acts, its name, whether it is an opcode."""
 
     start: int
@@ -38,6 +36,9 @@ class Code:
     acts: int
     name: str
     opcode: bool = False
+
+
+LETTERS = {0x20: "space", **{byte: "character %c" % byte for byte in range(0x21, 0x7F)}}
 
 
 class PageEnded(Exception):
@@ -69,14 +70,13 @@ class Cutter:
 
     def take(self) -> int:
         """The next byte, which leaves the front."""
-        front = self.peek()
-        if front is None:
-            raise PageEnded
         data, taken, place = self.frames[-1]
+        if taken >= len(data):
+            data, taken, place = self._frame()
         self.frames[-1] = (data, taken + 1, place)
         self.steps += 1
-        self.last = front[1]
-        return front[0]
+        self.last = taken if place is None else place
+        return data[taken]
 
     def codes(self) -> Iterator[Code]:
         """The codes, up to the end, or to as many steps as are gone."""
@@ -121,10 +121,8 @@ class Cutter:
             if body:
                 self.frames.append((body, 0, self.last))
             return code
-        if name == "primary" and byte == 0x20:
-            return self._named(start, "space")
-        if name == "primary" and byte < 0x7F:
-            return self._named(start, "character %c" % byte)
+        if name == "primary" and byte in LETTERS:
+            return self._named(start, LETTERS[byte])
         return self._named(start, f"{name} character {byte:02x}")
 
     def _opcode(self, start: int, byte: int) -> Code:

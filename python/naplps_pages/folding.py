@@ -1,5 +1,5 @@
 """Characters in a row: entries that differ in nothing but their letter, each behind the last, are told together."""
-from typing import Iterable, Iterator, List, NamedTuple, Optional
+from typing import Iterable, Iterator, List, NamedTuple, Optional, Tuple
 
 # So many characters at most are told in a row.
 MOST_IN_ROW = 80
@@ -35,20 +35,31 @@ def _character(line: str) -> Optional[_Characters]:
 
 def goes_on(last: str, line: str) -> bool:
     """Whether the line is a character that goes on a row behind the last one."""
-    at = line.find(AFTER)
-    if at < 0 or not line.startswith("CHAR ") or last.find(PEN) != at or last[:at - CODE] != line[:at - CODE]:
-        return False
-    return last[last.find(" ", at + 1):] == line[at + len(AFTER) - 1:]
+    around = _around(last)
+    return around is not None and line[:around[0]] + line[around[0] + CODE:] == around[1]
+
+
+def _around(line: str) -> Optional[Tuple[int, str]]:
+    """Of a character's line where its code stands, and what stands around the code in the lines that go on behind."""
+    pen = line.find(PEN)
+    if pen < 0 or not line.startswith("CHAR "):
+        return None
+    return pen - CODE, line[:pen - CODE] + AFTER[:-1] + line[line.find(" ", pen + 1):]
 
 
 def folded(lines: Iterable[str]) -> Iterator[FoldedRow]:
     """The rows of a list, one after another."""
     run: List[str] = []
+    around: Optional[Tuple[int, str]] = None
+    at, expected = 0, ""
     for line in lines:
-        if run and (len(run) == MOST_IN_ROW or not goes_on(run[-1], line)):
+        if around and line[:at] + line[at + CODE:] == expected and len(run) < MOST_IN_ROW:
+            run.append(line)
+            continue
+        if run:
             yield _row(run)
-            run = []
-        run.append(line)
+        run, around = [line], _around(line)
+        at, expected = around or (0, "")
     if run:
         yield _row(run)
 
@@ -58,8 +69,9 @@ def _row(run: List[str]) -> FoldedRow:
     first = _character(run[0]) if len(run) > 1 else None
     if first is None:
         return FoldedRow(run[0], 1)
-    codes = [line.split(" ", 3)[2] for line in run]
+    at = run[0].find(PEN) - CODE
+    codes = [line[at:at + CODE] for line in run]
     told = " ".join([first.set, *codes])
     if first.set == "primary":
-        told = '"%s"' % "".join(ESCAPES.get(code, chr(code)) for code in (int(each, 16) for each in codes))
+        told = '"%s"' % bytes.fromhex("".join(codes)).decode("latin-1").translate(ESCAPES)
     return FoldedRow(f"CHAR {told} x{len(run)} {first.pen} {first.rest}", len(run))

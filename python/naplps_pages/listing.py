@@ -10,6 +10,8 @@ from naplps.reading import Entries, placed
 
 from .source import Page
 
+# The commands that tell entries, without their places and with them.
+LIST, PLACES = "list", "places"
 # What the program may take for entries that are to be shown.
 MODEST = Limits(memory=256 << 20, answer=64 << 20)
 # The place of the byte with which an entry came, where that is known, and the entry's line.
@@ -39,12 +41,14 @@ def listed(program: Client, page: Page) -> Listed:
     return _listed(program, page, program.ask("check", page))
 
 
-def listed_of_few(program: Client, page: Page) -> Listed:
-    """The same of a page that was accepted before with few entries: asks for these alone, where they are few still."""
-    told = program.ask(command_of(page), page)
+def listed_of_few(program: Client, page: Page, has_places: bool = True) -> Listed:
+    """The same of a page that was accepted before with few entries: asks for these alone, where they are few still.
+    Where places aren't wanted there are none, which is faster."""
+    command = command_of(page) if has_places else LIST
+    told = program.ask(command, page)
     if isinstance(told, Unanswered):
         return listed(program, page) if told.too_much else Listed(told)
-    return _with_rows(page, told, told)
+    return _with_rows(command, told, told)
 
 
 def _listed(program: Client, page: Page, answer: Answer) -> Listed:
@@ -57,19 +61,23 @@ def _listed(program: Client, page: Page, answer: Answer) -> Listed:
         return Listed(answer if told.too_much else told)
     if told.line != answer.line:
         return Listed(Unanswered(NONSENSE))
-    return _with_rows(page, answer, told)
+    return _with_rows(command_of(page), answer, told)
 
 
-def _with_rows(page: Page, answer: Answer, told: Union[Accepted, Refusal]) -> Listed:
-    rows = rows_of(page, told.body)
+def _with_rows(command: str, answer: Answer, told: Union[Accepted, Refusal]) -> Listed:
+    rows = _rows(command, told.body)
     return Listed(answer, rows if len(rows) <= MOST_LISTED else None)
 
 
 def command_of(page: Page) -> str:
     """The command that tells the entries of a page, with their places if it is 16 MiB or less."""
-    return "list" if page.data is None else "places"
+    return LIST if page.data is None else PLACES
 
 
 def rows_of(page: Page, body: bytes) -> List[Row]:
     """The entries that the answer to that command has."""
-    return [(None, line) for line in body.decode("ascii").splitlines()] if page.data is None else [*placed(body)]
+    return _rows(command_of(page), body)
+
+
+def _rows(command: str, body: bytes) -> List[Row]:
+    return [(None, line) for line in body.decode("ascii").splitlines()] if command == LIST else [*placed(body)]

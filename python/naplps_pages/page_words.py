@@ -33,9 +33,14 @@ def first_words(text: str) -> str:
 
 def folded(text: str) -> List[str]:
     """The words of a text as they are compared: in small letters, without accents."""
+    return WORD.findall(_small(text))
+
+
+def _small(text: str) -> str:
+    """A text in small letters, without accents."""
     if not text.isascii():
         text = "".join(letter for letter in unicodedata.normalize("NFD", text) if not unicodedata.combining(letter))
-    return WORD.findall(text.lower())
+    return text.lower()
 
 
 def wanted(text: str) -> List[Phrase]:
@@ -74,9 +79,13 @@ def lines_with(text: str, parts: List[Phrase]) -> Optional[List[str]]:
 
     Words that follow each other may do so over the end of a line; then the line counts where they begin.
     """
-    rows = [(line, folded(line)) for line in text.split("\n")]
-    every = [word for _, words in rows for word in words]
-    if not all(has(every, part) for part in parts):
-        return None
+    small = _small(text)
+    # (few lines have any of the letters, and only these are cut into words)
+    rows = [(line, WORD.findall(bare)) for line, bare in zip(text.split("\n"), small.split("\n"))
+            if any(part.words[0] in bare for part in parts)]
+    for part in parts:
+        if not any(has(words, part) for _, words in rows):
+            if len(part.words) == 1 or not has(WORD.findall(small), part):
+                return None
     found = [line for line, words in rows if any(has(words, part) for part in parts)]
     return found or [line for line, words in rows if any(part.words[0] in words for part in parts)]

@@ -11,8 +11,10 @@ import pytest
 from conftest import file
 from naplps_pages.collection.store import open_to_read
 from naplps_pages.report import choices, making
+from naplps_pages.report.block_queue import IS_FULL, Room
+from naplps_pages.report.blocks import DrawnPage
 from naplps_pages.report.drawing import Drawing
-from naplps_pages.report.packing import Packing
+from naplps_pages.report.limits import in_block
 from naplps_pages.report.roots import Roots
 from naplps_pages.report.shortening import shortened
 from naplps_pages.report.sketch_choice import choose
@@ -49,23 +51,46 @@ def test_a_long_line_is_held_in_part(made):
     assert line.startswith("POLY-FILLED ") and line.endswith(" ..") and 1900 < len(line) < 2010
 
 
-def test_all_drawings_together_have_a_limit(monkeypatch):
-    monkeypatch.setattr(making, "MOST_HELD", 110)
-    drawings = [(at, Drawing("s" * 10, "t" * 5, ["l" * 5, "m" * 5])) for at in range(5)] + [(5, Drawing("s" * 5))]
-    kept = list(making._held(iter(drawings)))
-    assert kept == [*drawings[:4], (4, Drawing(why=making.IS_FULL)), drawings[5]]
-    assert sum(each.characters() for _, each in kept) <= 110
+def test_all_drawings_together_have_a_limit():
+    room = Room(110)
+    pages = [DrawnPage(Drawing(), characters) for characters in (25, 25, 25, 25, 25, 5)]
+    assert (room.take(pages[:3]), room.take(pages[3:]), room.characters) == ({}, {1: IS_FULL}, 5)
 
 
-@pytest.mark.parametrize("number", [0, 1, 50, 51, 120])
-def test_blocks_have_the_drawings_in_their_order(number):
-    with Packing(number, 2) as packing:
-        for at in sorted(range(number), key=lambda each: (each % 7, each)):
-            packing.put(at, Drawing("sketch %d" % at))
-        blocks = packing.blocks()
-    told = [json.loads(zlib.decompress(base64.b64decode(each)))["sketch"] for each in blocks]
-    assert [len(each) for each in told] == [50] * (number // 50) + [number % 50] * (number % 50 > 0)
-    assert sum(told, []) == ["sketch %d" % at for at in range(number)]
+@pytest.fixture
+def again(tmp_path, naplps):
+    """A function that makes another report of the store, in this process; its path."""
+    def makes(program=naplps, processes=1):
+        store, html = os.path.join(str(tmp_path), "pages.db"), os.path.join(str(tmp_path), "again.html")
+        making.make(open_to_read(store), making.ReportOptions(store, html, program, 200, False, processes, 20.0))
+        return html
+    return makes
+
+
+def test_what_there_is_no_room_for_is_left_out(made, again, monkeypatch):
+    html, _ = made({"%d.nap" % at: words("PAGE %d" % at) for at in range(7)})
+    some = sum(([*zip(block["sketch"], block["lines"], block["why"])] for block in held(html)[1]), [])
+    monkeypatch.setattr(making, "MOST_HELD", 4 * max(len("".join(each)) + 10 for each in some))
+    less = sum(([*zip(block["sketch"], block["lines"], block["why"])] for block in held(again())[1]), [])
+    full = [each for each in less if each == ("", "", IS_FULL)]
+    assert len(less) == len(some) == 7 and 1 <= len(full) <= 6
+    assert full == [each for each in less if each not in some]
+
+
+@pytest.mark.parametrize("number", [1, 5, 6, 170])
+def test_blocks_have_the_drawings_in_their_order(made, again, number):
+    made({"%03d.nap" % at: words("PAGE %d" % at) for at in range(number)})
+    _, blocks = held(again(processes=3))
+    size = in_block(number)
+    assert [len(each["sketch"]) for each in blocks] == [size] * (number // size) + [number % size] * (
+        number % size > 0)
+    assert [text for each in blocks for text in each["text"]] == ["PAGE %d" % at for at in range(number)]
+    assert [re.search(r">(PAGE [0-9]+)<", svg)[1] for each in blocks for svg in each["sketch"]] == [
+        "PAGE %d" % at for at in range(number)]
+
+
+def test_blocks_grow_with_the_number_of_sketches():
+    assert [in_block(number) for number in (0, 5, 160, 320, 1600, 10_000)] == [5, 5, 5, 10, 50, 50]
 
 
 def test_names_are_relative_to_the_roots_and_the_rest_of_the_machine_is_not_told(made, tmp_path):
@@ -153,16 +178,13 @@ class Sorted:
         for told, number in refused.items():
             self.files += [FakeFile(1, told, (told, at)) for at in range(number)]
         self.files += [FakeFile(0, "accepted", ("other", at)) for at in range(others)]
-
-    def group_of(self, number):
-        """The group of a file."""
-        return number if number < len(self.groups) else -1
+        self.in_group = [at if at < groups else -1 for at in range(len(self.files))]
 
 
 def kinds(table, most):
     some = choose(table, most)
     assert len(set(some)) == len(some)
-    return [("group" if table.group_of(number) >= 0 else table.files[number].told) for number in some]
+    return [("group" if table.in_group[number] >= 0 else table.files[number].told) for number in some]
 
 
 def test_which_pages_have_a_sketch():
@@ -199,16 +221,13 @@ def test_a_page_that_ends_the_process_that_draws_it(made, fake, tmp_path):
     assert ENDED in said.stderr.decode() and said.returncode == 1 and os.path.exists(html)
 
 
-def test_pages_beside_those_that_end_processes_have_their_own_answers(made, fake, tmp_path):
+def test_pages_beside_those_that_end_processes_have_their_own_answers(made, again, fake, tmp_path):
     pages = {"%02d" % at: b"%b %d" % (b"kill" if at in (1, 2, 4, 9) else b"good", at) for at in range(10)}
     program = fake(FAKE.replace("page == b'kill its parent'", "page[:4] == b'kill' and os.path.exists(%r)" % (
         os.path.join(str(tmp_path), "end"))).replace("b'canonical ' + page[:1]", "b'canonical ' + page"))
     made(pages, program=program)
     file(str(tmp_path), "end", b"")
-    html = os.path.join(str(tmp_path), "again.html")
-    making.make(open_to_read(os.path.join(str(tmp_path), "pages.db")), making.ReportOptions(
-        os.path.join(str(tmp_path), "pages.db"), html, program, 10, False, 1, 20.0))
-    why = held(html)[1][0]["why"]
+    why = [each for block in held(again(program))[1] for each in block["why"]]
     assert [at for at, each in enumerate(why) if each == ENDED] == [1, 2, 4, 9] and len(set(why)) == 2
 
 
@@ -247,11 +266,19 @@ def test_what_is_no_report_is_not_replaced(made, run, tmp_path, name):
     assert os.path.islink(path) or b"<html" not in open(path, "rb").read()
 
 
-def test_progress_is_told(monkeypatch, capsys):
+def test_progress_is_told(made, again, monkeypatch, capsys):
     monkeypatch.setattr("naplps_pages.collection.progress.SELDOM", 0)
-    drawings = list(making._told(iter([(1, Drawing()), (0, Drawing())]), 2))
-    assert [number for number, _ in drawings] == [1, 0]
+    made({"a.nap": POINT, "b.nap": OUTSIDE})
+    again()
     assert "naplps-pages: 2 of 2 sketches, " in capsys.readouterr().err
+
+
+def test_processes_that_draw_nothing_end_a_report_in_time(made, again, monkeypatch):
+    monkeypatch.setattr("naplps_pages.report.block_queue.MOST_STILLBORN", 2)
+    made({"%02d.nap" % at: words("PAGE %d" % at) for at in range(12)})
+    monkeypatch.setattr("naplps_pages.interpreter.START", "import sys; sys.exit(1)")
+    why = [each for block in held(again(processes=2))[1] for each in block["why"]]
+    assert why == [ENDED] * 12
 
 
 def test_first_words_and_hashes(made):

@@ -84,7 +84,7 @@ def ends_of(path):
 @given(points=st.lists(POINTS, min_size=3, max_size=7), filled=st.booleans())
 @settings(max_examples=400, deadline=None)
 def test_each_point_of_an_arc_is_on_it(points, filled):
-    places = [on_page(point) for point in points]
+    places = on_page(points)
     path = arcs.path(places, filled)
     on = ends_of(path)
     for place in places:
@@ -95,7 +95,7 @@ def test_each_point_of_an_arc_is_on_it(points, filled):
 @given(points=st.tuples(POINTS, POINTS, POINTS))
 @settings(max_examples=400, deadline=None)
 def test_an_arc_of_three_points_is_of_their_circle(points):
-    places = [on_page(point) for point in points]
+    places = on_page(points)
     path = arcs.path(places, False)
     for (x, y), (radius, large, sweep, a, b) in _arcs(path):
         assert math.dist((x, y), (a, b)) <= 2 * radius + 0.05

@@ -33,7 +33,7 @@ def is_large(some: Sequence[Piece]) -> bool:
 def extent(points: Sequence[Place]) -> Extent:
     """The extent of an arc through these points. An arc outside of the square costs nothing there."""
     if len(points) > 3:
-        straight = straight_extent(points, True)
+        straight = straight_extent(points)
         return Extent(3 * straight.points, 2 * straight.length, 2 * straight.area)
     long = min(_length(points), 4.0 * WIDTH)
     return Extent(4 * len(points), 3 * long, min(long * long / math.pi, WIDTH * WIDTH))

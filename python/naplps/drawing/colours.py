@@ -1,4 +1,5 @@
 """Colours of the drawing."""
+from functools import lru_cache
 from typing import Dict, Iterable, List, Optional, Tuple
 
 from ..entry import Colour, Entry, Map
@@ -26,6 +27,7 @@ def first_map() -> List[str]:
 FIRST = first_map()
 
 
+@lru_cache(maxsize=4096)
 def direct(parts: Tuple[int, ...]) -> str:
     """The colour of green, red and blue in 16 bits each, by their upper eight bits."""
     green, red, blue = (part >> 8 for part in parts)

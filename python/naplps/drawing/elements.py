@@ -1,6 +1,5 @@
 """Elements of a drawing: the one table of what an entry draws. A sketch has them as SVG, and the player as JSON."""
-from dataclasses import dataclass
-from typing import Dict, Tuple
+from typing import Dict, NamedTuple, Tuple
 
 
 def escaped(text: str) -> str:
@@ -8,8 +7,7 @@ def escaped(text: str) -> str:
     return text.replace("&", "&amp;").replace("<", "&lt;").replace(">", "&gt;")
 
 
-@dataclass(frozen=True)
-class Element:
+class Element(NamedTuple):
     """An element of SVG: its name, its attributes in their order, the elements in it, and its text."""
 
     name: str
@@ -19,6 +17,8 @@ class Element:
 
     def markup(self) -> str:
         """It as SVG."""
-        told = "".join(f' {name}="{value}"' for name, value in self.attributes.items())
+        told = "".join([f' {name}="{value}"' for name, value in self.attributes.items()])
+        if not (self.inside or self.text):
+            return f"<{self.name}{told}/>"
         within = escaped(self.text) + "".join(each.markup() for each in self.inside)
-        return f"<{self.name}{told}>{within}</{self.name}>" if within else f"<{self.name}{told}/>"
+        return f"<{self.name}{told}>{within}</{self.name}>"

@@ -15,7 +15,7 @@ def letters_behind(lines: Sequence[str], number: int, end: int) -> List[str]:
     while number < end:
         line = lines[number]
         sign = SIGNS.get(line[code:behind])
-        if sign is None or line[behind:] != rest or not line.startswith(LETTER):
+        if sign is None or line[behind:] != rest or line[:code] != LETTER:
             break
         signs.append(sign)
         number += 1

@@ -1,5 +1,6 @@
 """Lengths of the drawing, and how its numbers are written."""
-from typing import Tuple
+from functools import lru_cache
+from typing import List, Sequence, Tuple
 
 from ..entry import ONE, Position
 
@@ -8,17 +9,21 @@ Place = Tuple[float, float]
 # The drawing has 1024 units for the side of the square; 800 of them are the part that screens show.
 WIDTH = 1024
 HEIGHT = 800
+# Steps of points in a unit of the drawing.
+STEPS = ONE / WIDTH
 # Of a line where the pel is 0: 1/256 of the side; in a glyph or a mask 1/16.
 THIN = 4.0
 THIN_IN_GLYPH = 64.0
 
 
+@lru_cache(maxsize=1 << 14)
 def num(value: float) -> str:
     """The number with at most two digits behind the point."""
     text = (f"{value:.2f}").rstrip("0").rstrip(".")
     return "0" if text == "-0" else text
 
 
+@lru_cache(maxsize=1 << 10)
 def fine(value: float) -> str:
     """The number with at most five digits behind the point, for factors."""
     text = (f"{value:.5f}").rstrip("0").rstrip(".")
@@ -27,14 +32,14 @@ def fine(value: float) -> str:
 
 def length(units: int) -> float:
     """A length in units of points, in units of the drawing."""
-    return units / ONE * WIDTH
+    return units / STEPS
 
 
-def on_page(point: Position) -> Place:
-    """Where a point of the page is in the drawing: y goes down there."""
-    return length(point[0]), HEIGHT - length(point[1])
+def on_page(points: Sequence[Position]) -> List[Place]:
+    """Where points of the page are in the drawing: y goes down there."""
+    return [(x / STEPS, HEIGHT - y / STEPS) for x, y in points]
 
 
-def in_glyph(point: Position) -> Place:
-    """Where a point of a glyph or a mask is: its square is drawn whole."""
-    return length(point[0]), WIDTH - length(point[1])
+def in_glyph(points: Sequence[Position]) -> List[Place]:
+    """Where points of a glyph or a mask are: its square is drawn whole."""
+    return [(x / STEPS, WIDTH - y / STEPS) for x, y in points]

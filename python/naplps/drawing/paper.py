@@ -1,6 +1,7 @@
 """What a sketch is drawn on: elements in their order, definitions, and notes."""
 from dataclasses import dataclass
-from typing import Dict, List, NamedTuple, Optional, Set, Tuple
+from functools import cached_property
+from typing import Callable, Dict, List, NamedTuple, Optional, Set, Tuple
 
 from .colours import BLACK
 from .elements import Element
@@ -50,8 +51,9 @@ class LetterCells(NamedTuple):
 class Paper:
     """The elements of the page, or of the glyph or mask that is open."""
 
-    def __init__(self, prefix: str) -> None:
-        self.prefix = prefix
+    def __init__(self, prefix: Callable[[], str]) -> None:
+        """`prefix` makes what its ids begin with, where it has any."""
+        self._prefix = prefix
         self.page: List[str] = []
         self.open: Optional[List[Element]] = None
         self.open_size, self.open_weight = 0, Weight()
@@ -70,6 +72,11 @@ class Paper:
         self.guess_from: Optional[int] = None
         # Which entry is drawn, counted from 0.
         self.entry = 0
+
+    @cached_property
+    def prefix(self) -> str:
+        """What its ids begin with."""
+        return self._prefix()
 
     @property
     def on_page(self) -> bool:
@@ -111,19 +118,23 @@ class Paper:
         markup = element.markup()
         size = _size(markup)
         self.spend(size, weight)
-        self._keep(element, markup, size, None)
+        if self.open is None:
+            self.keep_on_page(element, markup, None)
+        else:
+            self._keep_open(element, size)
 
     def put_counted(self, element: Element, letters: LetterCells) -> None:
         """Draws an element of some letters, which were counted before."""
         markup = element.markup()
-        self._keep(element, markup, _size(markup), letters)
-
-    def _keep(self, element: Element, markup: str, size: int, letters: Optional[LetterCells]) -> None:
         if self.open is None:
             self.keep_on_page(element, markup, letters)
         else:
-            self.open.append(element)
-            self.open_size += size
+            self._keep_open(element, _size(markup))
+
+    def _keep_open(self, element: Element, size: int) -> None:
+        assert self.open is not None
+        self.open.append(element)
+        self.open_size += size
 
     def keep_on_page(self, element: Element, markup: str, letters: Optional[LetterCells]) -> None:
         """Keeps an element of the page. It came with the entry that is drawn, or with those of the letters."""

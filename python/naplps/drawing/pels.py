@@ -1,4 +1,5 @@
 """The pel: the rectangle that is drawn at a point, and that a line is drawn with."""
+from functools import lru_cache
 from typing import List, NamedTuple, Tuple
 
 from ..entry import Position
@@ -28,6 +29,7 @@ class Pel(NamedTuple):
         return [(self.left, self.bottom), (self.left, self.top), (self.right, self.top), (self.right, self.bottom)]
 
 
+@lru_cache(maxsize=1024)
 def pel(size: Position, least: float) -> Pel:
     """The rectangle of a pel of this size, which may be negative: the point is at the corner that it goes out from.
 

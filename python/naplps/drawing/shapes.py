@@ -10,7 +10,7 @@ from .paper import Paper
 from .pels import pel
 from .sweeps import dashed, least_of_dashes, sweep
 from .textures import Stroked, SvgAttributes, dashes_of
-from .weight import Extent, box, extent
+from .weight import Extent, box, extent, of_line
 
 
 class Shapes:
@@ -22,9 +22,10 @@ class Shapes:
             Point: self.point, Line: self.line, Rect: self.rectangle, Poly: self.polygon, Arc: self.arc}
 
     def _places(self, points: Tuple[Position, ...]) -> List[Place]:
-        for point in points:
-            self.paper.reach(point[1] / ONE)
-        return [on_page(point) if self.paper.on_page else in_glyph(point) for point in points]
+        if not self.paper.on_page:
+            return in_glyph(points)
+        self.paper.reach(max([y for _, y in points]) / ONE)
+        return on_page(points)
 
     def point(self, entry: Point) -> None:
         """A point: the pel's rectangle, from its corner."""
@@ -40,7 +41,7 @@ class Shapes:
         if _is_swept(entry):
             self._sweep(entry, [Straight(*places)])
             return
-        style = self.looks.of(entry, extent(places, False))
+        style = self.looks.of(entry, of_line(*places))
         told = f"M{num(a)} {num(b)}L{num(c)} {num(d)}"
         self.paper.put(Element("path", {"d": told, "stroke-linecap": "square", **style.attributes}), style.weight)
 
@@ -62,7 +63,7 @@ class Shapes:
         if _is_swept(entry):
             self._sweep(entry, _around(places))
             return
-        style = self.looks.of(entry, extent(places, True))
+        style = self.looks.of(entry, extent(places))
         told = " ".join(f"{num(x)},{num(y)}" for x, y in places)
         self.paper.put(Element("polygon", {"points": told, "fill-rule": "evenodd", **style.attributes}), style.weight)
 

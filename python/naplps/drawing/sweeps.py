@@ -1,5 +1,6 @@
 """What a pel's rectangle sweeps as it goes along lines: a hexagon for a straight one, and the dashes of broken ones."""
 import math
+from functools import lru_cache
 from typing import Iterator, List, NamedTuple, Sequence, Tuple
 
 from .curves import Piece, Straight
@@ -27,7 +28,8 @@ def sweep(pieces: Sequence[Piece], pel: Pel) -> Sweep:
         for piece in each.monotone():
             parts.append(_swept(piece, pel))
             # (what is outside of the square costs nothing)
-            across, down = (min(abs(piece.end[side] - piece.start[side]), WIDTH) for side in (0, 1))
+            (a, b), (c, d) = piece.start, piece.end
+            across, down = min(abs(c - a), WIDTH), min(abs(d - b), WIDTH)
             corners += CORNERS if straight else ROUND_CORNERS
             length += across + down + pel.wide + pel.high
             area += (across + pel.wide) * (down + pel.high)
@@ -39,12 +41,23 @@ def _swept(piece: Piece, pel: Pel) -> str:
     (a, b), (c, d) = piece.start, piece.end
     if a == c or b == d:
         return _box(min(a, c) + pel.left, min(b, d) + pel.top, max(a, c) + pel.right, max(b, d) + pel.bottom)
-    corners = pel.corners()
-    last = {(True, False): 0, (True, True): 1, (False, True): 2, (False, False): 3}[c > a, d > b]
-    behind, one, ahead, other = (corners[(last + number) % 4] for number in range(4))
+    behind, one, ahead, other = _corners(pel, c > a, d > b)
+    if isinstance(piece, Straight):
+        return (f"M{num(a + behind[0])} {num(b + behind[1])}L{num(a + one[0])} {num(b + one[1])}"
+                f"L{num(c + one[0])} {num(d + one[1])}L{num(c + ahead[0])} {num(d + ahead[1])}"
+                f"L{num(c + other[0])} {num(d + other[1])}L{num(a + other[0])} {num(b + other[1])}Z")
     there, back = piece.moved(one), piece.reversed().moved(other)
     return "M%sL%s%sL%sL%s%sZ" % (_at(piece.start, behind), _at(there.start), there.path(), _at(piece.end, ahead),
                                   _at(back.start), back.path())
+
+
+@lru_cache(maxsize=1024)
+def _corners(pel: Pel, is_right: bool, is_down: bool) -> List[Place]:
+    """The corners of a pel as the hands of a clock go, for a line to the right or left, down or up: from that which is
+    behind all others."""
+    first = {(True, False): 0, (True, True): 1, (False, True): 2, (False, False): 3}[is_right, is_down]
+    corners = pel.corners()
+    return corners[first:] + corners[:first]
 
 
 def _at(place: Place, by: Place = (0.0, 0.0)) -> str:

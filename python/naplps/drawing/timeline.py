@@ -40,7 +40,7 @@ class TimelinePaper(Paper):
     """Keeps elements as JSON, with the entries that they came with."""
 
     def __init__(self) -> None:
-        super().__init__("n")
+        super().__init__(lambda: "n")
         self.steps: List[str] = []
         self.named: Dict[str, str] = {}
         self.held = 0
@@ -129,5 +129,4 @@ def _members(element: Element) -> Dict[str, object]:
     return members
 
 
-def _json(value: object) -> str:
-    return json.dumps(value, ensure_ascii=True, separators=(",", ":"))
+_json = json.JSONEncoder(ensure_ascii=True, separators=(",", ":")).encode

@@ -98,7 +98,11 @@ class Walk:
         """Draws an entry."""
         if self.paper.on_page:
             self.colour = getattr(entry, "colour", self.colour)
-        if isinstance(entry, Char):
+        draw = self.shapes.kinds.get(type(entry))
+        if draw:
+            self.writing.flush()
+            draw(entry)
+        elif isinstance(entry, Char):
             self.writing.character(entry)
         elif isinstance(entry, ToEol):
             self.writing.to_end(entry)
@@ -109,10 +113,7 @@ class Walk:
             self._other(entry)
 
     def _other(self, entry: Entry) -> None:
-        draw = self.shapes.kinds.get(type(entry))
-        if draw:
-            draw(entry)
-        elif isinstance(entry, Clear):
+        if isinstance(entry, Clear):
             self.paper.clear(BLACK)
             self.writing.cursor.lose()
         elif isinstance(entry, Reset):
@@ -188,8 +189,7 @@ def drawn(lines: Lines, said: str = "", guess: Optional[Guess] = None, prefix: s
     entries = entries_of(lines)
     total = len(entries)
     sure, below = guess or Guess(total, ())
-    prefix = prefix or "n" + hashlib.sha256("\n".join(entries.lines).encode("ascii")).hexdigest()[:8]
-    walk = Walk(entries, palette_of(entries, sure), Paper(prefix))
+    walk = Walk(entries, palette_of(entries, sure), Paper(lambda: prefix or _prefix_of(entries)))
     walk.guess_start = sure
     count = walk.draw()
     caption = "Sketch of " + "; ".join(filter(None, (_counted(min(count, sure), sure), said)))
@@ -201,6 +201,10 @@ def drawn(lines: Lines, said: str = "", guess: Optional[Guess] = None, prefix: s
     return Drawn(walk.paper, Captions(caption, below), count)
 
 
+def _prefix_of(entries: Entries) -> str:
+    return "n" + hashlib.sha256("\n".join(entries.lines).encode("ascii")).hexdigest()[:8]
+
+
 def draw(lines: Lines, said: str = "", guess: Optional[Guess] = None) -> Sketch:
     """The sketch of the page with these lines or entries. `said` is what else it has to say of itself."""
     made = drawn(lines, said, guess)
@@ -209,7 +213,7 @@ def draw(lines: Lines, said: str = "", guess: Optional[Guess] = None) -> Sketch:
 
 def empty(said: str) -> Sketch:
     """A sketch without a drawing, which says why."""
-    return Sketch(document(Paper("n"), Captions(said)), 0)
+    return Sketch(document(Paper(lambda: "n"), Captions(said)), 0)
 
 
 def _counted(drawn: int, total: int) -> str:

@@ -56,12 +56,20 @@ class Extent(NamedTuple):
     area: float
 
 
-def extent(places: Sequence[Place], closed: bool) -> Extent:
-    """That of straight edges from place to place, in units."""
-    ends = [*places[1:], places[0]] if closed else places[1:]
-    length = sum(abs(a - c) + abs(b - d) for (a, b), (c, d) in zip(places, ends))
-    across, down = ([place[side] for place in places] for side in (0, 1))
+def extent(places: Sequence[Place]) -> Extent:
+    """That of straight edges from place to place and back to the first, in units."""
+    length, (x, y) = 0.0, places[-1]
+    for a, b in places:
+        length += abs(a - x) + abs(b - y)
+        x, y = a, b
+    across, down = [a for a, _ in places], [b for _, b in places]
     return Extent(len(places), length, (max(across) - min(across)) * (max(down) - min(down)))
+
+
+def of_line(start: Place, end: Place) -> Extent:
+    """That of a straight line."""
+    across, down = abs(start[0] - end[0]), abs(start[1] - end[1])
+    return Extent(2, across + down, across * down)
 
 
 def filled(shape: Extent) -> Weight:

@@ -73,7 +73,8 @@ class Writing:
 
     def flush(self) -> None:
         """Draws the letters that wait, before anything is drawn over them."""
-        self._end_accent()
+        if self.accent is not None:
+            self._end_accent()
         run, self.run = self.run, None
         if run and run.look[1].wide and run.look[1].high:
             self._draw_run(run)

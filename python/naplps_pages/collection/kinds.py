@@ -103,9 +103,17 @@ def columns(told: str) -> Tuple[Column, ...]:
 
 def checked(rows: Iterable[Row], told: str) -> Iterator[Row]:
     """These rows, once their values are what `columns` says. Texts are made fit to be printed. Raises NotAStore."""
-    some = columns(told)
+    some = [(each, each.kind.fits, each.kind is TEXT or each.kind is LINES) for each in columns(told)]
     for row in rows:
-        yield tuple([_checked(value, column) for value, column in zip(row, some)])
+        made = list(row)
+        for at, (value, (column, fits, is_text)) in enumerate(zip(row, some)):
+            if value is None and column.may_lack:
+                continue
+            if not fits(value):
+                raise NotAStore(WRONG % (TOOL, _name_of(value), column.kind.name))
+            if is_text:
+                made[at] = _printable(value, column)
+        yield tuple(made)
 
 
 def one(row: Optional[Row], told: str) -> Optional[Row]:
@@ -113,14 +121,9 @@ def one(row: Optional[Row], told: str) -> Optional[Row]:
     return next(checked((row,), told)) if row is not None else None
 
 
-def _checked(value: Any, column: Column) -> Any:
-    if value is None and column.may_lack:
-        return None
-    if not column.kind.fits(value):
-        raise NotAStore(WRONG % (TOOL, _name_of(value), column.kind.name))
-    if column.kind is LINES:
-        return "\n".join(map(printable, value.split("\n")))
-    return printable(value) if column.kind is TEXT else value
+def _printable(value: str, column: Column) -> str:
+    """A text that is fit to be printed."""
+    return "\n".join(map(printable, value.split("\n"))) if column.kind is LINES else printable(value)
 
 
 def _name_of(value: Any) -> str:

@@ -1,5 +1,4 @@
 """The store of a collection: one SQLite file, written by one process and read by many."""
-import hashlib
 import os
 import sqlite3
 import stat
@@ -227,7 +226,7 @@ def _check_tables(path: str, connection: sqlite3.Connection, schema: int) -> Non
 def _is_earlier(name: str, words: str, schema: int) -> bool:
     """Whether this is the view that an earlier version made."""
     return name == "listing" and schema == schemas.EARLIER and (
-        hashlib.sha256(words.encode("utf-8", "replace")).hexdigest() == EARLIER_LISTING)
+        tables.hashed(words.encode("utf-8", "replace")).hex() == EARLIER_LISTING)
 
 
 def schema_of(connection: sqlite3.Connection) -> int:

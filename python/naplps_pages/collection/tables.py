@@ -1,5 +1,4 @@
 """The rows that a scan writes into a store, and what their values mean, as docs/COLLECTIONS.md describes them."""
-import hashlib
 from typing import Iterable, List, NamedTuple, Optional, Tuple
 
 # 'NAPL', in the header of the file.
@@ -108,6 +107,7 @@ class Answered(NamedTuple):
 
 def hashed(data: bytes) -> bytes:
     """The hash of these bytes."""
+    import hashlib  # (which takes long, and commands that only look need no hash)
     return hashlib.sha256(data).digest()
 
 

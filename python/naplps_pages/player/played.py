@@ -66,14 +66,14 @@ def _length(data: bytes, told: Listed, some: Sequence[Row]) -> int:
 def _codes(data: bytes, told: Listed, some: Sequence[Row], length: int) -> CodeColumns:
     """The codes as `explain` has them, with the entries that came of each."""
     stop = told.answer.place if isinstance(told.answer, Refusal) else None
-    numbered: List[Row] = [(place, f"{line.split(' ', 1)[0]} {number}") for number, (place, line) in enumerate(some)]
+    numbered: List[Row] = [(place, f"{line.partition(' ')[0]} {number}") for number, (place, line) in enumerate(some)]
     columns = CodeColumns(entry=[-1] * len(some))
     numbers: Dict[str, int] = {}
     for row in assigned(data, numbered, stop):
         if row.start >= length or row.start >= limits.MOST_BYTES or len(columns.start) == limits.MOST_CODES:
             break
         for line in row.lines:
-            columns.entry[int(line.split(" ")[1])] = len(columns.start)
+            columns.entry[int(line.rpartition(" ")[2])] = len(columns.start)
         columns.start.append(row.start)
         columns.end.append(row.end)
         columns.name.append(numbers.setdefault(row.name, len(numbers)))

@@ -119,7 +119,7 @@ def _drawn_treated(program: Client, page: Page, it: WantedDrawing, most: Drawing
 def _drawn(program: Client, page: Page, it: WantedDrawing, most: DrawingLimits) -> Drawing:
     before = read_line(it.line.encode("ascii"), None)
     has_few = isinstance(before, Accepted) and before.entries <= MOST_LISTED
-    return _shown(page, listed_of_few(program, page) if has_few else listed(program, page), it, most)
+    return _shown(page, listed_of_few(program, page, it.is_played) if has_few else listed(program, page), it, most)
 
 
 def _shown(page: Page, told: Listed, it: WantedDrawing, most: DrawingLimits) -> Drawing:

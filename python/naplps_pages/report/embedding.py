@@ -2,9 +2,6 @@
 import base64
 import json
 import zlib
-from typing import Sequence
-
-from .drawing import Drawing
 
 # (9 takes twice the time of 7, and leaves 2 bytes in a hundred less)
 LEVEL = 7
@@ -18,11 +15,3 @@ def packed(value: object) -> str:
 def packed_json(text: str) -> str:
     """JSON in ASCII as base64."""
     return base64.b64encode(zlib.compress(text.encode("ascii"), LEVEL)).decode("ascii")
-
-
-def block(drawings: Sequence[Drawing]) -> str:
-    """Drawings, with shortened lines, that are packed together: those that are seen at once."""
-    return packed({"sketch": [each.sketch for each in drawings],
-                   "lines": ["\n".join(each.lines) for each in drawings], "counts": [each.counts for each in drawings],
-                   "first": [each.first for each in drawings],
-                   "entries": [each.entries for each in drawings], "why": [each.why for each in drawings]})

@@ -1,10 +1,10 @@
 """The files of a store with what the program said of them, as a report tells it."""
-from typing import Any, NamedTuple, Optional, Tuple
+from typing import Any, Iterable, Iterator, NamedTuple, Optional, Tuple
 
 from naplps.answers import Accepted, Answer, Refusal, Unanswered
 
 from ..collection import tables
-from ..collection.kinds import one
+from ..collection.kinds import checked
 from ..collection.places import Place
 
 # A file, its page, and on which terms that was asked about. (Files that are gone aren't shown.)
@@ -88,10 +88,10 @@ class ReportFile(NamedTuple):
         return told(self.state, self.why, self.answer, self.number, self.fault, self.left_out, self.no_answer)
 
 
-def read(row: Tuple[Any, ...]) -> ReportFile:
-    """The file of a row of COLUMNS. Raises NotAStore."""
-    row = one(row, COLUMN) or row
-    return ReportFile._make(row[:19] + (bool(row[19]), *row[20:]))
+def read(rows: Iterable[Tuple[Any, ...]]) -> Iterator[ReportFile]:
+    """The files of rows of COLUMNS. Raises NotAStore."""
+    for row in checked(rows, COLUMN):
+        yield ReportFile._make(row[:19] + (bool(row[19]), *row[20:]))
 
 
 # What `told` is told of.

@@ -2,29 +2,33 @@
 import os
 import sqlite3
 import sys
-from operator import itemgetter
-from typing import Iterable, Iterator, List, NamedTuple, Tuple
+from concurrent.futures import ThreadPoolExecutor
+from itertools import chain
+from typing import List, NamedTuple, Tuple
 
 from ..collection import tables
 from ..collection.progress import Progress
 from ..new_files import NotWritten, put, replace
 from . import groups, sketch_choice
+from .block_queue import BlockQueue, Room
+from .blocks import Block, DrawnBlock
 from .document import Document, data_of
-from .drawing import Drawing, DrawingLimits, wanted
-from .facts import load_facts, told_refusals
+from .drawing import Drawing, DrawingLimits, WantedDrawing, wanted
+from .facts import Facts, load_facts, told_refusals
 from .limits import (
-    A_BLOCK, A_PLAYED_BLOCK, HELD_LINES, HELD_PLAYER, HELD_SKETCH, HELD_TEXT, MOST_FILES, MOST_HELD, MOST_PLAYED,
-    MOST_SKETCHES, SOME_TEXTS,
+    A_PLAYED_BLOCK, HELD_LINES, HELD_PLAYER, HELD_SKETCH, HELD_TEXT, MOST_FILES, MOST_HELD, MOST_PLAYED, MOST_SKETCHES,
+    SOME_TEXTS, in_block,
 )
 from .packing import Packing
-from .sketch_workers import DrawingOptions, Task, drawn
+from .sketch_workers import DrawingOptions
 from .table import Table
 
 
+# A page that is to be drawn, and a drawing, with the number of their file.
+Task = Tuple[int, WantedDrawing]
 Numbered = Tuple[int, Drawing]
 # So each report begins.
 BEGINNING = b'<!doctype html>\n<html lang="en">\n<head>\n<meta charset="utf-8">\n<meta http-equiv="Content-Security-'
-IS_FULL = "the report has no room for more; `naplps-pages serve` shows it"
 
 
 class ReportOptions(NamedTuple):
@@ -81,22 +85,18 @@ def _is_report(path: str) -> bool:
 def make(connection: sqlite3.Connection, options: ReportOptions) -> ReportTotals:
     """Makes the file. Raises NotWritten or TooLarge."""
     require_room(options.into, options.replace)
-    connection.execute("BEGIN")
-    try:
-        some = groups.load(connection)
-        facts = load_facts(connection, options.store, some)
-        if facts.files > MOST_FILES:
-            raise TooLarge(f"{facts.files} files are too many for one file; `naplps-pages serve` shows them")
-        table = Table(connection, facts.roots, some)
-    finally:
-        connection.execute("ROLLBACK")
-    pictures = sketch_choice.pictures(table)
-    if options.all and pictures > MOST_SKETCHES:
-        raise TooLarge(f"{pictures} sketches are too many for one file; `naplps-pages serve` shows them")
-    tasks = _tasks(table, sketch_choice.choose(table, MOST_SKETCHES if options.all else options.sketches))
-    with Packing(len(tasks), options.processes) as packing:
-        drawings = _drawings(tasks, options, packing)
-        data = _data(table, drawings, packing)
+    most = DrawingLimits(HELD_SKETCH, HELD_TEXT, HELD_LINES, HELD_PLAYER, options.full, shortens=True)
+    how = DrawingOptions(options.program, options.seconds, most)
+    # (the processes begin while the store is read)
+    with BlockQueue(how, _processes(connection, options), Room(MOST_HELD)) as queue:
+        some, facts, table = _read(connection, options.store)
+        pictures = sketch_choice.pictures(table)
+        if options.all and pictures > MOST_SKETCHES:
+            raise TooLarge(f"{pictures} sketches are too many for one file; `naplps-pages serve` shows them")
+        tasks = _tasks(table, sketch_choice.choose(table, MOST_SKETCHES if options.all else options.sketches))
+        blocks = _drawn(table, tasks, queue)
+    drawings = [(number, page.drawing) for (number, _), page in zip(tasks, chain(*(each.pages for each in blocks)))]
+    data = _data(table, drawings, [each.packed for each in blocks], options.processes)
     missed = [(table.files[number].place.path, each.why) for number, each in drawings if each.why]
     page = Document(facts, some, "held.js").html(_told_held(drawings, pictures), data).encode("utf-8")
     if options.replace and os.path.isfile(options.into):
@@ -104,6 +104,26 @@ def make(connection: sqlite3.Connection, options: ReportOptions) -> ReportTotals
     else:
         put(options.into, page)
     return ReportTotals(facts.files, len(some), len(drawings), pictures, missed, len(page))
+
+
+def _processes(connection: sqlite3.Connection, options: ReportOptions) -> int:
+    """How many processes have something to draw."""
+    pages: int = connection.execute("SELECT count(*) FROM pages").fetchone()[0]
+    pages = min(pages, MOST_SKETCHES if options.all else options.sketches)
+    return min(options.processes, -(-pages // in_block(pages)))
+
+
+def _read(connection: sqlite3.Connection, path: str) -> Tuple[List[groups.GroupSummary], Facts, Table]:
+    """What a report tells of the store at the path. Raises TooLarge."""
+    connection.execute("BEGIN")
+    try:
+        some = groups.load(connection)
+        facts = load_facts(connection, path, some)
+        if facts.files > MOST_FILES:
+            raise TooLarge(f"{facts.files} files are too many for one file; `naplps-pages serve` shows them")
+        return some, facts, Table(connection, facts.roots, some)
+    finally:
+        connection.execute("ROLLBACK")
 
 
 def _told_held(drawings: List[Numbered], pictures: int) -> str:
@@ -123,47 +143,31 @@ def _tasks(table: Table, numbers: List[int]) -> List[Task]:
     return sorted(tasks)
 
 
-def _drawings(tasks: List[Task], options: ReportOptions, packing: Packing) -> List[Numbered]:
-    """The drawings in the order of their files, with the numbers of these, without what is packed of them."""
-    most = DrawingLimits(HELD_SKETCH, HELD_TEXT, HELD_LINES, HELD_PLAYER, options.full, shortens=True)
-    how = DrawingOptions(options.program, options.seconds, most)
-    places = {number: at for at, (number, _) in enumerate(tasks)}
-    made: List[Numbered] = []
-    for number, drawing in _held(_told(drawn(how, tasks, options.processes), len(tasks))):
-        packing.put(places[number], drawing)
-        made.append((number, drawing._replace(sketch="", lines=[])))
-    return sorted(made, key=itemgetter(0))
-
-
-def _told(drawings: Iterator[Numbered], number: int) -> Iterator[Numbered]:
-    """The drawings, whose number is told as they come."""
-    progress = Progress(sys.stderr, lambda: number, what="sketches")
+def _drawn(table: Table, tasks: List[Task], queue: BlockQueue) -> List[DrawnBlock]:
+    """The blocks with the drawings, in the order of their files. Meanwhile the table is filled."""
+    size = in_block(len(tasks))
+    blocks = [Block(at // size, [it for _, it in tasks[at:at + size]]) for at in range(0, len(tasks), size)]
+    progress = Progress(sys.stderr, lambda: len(tasks), what="sketches")
     try:
-        for done, each in enumerate(drawings, 1):
-            yield each
-            progress.show(done)
+        with ThreadPoolExecutor(1) as beside:
+            filled = beside.submit(table.fill)
+            made = sorted(queue.drawn(blocks, progress.show), key=lambda each: each.block.number)
+            filled.result()
     finally:
         progress.clear()
+    return made
 
 
-def _held(drawings: Iterable[Numbered]) -> Iterator[Numbered]:
-    """The drawings, of which those that are too much for one report say so in place of what they show."""
-    characters = 0
-    for number, drawing in drawings:
-        if characters + drawing.characters() > MOST_HELD:
-            drawing = Drawing(why=IS_FULL)
-        characters += drawing.characters()
-        yield number, drawing
-
-
-def _data(table: Table, drawings: List[Numbered], packing: Packing) -> str:
+def _data(table: Table, drawings: List[Numbered], blocks: List[str], threads: int) -> str:
     table.place_sketches(drawings)
     accepted = tables.PAGE_STATES[tables.ACCEPTED]
     names = table.answers.names
     played = [(number, drawing.played) for number, drawing in drawings if drawing.played]
-    held = packing.table({**table.held(), "per": A_BLOCK, "texts": SOME_TEXTS, "refusals": told_refusals(),
-                          "accepted": names.index(accepted) if accepted in names else -1, "playedPer": A_PLAYED_BLOCK,
-                          "played": [table.columns["page"][number] for number, _ in played]})
-    texts = packing.texts([drawing.text for _, drawing in drawings])
-    players = packing.played([each for _, each in played])
-    return data_of(held.result(), packing.blocks(), texts, players)
+    with Packing(threads) as packing:
+        held = packing.table({
+            **table.held(), "per": in_block(len(drawings)), "texts": SOME_TEXTS, "refusals": told_refusals(),
+            "accepted": names.index(accepted) if accepted in names else -1, "playedPer": A_PLAYED_BLOCK,
+            "played": [table.columns["page"][number] for number, _ in played]})
+        texts = packing.texts([drawing.text for _, drawing in drawings])
+        players = packing.played([each for _, each in played])
+        return data_of(held.result(), blocks, texts, players)

@@ -117,7 +117,7 @@ class Questions:
         first, count = _number(words, "from"), _number(words, "count", 1000)
         self._find(words)
         total = self.connection.execute("SELECT coalesce(max(rowid), 0) FROM hits").fetchone()[0]
-        some = [of_files.read(row) for row in self.connection.execute(PART, (first, first + count))]
+        some = list(of_files.read(self.connection.execute(PART, (first, first + count))))
         says = words_of.first(self.connection, [file.page for file in some])
         return {"total": total, "files": [self._told(file, says) for file in some]}
 
@@ -187,7 +187,7 @@ class Questions:
 
     def _group(self, number: int, names: int) -> Answer:
         group = self._now().groups[number - 1]
-        some = [of_files.read(row) for row in self.connection.execute(MEMBERS, (*group.key, max(names, 1)))]
+        some = list(of_files.read(self.connection.execute(MEMBERS, (*group.key, max(names, 1)))))
         members: List[Answer] = []
         last: Optional[bytes] = None
         for file in some[:names]:
@@ -227,10 +227,10 @@ class Questions:
 
     def _file(self, words: Words) -> ReportFile:
         found = KEY.fullmatch(words.get("key", ""))
-        row = self.connection.execute(ONE, (int(found[1]), bytes.fromhex(found[2]))).fetchone() if found else None
-        if row is None:
+        rows = self.connection.execute(ONE, (int(found[1]), bytes.fromhex(found[2]))).fetchall() if found else []
+        if not rows:
             raise Unasked("there is no such file")
-        return of_files.read(row)
+        return next(of_files.read(rows))
 
 
 def key_of(file: ReportFile) -> str:

@@ -26,8 +26,7 @@ def _first(numbers: Iterable[int], most: int) -> List[int]:
 def _groups(table: Table) -> List[int]:
     """A file of each group, in the order of the groups."""
     found = [NONE] * len(table.groups)
-    for number in range(len(table.files)):
-        group = table.group_of(number)
+    for number, group in enumerate(table.in_group):
         if group != NONE and found[group] == NONE:
             found[group] = number
     return [number for number in found if number != NONE]
@@ -52,7 +51,7 @@ def _in_turn(lists: Iterable[List[int]]) -> Iterator[int]:
 def _others(table: Table) -> List[int]:
     """The accepted files that have no equal."""
     return [number for number, file in enumerate(table.files)
-            if file.answer == tables.ACCEPTED and table.group_of(number) == NONE]
+            if file.answer == tables.ACCEPTED and table.in_group[number] == NONE]
 
 
 def pictures(table: Table) -> int:

@@ -1,32 +1,27 @@
-"""Draws many pages by several processes."""
+"""Processes that draw pages, one after another, or blocks of them."""
 import gc
 import resource
 import signal
 import subprocess
 import sys
-from collections import deque
-from multiprocessing.connection import Connection, Pipe, wait
+from multiprocessing.connection import Connection, Pipe
 from types import FrameType
-from typing import Iterator, List, NamedTuple, Optional, Sequence, Tuple
+from typing import NamedTuple, Optional, Union
 
 from naplps.client import Client
 
 from .. import interpreter
 from ..listing import MODEST
+from .blocks import Block, draw_block
 from .drawing import Drawing, DrawingLimits, WantedDrawing, draw
 
 # A process that draws needs less memory than this.
 MOST_MEMORY = 1 << 30
 ENDED = "the process that drew it ended"
-# So many processes one behind the other that drew nothing are no fault of the pages.
-MOST_STILLBORN = 10
-# So many pages a process is given at a time, so that it needn't wait for the next one.
-AHEAD = 3
 # How long is waited for a process that is told to end, in seconds.
 PATIENCE = 2.0
 # So many new objects are made before Python looks for those that nobody needs; a page has hundreds.
 OBJECTS = 100_000
-Task = Tuple[int, WantedDrawing]
 
 
 class DrawingOptions(NamedTuple):
@@ -38,7 +33,7 @@ class DrawingOptions(NamedTuple):
 
 
 class SketchWorker:
-    """A process that draws the pages that it is given, one after another."""
+    """A process that draws the pages or the blocks that it is given, one after another."""
 
     def __init__(self, how: DrawingOptions) -> None:
         self.connection, theirs = Pipe()
@@ -52,8 +47,8 @@ class SketchWorker:
         except OSError:
             pass  # it has ended, which is heard as that
 
-    def give(self, it: WantedDrawing) -> None:
-        """Gives it the next page."""
+    def give(self, it: Union[WantedDrawing, Block]) -> None:
+        """Gives it the next page, or a block."""
         self._send(it)
 
     def has_drawn(self, seconds: float) -> bool:
@@ -63,10 +58,18 @@ class SketchWorker:
     def drawing(self) -> Optional[Drawing]:
         """The drawing of the page that it was given, when that is made; nothing where the process has ended."""
         try:
-            made: Drawing = self.connection.recv()
-        except (EOFError, OSError):
+            made = self.told()
+        except EOFError:
             return None
-        return made
+        return made if isinstance(made, Drawing) else None
+
+    def told(self) -> object:
+        """What it tells next: a drawing, a page of a block, or the packed block. Raises EOFError where it has ended."""
+        try:
+            told: object = self.connection.recv()
+        except OSError:
+            raise EOFError from None
+        return told
 
     def end(self) -> None:
         """Tells the process to end."""
@@ -83,64 +86,6 @@ class SketchWorker:
             self.process.wait()
 
 
-class Share:
-    """A process, and the pages that it has yet to draw."""
-
-    def __init__(self, how: DrawingOptions, tasks: Sequence[Task]) -> None:
-        self.tasks = deque(tasks)
-        self.drawer = SketchWorker(how)
-        self.connection = self.drawer.connection
-        for _, it in tasks[:AHEAD]:
-            self.drawer.give(it)
-
-    def hear(self) -> Optional[Tuple[int, Drawing]]:
-        """The next drawing; nothing where the process has ended, or has nothing to draw."""
-        made = self.drawer.drawing() if self.tasks else None
-        if made is None:
-            return None
-        number, _ = self.tasks.popleft()
-        if len(self.tasks) >= AHEAD:
-            self.drawer.give(self.tasks[AHEAD - 1][1])
-        return number, made
-
-    def left(self) -> List[Task]:
-        """What it has yet to draw."""
-        return list(self.tasks)
-
-    def close(self) -> None:
-        """Ends the process."""
-        self.drawer.close()
-
-
-def drawn(how: DrawingOptions, tasks: Sequence[Task], processes: int) -> Iterator[Tuple[int, Drawing]]:
-    """The drawings with the numbers of their tasks, as they come. A page that ends a process has none."""
-    number = max(1, min(processes, len(tasks)))
-    shares = [Share(how, tasks[at::number]) for at in range(number) if tasks[at::number]]
-    stillborn = 0
-    try:
-        while shares:
-            ready = wait([each.connection for each in shares])
-            for share in [each for each in shares if each.connection in ready]:
-                made = share.hear()
-                if made is not None:
-                    stillborn = 0
-                    yield made
-                    if share.tasks:
-                        continue
-                shares.remove(share)
-                share.close()
-                left = share.left()
-                if made is None:
-                    stillborn += 1
-                lost = left if stillborn > MOST_STILLBORN else left[:1]
-                yield from ((each, Drawing(why=ENDED)) for each, _ in lost)
-                if len(left) > len(lost):
-                    shares.append(Share(how, left[len(lost):]))
-    finally:
-        for share in shares:
-            share.close()
-
-
 def main(descriptor: int) -> None:
     """Draws what the connection asks for, until that ends."""
     signal.signal(signal.SIGTERM, _end)
@@ -152,7 +97,10 @@ def main(descriptor: int) -> None:
     program = Client(how.program, limits=MODEST._replace(seconds=how.seconds))
     try:
         while True:
-            connection.send(draw(program, connection.recv(), how.most))
+            it = connection.recv()
+            made = (draw_block(program, it, how.most, connection.send) if isinstance(it, Block)
+                    else draw(program, it, how.most))
+            connection.send(made)
     except (EOFError, OSError):
         pass  # nobody waits for it any more
     finally:

@@ -37,49 +37,49 @@ class Numbers:
 
 
 class Table:
-    """All files of a store, in the order of their paths."""
+    """All files of a store, in the order of their paths. Its columns are there once it is filled."""
 
     def __init__(self, connection: sqlite3.Connection, roots: Roots, groups: List[GroupSummary]) -> None:
-        self.files: List[ReportFile] = [of_files.read(row) for row in connection.execute(of_files.ALL)]
+        self.files: List[ReportFile] = list(of_files.read(connection.execute(of_files.ALL)))
         self.groups = groups
         self.folders, self.answers, self.cures, self.kinds, self.hashes = (Numbers() for _ in range(5))
         self.says: List[str] = []
         self.first = store_words.first(connection)
+        self.roots = roots
         self.columns: Dict[str, List[object]] = {name: [] for name in COLUMNS}
         numbers = {group.key: number for number, group in enumerate(groups)}
-        in_group = [numbers.get(file.key, NONE) if file.key else NONE for file in self.files]
-        spellings = _spellings(self.files, in_group)
-        relative: Dict[int, str] = {}
-        for file, group in zip(self.files, in_group):
-            if file.folder not in relative:
-                relative[file.folder] = roots.relative(file.path)
-            self._add(file, relative[file.folder], group, spellings.get((group, file.own), NONE))
+        # The groups of the files by their numbers, or NONE.
+        self.in_group = [numbers.get(file.key, NONE) if file.key else NONE for file in self.files]
 
-    def _add(self, file: ReportFile, folder: str, group: int, spelling: int) -> None:
+    def fill(self) -> None:
+        """Fills the columns."""
+        spellings = _spellings(self.files, self.in_group)
+        relative: Dict[int, str] = {}
+        rows = []
+        for file, group in zip(self.files, self.in_group):
+            if file.folder not in relative:
+                relative[file.folder] = self.roots.relative(file.path)
+            rows.append(self._row(file, relative[file.folder], group, spellings.get((group, file.own), NONE)))
+        self.columns.update(zip(COLUMNS, map(list, zip(*rows))))
+
+    def _row(self, file: ReportFile, folder: str, group: int, spelling: int) -> Tuple[object, ...]:
         cure = NONE
         if file.tried:
             cure = self.cures.of(graded(file.treatments) if file.treatments else "")
         page = NONE if file.own is None else self.hashes.of(file.own.hex()[:HASH_DIGITS])
-        values = (self.folders.of(folder, file.folder), shown(os.fsdecode(file.name)), file.size,
-                  self.answers.of(file.told, file.number), file.at if file.entries is None else file.entries, group,
-                  spelling, cure, self.kinds.of(choices.kind(file.kind, file.looks_like)), page, NONE)
-        for name, value in zip(COLUMNS, values):
-            self.columns[name].append(value)
-
-    def group_of(self, number: int) -> int:
-        """The group of a file by their numbers, or NONE."""
-        group = self.columns["group"][number]
-        assert isinstance(group, int)
-        return group
+        return (self.folders.of(folder, file.folder), shown(os.fsdecode(file.name)), file.size,
+                self.answers.of(file.told, file.number), file.at if file.entries is None else file.entries, group,
+                spelling, cure, self.kinds.of(choices.kind(file.kind, file.looks_like)), page, NONE)
 
     def place_sketches(self, drawn: List[Tuple[int, Drawing]]) -> None:
         """Notes which sketch the files have, given those of some: equal pages and copies share one."""
         shared = {_picture(self.files[number]): sketch for sketch, (number, _) in enumerate(drawn)}
         sketches = [shared.get(_picture(file), NONE) for file in self.files]
         self.columns["sketch"] = list(sketches)
+        shown_first = [first_words(drawing.text) for _, drawing in drawn]
         says: Dict[object, str] = {}
         for file, page, sketch in zip(self.files, self.columns["page"], sketches):
-            shows = first_words(drawn[sketch][1].text) if sketch != NONE else ""
+            shows = shown_first[sketch] if sketch != NONE else ""
             says[page] = shows or self.first.get(file.page or 0, "")
         self.says = [says.get(page, "") for page in range(len(self.hashes.names))]
 
