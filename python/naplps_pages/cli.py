@@ -4,7 +4,7 @@ import contextlib
 import importlib
 import os
 import sys
-from functools import lru_cache, partial
+from functools import partial
 from typing import Any, Callable, List, NamedTuple, Optional, Tuple
 
 from naplps.limits import MOST_BUDGET, MOST_PAGE, USUAL_BUDGET, Limits
@@ -35,6 +35,17 @@ ON_PAGES = {
     "cures": "curing.cures", "split": "splitting.split", "census": "census.census", "make": "making.make"}
 # The commands on pages that take a store too.
 OF_STORES = ("look", "cures", "census")
+# What is said where another command on pages is given a store, which it would read as a page, or where these have it
+# among pages. (`check` says of any file what it is.)
+ALONE = "it is a store, which is taken alone, without other pages"
+FOR_STORES = {
+    **dict.fromkeys(OF_STORES, ALONE),
+    "list": "it is a store: `naplps-pages files STORE` prints the files of one",
+    "canon": "it is a store: `naplps-pages convert STORE --into FOLDER` writes the canonical pages of one",
+    "explain": "it is a store: `naplps-pages refused STORE` tells the reasons of one",
+    "play": "it is a store: `naplps-pages serve STORE` plays the pages of one",
+    "text": "it is a store: `naplps-pages find WORD STORE` finds words in one",
+    "split": "it is a store: `naplps-pages files STORE` prints the files of one"}
 # The commands of reports.
 REPORTING = ("report", "serve")
 EPILOG = ("No file is overwritten. Status: 0 all pages are accepted, 1 some are refused, 2 the command line is wrong, "
@@ -78,22 +89,8 @@ def seconds(text: str) -> float:
     return count
 
 
-class HelpFormatter(argparse.HelpFormatter):
-    """Help that is as wide as the terminal. (argparse makes one for each option, and asks shutil, which takes long.)"""
-
-    def __init__(self, prog: str) -> None:
-        super().__init__(prog, width=columns() - 2)
-
-
-@lru_cache(maxsize=None)
-def columns() -> int:
-    """The width of the terminal as shutil has it: that of the environment, of standard output, or 80."""
-    told = os.environ.get("COLUMNS", "")
-    if told.isdecimal() and int(told) > 0:
-        return int(told)
-    with contextlib.suppress(OSError, AttributeError, ValueError):
-        return os.get_terminal_size(sys.__stdout__.fileno()).columns or 80
-    return 80
+# argparse makes a formatter for each option, and asks shutil for the width of the terminal, which takes long.
+NARROW = partial(argparse.HelpFormatter, width=80)
 
 
 class Parser(argparse.ArgumentParser):
@@ -115,6 +112,16 @@ class Parser(argparse.ArgumentParser):
             self.error(f"unrecognized arguments: {' '.join(map(shown, unknown))}")
         return given, unknown
 
+    def format_help(self) -> str:
+        """The help, which is as wide as the terminal."""
+        self.formatter_class = argparse.HelpFormatter
+        return super().format_help()
+
+    def format_usage(self) -> str:
+        """The usage, which is as wide as the terminal."""
+        self.formatter_class = argparse.HelpFormatter
+        return super().format_usage()
+
     def _print_message(self, message: str, file: Any = None) -> None:
         if file is not None and file is sys.stdout:
             file.write(message)
@@ -134,14 +141,14 @@ class Command(NamedTuple):
 def parser(named: str = "") -> Parser:
     """The words that are understood; of the commands the one that is named alone, if one is. (Each takes its time.)"""
     top = Parser(prog=TOOL, description="Files, pictures and reasons for NAPLPS pages.", allow_abbrev=False,
-                 formatter_class=HelpFormatter, epilog=f"`{TOOL} COMMAND --help` describes one command. {EPILOG}")
+                 formatter_class=NARROW, epilog=f"`{TOOL} COMMAND --help` describes one command. {EPILOG}")
     top.add_argument("-V", "--version", action="version", version=f"{TOOL} {VERSION}")
     # (without the name argparse makes the text of the usage, which takes long)
     commands = top.add_subparsers(dest="command", metavar="COMMAND", required=True, prog=TOOL)
     for title in [named] if named in COMMANDS else COMMANDS:
         command = COMMANDS[title]
         one = commands.add_parser(title, help=command.help, epilog=command.epilog, allow_abbrev=False,
-                                  formatter_class=HelpFormatter,
+                                  formatter_class=NARROW,
                                   description=command.help[0].upper() + command.help[1:] + ".")
         one.set_defaults(parser=one)
         one.options = command.options
@@ -408,7 +415,7 @@ def _on_stores(given: argparse.Namespace, command: str) -> int:
 
 def _is_store(given: argparse.Namespace) -> bool:
     """Whether the one name is that of a store."""
-    from .collection.store import is_store
+    from .collection.header import is_store
     is_one = is_store(given.pages[0])
     if is_one and given.command == "look" and given.into is None and given.sheet is None:
         given.parser.error("a store needs --into FOLDER or --sheet FILE")
@@ -437,6 +444,7 @@ def _on_pages(given: argparse.Namespace, command: str) -> int:
             from .collection import tasks
             return tasks.of_store(given, client, earlier)
         options = {name: value for name, value in vars(given).items() if name in OPTIONS}
+        options["of_store"] = FOR_STORES.get(given.command, "")
         module, _, function = ON_PAGES[given.command].partition(".")
         work: Callable[[Session], int] = getattr(importlib.import_module(f".{module}", __package__), function)
         return work(Session(client, given.pages, **options, earlier=earlier))

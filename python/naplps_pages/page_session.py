@@ -15,7 +15,7 @@ from .json_lines import dumps
 from .new_files import NotWritten, below, make_folders
 from .png import NoPng
 from .schema import answered, unread
-from .source import Page, Unread, read
+from .source import Page, Unread, is_store, read
 from .unexpected import told
 
 
@@ -33,6 +33,8 @@ class Session:
     png: bool = False
     sheet: Optional[str] = None
     look: bool = False
+    # (what is told of a store in place of a page, where that isn't asked about as any file)
+    of_store: str = ""
     earlier: Earlier = field(default_factory=Earlier)
     output: Output = field(default_factory=lambda: Output(sys.stdout.buffer))
     status: int = ACCEPTED
@@ -86,6 +88,8 @@ class Session:
             page: Optional[Page] = None
             try:
                 page = self.reader(name, self.program.limits.seconds)
+                if self.of_store and is_store(page):
+                    raise Unread(self.of_store)
                 work(page)
             except (OutputLost, BrokenPipeError):
                 raise

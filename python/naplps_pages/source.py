@@ -9,6 +9,7 @@ from typing import IO, List, Optional, cast
 
 from naplps.limits import MOST_PAGE
 
+from .collection.header import HEADER, MAGIC, begins_store
 from .packs.naming import BETWEEN, is_pack
 from .packs.reading import NoMember, Packs
 from .pipe import Pipe
@@ -17,6 +18,7 @@ PIECE = 1 << 20
 # So much of a pipe is put into a temporary file: what the program takes at most.
 MOST_SPOOLED = 1 << 32
 DEVICES = {stat.S_IFCHR: "it is a device", stat.S_IFBLK: "it is a device", stat.S_IFSOCK: "it is a socket"}
+A_FOLDER = "it is a folder: name the files in it, or let `naplps-pages scan FOLDER --into STORE` take them"
 # (a name in a pack may be longer than one of a file)
 NO_SUCH_FILE = (errno.ENOENT, errno.ENOTDIR, errno.ENAMETOOLONG)
 # The packs of which members are read.
@@ -37,6 +39,16 @@ class Page:
             self.file.close()
 
 
+def is_store(page: Page) -> bool:
+    """Whether the bytes are those of a store of this tool."""
+    if page.data is not None:
+        return page.data.startswith(MAGIC) and begins_store(page.data)
+    assert page.file
+    header = page.file.read(HEADER)
+    page.file.seek(0)
+    return begins_store(header)
+
+
 class Unread(Exception):
     """The page can't be read, with the system's reason."""
 
@@ -52,6 +64,8 @@ def read(name: str, seconds: float) -> Page:
                 raise OSError(errno.EBADF, os.strerror(errno.EBADF))
             return _gathered(name, sys.stdin.buffer)
         kind = stat.S_IFMT(os.stat(name).st_mode)
+        if kind == stat.S_IFDIR:
+            raise Unread(A_FOLDER)
         if kind in DEVICES:
             raise Unread(DEVICES[kind])  # (to open it might do something, and some have no end)
         if kind == stat.S_IFIFO and not _is_unnamed(name):

@@ -10,6 +10,7 @@ import pytest
 from conftest import COMMAND, PACKAGES
 from naplps_pages import interpreter
 from naplps_pages.collection import tables
+from naplps_pages.collection.header import APPLICATION
 from naplps_pages.collection.lock import Lock, is_held
 from naplps_pages.collection.pool import NoWorkers, Pool
 from naplps_pages.collection.store import keep_log
@@ -253,7 +254,7 @@ def test_a_file_that_is_no_store(run, tmp_path, store, make):
         connection = sqlite3.connect(store)
         connection.executescript({
             "other schema": "PRAGMA application_id = %d; CREATE TABLE meta(key, value); "
-                            "INSERT INTO meta VALUES('schema', 3);" % tables.APPLICATION,
+                            "INSERT INTO meta VALUES('schema', 3);" % APPLICATION,
             "other database": "CREATE TABLE other(x);",
             "the table of the recipe": "CREATE TABLE pages (page TEXT PRIMARY KEY, hash TEXT, entries INTEGER);"}[make])
         connection.close()

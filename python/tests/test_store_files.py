@@ -6,11 +6,14 @@ import sqlite3
 
 import pytest
 
+from naplps_pages.cli import ALONE, FOR_STORES
+from naplps_pages.collection.header import is_store
 from naplps_pages.collection.places import Place
 from naplps_pages.collection.session import Names
-from naplps_pages.collection.store import is_store, open_to_read
+from naplps_pages.collection.store import open_to_read
 from naplps_pages.new_files import NotWritten
 from naplps_pages.sheet import MOST_PAGES
+from conftest import file
 from packers import pack
 from samples import OUTSIDE, POINT, SPELLED, with_parity
 from scans import tree
@@ -53,6 +56,34 @@ def test_a_store_is_known_by_its_header(store, tmp_path):
     connection.execute("CREATE TABLE it(x)")
     connection.close()
     assert is_store(store) and not any(map(is_store, (other, str(tmp_path), "/nowhere", "/dev/null", "a\0b")))
+
+
+@pytest.mark.parametrize("command, other", [("list", "files"), ("canon", "convert"), ("explain", "refused"),
+                                            ("play", "serve"), ("text", "find"), ("split", "files")])
+def test_a_store_in_place_of_a_page_is_told_with_the_command_that_takes_one(run, store, tmp_path, command, other):
+    where = ["--into", os.path.join(str(tmp_path), "made")] if command in ("play", "split") else []
+    said = run([command, store, *where])
+    assert (said.stdout, said.returncode) == (b"", 3)
+    assert said.stderr.decode() == "naplps-pages: %s: %s\n" % (store, FOR_STORES[command])
+    assert "`naplps-pages %s " % other in FOR_STORES[command]
+
+
+@pytest.mark.parametrize("command", ["look", "cures", "census"])
+def test_a_store_among_pages_is_told(run, store, tmp_path, command):
+    where = ["--into", os.path.join(str(tmp_path), "made")] if command == "look" else []
+    said = run([command, file(tmp_path, "page", POINT), store, *where])
+    assert "naplps-pages: %s: %s\n" % (store, ALONE) in said.stderr.decode() and said.returncode == 3
+
+
+def test_a_long_store_is_told_too(run, store, tmp_path):
+    with open(store, "ab") as long:
+        long.truncate(17 << 20)
+    said = run(["text", store])
+    assert said.stderr.decode() == "naplps-pages: %s: %s\n" % (store, FOR_STORES["text"])
+
+
+def test_check_says_of_a_store_what_the_file_is(run, store):
+    assert run(["check", store]).stdout.endswith(b" (looks like SQLite)\n")
 
 
 def test_treated_copies_stand_under_their_folders(run, store, tmp_path):

@@ -12,6 +12,7 @@ from naplps.version import VERSION
 from .. import TOOL
 from . import schemas, tables, word_index
 from .beside import foreign
+from .header import APPLICATION
 from .kinds import checked
 
 # A reader may hold a store that has only a rollback journal so long, in seconds.
@@ -21,8 +22,6 @@ FOREIGN, OTHERWISE, LACKS = ("isn't a store of %s: " + each for each in (
 # The view of version 0.2.0 before it knew packs, by the hash of its words.
 EARLIER_LISTING = "3730a18386522f778df118d0b500e6f19a7edc91e7d62b4c11ee8131648c87e8"
 IN_THE_WAY = "has a table %s of its own, where schema %d has another: give that a new name"
-# The header of a database of SQLite, up to the number of the application, and where that stands.
-MAGIC, HEADER, AT_APPLICATION = b"SQLite format 3\0", 72, 68
 PLAIN = frozenset(b"/-._~0123456789ABCDEFGHIJKLMNOPQRSTUVWXYZabcdefghijklmnopqrstuvwxyz")
 # What is held of the file, in KiB; and how long its log becomes, in pages.
 CACHE, LOG = 32 << 10, 8000
@@ -67,18 +66,6 @@ def open_to_read(path: str) -> sqlite3.Connection:
         for column in ("id", "canon"):
             connection.execute(f"CREATE INDEX temp.pages_by_{column} ON pages({column})")
     return connection
-
-
-def is_store(path: str) -> bool:
-    """Whether a file is a database of this tool, by its header. (Nothing else is opened: a pipe would be read.)"""
-    try:
-        if not stat.S_ISREG(os.stat(path).st_mode):
-            return False
-        with open(os.open(path, os.O_RDONLY | os.O_NONBLOCK | os.O_CLOEXEC), "rb") as file:
-            header = file.read(HEADER)
-    except (OSError, ValueError):
-        return False
-    return header.startswith(MAGIC) and header[AT_APPLICATION:] == tables.APPLICATION.to_bytes(4, "big")
 
 
 def open_unchanged(path: str) -> sqlite3.Connection:
@@ -152,7 +139,7 @@ def _make(connection: sqlite3.Connection) -> None:
     values = ", ".join("('%s', '%s')" % each for each in some)
     connection.executescript(
         "BEGIN IMMEDIATE; PRAGMA application_id = %d; %s %s; INSERT INTO meta VALUES %s; COMMIT;" % (
-            tables.APPLICATION, schemas.tables(), schemas.listing(), values))
+            APPLICATION, schemas.tables(), schemas.listing(), values))
 
 
 def _renew(path: str, connection: sqlite3.Connection) -> None:
@@ -237,7 +224,7 @@ def schema_of(connection: sqlite3.Connection) -> int:
 
 def _check(path: str, connection: sqlite3.Connection) -> int:
     """The schema of the file. Raises StoreFailed where it isn't a store that this tool knows."""
-    if connection.execute("PRAGMA application_id").fetchone()[0] != tables.APPLICATION:
+    if connection.execute("PRAGMA application_id").fetchone()[0] != APPLICATION:
         raise StoreFailed(path, f"is a database of something else, and no store of {TOOL}")
     schema = connection.execute("SELECT value FROM meta WHERE key = 'schema'").fetchone()
     if schema is None or str(schema[0]) not in map(str, (schemas.EARLIER, schemas.SCHEMA)):

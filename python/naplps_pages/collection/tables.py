@@ -1,8 +1,6 @@
 """The rows that a scan writes into a store, and what their values mean, as docs/COLLECTIONS.md describes them."""
 from typing import Iterable, List, NamedTuple, Optional, Tuple
 
-# 'NAPL', in the header of the file.
-APPLICATION = 0x4E41504C
 HASH = "sha256"
 
 # A whole number that is kept has 64 bits with the sign.

@@ -43,7 +43,7 @@ class Share:
         self.worker.give(block)
 
     def hear(self, block: Block) -> Optional[DrawnBlock]:
-        """Hears of a page of its block, or of the block; that, where it is drawn. Raises EOFError where it has ended."""
+        """Hears of a page of its block, or of the block; that, once it is drawn. Raises EOFError where it ended."""
         told = self.worker.told()
         if isinstance(told, DrawnPage):
             self.has_drawn |= len(self.pages) not in block.without
