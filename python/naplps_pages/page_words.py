@@ -27,8 +27,9 @@ class Phrase(NamedTuple):
 
 
 def first_words(text: str) -> str:
-    """What a text begins with, on one line."""
-    return " ".join(text[:LOOKED_AT].split())[:FIRST]
+    """The words that a text begins with, on one line."""
+    words = " ".join(text[:LOOKED_AT].split())
+    return words if len(words) <= FIRST else words[:FIRST + 1].rpartition(" ")[0] or words[:FIRST]
 
 
 def folded(text: str) -> List[str]:

@@ -328,7 +328,8 @@ if sys.argv[1:] == ['--version']:
     sys.exit()
 for command, budget, page in requests():
     while command != 'canon' and page[3:] == b'hang' and not os.path.exists('@GO@'): time.sleep(0.02)
-    bodies = {'places': b'0 BELL\\n' * len(page), 'list': b'BELL\\n' * len(page), 'canon': b'canonical ' + page, 'check': b''}
+    bodies = {'places': b'0 BELL\\n' * len(page), 'list': b'BELL\\n' * len(page), 'canon': b'canonical ' + page,
+              'check': b''}
     answer(b'accepted %d entries' % len(page), bodies[command])
 """
 

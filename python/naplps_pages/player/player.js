@@ -213,7 +213,7 @@ class Player {
     const waits = this.isPlaying && line.isWaiting(this.moment, this.seconds) ? ", it waits" : "";
     const [entry, entries] = [done, line.number].map((each) => (each - line.before).toLocaleString("en"));
     this.told.textContent = `Byte ${bytes.toLocaleString("en")} of ${line.length.toLocaleString("en")}, entry ${entry} `
-      + `of ${entries}, ${this.seconds.toFixed(1)} of ${line.end.toFixed(1)} s${waits}`;
+      + `of ${entries}, ${this.seconds.toFixed(1)} of ${line.end.toFixed(1)}\u00a0s${waits}`;
     this.slider.setAttribute("aria-valuetext", this.told.textContent);
     const now = bytes ? this.codes.rowOf(Math.min(bytes, data.length) - 1) : -1;
     this.codes.set(now, this.row, this.row >= 0 ? -1 : Math.max(0, now));

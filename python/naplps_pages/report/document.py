@@ -32,6 +32,7 @@ class Document:
             "POLICY": escape(self.policy), "STYLE": style, "SCRIPT": script, "TITLE": escape(_title(facts)),
             "SCAN": _scan(facts), "COUNTS": _counts(facts.counts), "CHART": chart(facts.reasons, facts.files),
             "ANSWERS": _options(facts.choices.answers), "GROUPS": _told_groups(groups),
+            "COPIES": " checked" if groups and not of_spellings(groups) else "",
             "FIND": "words, or part of a name" if source == "held.js" or facts.has_words else "part of a name",
             "KINDS": _choice("kind", "Kind", "each kind", facts.choices.kinds),
             "CURES": _choice("cure", "Treatment", "each", facts.choices.cures),

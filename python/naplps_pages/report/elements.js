@@ -39,8 +39,8 @@ function link(text, action, label) {
 }
 
 // Names with what is said of each; those of which nothing is to be said are left out.
-function facts(pairs) {
-  return make("dl", {className: "facts"}, ...pairs.filter(([, value]) => value !== "" && value !== null).flatMap(
+function facts(pairs, className = "facts") {
+  return make("dl", {className}, ...pairs.filter(([, value]) => value !== "" && value !== null).flatMap(
     ([name, value]) => [make("dt", {}, name), make("dd", {}, value)]));
 }
 
@@ -48,9 +48,15 @@ function longText(label, text) {
   return make("pre", {tabIndex: 0, role: "region", "aria-label": label}, text);
 }
 
+// A command to be copied, whose words aren't cut at their dashes.
+function command(text) {
+  const words = text.split(" ").flatMap((word, at) => [at ? " " : "", make("span", {}, word)]);
+  return make("code", {className: "command"}, ...words);
+}
+
 // What stands in place of a picture: why there is none, and the commands that make one.
 function instead(why, ...commands) {
-  const some = commands.flatMap((each, at) => [at ? " or " : " ", make("code", {}, each)]);
+  const some = commands.flatMap((each, at) => [at ? " or " : " ", command(each)]);
   return make("div", {className: "none"}, make("p", {}, why, ...some));
 }
 

@@ -96,7 +96,8 @@ class PageView {
       : "none makes it readable";
     return [make("h3", {}, "Why it is refused"), facts([["It means", refusal.means],
       ["It may come from", refusal.causes], ["What to do", refusal.do],
-      ["Command", refusal.command.replace("PAGE", () => quoted(file.name))], ["Treatments", treatments]])];
+      ["Command", refusal.command && command(refusal.command.replace("PAGE", () => quoted(file.name)))],
+      ["Treatments", treatments]], "facts reasons")];
   }
 
   equal(group) {
