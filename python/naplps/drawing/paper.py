@@ -97,8 +97,8 @@ class Paper:
             return
         cost.size += size
         cost.weight += weight
-        if (self.of_page.size + self.of_definitions.size > MOST_BYTES - AROUND
-                or self.of_page.weight + self.of_definitions.weight > MOST_WEIGHT):
+        page, definitions = self.of_page, self.of_definitions
+        if page.size + definitions.size > MOST_BYTES - AROUND or page.weight + definitions.weight > MOST_WEIGHT:
             self.full = True
             raise Full
 

@@ -22,23 +22,24 @@ class Shapes:
             Point: self.point, Line: self.line, Rect: self.rectangle, Poly: self.polygon, Arc: self.arc}
 
     def _places(self, points: Tuple[Position, ...]) -> List[Place]:
-        if not self.paper.on_page:
+        if self.paper.open is not None:
             return in_glyph(points)
         self.paper.reach(max([y for _, y in points]) / ONE)
         return on_page(points)
 
     def point(self, entry: Point) -> None:
         """A point: the pel's rectangle, from its corner."""
-        (x, y), = self._places(entry.points)
+        (x, y), = self._places((entry.at,))
         dot = pel(entry.pel, self.looks.thin())
+        wide, high = dot.wide, dot.high
         self.paper.put(Element("rect", {
-            "x": num(x + dot.left), "y": num(y + dot.top), "width": num(dot.wide), "height": num(dot.high),
-            "fill": self.looks.ink(entry)}), box(dot.wide, dot.high))
+            "x": num(x + dot.left), "y": num(y + dot.top), "width": num(wide), "height": num(high),
+            "fill": self.looks.ink(entry)}), box(wide, high))
 
     def line(self, entry: Line) -> None:
         """A line; a thin one has square ends."""
-        (a, b), (c, d) = places = self._places(entry.points)
-        if _is_swept(entry):
+        (a, b), (c, d) = places = self._places((entry.start, entry.end))
+        if entry.pel != (0, 0):
             self._sweep(entry, [Straight(*places)])
             return
         style = self.looks.of(entry, of_line(*places))

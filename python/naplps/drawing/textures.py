@@ -30,11 +30,11 @@ class SvgAttributes:
 
     def ink(self, entry: Union[Point, Stroked]) -> str:
         """The colour of an entry; in a glyph or a mask that of the character or shape that uses it."""
-        return self.palette.front(entry.colour) if self.paper.on_page else "currentColor"
+        return self.palette.front(entry.colour) if self.paper.open is None else "currentColor"
 
     def thin(self) -> float:
         """The least thickness that is drawn."""
-        return THIN if self.paper.on_page else THIN_IN_GLYPH
+        return THIN if self.paper.open is None else THIN_IN_GLYPH
 
     def of(self, entry: Stroked, shape: Extent) -> Style:
         """Those of a shape of this extent. Raises Full."""

@@ -4,8 +4,8 @@ from dataclasses import dataclass
 from typing import Dict, NamedTuple, Optional, Sequence, Tuple, Union
 
 from ..entry import (
-    Blink, BlinkMark, Char, Clear, Colour, Cursor, DefEnd, Entry, Field, GlyphStart, MaskStart, Reset, TextMove,
-    ToEol, Wait,
+    Blink, BlinkMark, Char, Clear, Colour, Cursor, DefEnd, Entry, Field, GlyphStart, Line, MaskStart, Point, Rect, Reset,
+    TextMove, ToEol, Wait,
 )
 from ..reading import Entries, read_line
 from .cells import Saved
@@ -25,6 +25,8 @@ MOST_POINTS = 200_000
 MOST_COMMAS = 16
 ENDS = "The picture ends before entry %d: with what follows it would be more than a picture may be."
 BLINKING = "blinking isn't drawn"
+# How many points these entries have.
+FEW_POINTS: Dict[type, int] = {Point: 1, Line: 2, Rect: 2, Char: 0}
 NOTES: Dict[type, str] = {Blink: BLINKING, Wait: "waits aren't drawn", Cursor: "cursors aren't drawn"}
 # RESET's codes for the screen: cleared to black, or to the colour in use.
 TO_BLACK, TO_COLOUR = (1, 7), (2, 5, 6)
@@ -62,7 +64,8 @@ class Walk:
                 if len(line) > MOST_POINTS and line.count(",") > MOST_POINTS + MOST_COMMAS:
                     break
                 entry = self.entries[number]
-                points += len(getattr(entry, "points", ()))
+                few = FEW_POINTS.get(type(entry))
+                points += len(getattr(entry, "points", ())) if few is None else few
                 if points > MOST_POINTS:
                     break
                 if number == self.guess_start:
@@ -96,7 +99,7 @@ class Walk:
 
     def entry(self, entry: Entry) -> None:
         """Draws an entry."""
-        if self.paper.on_page:
+        if self.paper.open is None:
             self.colour = getattr(entry, "colour", self.colour)
         draw = self.shapes.kinds.get(type(entry))
         if draw:
