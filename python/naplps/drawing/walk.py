@@ -4,8 +4,8 @@ from dataclasses import dataclass
 from typing import Dict, NamedTuple, Optional, Sequence, Tuple, Union
 
 from ..entry import (
-    Blink, BlinkMark, Char, Clear, Colour, Cursor, DefEnd, Entry, Field, GlyphStart, Line, MaskStart, Point, Rect, Reset,
-    TextMove, ToEol, Wait,
+    Blink, BlinkMark, Char, Clear, Colour, Cursor, DefEnd, Entry, Field, GlyphStart, Line, MaskStart, Point, Rect,
+    Reset, TextMove, ToEol, Wait,
 )
 from ..reading import Entries, read_line
 from .cells import Saved
