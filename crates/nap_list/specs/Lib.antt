@@ -7,6 +7,7 @@ pub mod Limits
 pub mod Propositions
 pub mod Range
 pub mod Reading
+pub mod Sending
 pub mod Known
 pub mod State
 pub mod Counting
