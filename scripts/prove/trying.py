@@ -48,12 +48,12 @@ class Room:
     """A copy of the repository, in which crates are checked as they stand and with edits."""
 
     def __init__(self, root: Path, path: Path) -> None:
-        """Copies what a check reads of the repository, and the edits, to a folder."""
+        """Copies the crates to a folder, with what earlier checks kept of them, so that little is proved again."""
         self.path = path
         self.jobs = os.environ.get("RT_JOBS") or str(side_by_side())
         for file in ("crates.txt", "HANDLES"):
             shutil.copy(root / file, path / file)
-        shutil.copytree(root / "crates", path / "crates", ignore=shutil.ignore_patterns("out"))
+        shutil.copytree(root / "crates", path / "crates", symlinks=True)
 
     def crate(self, name: str) -> Path:
         """The folder of a crate."""

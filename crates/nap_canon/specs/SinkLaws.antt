@@ -1,7 +1,7 @@
-use Rattle.std.proofs.Common.{ℕ, ◌≡◌, ◌+◌, ◌-◌, ◌^◌, ◌<◌, ◌||◌, Bool, true, false, List, [], ◌++◌, length, take, min, refl, ap, sym, subst, ◌∙◌, append_assoc, length-append, arith}
+use Rattle.std.proofs.Common.{ℕ, ◌≡◌, ◌+◌, ◌<◌, Bool, true, false, List, [], ◌++◌, length, take, refl, ap, sym, subst, ◌∙◌, append_assoc, length-append, arith}
 use Rattle.std.proofs.lemmas.List.{take-append-le}
 use Rattle.std.proofs.Math.Seq.{take-append-add}
-use Rattle.std.proofs.KnownBytes.{Appends-nil, Appends-trans}
+use Rattle.nap_list.specs.Sending.{Sending, Grows, grows_none, grows_more}
 use Rattle.nap_canon.specs.declared.tail.Tail.{Tail}
 use Rattle.nap_canon.specs.declared.form.Form.{Form}
 use Rattle.nap_list.specs.declared.device.outlet.Outlet as outlet
@@ -11,48 +11,10 @@ use Rattle.nap_list.specs.State.{walk}
 use Rattle.nap_list.proofs.PublicLaws.{walks_join}
 use Rattle.nap_canon.specs.Spelling.{Piece}
 use Rattle.nap_canon.specs.Text.{written, tail_after, pieces, entry_pieces}
-use Rattle.nap_canon.specs.Sinking.{Sending, Writes, Grows, TakesAll, Sends, Canonical, shown, bytes_of, bytes_behind, Took, Broke}
+use Rattle.nap_canon.specs.Sinking.{TakesAll, Sends, Canonical, shown, bytes_of, bytes_behind, Took, Broke}
 use Rattle.nap_canon.specs.TextParts.{written-append, tail_after-append, pieces-append}
 
--- counting on, and on again
-counted_more : (m a b s t u : ℕ) → t ≡ s + min a (m - s) → u ≡ t + min b (m - t) → u ≡ s + min (a + b) (m - s)
-counted_more m a b s t u first second = omega arith
-
-counted_none : (m s : ℕ) → s ≡ s + min 0 (m - s)
-counted_none m s = omega arith
-
 -- written, and written again
-
-or_false : (b : Bool) → b ≡ (b || false)
-or_false true = refl
-or_false false = refl
-
-or_more : (a b c : Bool) → ((a || b) || c) ≡ (a || (b || c))
-or_more true b c = refl
-or_more false b c = refl
-
-writes_none : (s : Sending) → Writes s s
-writes_none s = record { fails = false; failed = or_false s.failed; write_failed = or_false s.write_failed; flushes = refl }
-
-writes_more : (s t u : Sending) → Writes s t → Writes t u → Writes s u
-writes_more s t u first second = record {
-  fails = first.fails || second.fails;
-  failed = second.failed ∙ ap (λ (b : Bool). b || second.fails) first.failed ∙ or_more s.failed first.fails second.fails;
-  write_failed = second.write_failed ∙ ap (λ (b : Bool). b || second.fails) first.write_failed ∙ or_more s.write_failed first.fails second.fails;
-  flushes = second.flushes ∙ first.flushes;
-}
-
-pub grows_none : (s : Sending) → Grows s [] s
-grows_none s = record { taken = Appends-nil s.taken; count = counted_none (2 ^ 64 - 1) s.count; writes = writes_none s }
-
-pub grows_more : (s t u : Sending) (a b : List ℕ) → Grows s a t → Grows t b u → Grows s (a ++ b) u
-grows_more s t u a b first second = record {
-  taken = Appends-trans s.taken t.taken u.taken a b first.taken second.taken;
-  count =
-      counted_more (2 ^ 64 - 1) (length a) (length b) s.count t.count u.count first.count second.count
-      ∙ ap (λ (n : ℕ). s.count + min n (2 ^ 64 - 1 - s.count)) (sym (length-append a b));
-  writes = writes_more s t u first.writes second.writes;
-}
 
 pub sends_none : (s : Sending) → Sends s [] false s
 sends_none s = record { grows = grows_none s; failed = refl }

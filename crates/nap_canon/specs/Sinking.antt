@@ -1,39 +1,13 @@
-use Rattle.std.specs.Prelude.{ℕ, ◌≡◌, ◌+◌, ◌-◌, ◌^◌, ◌<◌, ◌||◌, Bool, true, false, Option, List, ◌++◌, length, take, min}
-use Rattle.std.specs.Io.KnownBytes.{Appends}
+use Rattle.std.specs.Prelude.{ℕ, ◌≡◌, ◌<◌, Bool, true, false, List, ◌++◌, length, take}
 use Rattle.nap_canon.specs.declared.tail.Tail.{Tail}
 use Rattle.nap_canon.specs.declared.form.Form.{Form}
 use Rattle.nap_canon.specs.declared.form.Form.TheVariants.{Two}
 use Rattle.nap_list.specs.declared.device.outlet.Outlet as outlet
 use Rattle.nap_list.specs.declared.entry.Entry.{Entry}
 use Rattle.nap_list.specs.declared.state.State.{State}
+use Rattle.nap_list.specs.Sending.{Sending, sending, Grows}
 use Rattle.nap_list.specs.State.{start, walk}
 use Rattle.nap_canon.specs.Text.{header, begun_tail, written, tail_after, pieces, entry_pieces, text}
-
--- An outlet that is written, as it shows: the bytes that it took, where it tells them; whether it failed, and whether a
--- write did; how often it was flushed; and how many bytes it was seen to take.
-pub record Sending : Type 0 where
-  pub taken : Option (List ℕ)
-  pub failed : Bool
-  pub write_failed : Bool
-  pub flushes : ℕ
-  pub count : ℕ
-
-abbrev pub sending : {O : Type 0} → outlet.Ghosts O → O → ℕ → Sending
-sending o to count = record { taken = o.taken to; failed = o.failed to; write_failed = o.write_failed to; flushes = o.flushes to; count = count }
-
--- The outlet was written alone: it has failed since exactly if a write did, and it was not flushed.
-pub record Writes (s t : Sending) : Type 0 where
-  pub fails : Bool
-  pub failed : t.failed ≡ (s.failed || fails)
-  pub write_failed : t.write_failed ≡ (s.write_failed || fails)
-  pub flushes : t.flushes ≡ s.flushes
-
--- The outlet took these bytes behind the others, and was written alone. The count grows by as many, and stays at the
--- greatest of 64 bits.
-pub record Grows (s : Sending) (bytes : List ℕ) (t : Sending) : Type 0 where
-  pub taken : Appends s.taken t.taken bytes
-  pub count : t.count ≡ s.count + min (length bytes) (2 ^ 64 - 1 - s.count)
-  pub writes : Writes s t
 
 -- all of the bytes were taken, and no write failed
 pub record TakesAll (s : Sending) (bytes : List ℕ) (t : Sending) : Type 0 where

@@ -1,8 +1,9 @@
 //! An outlet whose bytes are counted.
 ghost use Rattle.std.specs.Prelude.{◌≤◌, false, length, take};
+ghost use Rattle.nap_list.specs.Sending.{sending};
 ghost use Rattle.nap_canon.specs.declared.output.Output.{Output};
 ghost use Rattle.nap_canon.specs.Batches.{SentUpTo};
-ghost use Rattle.nap_canon.specs.Sinking.{Sends, sending};
+ghost use Rattle.nap_canon.specs.Sinking.{Sends};
 ghost use Rattle.nap_canon.specs.SinkLaws.{sends_none, sends_more, sends_cut};
 
 use crate::byte_sink::ByteSink;

@@ -1,7 +1,5 @@
-use Rattle.std.proofs.Common.{ℕ, ◌≡◌, ◌+◌, ◌-◌, ◌^◌, ◌<◌, ◌≤◌, ◌||◌, true, false, List, [], ◌∷◌, ◌++◌, length, take, drop, min, Result, Ok, Err, OnOk, refl, ap, sym, subst, ◌∙◌, inl, inr, append-nil, take-add, length-drop, arith}
+use Rattle.std.proofs.Common.{ℕ, ◌≡◌, ◌+◌, ◌-◌, ◌<◌, true, false, List, [], ◌∷◌, ◌++◌, length, take, drop, Result, Ok, Err, OnOk, refl, ap, sym, subst, ◌∙◌, inl, inr, append-nil, take-add, length-drop, arith}
 use Rattle.std.proofs.lemmas.List.{length-take-le, take-append-drop, take_all}
-use Rattle.std.proofs.KnownBytes.{Appends-kept, Appends-nil}
-use Rattle.std.specs.Io.KnownBytes.{Appends, Keeps}
 use Rattle.std.specs.Result.{IsErrAnd}
 use Rattle.nap_list.specs.declared.device.DeviceFault.{DeviceFault}
 use Rattle.nap_list.specs.declared.device.outlet.Outlet as outlet
@@ -12,50 +10,16 @@ use Rattle.nap_list.specs.declared.sink.SinkFault.TheVariants as faults
 use Rattle.nap_list.specs.declared.state.State.{State}
 use Rattle.nap_list.specs.Putting.{SinkShows, Put, BreaksAfter, HaltsAfter, PutSome, Tells, TakesAll, shows}
 use Rattle.nap_list.specs.PuttingLaws.{stops_behind, wanting_put}
+use Rattle.nap_list.specs.Sending.{Sending, sending, Grows}
 use Rattle.nap_list.specs.State.{walk}
 use Rattle.nap_lines.specs.Lines.{line}
 use Rattle.nap_lines.specs.Listing.{lines, lines_join}
-use Rattle.nap_lines.specs.Printing.{Sending, sending, Sends, Passes, Sent, Closes, Printing, shown, Took, Broke, StopsAt, Prints, taken_of}
-use Rattle.nap_lines.specs.PrintingLaws.{sends_more, passes_none, passes_more, passes_on, took_none}
-
--- Bytes that an outlet takes, write after write.
-
-counted_on : (n count k : ℕ) → n ≤ 2 ^ 64 - 1 → k ≡ min (n + count) (2 ^ 64 - 1) → k ≡ n + min count (2 ^ 64 - 1 - n)
-counted_on n count k small is = omega arith
-
--- one write takes a part of the rest
-pub sends_part : {O : Type 0} (o : outlet.Ghosts O) (s : Sending) (t u : O) (n k i count : ℕ) (xs : List ℕ) → Sends s (take i xs) (sending o t n) →
-    count ≤ length (drop i xs) → Appends (o.taken t) (o.taken u) (take count (drop i xs)) → o.failed u ≡ (o.failed t || false) →
-    o.write_failed u ≡ (o.write_failed t || false) → o.flushes u ≡ o.flushes t → n ≤ 2 ^ 64 - 1 → k ≡ min (n + count) (2 ^ 64 - 1) → Sends s (take (i + count) xs) (sending o u k)
-sends_part o s t u n k i count xs so_far few appended failed write_failed flushes small counted =
-    let piece : List ℕ = take count (drop i xs) in
-    let more : Sends (sending o t n) piece (sending o u k) = record {
-      taken = appended;
-      count = counted_on n count k small counted ∙ ap (λ (l : ℕ). n + min l (2 ^ 64 - 1 - n)) (sym (length-take-le count (drop i xs) few));
-      fails = false;
-      failed = failed;
-      write_failed = write_failed;
-      flushes = flushes;
-    } in
-    subst (λ (bytes : List ℕ). Sends s bytes (sending o u k)) (sym (take-add i count xs)) (sends_more s (sending o t n) (sending o u k) (take i xs) piece so_far more)
-
--- a write fails, and takes nothing
-pub sends_failing : {O : Type 0} (o : outlet.Ghosts O) (s : Sending) (t u : O) (n : ℕ) (bytes : List ℕ) → Sends s bytes (sending o t n) → Keeps (o.taken t) (o.taken u) →
-    o.failed u ≡ (o.failed t || true) → o.write_failed u ≡ (o.write_failed t || true) → o.flushes u ≡ o.flushes t → Sends s bytes (sending o u n)
-sends_failing o s t u n bytes so_far kept failed write_failed flushes =
-    let none : Sends (sending o t n) [] (sending o u n) = record {
-      taken = Appends-kept (o.taken t) (o.taken t) (o.taken u) [] (Appends-nil (o.taken t)) kept;
-      count = omega arith;
-      fails = true;
-      failed = failed;
-      write_failed = write_failed;
-      flushes = flushes;
-    } in
-    subst (λ (bytes : List ℕ). Sends s bytes (sending o u n)) (append-nil bytes) (sends_more s (sending o t n) (sending o u n) bytes [] so_far none)
+use Rattle.nap_lines.specs.Printing.{Passes, Sent, Closes, Printing, shown, Took, Broke, StopsAt, Prints, taken_of}
+use Rattle.nap_lines.specs.PrintingLaws.{passes_none, passes_more, passes_on, took_none}
 
 -- a first part was sent
-pub part_passes : (s : Sending) (t : Sending) (i : ℕ) (xs : List ℕ) → Sends s (take i xs) t → Passes s [] xs (drop i xs) t
-part_passes s t i xs sent = record { sent = take i xs; parts = sym (take-append-drop i xs); sends = sent }
+pub part_passes : (s : Sending) (t : Sending) (i : ℕ) (xs : List ℕ) → Grows s (take i xs) t → Passes s [] xs (drop i xs) t
+part_passes s t i xs sent = record { sent = take i xs; parts = sym (take-append-drop i xs); grows = sent }
 
 -- the piece from i on is the rest
 pub rest_of : (i : ℕ) (xs : List ℕ) → take (length xs - i) (drop i xs) ≡ drop i xs
@@ -65,15 +29,15 @@ rest_of i xs = take_all (length xs - i) (drop i xs) (omega (arith, length-drop i
 
 -- bytes that come first are those that were held
 held_first : (s t : Sending) (held left : List ℕ) → Passes s [] held left t → Passes s held [] left t
-held_first s t held left h = record { sent = h.sent; parts = append-nil held ∙ h.parts; sends = h.sends }
+held_first s t held left h = record { sent = h.sent; parts = append-nil held ∙ h.parts; grows = h.grows }
 
 module _ {O : Type 0} (o : outlet.Ghosts O) (w u : O) (m n : ℕ) (held bytes : List ℕ) (v : State) (is : bytes ≡ held) where
   abbrev before : Printing O
   before = record { outlet = w; written = m; held = held; state = v }
 
-  pub sent_all : (now : List ℕ) → now ≡ [] → Sends (sending o w m) bytes (sending o u n) × (o.failed u ≡ o.failed w) → Sent o before (record { outlet = u; written = n; held = now; state = v }) (Ok tt)
+  pub sent_all : (now : List ℕ) → now ≡ [] → Grows (sending o w m) bytes (sending o u n) × (o.failed u ≡ o.failed w) → Sent o before (record { outlet = u; written = n; held = now; state = v }) (Ok tt)
   sent_all now none sent = (
-    record { sent = bytes; parts = append-nil held ∙ sym is ∙ sym (append-nil bytes) ∙ ap (λ (left : List ℕ). bytes ++ left) (sym none); sends = sent.0 },
+    record { sent = bytes; parts = append-nil held ∙ sym is ∙ sym (append-nil bytes) ∙ ap (λ (left : List ℕ). bytes ++ left) (sym none); grows = sent.0 },
     sent.1,
     refl,
   )
@@ -118,7 +82,7 @@ one_line e = sym (append-nil (line e ++ 10 ∷ []))
 
 -- bytes were held too, and then what is held was passed on
 pub held_on : (s t : Sending) (held now bytes left : List ℕ) → now ≡ held ++ bytes → Passes s now [] left t → Passes s held bytes left t
-held_on s t held now bytes left is h = record { sent = h.sent; parts = sym is ∙ sym (append-nil now) ∙ h.parts; sends = h.sends }
+held_on s t held now bytes left is h = record { sent = h.sent; parts = sym is ∙ sym (append-nil now) ∙ h.parts; grows = h.grows }
 
 -- more entries' lines behind the first ones
 pub lines_on : (s t : Sending) (held left now : List ℕ) (list : List Entry) (n more : ℕ) → Passes s held (lines (take n list)) left t →

@@ -1,5 +1,4 @@
-use Rattle.std.specs.Prelude.{ℕ, ◌≡◌, ◌+◌, ◌-◌, ◌^◌, ◌<◌, ◌||◌, Bool, true, false, Option, List, [], ◌∷◌, ◌++◌, length, min, take, Result, Ok, Err}
-use Rattle.std.specs.Io.KnownBytes.{Appends}
+use Rattle.std.specs.Prelude.{ℕ, ◌≡◌, ◌<◌, true, false, List, [], ◌∷◌, ◌++◌, length, take, Result, Ok, Err}
 use Rattle.nap_list.specs.declared.device.DeviceFault.{DeviceFault}
 use Rattle.nap_list.specs.declared.device.outlet.Outlet as outlet
 use Rattle.nap_list.specs.declared.entry.Entry.{Entry}
@@ -7,42 +6,21 @@ use Rattle.nap_list.specs.declared.sink.BatchFault.{BatchFault}
 use Rattle.nap_list.specs.declared.sink.SinkFault.{SinkFault}
 use Rattle.nap_list.specs.declared.sink.SinkFault.TheVariants as faults
 use Rattle.nap_list.specs.declared.state.State.{State}
+use Rattle.nap_list.specs.Sending.{Sending, sending, Grows}
 use Rattle.nap_list.specs.State.{walk}
 use Rattle.nap_lines.specs.Listing.{lines}
 
 -- Lines that are printed as their entries come.
 
--- An outlet that is written, as it shows: the bytes that it took, where it tells them; whether it failed, and whether a
--- write did; how often it was flushed; and how many bytes it was seen to take.
-pub record Sending : Type 0 where
-  pub taken : Option (List ℕ)
-  pub failed : Bool
-  pub write_failed : Bool
-  pub flushes : ℕ
-  pub count : ℕ
-
-abbrev pub sending : {O : Type 0} → outlet.Ghosts O → O → ℕ → Sending
-sending o to count = record { taken = o.taken to; failed = o.failed to; write_failed = o.write_failed to; flushes = o.flushes to; count = count }
-
--- The outlet took these bytes behind the others. It was written alone: it has failed since exactly if a write did, and it
--- was not flushed. The count grows by as many bytes, and stays at the greatest of 64 bits.
-pub record Sends (s : Sending) (bytes : List ℕ) (t : Sending) : Type 0 where
-  pub taken : Appends s.taken t.taken bytes
-  pub count : t.count ≡ s.count + min (length bytes) (2 ^ 64 - 1 - s.count)
-  pub fails : Bool
-  pub failed : t.failed ≡ (s.failed || fails)
-  pub write_failed : t.write_failed ≡ (s.write_failed || fails)
-  pub flushes : t.flushes ≡ s.flushes
-
 -- Of what was held and of these bytes a first part was sent, and this is left.
 pub record Passes (s : Sending) (held bytes left : List ℕ) (t : Sending) : Type 0 where
   pub sent : List ℕ
   pub parts : held ++ bytes ≡ sent ++ left
-  pub sends : Sends s sent t
+  pub grows : Grows s sent t
 
 -- all of the bytes were sent, and no write failed; or a first part, and then one did
 abbrev pub SentUpTo : Sending → List ℕ → Sending → Result (Unit {0}) DeviceFault → Type 0
-SentUpTo s bytes t (Ok done) = Sends s bytes t × (t.failed ≡ s.failed)
+SentUpTo s bytes t (Ok done) = Grows s bytes t × (t.failed ≡ s.failed)
 SentUpTo s bytes t (Err fault) = ((left : List ℕ) × Passes s [] bytes left t) × (t.failed ≡ true)
 
 -- What a printer shows: its outlet, how many bytes that took from it, what it holds, and the state that the next entry has

@@ -1,5 +1,6 @@
 //! Bytes that an outlet takes whole.
-ghost use Rattle.nap_lines.specs.Printing.{SentUpTo, sending};
+ghost use Rattle.nap_list.specs.Sending.{sending};
+ghost use Rattle.nap_lines.specs.Printing.{SentUpTo};
 
 use nap_list::{DeviceFault, Outlet};
 

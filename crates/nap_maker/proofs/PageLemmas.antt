@@ -10,9 +10,10 @@ use Rattle.nap_list.specs.declared.entry.Entry.{Entry}
 use Rattle.nap_list.specs.declared.sink.Sink.{Ghosts}
 use Rattle.nap_list.specs.Reading.{Reading, IsReadWhole}
 use Rattle.nap_list.specs.State.{start, AllFit}
+use Rattle.nap_list.specs.Sending.{sending, Writes, Grows}
 use Rattle.nap_canon.specs.declared.form.Form.TheVariants.{Two}
 use Rattle.nap_canon.specs.Converting.{IsFrontOf, count_of}
-use Rattle.nap_canon.specs.Sinking.{Begun, Broke, Canonical, Grows, Sends, Took, Writes, sending, shown}
+use Rattle.nap_canon.specs.Sinking.{Begun, Broke, Canonical, Sends, Took, shown}
 use Rattle.nap_canon.specs.Text.{begun_tail, header, pieces, text, written}
 use Rattle.nap_canon.proofs.PublicLaws.{sink_writes_text}
 use Rattle.nap_make.specs.Entries.{IsProper}

@@ -8,12 +8,13 @@ use Rattle.nap_list.specs.declared.entry.Entry.{Entry}
 use Rattle.nap_list.specs.declared.state.State.{State}
 use Rattle.nap_list.specs.Flushing.{FlushedOnce, flushed}
 use Rattle.nap_list.specs.State.{start, walk}
+use Rattle.nap_list.specs.Sending.{sending, Writes, Grows, grows_more}
 use Rattle.nap_canon.specs.declared.form.Form.{Form}
 use Rattle.nap_canon.specs.declared.form.Form.TheVariants.{Two}
 use Rattle.nap_canon.specs.declared.tail.Tail.{Tail}
 use Rattle.nap_canon.specs.Converting.{IsFrontOf}
-use Rattle.nap_canon.specs.Sinking.{Begun, Broke, Canonical, Grows, Took, Writes, bytes_behind, bytes_of, sending, shown}
-use Rattle.nap_canon.specs.SinkLaws.{grows_more, took_none}
+use Rattle.nap_canon.specs.Sinking.{Begun, Broke, Canonical, Took, bytes_behind, bytes_of, shown}
+use Rattle.nap_canon.specs.SinkLaws.{took_none}
 use Rattle.nap_canon.specs.Spelling.{Piece}
 use Rattle.nap_canon.specs.Text.{begun_tail, entry_pieces, header, pieces, tail_after, text, written}
 use Rattle.nap_canon.specs.TextParts.{pieces-append, written-append}

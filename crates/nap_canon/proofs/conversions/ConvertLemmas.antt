@@ -5,6 +5,7 @@ use Rattle.std.proofs.lemmas.Bool.{false≢true}
 use Rattle.std.proofs.lemmas.List.{take-append-drop}
 use Rattle.std.specs.Io.KnownBytes.{Appends, Consumes, Keeps}
 use Rattle.std.proofs.KnownBytes.{Appends-kept, Consumes-nil}
+use Rattle.nap_list.specs.Sending.{sending, Writes}
 use Rattle.nap_canon.specs.declared.form.Form.TheVariants.{Two}
 use Rattle.nap_draw.specs.Draws.{Cause, stream, memory, device}
 use Rattle.nap_list.specs.declared.device.inlet.Inlet as inlet
@@ -28,7 +29,7 @@ use Rattle.nap_canon.specs.declared.conversion.ConvertFault.{ConvertFault}
 use Rattle.nap_canon.specs.declared.conversion.ConvertFault.TheVariants as fault
 use Rattle.nap_canon.specs.Concluding.{Concludes}
 use Rattle.nap_canon.specs.Converting.{StopsAtOnce, IsFrontOf, Converts}
-use Rattle.nap_canon.specs.Sinking.{Canonical, sending, shown, Sends, Writes, Begun, Took, Broke}
+use Rattle.nap_canon.specs.Sinking.{Canonical, shown, Sends, Begun, Took, Broke}
 use Rattle.nap_canon.specs.Streams.{list_of}
 use Rattle.nap_canon.specs.Text.{header, begun_tail, written, pieces, text}
 use Rattle.nap_canon.proofs.conversions.WentOutLemmas.{front_refl, Leaves, concluded, leaves_whole, leaves_refused, leaves_cut, leaves_broken}

@@ -4,6 +4,7 @@ use Rattle.std.proofs.Common.{ℕ, ◌≡◌, ◌≢◌, ◌⊎◌, Bool, true, 
 use Rattle.std.proofs.lemmas.List.{take-append-drop}
 use Rattle.std.specs.Io.KnownBytes.{Appends, Keeps}
 use Rattle.std.proofs.KnownBytes.{Appends-kept}
+use Rattle.nap_list.specs.Sending.{sending, Writes, Grows, grows_more}
 use Rattle.nap_canon.specs.declared.tail.Tail.{Tail}
 use Rattle.nap_canon.specs.declared.form.Form.{Form}
 use Rattle.nap_canon.specs.declared.form.Form.TheVariants.{Two}
@@ -24,8 +25,7 @@ use Rattle.nap_reader.proofs.PublicLaws.{begun_comes_first}
 use Rattle.nap_canon.specs.declared.conversion.ConvertFault.{ConvertFault}
 use Rattle.nap_canon.specs.Concluding.{Concludes, answer_of}
 use Rattle.nap_canon.specs.Converting.{count_of, IsFrontOf, RefusesBy, Converts}
-use Rattle.nap_canon.specs.Sinking.{Canonical, sending, shown, bytes_of, bytes_behind, Writes, Grows, Begun, Took, Broke}
-use Rattle.nap_canon.specs.SinkLaws.{grows_more}
+use Rattle.nap_canon.specs.Sinking.{Canonical, shown, bytes_of, bytes_behind, Begun, Took, Broke}
 use Rattle.nap_canon.specs.Streams.{list_of}
 use Rattle.nap_canon.specs.Text.{header, begun_tail, written, tail_after, pieces, entry_pieces, text}
 use Rattle.nap_canon.specs.TextParts.{written-append}

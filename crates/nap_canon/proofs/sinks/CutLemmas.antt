@@ -3,12 +3,12 @@
 use Rattle.std.proofs.Common.{ℕ, ◌≡◌, ◌+◌, ◌<◌, true, ◌||◌, List, [], ◌∷◌, ◌++◌, length, take, drop, ap, sym, subst, ◌∙◌, arith}
 use Rattle.std.specs.Prelude.{slice_index}
 use Rattle.std.specs.Io.KnownBytes.{Keeps}
-use Rattle.std.proofs.KnownBytes.{Appends-kept, Appends-nil}
 use Rattle.std.proofs.lemmas.List.{take_more, take-append-drop}
 use Rattle.std.proofs.Math.Bool.{or-true}
 use Rattle.nap_list.specs.declared.device.outlet.Outlet as outlet
+use Rattle.nap_list.specs.Sending.{Sending, sending, write_fails}
 use Rattle.nap_canon.specs.Batches.{CutAfter}
-use Rattle.nap_canon.specs.Sinking.{Sending, sending, TakesPart, Sends}
+use Rattle.nap_canon.specs.Sinking.{TakesPart, Sends}
 use Rattle.nap_canon.specs.SinkLaws.{sends_more, sends_cut}
 
 in_parts : (bytes : List ℕ) (n : ℕ) → n < length bytes → (take n bytes ++ slice_index bytes n ∷ []) ++ drop (n + 1) bytes ≡ bytes
@@ -20,11 +20,7 @@ pub none_taken : {O : Type 0} (o : outlet.Ghosts O) (t u : O) (n : ℕ) (byte : 
 none_taken o t u n byte kept failed write_failed flushes = record {
   part = 0;
   less = omega arith;
-  grows = record {
-    taken = Appends-kept (o.taken t) (o.taken t) (o.taken u) [] (Appends-nil (o.taken t)) kept;
-    count = omega arith;
-    writes = record { fails = true; failed = failed; write_failed = write_failed; flushes = flushes };
-  };
+  grows = write_fails o t u n kept failed write_failed flushes;
   failed = failed ∙ or-true (o.failed t);
 }
 

@@ -26,13 +26,14 @@ use Rattle.nap_list.specs.Putting.{HaltsAfter, NotTaken, Put, PutSome, Putting, 
 use Rattle.nap_list.specs.PuttingLaws.{put_begins, put_goes, put_halts, put_ends, some_put, stops_at_first, takes_one}
 use Rattle.nap_list.specs.State.{after, walk, hand_of}
 use Rattle.nap_list.proofs.PublicLaws.{batch_stands}
+use Rattle.nap_list.specs.Sending.{Sending, Grows, grows_more}
 use Rattle.nap_canon.specs.declared.writer.Writer.{Writer}
 use Rattle.nap_canon.specs.Writing.{PutsFront}
 use Rattle.nap_canon.specs.Batches.{canon_shows, CutAfter, Parted, PutsFirst, PutsSome, PutsBehind}
-use Rattle.nap_canon.specs.Sinking.{Sending, Sends, Grows, Canonical, shown, bytes_of, Took, Broke}
+use Rattle.nap_canon.specs.Sinking.{Sends, Canonical, shown, bytes_of, Took, Broke}
 use Rattle.nap_canon.specs.Sinking as sinking
 use Rattle.nap_canon.specs.Text.{written, entry_pieces, pieces, tail_after}
-use Rattle.nap_canon.specs.SinkLaws.{grows_more, took_none, took_more, took_broke}
+use Rattle.nap_canon.specs.SinkLaws.{took_none, took_more, took_broke}
 use Rattle.nap_canon.proofs.sinks.JoinLemmas.{stands_rest}
 use Rattle.nap_canon.proofs.sinks.SinkingLemmas.{broke_answered}
 

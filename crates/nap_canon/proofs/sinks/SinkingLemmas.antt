@@ -1,11 +1,12 @@
 -- What an outlet took, write after write and entry after entry.
 
-use Rattle.std.proofs.Common.{Result, Ok, Err, is_err, OnOk, OnErr, ℕ, ◌≡◌, ◌+◌, ◌-◌, ◌^◌, ◌≤◌, Bool, true, false, ◌||◌, List, [], ◌∷◌, ◌++◌, append-nil, take, drop, take-add, length, length-drop, min, ap, sym, subst, ◌∙◌, arith}
-use Rattle.std.proofs.lemmas.List.{length-take-le, take_all}
+use Rattle.std.proofs.Common.{Result, Ok, Err, is_err, OnOk, OnErr, ℕ, ◌≡◌, ◌+◌, ◌-◌, ◌^◌, ◌≤◌, Bool, true, false, ◌||◌, List, [], ◌∷◌, ◌++◌, append-nil, take, drop, length, length-drop, min, ap, sym, subst, ◌∙◌, arith}
+use Rattle.std.proofs.lemmas.List.{take_all}
 use Rattle.std.proofs.lemmas.Bool.{true≢false, false≢true}
 use Rattle.std.proofs.Math.Bool.{or-false}
 use Rattle.std.specs.Io.KnownBytes.{Appends}
 use Rattle.nap_list.specs.declared.device.outlet.Outlet as outlet
+use Rattle.nap_list.specs.Sending.{Sending, sending, write_grows}
 use Rattle.nap_canon.specs.declared.tail.Tail.{Tail}
 use Rattle.nap_canon.specs.declared.form.Form.{Form}
 use Rattle.nap_canon.specs.declared.form.Form.TheVariants.{Two}
@@ -14,27 +15,17 @@ use Rattle.nap_list.specs.declared.state.State.{State}
 use Rattle.nap_list.specs.State.{start, walk, after}
 use Rattle.nap_canon.specs.Spelling.{Piece}
 use Rattle.nap_canon.specs.Text.{header, begun_tail, written, tail_after, pieces, entry_pieces}
-use Rattle.nap_canon.specs.Sinking.{BegunIn, Sending, sending, Grows, TakesAll, TakesPart, Sends, Canonical, shown, bytes_of, Took, Broke, WritesText}
-use Rattle.nap_canon.specs.SinkLaws.{grows_more, sends_more}
-
-counted_on : (n count k : ℕ) → n ≤ 2 ^ 64 - 1 → k ≡ min (n + count) (2 ^ 64 - 1) → k ≡ n + min count (2 ^ 64 - 1 - n)
-counted_on n count k small is = omega arith
+use Rattle.nap_canon.specs.Sinking.{BegunIn, TakesAll, TakesPart, Sends, Canonical, shown, bytes_of, Took, Broke, WritesText}
+use Rattle.nap_canon.specs.SinkLaws.{sends_more}
 
 -- one write takes a part of the rest
 pub takes_more : {O : Type 0} (o : outlet.Ghosts O) (s : Sending) (t u : O) (n k i count : ℕ) (xs : List ℕ) → TakesAll s (take i xs) (sending o t n) →
     count ≤ length (drop i xs) → Appends (o.taken t) (o.taken u) (take count (drop i xs)) → o.failed u ≡ (o.failed t || false) →
     o.write_failed u ≡ (o.write_failed t || false) → o.flushes u ≡ o.flushes t → n ≤ 2 ^ 64 - 1 → k ≡ min (n + count) (2 ^ 64 - 1) → TakesAll s (take (i + count) xs) (sending o u k)
-takes_more o s t u n k i count xs so_far few appended failed write_failed flushes small counted =
-    let piece : List ℕ = take count (drop i xs) in
-    let more : Grows (sending o t n) piece (sending o u k) = record {
-      taken = appended;
-      count = counted_on n count k small counted ∙ ap (λ (l : ℕ). n + min l (2 ^ 64 - 1 - n)) (sym (length-take-le count (drop i xs) few));
-      writes = record { fails = false; failed = failed; write_failed = write_failed; flushes = flushes };
-    } in
-    record {
-      grows = subst (λ (bytes : List ℕ). Grows s bytes (sending o u k)) (sym (take-add i count xs)) (grows_more s (sending o t n) (sending o u k) (take i xs) piece so_far.grows more);
-      failed = failed ∙ or-false (o.failed t) ∙ so_far.failed;
-    }
+takes_more o s t u n k i count xs so_far few appended failed write_failed flushes small counted = record {
+  grows = write_grows o s t u n k i count xs so_far.grows few appended failed write_failed flushes small counted;
+  failed = failed ∙ or-false (o.failed t) ∙ so_far.failed;
+}
 
 -- the piece from i on is the rest
 pub rest_of : (i : ℕ) (xs : List ℕ) → take (length xs - i) (drop i xs) ≡ drop i xs

@@ -2,9 +2,10 @@ use Rattle.std.proofs.Common.{◌≡◌, ◌∙◌, ℕ, [], true, false, Ok, re
 use Rattle.std.specs.Io.KnownBytes.{Keeps}
 use Rattle.std.proofs.KnownBytes.{Consumes-nil}
 use Rattle.nap_list.specs.Reading.{reading}
+use Rattle.nap_list.specs.Sending.{sending, Writes}
 use Rattle.nap_canon.specs.Concluding.{Concludes}
 use Rattle.nap_canon.specs.Converting.{Converts, StopsAtOnce}
-use Rattle.nap_canon.specs.Sinking.{Canonical, Writes, sending, shown}
+use Rattle.nap_canon.specs.Sinking.{Canonical, shown}
 use Rattle.nap_canon.proofs.conversions.ConvertLemmas.{end_converts, fed_converts, flushed_once, header_fails, whole_converts}
 use Rattle.nap_canon.proofs.conversion.convert.Goals as goal
 

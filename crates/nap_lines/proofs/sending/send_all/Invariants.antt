@@ -1,11 +1,11 @@
 use Rattle.std.proofs.Common.{◌≡◌, ◌-◌, ◌≤◌, length, take}
-use Rattle.nap_lines.specs.Printing.{Sends, sending}
+use Rattle.nap_list.specs.Sending.{Grows, sending}
 use Rattle.nap_lines.proofs.sending.send_all.Given as goal
 
 abbrev pub invariant-loop-taken : goal.invariant-loop-taken
 invariant-loop-taken g l = record {
   within : l.taken ≤ length l.bytes;
-  sent : Sends (sending g.O.Outlet l.fn.outlet l.fn.written) (take l.taken l.bytes) (sending g.O.Outlet l.outlet l.written);
+  sent : Grows (sending g.O.Outlet l.fn.outlet l.fn.written) (take l.taken l.bytes) (sending g.O.Outlet l.outlet l.written);
   failed : g.O.Outlet.failed l.outlet ≡ g.O.Outlet.failed l.fn.outlet;
 }
 

@@ -1,7 +1,8 @@
 use Rattle.std.proofs.Common.{◌≡◌, false, drop, refl, sym, subst}
 use Rattle.nap_list.specs.Batches.{listed}
+use Rattle.nap_list.specs.Sending.{sending}
 use Rattle.nap_canon.specs.Batches.{PutsSome}
-use Rattle.nap_canon.specs.Sinking.{Canonical, sending}
+use Rattle.nap_canon.specs.Sinking.{Canonical}
 use Rattle.nap_canon.proofs.sinks.PutLemmas.{next_put}
 use Rattle.nap_canon.proofs.canon_sink.CanonSink.put_some.Goals as goal
 

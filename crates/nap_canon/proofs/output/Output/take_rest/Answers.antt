@@ -1,7 +1,7 @@
 use Rattle.std.proofs.Common.{◌≤◌, ℕ, List, arith, subst, take, drop, length, length-drop}
 use Rattle.std.specs.Prelude.{slice_index}
 use Rattle.std.specs.Io.KnownBytes.{Appends}
-use Rattle.nap_canon.specs.Sinking.{sending}
+use Rattle.nap_list.specs.Sending.{sending}
 use Rattle.nap_canon.proofs.sinks.CutLemmas.{none_taken}
 use Rattle.nap_canon.proofs.sinks.SinkingLemmas.{takes_more, rest_of}
 use Rattle.nap_canon.proofs.output.Output.take_rest.Goals as goal

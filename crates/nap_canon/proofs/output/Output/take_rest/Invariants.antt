@@ -1,6 +1,7 @@
 use Rattle.std.proofs.Common.{◌-◌, ◌≤◌, length, take}
+use Rattle.nap_list.specs.Sending.{sending}
 use Rattle.nap_canon.specs.declared.output.Output.{Output}
-use Rattle.nap_canon.specs.Sinking.{TakesAll, sending}
+use Rattle.nap_canon.specs.Sinking.{TakesAll}
 use Rattle.nap_canon.proofs.output.Output.take_rest.Given as goal
 
 -- from whatever output the bytes before these were taken

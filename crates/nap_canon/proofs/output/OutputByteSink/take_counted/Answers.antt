@@ -1,7 +1,7 @@
 use Rattle.std.proofs.Common.{◌∙◌, sym, arith}
 use Rattle.std.proofs.lemmas.Bool.{eqb-false}
 use Rattle.std.specs.Prelude.{slice_index}
-use Rattle.nap_canon.specs.Sinking.{sending}
+use Rattle.nap_list.specs.Sending.{sending}
 use Rattle.nap_canon.specs.SinkLaws.{sends_none}
 use Rattle.nap_canon.proofs.sinks.CutLemmas.{none_taken}
 use Rattle.nap_canon.proofs.output.OutputByteSink.take_counted.Goals as goal
