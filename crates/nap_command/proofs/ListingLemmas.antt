@@ -88,13 +88,13 @@ module _ {O S : Type 0} (o : outlet.Ghosts O) (w : O) (works : o.failed w ≡ fa
       record {
         q = [];
         sends = rw (output, written) (record {
-              taken = Appends-nil (o.taken w);
-              count = omega arith;
-              fails = false;
-              failed = sym (or-false (o.failed w));
-              write_failed = sym (or-false (o.write_failed w));
-              flushes = refl;
-            });
+          taken = Appends-nil (o.taken w);
+          count = omega arith;
+          fails = false;
+          failed = sym (or-false (o.failed w));
+          write_failed = sym (or-false (o.write_failed w));
+          flushes = refl;
+        });
         partly = λ p seen whole streams. inr (failure.Refused r, fails p seen whole streams, refl);
         ends = λ clear p seen whole streams. (fails p seen whole streams, inl refl);
       }

@@ -82,13 +82,3 @@ refused_first g s budget p t r = at (cause_of r.fault) refl
     at stream is h = h
     at memory is h = (h.place, h.wants is)
     at device is h = (h.place, (t, h.failed is))
-
--- the second reading of a page that was accepted broke
-pub broke_again : {S : Type 0} (g : Ghosts S) (s : S) (budget : ℕ) (p : List ℕ) (t : S) (r : Refusal) → (means budget p).refusal ≡ None → ReadsTo g s budget p t (Err r) →
-    BreaksOff g s budget p t r
-broke_again g s budget p t r accepted = at (cause_of r.fault)
-  where
-    at : (cause : Cause) → EndsEarly g s budget p t r cause → BreaksOff g s budget p t r
-    at stream h = let bad : None ≡ Some r = sym accepted ∙ h in cc
-    at memory h = h
-    at device h = h

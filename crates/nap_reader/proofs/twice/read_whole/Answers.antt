@@ -1,4 +1,4 @@
-use Rattle.std.proofs.Common.{◌≡◌, ◌≢◌, ◌∙◌, ℕ, [], Some, subst}
+use Rattle.std.proofs.Common.{◌≡◌, ℕ, [], Some, subst}
 use Rattle.std.proofs.lemmas.Result.{err_from_is_err_and}
 use Rattle.nap_draw.specs.Draws.{stream}
 use Rattle.nap_reader.specs.Breaking.{cause_of, BreaksInRun}
@@ -33,7 +33,7 @@ returns-in_err-end g c =
     let r = c.in_err-end.field-0.0 in
     let budget = budget_of c.args.reader.now in
     let same = c.feed.ensures.budget in
-    let live = c.in_ok.ensures.answered in
+    let live = c.in_ok-feed.ensures.answered in
     let e = err_from_is_err_and c.from_residual-in_err-end.result c.from_residual-in_err-end.ensures.1 in
     rw (e.1, e.2) (λ s begins.
     (let stands = c.feed.ensures.stands s [] begins in
