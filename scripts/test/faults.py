@@ -119,6 +119,20 @@ PAGES = [
 # a run has 2,048 points, of which the first comes behind the opcode
 POINTS = [CENTRE if number % 2048 == 0 else CENTRE[1:] for number in range(30000)]
 LONG = Page("thirty thousand points", b"\x0e" + b"&R@@" * 30000, POINTS, [CENTRE_LINE] * 30000)
+# more lines than a write has, and then more points, more bytes of bodies and more open bodies than before: of twelve
+# macros each calls the next, and has a shift behind that
+NAMES = range(0x21, 0x21 + 12)
+BODIES = [bytes([name, 0x0F]) for name in NAMES[1:]] + [b"\x0e&R@@\x0f"]
+LATE = Page(
+    "late growths",
+    b"\x0e" + b"&R@@" * 3000 + b"\x34" + b"@" * (3 * DISPLACEMENTS) + b"\x0f"
+    + b"".join(b"\x1b\x40" + bytes([name]) + body for name, body in zip(NAMES, BODIES)) + b"\x1b\x45\x1b(z\x21",
+    lines=[
+        *[CENTRE_LINE] * 3000,
+        "POLY-OUTLINED" + " 4194304,4194304" * (DISPLACEMENTS + 1) + " pel=0,0 colour=own-start texture=0/none",
+        CENTRE_LINE,
+    ],
+)
 
 MAKES = [["make"], ["make", "--stream"]]
 
@@ -229,6 +243,13 @@ def test_all_memory() -> None:
                 found = test_memory(page, words, once)
                 wants, without = wants + found[0], without + found[1]
             judge.close(f"memory: {' '.join(words)}: growths refused, {kind}: {wants} told, {without} done without")
+
+
+def test_late_memory() -> None:
+    """Growths that are refused of `list` on a page that wants more behind its first lines: none of these is out."""
+    for words in (["list"], ["list", "--hex"]):
+        wants = test_memory(LATE, words, 1)[0] + test_memory(LATE, words, 0)[0]
+        judge.close(f"memory: {' '.join(words)}: growths refused, wanted behind the first lines: {wants} told")
 
 
 # Tests that take want of memory for an answer, and judge all else.
@@ -646,6 +667,7 @@ def main() -> int:
     """Tries all, and answers the status."""
     for test in (
         test_all_memory,
+        test_late_memory,
         test_library,
         test_words,
         test_all_reads,

@@ -1,6 +1,5 @@
 pub mod CommandLemmas
 pub mod DeviceLemmas
-pub mod AgainLemmas
 pub mod AnswerLemmas
 pub mod ListingLemmas
 pub mod TellLemmas

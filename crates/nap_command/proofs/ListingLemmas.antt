@@ -1,6 +1,8 @@
 use Rattle.std.proofs.Common.{ℕ, zero, suc, Option, ◌≡◌, ◌≢◌, ◌⊎◌, Bool, true, false, List, [], ◌∷◌, ◌++◌, length, take, None, ◌||◌, min, ◌^◌, Result, Ok, Err, refl, ap, sym, subst, ◌∙◌, inl, inr, append-nil, append_assoc, arith}
 use Rattle.std.proofs.Math.Seq.{take-append_seam}
-use Rattle.std.proofs.KnownBytes.{Appends-kept}
+use Rattle.std.proofs.Math.Bool.{or-false}
+use Rattle.std.proofs.KnownBytes.{Appends-kept, Appends-nil}
+use Rattle.std.specs.Prelude.{MatchResult}
 use Rattle.std.specs.Io.KnownBytes.{Appends, Keeps}
 use Rattle.nap_draw.specs.Draws.{Cause, stream, memory, device}
 use Rattle.nap_list.specs.declared.device.outlet.Outlet as outlet
@@ -10,14 +12,15 @@ use Rattle.nap_list.specs.Flushing.{FlushedOnce, flushed}
 use Rattle.nap_list.specs.Reading.{Reading, IsReadWhole}
 use Rattle.nap_list.specs.State.{start}
 use Rattle.nap_lines.specs.Listing.{lines, lines_join}
-use Rattle.nap_lines.specs.Printing.{Passes, Printing, Sends, sending, shown}
+use Rattle.nap_lines.specs.Printing.{Broke, Closes, Passes, Printing, Sends, Took, sending, shown}
 use Rattle.nap_lines.specs.PrintingLaws.{passes_more}
 use Rattle.nap_reader.specs.declared.fault.Fault.{Fault}
 use Rattle.nap_reader.specs.declared.fault.Fault.TheVariants as fault
 use Rattle.nap_reader.specs.declared.fault.Refusal.{Refusal}
-use Rattle.nap_reader.specs.Breaking.{cause_of}
-use Rattle.nap_reader.specs.Collecting.{IsRead, RefusedBy}
+use Rattle.nap_reader.specs.Breaking.{cause_of, BreaksWithin, TookFront}
+use Rattle.nap_reader.specs.Collecting.{RefusedBy}
 use Rattle.nap_reader.specs.Stream.{means}
+use Rattle.nap_reader.specs.Twice.{IsReadTwice, ReadsTwice}
 use Rattle.nap_canon.specs.Converting.{count_of}
 use Rattle.nap_canon.specs.Streams.{list_of}
 use Rattle.nap_command.specs.declared.answer.Verdict.{Verdict}
@@ -28,9 +31,8 @@ use Rattle.nap_command.specs.declared.failure.Failure.{Failure}
 use Rattle.nap_command.specs.declared.failure.Failure.TheVariants as failure
 use Rattle.nap_command.specs.Commands.{EndsListed, EndsSo, ended_so, Fails, Finds, IsPartly, IsRefusal, IsStream}
 use Rattle.nap_command.specs.Devices.{Takes}
-use Rattle.nap_command.specs.Listing.{BreaksAgain, PartPrinted, PrintsAgain, PrintsAll}
 
--- What `list` prints as it reads an accepted page again.
+-- What `list` prints of a page that it reads twice.
 
 front_taken : (q left whole : List ℕ) → whole ≡ q ++ left → take (length q) whole ≡ q
 front_taken q left whole is = ap (take (length q)) is ∙ take-append_seam q left
@@ -45,11 +47,6 @@ refusal_by : {S : Type 0} (g : Ghosts S) (s : S) (sound : (t : S) → g.failed t
 refusal_by g s sound c page fault.Memory place h = record { refused = λ no. absurd (no refl); memory = λ _. h.0 }
 refusal_by g s sound c page fault.Sink place (h, (t, failed)) = cc (sound t)
 refusal_by g s sound c page f place h = record { refused = λ _. h; memory = λ is. let bad : ⊥ = cc in absurd bad }
-
-pub refusal_is : {S : Type 0} (g : Ghosts S) (s : S) (sound : (t : S) → g.failed t ≡ false) (c : Command) (page bytes : List ℕ) (r : Refusal) → bytes ≡ page →
-    IsRead g s c.budget bytes (Err r) → IsRefusal c page r
-refusal_is g s sound c page bytes r is read =
-    refusal_by g s sound c page r.fault r.place (subst (λ (bytes : List ℕ). RefusedBy g s c.budget bytes r (cause_of r.fault)) is read.collects)
 
 pub list_refuses : (c : Command) (p page : List ℕ) (seen : Reading) (r : Refusal) → c.action ≡ action.List → IsReadWhole seen p → IsStream c.hex p page → IsRefusal c page r →
     Fails c p seen (failure.Refused r)
@@ -69,8 +66,7 @@ listed_after c p seen before old new b (failure.Write n) h k e = (
     nothing (suc n) = refl
 listed_after c p seen before old new b _ h k e = absurd k
 
-module _ {O : Type 0} (o : outlet.Ghosts O) (w : O) (works : o.failed w ≡ false) (c : Command) (list : c.action ≡ action.List) (page : List ℕ)
-    (accepted : (means c.budget page).refusal ≡ None) where
+module _ {O S : Type 0} (o : outlet.Ghosts O) (w : O) (works : o.failed w ≡ false) (c : Command) (list : c.action ≡ action.List) (page : List ℕ) where
   abbrev begun : Printing O
   begun = record { outlet = w; written = 0; held = []; state = start }
 
@@ -79,67 +75,99 @@ module _ {O : Type 0} (o : outlet.Ghosts O) (w : O) (works : o.failed w ≡ fals
   ForPage claim = (p : List ℕ) (seen : Reading) → IsReadWhole seen p → IsStream c.hex p page → claim p seen
 
   -- what went out, which is a front of what is printed
-  pub record Leaves (u : O) (n : ℕ) (read : Result (Unit {0}) Refusal) : Type 0 where
+  pub record Leaves (u : O) (n : ℕ) (read : Result S Refusal) : Type 0 where
     pub q : List ℕ
     pub sends : Sends (sending o w 0) q (sending o u n)
     pub partly : ForPage (λ p seen. IsPartly c p seen q)
     pub ends : o.failed u ≡ false → ForPage (λ p seen. EndsListed c p seen q false (ended_so read))
 
-  finds : ForPage (λ p seen. Finds c p seen (lines (list_of c.budget page)) verdict.Accepted)
-  finds p seen whole is = (whole, (page, is, rw list (accepted, refl)))
-
-  partly_of : (q left : List ℕ) → lines (list_of c.budget page) ≡ q ++ left → ForPage (λ p seen. IsPartly c p seen q)
-  partly_of q left is p seen whole streams =
-      inl (lines (list_of c.budget page), verdict.Accepted, finds p seen whole streams, front_taken q left (lines (list_of c.budget page)) is)
-
-  all_printed : (u : O) (n : ℕ) → PrintsAll o begun c.budget page u n → Leaves u n (Ok tt)
-  all_printed u n h =
-      let v = h.printer in
-      let all = passes_more (sending o w 0) (shown o v) (sending o u n) [] v.held h.closes.left (lines (list_of c.budget page)) [] h.took.passes h.closes.passes in
-      let parts = sym (append-nil (lines (list_of c.budget page))) ∙ all.parts in
+  -- the page is refused, and nothing went out
+  none_printed : (u : O) (n : ℕ) (r : Refusal) → u ≡ w → n ≡ 0 → IsRefusal c page r → Leaves u n (Err r)
+  none_printed u n r output written refusal =
+      let fails : ForPage (λ p seen. Fails c p seen (failure.Refused r)) = λ p seen whole streams. list_refuses c p page seen r list whole streams refusal in
       record {
-        q = all.sent;
-        sends = all.sends;
-        partly = partly_of all.sent h.closes.left parts;
-        ends = λ clear p seen whole streams.
-            let same = parts ∙ ap (λ (left : List ℕ). all.sent ++ left) (h.closes.all clear) ∙ append-nil all.sent in
-            subst (λ (q : List ℕ). Finds c p seen q verdict.Accepted) same (finds p seen whole streams);
+        q = [];
+        sends = rw (output, written) (record {
+          taken = Appends-nil (o.taken w);
+          count = omega arith;
+          fails = false;
+          failed = sym (or-false (o.failed w));
+          write_failed = sym (or-false (o.write_failed w));
+          flushes = refl;
+        });
+        partly = λ p seen whole streams. inr (failure.Refused r, fails p seen whole streams, refl);
+        ends = λ clear p seen whole streams. (fails p seen whole streams, inl refl);
       }
 
-  module _ (u : O) (n : ℕ) (r : Refusal) (h : BreaksAgain o begun c.budget page u n r) where
-    refuses : r.fault ≡ fault.Memory → ForPage (λ p seen. Fails c p seen (failure.Refused r))
-    refuses is p seen whole streams = list_refuses c p page seen r list whole streams (record { refused = λ no. absurd (no is); memory = λ _. h.place })
+  module _ (accepted : (means c.budget page).refusal ≡ None) (u : O) (n : ℕ) (v : Printing O) where
+    finds : ForPage (λ p seen. Finds c p seen (lines (list_of c.budget page)) verdict.Accepted)
+    finds p seen whole is = (whole, (page, is, rw list (accepted, refl)))
 
-    -- a front of the lines went out
-    some_printed : (first rest : List Entry) (left : List ℕ) → list_of c.budget page ≡ first ++ rest → Passes (sending o w 0) [] (lines first) left (shown o h.printer) →
-        (o.failed h.printer.outlet ≡ false → r.fault ≡ fault.Memory) → Leaves u n (Err r)
-    some_printed first rest left entries passes fault_is =
-        let parts : lines (list_of c.budget page) ≡ passes.sent ++ (left ++ lines rest) =
-        ap lines entries ∙ lines_join first rest ∙ ap (λ (bytes : List ℕ). bytes ++ lines rest) passes.parts ∙ append_assoc passes.sent left (lines rest) in
+    partly_of : (q left : List ℕ) → lines (list_of c.budget page) ≡ q ++ left → ForPage (λ p seen. IsPartly c p seen q)
+    partly_of q left is p seen whole streams =
+        inl (lines (list_of c.budget page), verdict.Accepted, finds p seen whole streams, front_taken q left (lines (list_of c.budget page)) is)
+
+    all_printed : (t : S) → Took o begun (list_of c.budget page) v → Closes o v u n → Leaves u n (Ok t)
+    all_printed t took closes =
+        let all = passes_more (sending o w 0) (shown o v) (sending o u n) [] v.held closes.left (lines (list_of c.budget page)) [] took.passes closes.passes in
+        let parts = sym (append-nil (lines (list_of c.budget page))) ∙ all.parts in
         record {
-          q = passes.sent;
-          sends = rw (h.output, h.written) passes.sends;
-          partly = partly_of passes.sent (left ++ lines rest) parts;
+          q = all.sent;
+          sends = all.sends;
+          partly = partly_of all.sent closes.left parts;
           ends = λ clear p seen whole streams.
-              let is = fault_is (ap o.failed (sym h.output) ∙ clear) in (
-                refuses is p seen whole streams,
-                inr (is, (lines (list_of c.budget page), finds p seen whole streams, front_taken passes.sent (left ++ lines rest) (lines (list_of c.budget page)) parts)),
-              );
+              let same = parts ∙ ap (λ (left : List ℕ). all.sent ++ left) (closes.all clear) ∙ append-nil all.sent in
+              subst (λ (q : List ℕ). Finds c p seen q verdict.Accepted) same (finds p seen whole streams);
         }
 
-    by : (cause : Cause) → cause_of r.fault ≡ cause → PartPrinted o begun (means c.budget page).entries h.printer cause → Leaves u n (Err r)
-    by stream is part = absurd part
-    by memory is (first, rest, entries, took) = some_printed first rest h.printer.held entries took.passes (λ _. memory_fault r.fault is)
-    by device is (front, next, rest, entries, broke) =
-        some_printed (front ++ next ∷ []) rest broke.left (entries ∙ sym (append_assoc front (next ∷ []) rest)) broke.passes
-        (λ clear. (let bad : true ≡ false = sym broke.failed ∙ clear in cc))
+    module _ (r : Refusal) (place : BreaksWithin c.budget page r.place) (output : u ≡ v.outlet) (written : n ≡ v.written) where
+      refuses : r.fault ≡ fault.Memory → ForPage (λ p seen. Fails c p seen (failure.Refused r))
+      refuses is p seen whole streams = list_refuses c p page seen r list whole streams (record { refused = λ no. absurd (no is); memory = λ _. place })
 
-  pub leaves : (u : O) (n : ℕ) (read : Result (Unit {0}) Refusal) → PrintsAgain o begun c.budget page u n read → Leaves u n read
-  leaves u n (Ok done) h = all_printed u n h
-  leaves u n (Err r) h = by u n r h (cause_of r.fault) refl h.part
+      -- a front of the lines went out
+      some_printed : (first rest : List Entry) (left : List ℕ) → list_of c.budget page ≡ first ++ rest → Passes (sending o w 0) [] (lines first) left (shown o v) →
+          (o.failed v.outlet ≡ false → r.fault ≡ fault.Memory) → Leaves u n (Err r)
+      some_printed first rest left entries passes fault_is =
+          let parts : lines (list_of c.budget page) ≡ passes.sent ++ (left ++ lines rest) =
+          ap lines entries ∙ lines_join first rest ∙ ap (λ (bytes : List ℕ). bytes ++ lines rest) passes.parts ∙ append_assoc passes.sent left (lines rest) in
+          record {
+            q = passes.sent;
+            sends = rw (output, written) passes.sends;
+            partly = partly_of passes.sent (left ++ lines rest) parts;
+            ends = λ clear p seen whole streams.
+                let is = fault_is (ap o.failed (sym output) ∙ clear) in (
+                  refuses is p seen whole streams,
+                  inr (is, (lines (list_of c.budget page), finds p seen whole streams, front_taken passes.sent (left ++ lines rest) (lines (list_of c.budget page)) parts)),
+                );
+          }
+
+  -- What both readings gave, of which the second is a printer's.
+  module _ (g : Ghosts S) (s : S) (sound : (t : S) → g.failed t ≡ false) (k : Ghosts (Printing O)) (fresh : k.failed begun ≡ false)
+      (took_is : (t : Printing O) (d : List Entry) → k.took begun d t → Took o begun d t) (broke_is : (t : Printing O) (d : List Entry) (e : Entry) → k.broke begun d e t → Broke o begun d e t)
+      (u : O) (n : ℕ) (v : Printing O) where
+    breaks : (accepted : (means c.budget page).refusal ≡ None) (r : Refusal) (cause : Cause) → cause_of r.fault ≡ cause → BreaksWithin c.budget page r.place →
+        TookFront k begun [] (means c.budget page).entries v cause → u ≡ v.outlet → n ≡ v.written → Leaves u n (Err r)
+    breaks accepted r stream is place part output written = absurd part
+    breaks accepted r memory is place (first, rest, entries, took) output written =
+        some_printed accepted u n v r place output written first rest v.held entries (took_is v first took).passes (λ _. memory_fault r.fault is)
+    breaks accepted r device is place (inl (failed, part)) output written = let bad : ⊥ = cc in absurd bad
+    breaks accepted r device is place (inr (front, next, rest, entries, broke)) output written =
+        let h = broke_is v front next broke in
+        some_printed accepted u n v r place output written (front ++ next ∷ []) rest h.left (entries ∙ sym (append_assoc front (next ∷ []) rest)) h.passes
+        (λ clear. (let bad : true ≡ false = sym h.failed ∙ clear in cc))
+
+    by : (read : Result S Refusal) → ReadsTwice g k s begun c.budget page v read → MatchResult read (λ _. Closes o v u n) (λ _. (u ≡ v.outlet) × (n ≡ v.written)) → Leaves u n read
+    by (Ok t) (accepted, counted, took) closes = all_printed accepted u n v t (took_is v (means c.budget page).entries took) closes
+    by (Err r) (inl (refused, same)) (output, written) =
+        none_printed u n r (output ∙ ap (λ (v : Printing O). v.outlet) same) (written ∙ ap (λ (v : Printing O). v.written) same) (refusal_by g s sound c page r.fault r.place refused)
+    by (Err r) (inr (accepted, broke)) (output, written) = breaks accepted r (cause_of r.fault) refl broke.place broke.part output written
+
+    pub leaves : (read : Result S Refusal) → IsReadTwice g k s begun c.budget page v read → MatchResult read (λ _. Closes o v u n) (λ _. (u ≡ v.outlet) × (n ≡ v.written)) →
+        Leaves u n read
+    leaves read h = by read h.reads
 
   -- the output as it is given back
-  module _ (u v : O) (n : ℕ) (found : Result (Unit {0}) Refusal) (answer : Result Verdict Failure) (out : Leaves u n found) (keeps : Keeps (o.taken u) (o.taken v))
+  module _ (u v : O) (n : ℕ) (found : Result S Refusal) (answer : Result Verdict Failure) (out : Leaves u n found) (keeps : Keeps (o.taken u) (o.taken v))
       (fails : o.failed u ≡ true → o.failed v ≡ true) (so : EndsSo found n (o.failed v) answer) where
     works_on : (b : Bool) → o.failed u ≡ b → o.failed v ≡ false → b ≡ false
     works_on false is whole = refl
@@ -153,7 +181,7 @@ module _ {O : Type 0} (o : outlet.Ghosts O) (w : O) (works : o.failed w ≡ fals
     ends = (out.q, Appends-kept (o.taken w) (o.taken u) (o.taken v) out.q out.sends.taken keeps, at (o.failed v) refl so)
 
   -- it was flushed once where no write failed
-  pub flushes_once : (u v : O) (n : ℕ) (found : Result (Unit {0}) Refusal) → Leaves u n found → o.write_failed w ≡ false → o.flushes v ≡ flushed (o.failed u) (o.flushes u) →
+  pub flushes_once : (u v : O) (n : ℕ) (found : Result S Refusal) → Leaves u n found → o.write_failed w ≡ false → o.flushes v ≡ flushed (o.failed u) (o.flushes u) →
       o.write_failed v ≡ o.write_failed u → FlushedOnce o w v
   flushes_once u v n found out none flushes wrote =
       let same : o.failed u ≡ o.write_failed u = out.sends.failed ∙ ap (λ (b : Bool). b || out.sends.fails) (works ∙ sym none) ∙ sym out.sends.write_failed in

@@ -2,4 +2,3 @@ pub mod Failures
 pub mod Devices
 pub mod Commands
 pub mod Making
-pub mod Listing

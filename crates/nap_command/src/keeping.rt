@@ -1,18 +1,16 @@
 //! The page that `list` keeps while it is read and printed.
-ghost use Rattle.std.specs.Prelude.{◌≡◌, ◌+◌, ◌<◌, ◌≤◌, ◌^◌, ℕ, List, None, MatchResult};
+ghost use Rattle.std.specs.Prelude.{◌≡◌, ◌+◌, ◌<◌, ◌≤◌, ◌^◌, ℕ, List, MatchResult};
 ghost use Rattle.std.specs.Io.KnownBytes.{Consumes};
 ghost use Rattle.nap_list.specs.Limits.{reads_limit};
 ghost use Rattle.nap_list.specs.Reading.{IsReadWhole, reading};
-ghost use Rattle.nap_reader.specs.Stream.{means};
 ghost use Rattle.nap_command.specs.Commands.{Fails, IsStream};
 
 use crate::answer::bytes_of;
-use crate::command::{Action, Command};
+use crate::command::Command;
 use crate::device::read_whole;
 use crate::failure::Failure;
 use nap_lines::LINE_MEMORY;
-use nap_list::{CountSink, Inlet};
-use nap_reader::read_stream;
+use nap_list::Inlet;
 use std::alloc::Global;
 
 /// A page, and the memory that its lines are made in.
@@ -22,8 +20,13 @@ pub(crate) struct Kept {
     pub(crate) memory: Vec<u8>,
 }
 
-/// The bytes of the page that a command reads: those of its input, or those that its hexadecimal text spells.
-fn keep<I: Inlet>(alloc: Global, command: &Command, input: &mut I) -> Result<Kept, Failure>
+/// The bytes of the page that a command reads, those of its input or those that its hexadecimal text spells, and the memory
+/// for its lines.
+pub(crate) fn keep<I: Inlet>(
+    alloc: Global,
+    command: &Command,
+    input: &mut I,
+) -> Result<Kept, Failure>
     requires { I.calls input.old < 2 ^ 63 }
     ensures few { I.calls input.new ≤ I.calls input.old + reads_limit }
     ensures read { let seen = reading I.Inlet input.old input.new in
@@ -38,27 +41,4 @@ fn keep<I: Inlet>(alloc: Global, command: &Command, input: &mut I) -> Result<Kep
     };
     let memory = Vec::with_capacity(alloc, LINE_MEMORY)?;
     Ok(Kept { page, memory })
-}
-
-/// The page that a command reads and the memory for its lines, where it is accepted.
-pub(crate) fn keep_accepted<I: Inlet>(
-    alloc: Global,
-    command: &Command,
-    input: &mut I,
-) -> Result<Kept, Failure>
-    requires calls { I.calls input.old < 2 ^ 63 }
-    requires list { command.now.action ≡ Action.List }
-    ensures few { I.calls input.new ≤ I.calls input.old + reads_limit }
-    ensures read { let seen = reading I.Inlet input.old input.new in
-        (p : List ℕ) × Consumes (I.left input.old) (I.left input.new) p
-        × MatchResult result (λ kept. IsReadWhole seen p × IsStream command.now.hex p kept.page.items × ((means command.now.budget kept.page.items).refusal ≡ None)) (Fails command.now p seen) }
-{
-    let kept = keep(alloc, command, input)?;
-    let _ = read_stream(
-        alloc,
-        command.budget,
-        kept.page.as_slice(),
-        CountSink::new(),
-    )?;
-    Ok(kept)
 }

@@ -1,29 +1,27 @@
 //! `list` on its input and its output.
-ghost use Rattle.std.specs.Prelude.{◌≡◌, ◌+◌, ◌<◌, ◌≤◌, ◌^◌, ℕ, List, None, false, true};
+ghost use Rattle.std.specs.Prelude.{◌≡◌, ◌+◌, ◌<◌, ◌≤◌, ◌^◌, ℕ, List, false, true, MatchResult};
 ghost use Rattle.std.specs.Io.KnownBytes.{Appends, Consumes, Keeps};
 ghost use Rattle.nap_list.specs.Flushing.{FlushedOnce, flushed};
 ghost use Rattle.nap_list.specs.Limits.{reads_limit};
 ghost use Rattle.nap_list.specs.Reading.{IsReadWhole, Reading, reading};
-ghost use Rattle.nap_list.specs.State.{start};
-ghost use Rattle.nap_reader.specs.Stream.{means};
-ghost use Rattle.nap_command.specs.Listing.{PrintsAgain};
+ghost use Rattle.nap_lines.specs.Printing.{Closes};
 ghost use Rattle.nap_command.specs.Commands.{EndsListed, EndsSo, IsStream};
 
 use crate::answer::Verdict;
 use crate::command::{Action, Command};
 use crate::device::write_whole;
 use crate::failure::Failure;
-use crate::keeping::{Kept, keep_accepted};
+use crate::keeping::{Kept, keep};
 use nap_lines::LinePrinter;
-use nap_list::{Inlet, Outlet};
-use nap_reader::{Budget, Reader, Refusal};
+use nap_list::{CountSink, Inlet, Outlet};
+use nap_reader::{Refusal, read_twice};
 use std::alloc::Global;
 
 /// How `list` ends whose output took so many bytes: it is flushed, unless a write has failed.
 fn ended<O: Outlet>(
     output: &mut O,
     written: u64,
-    read: Result<(), Refusal>,
+    read: Result<CountSink, Refusal>,
 ) -> Result<Verdict, Failure>
     ensures taken { Keeps (O.taken output.old) (O.taken output.new) }
     ensures failed { O.failed output.old ≡ true → O.failed output.new ≡ true }
@@ -36,61 +34,25 @@ fn ended<O: Outlet>(
         return Err(Failure::Write(written));
     }
     match read {
-        Ok(()) => Ok(Verdict::Accepted),
+        Ok(_) => Ok(Verdict::Accepted),
         Err(refusal) => Err(Failure::Refused(refusal)),
     }
 }
 
-/// An output that was printed to: how many bytes it took, and why reading broke, if it did.
-#[derive(Drop)]
-struct Printed<O> {
-    output: O,
-    written: u64,
-    read: Result<(), Refusal>,
-}
-
-/// Prints the lines of an accepted page. Where reading breaks, what is held of them isn't printed.
-fn print_again<O: Outlet + Drop>(
-    alloc: Global,
-    budget: Budget,
-    page: &[u8],
+/// The output of a printer, and how many bytes it took: what is held goes out where both readings took the whole page.
+fn finished<O: Outlet + Drop>(
     printer: LinePrinter<O>,
-) -> Printed<O>
-    requires begun { printer.state ≡ start }
-    requires works { O.failed printer.outlet ≡ false }
-    requires accepted { (means budget page.now).refusal ≡ None }
-    ensures { PrintsAgain O.Outlet printer budget page.now result.output result.written result.read }
+    read: &Result<CountSink, Refusal>,
+) -> (O, u64)
+    ensures { MatchResult read.now (λ _. Closes O.Outlet printer result.0 result.1) (λ _. (result.0 ≡ printer.outlet) × (result.1 ≡ printer.written)) }
 {
-    let mut reader = Reader::new(alloc, budget, printer);
-    if let Err(refusal) = reader.feed(page) {
-        let (output, written) = reader.into_sink().stop();
-        return Printed {
-            output,
-            written,
-            read: Err(refusal),
-        };
-    }
-    match reader.finish() {
-        Ok(printer) => {
-            let (output, written) = printer.close();
-            Printed {
-                output,
-                written,
-                read: Ok(()),
-            }
-        }
-        Err(stopped) => {
-            let (output, written) = stopped.sink.stop();
-            Printed {
-                output,
-                written,
-                read: Err(stopped.refusal),
-            }
-        }
+    match read {
+        Ok(_) => printer.close(),
+        Err(_) => printer.stop(),
     }
 }
 
-/// Prints the lines of an accepted page, and flushes the output.
+/// Prints the lines of a page where it is accepted, and flushes the output.
 fn print_lines<O: Outlet + Drop>(
     alloc: Global,
     command: &Command,
@@ -99,7 +61,6 @@ fn print_lines<O: Outlet + Drop>(
 ) -> (O, Result<Verdict, Failure>)
     requires list { command.now.action ≡ Action.List }
     requires works { O.failed output ≡ false }
-    requires accepted { (means command.now.budget kept.page.items).refusal ≡ None }
     ensures ends { (q : List ℕ) × Appends (O.taken output) (O.taken result.0) q
         × ((p : List ℕ) (seen : Reading) → IsReadWhole seen p → IsStream command.now.hex p kept.page.items → EndsListed command.now p seen q (O.failed result.0) result.1) }
     ensures sends { O.failed result.0 ≡ false → O.sent result.0 ≡ true }
@@ -107,11 +68,14 @@ fn print_lines<O: Outlet + Drop>(
 {
     let Kept { page, memory } = kept;
     let printer = LinePrinter::new(memory, output);
-    let Printed {
-        mut output,
-        written,
-        read,
-    } = print_again(alloc, command.budget, page.as_slice(), printer);
+    let (printer, read) = read_twice(
+        alloc,
+        command.budget,
+        page.as_slice(),
+        CountSink::new(),
+        printer,
+    );
+    let (mut output, written) = finished(printer, &read);
     let answer = ended(&mut output, written, read);
     (output, answer)
 }
@@ -134,7 +98,7 @@ pub(crate) fn list<I: Inlet, O: Outlet + Drop>(
     ensures sends { O.failed result.0 ≡ false → O.sent result.0 ≡ true }
     ensures flushes { FlushedOnce O.Outlet output result.0 }
 {
-    match keep_accepted(alloc, command, input) {
+    match keep(alloc, command, input) {
         Ok(kept) => print_lines(alloc, command, kept, output),
         Err(failure) => {
             let mut output = output;

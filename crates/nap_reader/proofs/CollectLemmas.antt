@@ -37,7 +37,7 @@ pub record Gave {I : Type 0} (i : inlet.Ghosts I) (start mid end : I) (p : List 
   pub once : i.calls end ≤ i.calls mid + 1
 
 -- nothing is refused that a reader stands for without a refusal
-going : {S : Type 0} {g : Ghosts S} {s : S} {p : List ℕ} (old reader : Reader S g) → Stands reader s p → budget_of reader ≡ budget_of old → refusal_of reader ≡ None → (begun (budget_of old) p).refusal ≡ None
+pub going : {S : Type 0} {g : Ghosts S} {s : S} {p : List ℕ} (old reader : Reader S g) → Stands reader s p → budget_of reader ≡ budget_of old → refusal_of reader ≡ None → (begun (budget_of old) p).refusal ≡ None
 going {g = g} {s = s} {p = p} old reader h same none =
     subst (λ (budget : ℕ). (begun budget p).refusal ≡ None) same
     (subst (Answers g s (budget_of reader) p (sink_of reader) (left_of reader)) none h.answers).refusal
@@ -88,7 +88,7 @@ module _ {I S : Type 0} {i : inlet.Ghosts I} {g : Ghosts S} {start mid end : I} 
 -- A page that was read from a device, or refused and read to its end.
 
 -- a stream that is refused so far is refused whatever comes
-still_refused : (budget : ℕ) (p more : List ℕ) (r : Refusal) → (begun budget p).refusal ≡ Some r → (means budget (p ++ more)).refusal ≡ Some r
+pub still_refused : (budget : ℕ) (p more : List ℕ) (r : Refusal) → (begun budget p).refusal ≡ Some r → (means budget (p ++ more)).refusal ≡ Some r
 still_refused budget p more r is =
     let all = ap (λ (o : Outcome). o.refusal) (more_bytes_keep_refusal budget p more r is) ∙ is in
     ap (λ (q : Option Refusal). (ended_by (begun budget (p ++ more)) (length (p ++ more)) q).refusal) all ∙ all

@@ -7,6 +7,7 @@ pub mod PartLemmas
 pub mod StandingLemmas
 pub mod CountingLemmas
 pub mod PublicLaws
+pub mod TwiceLemmas
 pub mod PieceLemmas
 pub mod StepLemmas
 pub mod StopLemmas

@@ -12,6 +12,7 @@ pub mod Feeding
 pub mod Laws
 pub mod Collecting
 pub mod Counting
+pub mod Twice
 -- what a reader keeps and does, which no one sees
 pub mod Below
 pub mod Carried

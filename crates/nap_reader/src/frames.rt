@@ -31,6 +31,13 @@ impl Frames {
         }
     }
 
+    /// Leaves no body, and keeps the memory.
+    pub(crate) fn empty(&mut self)
+        ensures { self.new.stack.items ≡ [] }
+    {
+        self.stack.clear();
+    }
+
     /// Makes room for one more body.
     pub(crate) fn reserve(&mut self) -> Result<(), AllocError>
         ensures items { self.new.stack.items ≡ self.old.stack.items }

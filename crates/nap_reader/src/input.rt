@@ -66,6 +66,32 @@ impl Input {
         }
     }
 
+    /// Nothing was read yet, under this budget, in the memory of the old input.
+    pub(crate) fn again(self, budget: Budget) -> Input
+        ensures store { result.store ≡ record { names = no_names; bytes = []; body = []; stored = 0 } }
+        ensures none { (result.body ≡ None) × (result.frames.stack.items ≡ []) }
+        ensures budget { result.budget ≡ budget }
+        ensures counts { (result.fed ≡ 0) × (result.turns ≡ 0) × (result.charged ≡ 0) }
+    {
+        let Input {
+            mut store,
+            mut frames,
+            ..
+        } = self;
+        store.empty();
+        frames.empty();
+        Input {
+            store,
+            body: None,
+            frames,
+            budget,
+            at: 0,
+            fed: 0,
+            turns: 0,
+            charged: 0,
+        }
+    }
+
     /// A new piece comes.
     pub(crate) fn begin(&mut self)
         ensures { self.new ≡ record self.old { at = 0 } }

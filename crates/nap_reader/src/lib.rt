@@ -18,6 +18,7 @@ mod reader;
 mod slice;
 mod store;
 mod text;
+mod twice;
 mod whole;
 
 pub use budget::Budget;
@@ -28,4 +29,5 @@ pub use feeding::{FeedFault, feed_from};
 pub use nap_draw::RUN_LIMIT;
 pub use reader::{Reader, Stopped};
 pub use store::STORE_LIMIT;
+pub use twice::read_twice;
 pub use whole::read_all;

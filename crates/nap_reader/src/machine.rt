@@ -94,6 +94,38 @@ impl<S: Sink> Machine<S> {
         }
     }
 
+    /// The machine before any code, in the memory of this one; and the sink of this one.
+    pub(crate) fn again<T: Sink>(self, sink: T) -> (S, Machine<T>)
+        ensures first { result.0 ≡ self.sink }
+        ensures work { result.1.work ≡ start_work }
+        ensures lexer { result.1.lexer ≡ record { sets = start_sets; half = [] } }
+        ensures none { (result.1.open_run ≡ None) × (result.1.refusal ≡ None) }
+        ensures sink { result.1.sink ≡ sink }
+    {
+        let Machine {
+            alloc,
+            work: _,
+            lexer: _,
+            open_run: _,
+            mut run,
+            scratch,
+            refusal: _,
+            sink: first,
+        } = self;
+        run.clear();
+        let machine = Machine {
+            alloc,
+            work: Work::start(),
+            lexer: Lexer::new(),
+            open_run: None,
+            run,
+            scratch,
+            refusal: None,
+            sink,
+        };
+        (first, machine)
+    }
+
     /// The sink as it stands.
     pub(crate) fn into_sink(self) -> S
         ensures { result ≡ self.sink }

@@ -48,6 +48,25 @@ impl<S: Sink> Reader<S> {
         }
     }
 
+    /// A reader at the start of a stream, as `new` makes it, in the memory of this one; and the sink of this one.
+    pub(crate) fn again<T: Sink>(self, budget: Budget, sink: T) -> (S, Reader<T>)
+        requires { T.state sink ≡ start }
+        ensures first { result.0 ≡ sink_of self }
+        ensures stands { Stands result.1 sink [] }
+        ensures sink { sink_of result.1 ≡ sink }
+        ensures budget { budget_of result.1 ≡ budget }
+        ensures unrefused { refusal_of result.1 ≡ None }
+        ensures fed { fed_of result.1 ≡ 0 }
+    {
+        let Reader { machine, input } = self;
+        let (first, machine) = machine.again(sink);
+        let reader = Reader {
+            machine,
+            input: input.again(budget),
+        };
+        (first, reader)
+    }
+
     /// Takes the next piece of the stream. An `Err` is the refusal of the stream so far.
     pub fn feed(&mut self, piece: &[u8]) -> Result<(), Refusal>
         requires { fed_of self.old + length piece.now < 2 ^ 63 }
@@ -89,7 +108,7 @@ impl<S: Sink> Reader<S> {
     }
 
     /// The stream ends here: an open run acts, and then what is unfinished is refused.
-    fn end(&mut self) -> Result<(), Refusal>
+    pub(crate) fn end(&mut self) -> Result<(), Refusal>
         ensures latched { (r : Refusal) → self.old.machine.refusal ≡ Some r → (result ≡ Err r) × (self.new ≡ self.old) }
         ensures ended { OnOk result ((s : S) (p : List ℕ) → Stands self.old s p →
             IsTaken S.Sink s (means (budget_of self.old) p) self.new.machine.sink None) }

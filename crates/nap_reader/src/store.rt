@@ -55,6 +55,16 @@ impl Store {
         }
     }
 
+    /// Leaves no bodies, and keeps the memory.
+    pub(crate) fn empty(&mut self)
+        ensures { self.new ≡ record { names = no_names; bytes = []; body = []; stored = 0 } }
+    {
+        self.bytes.clear();
+        self.spans = [EMPTY; 96];
+        self.from = 0;
+        self.stored = 0;
+    }
+
     /// How many bytes more the bodies may have.
     pub(crate) fn room(&self) -> usize
         ensures { result + (self.now.stored + length self.now.body) ≡ store_limit }

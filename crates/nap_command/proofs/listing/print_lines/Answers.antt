@@ -1,32 +1,26 @@
-use Rattle.std.proofs.Common.{ℕ, List, subst}
+use Rattle.std.proofs.Common.{ℕ, List, refl, subst}
 use Rattle.nap_lines.specs.Printing.{Printing}
-use Rattle.nap_command.specs.Listing.{PrintsAgain}
+use Rattle.nap_reader.specs.Twice.{IsReadTwice}
 use Rattle.nap_command.proofs.DeviceLemmas.{none_written_amiss}
 use Rattle.nap_command.proofs.ListingLemmas.{ends, flushes_once, leaves}
 use Rattle.nap_command.proofs.listing.print_lines.Goals as goal
 
-pub returns-clause-ends : goal.returns-clause-ends
-returns-clause-ends g c =
+pub returns : goal.returns
+returns g c =
     let O = g.O.Outlet in
     let w = c.args.output in
     let command = c.args.command.now in
     let page = c.args.kept.page.items in
-    let out = c.print_again-output.result in
-    let prints = subst (λ (s : Printing _). PrintsAgain O s command.budget page out.output out.written out.read) c.new-printer.ensures
-    (subst (λ (p : List ℕ). PrintsAgain O c.new-printer.result command.budget p out.output out.written out.read) c.as_slice.ensures.value c.print_again-output.ensures) in
-    let gone = leaves O w c.requires.works command c.requires.list page c.requires.accepted out.output out.written out.read prints in
-    ends O w c.requires.works command c.requires.list page c.requires.accepted out.output c.ended-answer.new.output out.written out.read c.ended-answer.result gone
-    c.ended-answer.ensures.taken c.ended-answer.ensures.failed c.ended-answer.ensures.answer
-
-pub returns-clause-flushes : goal.returns-clause-flushes
-returns-clause-flushes g c =
-    let O = g.O.Outlet in
-    let w = c.args.output in
-    let command = c.args.command.now in
-    let page = c.args.kept.page.items in
-    let out = c.print_again-output.result in
-    let prints = subst (λ (s : Printing _). PrintsAgain O s command.budget page out.output out.written out.read) c.new-printer.ensures
-    (subst (λ (p : List ℕ). PrintsAgain O c.new-printer.result command.budget p out.output out.written out.read) c.as_slice.ensures.value c.print_again-output.ensures) in
-    let gone = leaves O w c.requires.works command c.requires.list page c.requires.accepted out.output out.written out.read prints in
-    flushes_once O w c.requires.works command c.requires.list page c.requires.accepted out.output c.ended-answer.new.output out.written out.read gone
-    (none_written_amiss _ _ (g.met.O.Outlet.fails_by_write w) c.requires.works) c.ended-answer.ensures.flushes c.ended-answer.ensures.write_failed
+    let twice = c.read_twice-printer.result in
+    let out = c.finished-output.result in
+    let ended = c.ended-answer.ensures in
+    let reads = subst (λ (s : Printing _). IsReadTwice _ _ c.new.result s command.budget page twice.0 twice.1) c.new-printer.ensures
+    (subst (λ (p : List ℕ). IsReadTwice _ _ c.new.result c.new-printer.result command.budget p twice.0 twice.1) c.as_slice.ensures.value c.read_twice-printer.ensures) in
+    let gone = leaves O w c.requires.works command c.requires.list page _ c.new.result (λ t. refl) _ c.requires.works (λ t d k. k) (λ t d e k. k) out.0 out.1 twice.0 twice.1 reads
+    c.finished-output.ensures in
+    record {
+      ends = ends O w c.requires.works command c.requires.list page out.0 c.ended-answer.new.output out.1 twice.1 c.ended-answer.result gone ended.taken ended.failed ended.answer;
+      sends = ended.sent;
+      flushes = flushes_once O w c.requires.works command c.requires.list page out.0 c.ended-answer.new.output out.1 twice.1 gone
+          (none_written_amiss _ _ (g.met.O.Outlet.fails_by_write w) c.requires.works) ended.flushes ended.write_failed;
+    }

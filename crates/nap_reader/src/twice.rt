@@ -1,0 +1,49 @@
+//! Reads a page into one sink, and where it is accepted into another.
+ghost use Rattle.std.specs.Prelude.{◌≡◌, [], None, false};
+ghost use Rattle.nap_list.specs.State.{start};
+ghost use Rattle.nap_reader.specs.Standing.{Stands, budget_of, fed_of, refusal_of, sink_of};
+ghost use Rattle.nap_reader.specs.Twice.{IsReadTwice, ReadsTo};
+
+use crate::budget::Budget;
+use crate::fault::Refusal;
+use crate::reader::Reader;
+use nap_list::Sink;
+use std::alloc::Global;
+
+/// Reads a whole stream, of which nothing was read yet.
+fn read_whole<S: Sink>(reader: &mut Reader<S>, stream: &[u8]) -> Result<(), Refusal>
+    requires unread { fed_of reader.old ≡ 0 }
+    requires unrefused { refusal_of reader.old ≡ None }
+    ensures { (s : S) → Stands reader.old s [] → ReadsTo S.Sink s (budget_of reader.old) stream.now (sink_of reader.new) result }
+{
+    reader.feed(stream)?;
+    reader.end()?;
+    Ok(())
+}
+
+/// Reads a stream into the first sink, and where it is accepted reads it again into the second, in the memory that the
+/// reader has by then. The second sink, and the first one if both took all entries.
+pub fn read_twice<S: Sink + Drop, T: Sink + Drop>(
+    alloc: Global,
+    budget: Budget,
+    stream: &[u8],
+    first: S,
+    second: T,
+) -> (T, Result<S, Refusal>)
+    requires start { S.state first ≡ start }
+    requires works { S.failed first ≡ false }
+    requires again { T.state second ≡ start }
+    ensures { IsReadTwice S.Sink T.Sink first second budget stream.now result.0 result.1 }
+{
+    let mut reader = Reader::new(alloc, budget, first);
+    if let Err(refusal) = read_whole(&mut reader, stream) {
+        return (second, Err(refusal));
+    }
+    let (first, mut reader) = reader.again(budget, second);
+    let read = read_whole(&mut reader, stream);
+    let second = reader.into_sink();
+    match read {
+        Ok(()) => (second, Ok(first)),
+        Err(refusal) => (second, Err(refusal)),
+    }
+}
