@@ -1,4 +1,4 @@
-use Rattle.std.proofs.Common.{ℕ, zero, suc, ◌+◌, ◌-◌, ◌≡◌, ◌<◌, ◌≤◌, List, [], ◌∷◌, ◌++◌, length, take, drop, All, Bool, true, false, cond, nat_lt, Option, Some, None, Result, Ok, Err, refl, ap, sym, ◌∙◌, arith, append-nil, length-append}
+use Rattle.std.proofs.Common.{ℕ, zero, suc, ◌+◌, ◌-◌, ◌≡◌, ◌<◌, ◌≤◌, List, [], ◌∷◌, ◌++◌, length, take, drop, Bool, true, false, cond, nat_lt, Option, Some, None, Result, Ok, Err, refl, ap, sym, ◌∙◌, arith, append-nil, length-append}
 use Rattle.std.proofs.lemmas.Bool.Decides.{nat_tests}
 use Rattle.std.proofs.lemmas.List.{drop_all, length-take-le, take-take, take_all}
 use Rattle.std.proofs.lemmas.List.Elements.{All-take}
@@ -13,7 +13,7 @@ use Rattle.nap_reader.specs.Carried.{NoCharacters}
 use Rattle.nap_reader.specs.Course as course
 use Rattle.nap_reader.specs.Steps.{IsText}
 use Rattle.nap_reader.specs.Stream.{run_front}
-use Rattle.nap_reader.proofs.Common.{AllCharacters, Continues, Holding, Machine, OpenRun, Outcome, Placed, Refusal, Unfinished, after_drawing, begun, between, drawn_front, is_operand, is_operand_byte, onward, outcome_from, placed_at, placed_from, run_length}
+use Rattle.nap_reader.proofs.Common.{AllCharacters, Continues, Holding, Machine, OpenRun, Outcome, Placed, Refusal, Unfinished, after_drawing, begun, between, drawn_front, is_operand_byte, onward, outcome_from, placed_at, placed_from, run_length}
 use Rattle.nap_reader.proofs.ReadingLemmas.{by_front, front_code, is_between, is_half, leads_entries, leads_more, over, rest_of_nothing}
 use Rattle.nap_reader.proofs.StreamLemmas.{outcome_from-front}
 use Rattle.nap_reader.proofs.TextLemmas.{comes, typed_in}
