@@ -38,6 +38,13 @@ impl LineSink {
         }
     }
 
+    /// The lines of the entries that were taken so far.
+    pub fn text(&self) -> &[u8]
+        ensures { result.now ≡ self.now.text }
+    {
+        self.text.as_slice()
+    }
+
     /// The lines of the entries that were taken.
     pub fn into_text(self) -> Vec<u8>
         ensures { result.items ≡ self.text }

@@ -1,5 +1,6 @@
 pub mod Common
 pub mod TextLemmas
+pub mod AheadLemmas
 pub mod RunLemmas
 pub mod OpenBodyLemmas
 pub mod LawLemmas

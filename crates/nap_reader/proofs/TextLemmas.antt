@@ -207,7 +207,7 @@ module _ {S : Type 0} {g : Ghosts S} {s : S} {o : Outcome} {t : S} {h : Holding}
 
 -- Characters come.
 module _ {S : Type 0} {g : Ghosts S} {s : S} {t : S} {h : Holding} {set : CharSet} (budget : ℕ) (p : List ℕ) {q : List ℕ} (k : Continues g s (begun budget p) t h []) (in_text : IsText h set q) where
-  comes : (q : List ℕ) → All IsTyped q → begun budget (p ++ q) ≡ prepend (k.done ++ text h.machine.work.state set q) (paused (with_text h.machine set q) [] (Some nothing))
+  pub comes : (q : List ℕ) → All IsTyped q → begun budget (p ++ q) ≡ prepend (k.done ++ text h.machine.work.state set q) (paused (with_text h.machine set q) [] (Some nothing))
   unfolding leads_more
   comes q all =
       let empty : k.rest ≡ [] = rest_of_nothing k.rest ((is_half h k.rest in_text.between in_text.closed k.held).0 ∙ in_text.rested) in

@@ -8,6 +8,7 @@ pub mod Stream
 -- what a reader answers of it
 pub mod Breaking
 pub mod Standing
+pub mod Looking
 pub mod Feeding
 pub mod Laws
 pub mod Collecting

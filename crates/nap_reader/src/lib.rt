@@ -27,7 +27,7 @@ pub use counting::read_counted;
 pub use fault::{Fault, Refusal};
 pub use feeding::{FeedFault, feed_from};
 pub use nap_draw::RUN_LIMIT;
-pub use reader::{Reader, Stopped};
+pub use reader::{Ahead, Reader, Stopped};
 pub use store::STORE_LIMIT;
 pub use twice::read_twice;
 pub use whole::read_all;

@@ -13,6 +13,10 @@ use crate::machine::{Machine, Refused};
 use nap_list::Sink;
 use std::alloc::Global;
 
+mod ahead;
+
+pub use ahead::Ahead;
+
 /// Reads a stream in any pieces, and puts its entries into a sink as they are read.
 ///
 /// After a refusal each further call answers it again.

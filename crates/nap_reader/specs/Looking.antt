@@ -1,0 +1,18 @@
+use Rattle.std.specs.Prelude.{ℕ, ◌≡◌, ◌+◌, ◌≤◌, ◌++◌, List, length, take}
+use Rattle.nap_reader.specs.declared.reader.ahead.Ahead.{Ahead}
+use Rattle.nap_reader.specs.declared.reader.ahead.Ahead.TheVariants as ahead
+use Rattle.nap_reader.specs.Stream.{begun}
+
+-- What the bytes at the front of a piece bring, if it comes next.
+
+-- how many they are
+abbrev pub bytes_ahead : Ahead → ℕ
+bytes_ahead (ahead.First n) = n
+bytes_ahead (ahead.Each n) = n
+
+-- Behind the bytes p, those behind the first bring nothing; or each brings one entry.
+abbrev pub BringsAhead : ℕ → List ℕ → List ℕ → Ahead → Type 0
+BringsAhead budget p piece (ahead.First n) = (k : ℕ) → 1 ≤ k → k ≤ n →
+    (begun budget (p ++ take k piece)).entries ≡ (begun budget (p ++ take 1 piece)).entries
+BringsAhead budget p piece (ahead.Each n) = (k : ℕ) → k ≤ n →
+    length (begun budget (p ++ take k piece)).entries ≡ length (begun budget p).entries + k
