@@ -1,6 +1,6 @@
 use Rattle.std.proofs.Common.{ℕ, ◌≡◌, ◌+◌, ◌-◌, ◌^◌, ◌<◌, ◌≤◌, List, [], ◌++◌, codes, decimal, length, take, drop, ap, sym, ◌∙◌, arith, length-append}
 use Rattle.std.specs.Str.{IsUtf8}
-use Rattle.std.proofs.lemmas.Fmt.{IsAscii-decimal}
+use Rattle.std.proofs.lemmas.Fmt.{IsAscii-decimal, length-decimal-le}
 use Rattle.std.proofs.lemmas.Str.{IsAscii-append, IsUtf8-from_ascii}
 use Rattle.std.proofs.lemmas.Str.Ascii.{IsAscii-cons, IsAscii-nil}
 use Rattle.std.proofs.lemmas.List.{drop-append-le, drop-drop, drop-take, length-take-le}
@@ -43,3 +43,14 @@ pub point_utf8 : (x y : ℕ) → x < 2 ^ 64 → y < 2 ^ 64 → IsUtf8 (decimal x
 point_utf8 x y wide high =
     IsUtf8-from_ascii (decimal x ++ codes "," ++ decimal y)
     (IsAscii-append (decimal x ++ codes ",") (decimal y) (IsAscii-append (decimal x) (codes ",") (IsAscii-decimal x wide) (IsAscii-cons 44 [] (omega arith) IsAscii-nil)) (IsAscii-decimal y high))
+
+-- each coordinate has seven digits at most
+pub point_few : (x y : ℕ) → x < 8388608 → y < 8388608 → length (decimal x ++ codes "," ++ decimal y) ≤ 15
+point_few x y wide high =
+    omega (
+      arith,
+      length-append (decimal x ++ codes ",") (decimal y),
+      length-append (decimal x) (codes ","),
+      length-decimal-le 7 x (omega arith) (omega (arith, wide)) (omega (arith, wide)),
+      length-decimal-le 7 y (omega arith) (omega (arith, high)) (omega (arith, high)),
+    )

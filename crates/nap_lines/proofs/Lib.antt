@@ -1,4 +1,6 @@
 pub mod BatchLemmas
+pub mod BlockLemmas
 pub mod KeptLemmas
 pub mod PrintLemmas
 pub mod ShapeLemmas
+pub mod SinkLemmas

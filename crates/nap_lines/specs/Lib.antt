@@ -1,4 +1,5 @@
 pub mod Batches
+pub mod Blocks
 pub mod Lines
 pub mod Listing
 pub mod Parts

@@ -6,6 +6,7 @@ ghost use Rattle.nap_lines.specs.Listing.{lines};
 ghost use Rattle.nap_lines.specs.Batches.{point_front, point_end, line_front, char_front, move_front, typed_front, lines_with, pen_at};
 ghost use Rattle.nap_lines.specs.Writing.{line_limit};
 
+use crate::block::{BLOCK, fill_lines, recode_lines};
 use crate::tail::Tail;
 use nap_codes::{CharSet, TextStep, format_effector};
 use nap_list::{Batch, Colour, Hand, Pen, start_at};
@@ -144,8 +145,20 @@ fn write_typed(
     written
 }
 
-/// Writes a line for each character and for each move among them, as `write_dots` does.
-fn write_letters(room: &mut Tail, text: &mut Vec<u8>, set: CharSet, codes: &[u8]) -> usize
+/// So many items, from this index on.
+#[inline(always)]
+fn part<X>(items: &[X], first: usize, count: usize) -> &[X]
+    requires { first + count ≤ length items.now }
+    ensures { result.now ≡ take count (drop first items.now) }
+{
+    &items[first..first + count]
+}
+
+/// From so many characters on, lines are written by blocks.
+const MANY: usize = 8;
+
+/// Writes a line for each character and for each move among them, one by one, as `write_dots` does.
+fn write_few(room: &mut Tail, text: &mut Vec<u8>, set: CharSet, codes: &[u8]) -> usize
     requires room { length room.old + 21 ≤ line_limit }
     ensures count { result ≤ length codes.now }
     ensures text { text.new.items ≡ text.old.items ++ flat_map (λ code. typed_front set code ++ room.old) (take result codes.now) }
@@ -171,6 +184,55 @@ fn write_letters(room: &mut Tail, text: &mut Vec<u8>, set: CharSet, codes: &[u8]
     written
 }
 
+/// Writes a line for each character and for each move among them, by blocks of lines, as `write_dots` does.
+#[inline(never)]
+fn write_many(room: &mut Tail, text: &mut Vec<u8>, set: CharSet, codes: &[u8]) -> usize
+    requires room { length room.old + 21 ≤ line_limit }
+    ensures count { result ≤ length codes.now }
+    ensures text { text.new.items ≡ text.old.items ++ flat_map (λ code. typed_front set code ++ room.old) (take result codes.now) }
+{
+    let end = room.len();
+    // The digits stand for those of any code.
+    room.letter_front(set, 0);
+    let size = room.len();
+    let place = size - end - 2;
+    let ready = (BLOCK / size).min(codes.len());
+    let mut block = [0; BLOCK];
+    fill_lines(&mut block, room.as_slice(), ready);
+    let mut written = 0;
+    while written < codes.len() {
+        let most = ready.min(codes.len() - written);
+        let count = recode_lines(&mut block, size, place, part(codes, written, most));
+        if count == 0 {
+            if write_typed(room, text, set, codes[written], end).is_err() {
+                return written;
+            }
+            written += 1;
+        } else {
+            if text
+                .extend_from_slice(part(&block, 0, count * size))
+                .is_err()
+            {
+                return written;
+            }
+            written += count;
+        }
+    }
+    written
+}
+
+/// Writes a line for each character and for each move among them, as `write_dots` does.
+fn write_letters(room: &mut Tail, text: &mut Vec<u8>, set: CharSet, codes: &[u8]) -> usize
+    requires room { length room.old + 21 ≤ line_limit }
+    ensures count { result ≤ length codes.now }
+    ensures text { text.new.items ≡ text.old.items ++ flat_map (λ code. typed_front set code ++ room.old) (take result codes.now) }
+{
+    if codes.len() < MANY {
+        return write_few(room, text, set, codes);
+    }
+    write_many(room, text, set, codes)
+}
+
 /// Writes a line for each byte of a text, the first in this hand, as `write_dots` does.
 fn write_text(room: &mut Tail, text: &mut Vec<u8>, set: CharSet, codes: &[u8], hand: &Hand) -> usize
     ensures count { result ≤ length codes.now }
@@ -192,15 +254,6 @@ fn write_text(room: &mut Tail, text: &mut Vec<u8>, set: CharSet, codes: &[u8], h
     room.keep(end);
     room.push(" pen=after");
     write_letters(room, text, set, others) + 1
-}
-
-/// So many items, from this index on.
-#[inline(always)]
-fn part<X>(items: &[X], first: usize, count: usize) -> &[X]
-    requires { first + count ≤ length items.now }
-    ensures { result.now ≡ take count (drop first items.now) }
-{
-    &items[first..first + count]
 }
 
 /// Where the pen is for the character at an index of a text that begins at this one.

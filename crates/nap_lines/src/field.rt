@@ -35,6 +35,7 @@ impl Tail {
         ensures text { self.new ≡ point_text point ++ self.old }
         ensures size { length self.new ≤ length self.old + 21 }
         ensures utf8 { IsUtf8 (point_text point) }
+        ensures few { length (point_text point) ≤ 15 }
     {
         self.number(point.y());
         self.push(",");
@@ -44,11 +45,11 @@ impl Tail {
     /// A point, and a copy of its text.
     #[inline(always)]
     pub(crate) fn point_kept(&mut self, point: Point) -> Kept
-        requires room { length self.old + 24 ≤ line_limit }
+        requires room { length self.old + 21 ≤ line_limit }
         ensures text { self.new ≡ point_text point ++ self.old }
         ensures size { length self.new ≡ length result + length self.old }
         ensures kept { result ≡ point_text point }
-        ensures few { length result ≤ 21 }
+        ensures few { length result ≤ 15 }
     {
         let end = self.len();
         self.point(point);

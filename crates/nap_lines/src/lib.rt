@@ -2,6 +2,7 @@
 #![tactic(auto)]
 
 mod batch;
+mod block;
 mod field;
 mod line;
 mod line_sink;

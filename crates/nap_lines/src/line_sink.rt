@@ -5,6 +5,7 @@ ghost use Rattle.nap_lines.specs.Listing.{Lists, lists_more, lists_none};
 
 use crate::batch::write_batch;
 use crate::line::write_line;
+use crate::shape::write_shape_line;
 use crate::tail::Tail;
 use nap_list::{Batch, BatchFault, Entry, Shape, Sink, SinkFault, State};
 use std::alloc::Global;
@@ -78,9 +79,10 @@ impl Sink for LineSink {
         BatchFault::unless_all(taken, batch)
     }
 
-    fn put_shape(&mut self, alloc: Global, shape: &Shape) -> Result<(), SinkFault> {
-        let entry = shape.entry(alloc)?;
-        self.put(entry)
+    fn put_shape(&mut self, _: Global, shape: &Shape) -> Result<(), SinkFault> {
+        write_shape_line(&mut self.room, &mut self.text, shape)?;
+        self.state.step_shape(shape);
+        Ok(())
     }
 
     ghost took_none = { λ s. lists_none s };

@@ -107,8 +107,8 @@ impl Tail {
     #[inline(always)]
     pub(crate) fn first(&self, count: usize) -> Kept
         requires within { count ≤ length self.now }
-        requires few { count ≤ 24 }
-        requires room { length self.now + 24 ≤ line_limit + count }
+        requires few { count ≤ 16 }
+        requires room { length self.now + 16 ≤ line_limit + count }
         requires utf8 { IsUtf8 (take count self.now) }
         ensures { result ≡ take count self.now }
     {
@@ -124,7 +124,7 @@ impl Tail {
     /// Bytes that were kept, in front.
     #[inline(always)]
     pub(crate) fn put_kept(&mut self, kept: &Kept)
-        requires room { length self.old + 24 ≤ line_limit }
+        requires room { length self.old + 16 ≤ line_limit }
         ensures text { self.new ≡ kept.now ++ self.old }
         ensures size { length self.new ≡ length kept.now + length self.old }
     {
@@ -167,7 +167,7 @@ impl Tail {
 }
 
 /// Room for the text of a point.
-const KEPT: usize = 24;
+const KEPT: usize = 16;
 
 /// Text that was copied, at the end of its room: as many bytes as are moved at once.
 #[derive(Drop)]
@@ -184,11 +184,12 @@ impl Model for Kept {
 
     ghost view = { λ k. drop k.from k.bytes };
 
-    ghost invariant = { λ k. record { within : k.from ≤ 24; utf8 : IsUtf8 (drop k.from k.bytes) } };
+    ghost invariant = { λ k. record { within : k.from ≤ 16; utf8 : IsUtf8 (drop k.from k.bytes) } };
 }
 
 /// A hexadecimal digit.
-fn digit(value: u8) -> u8
+#[inline(always)]
+pub(crate) fn digit(value: u8) -> u8
     requires { value < 16 }
     ensures { result ≡ digit_char value }
 {

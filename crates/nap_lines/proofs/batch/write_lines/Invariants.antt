@@ -11,7 +11,7 @@ invariant-loop-to l = record {
   written : l.written ≡ l.to-index;
   at : Coordinates;
   kept : l.kept ≡ point_text at;
-  few : length l.kept ≤ 21;
+  few : length l.kept ≤ 15;
   text : l.text.items ≡ l.fn.text.items ++ lines_with l.fn.room l.fn.from (take l.to-index l.points);
   goes : Goes l.fn.room l.fn.from (take l.to-index l.points) at;
 }

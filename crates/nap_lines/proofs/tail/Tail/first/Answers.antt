@@ -9,10 +9,10 @@ invariant_of-result c =
     let count = c.args.count in
     let size = ap length c.self.view_is in
     let gone = length-drop at bytes in
-    let start = at + count - 24 in
-    let made : drop (24 - count) c.copy_from_slice.new.self ≡ take count c.args.self.now =
-    ap (drop (24 - count)) c.copy_from_slice.ensures.after
-    ∙ first_copied bytes at count start (at + count - start) (24 - count) (omega arith) (omega arith) (omega arith)
+    let start = at + count - 16 in
+    let made : drop (16 - count) c.copy_from_slice.new.self ≡ take count c.args.self.now =
+    ap (drop (16 - count)) c.copy_from_slice.ensures.after
+    ∙ first_copied bytes at count start (at + count - start) (16 - count) (omega arith) (omega arith) (omega arith)
     ∙ ap (take count) c.self.view_is in
     record { within = omega arith; utf8 = rw made c.requires.utf8 }
 
@@ -23,7 +23,7 @@ returns c =
     let count = c.args.count in
     let size = ap length c.self.view_is in
     let gone = length-drop at bytes in
-    let start = at + count - 24 in
-    ap (drop (24 - count)) c.copy_from_slice.ensures.after
-    ∙ first_copied bytes at count start (at + count - start) (24 - count) (omega arith) (omega arith) (omega arith)
+    let start = at + count - 16 in
+    ap (drop (16 - count)) c.copy_from_slice.ensures.after
+    ∙ first_copied bytes at count start (at + count - start) (16 - count) (omega arith) (omega arith) (omega arith)
     ∙ ap (take count) c.self.view_is
