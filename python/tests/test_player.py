@@ -25,7 +25,7 @@ from test_sketch_bounds import bomb
 
 pytestmark = pytest.mark.skipif(not has("chromium"), reason="there is no chromium")
 FOLDER = os.path.join(TOP, "examples", "gallery")
-PAGES = [name for name in gallery.NAMES if "relative" not in name]
+PAGES = gallery.NAMES
 SIZE = (1024, 800)
 # Shapes are told by the entries that they came with; a run of letters is one.
 STEPS = "player.screen.table.steps.map((step, at) => step.draw ? at : -1).filter((at) => at >= 0)"
@@ -409,3 +409,65 @@ def test_a_refused_page_is_played_up_to_its_refusal(naplps, tmp_path, shown):
     assert "refused 6 LeftOut" in page.run("document.querySelector('header').textContent")
     said, _ = play(naplps, os.path.join(FOLDER, "signature.nap"), os.path.join(str(tmp_path), "other.html"))
     assert said.returncode == 1 and b"the player shows what comes before" in said.stderr
+
+
+# Of the squares of so many pels both ways: how many there are, how many have one colour, how many aren't black in the
+# player or the sketch, and of how many of these the colour isn't near to the mean of the sketch.
+RASTER = """
+((wide, high, size, near) => {
+  const shown = player.screen.context.getImageData(0, 0, wide, high).data;
+  let even = 0, off = 0, others = 0, squares = 0;
+  for (let top = 0; top < high; top += size) {
+    for (let left = 0; left < wide; left += size) {
+      const sums = [0, 0, 0], first = (top * wide + left) * 4;
+      let isEven = true;
+      for (let at = 0; at < size * size; at++) {
+        const pel = ((top + Math.floor(at / size)) * wide + left + at % size) * 4;
+        for (let one = 0; one < 3; one++) {
+          sums[one] += wanted[pel + one] / size / size;
+          isEven &&= shown[pel + one] === shown[first + one];
+        }
+      }
+      const colour = [...shown.slice(first, first + 3)];
+      squares++;
+      even += isEven;
+      if (!colour.concat(sums).some((each) => each > 0)) continue;
+      off++;
+      others += colour.some((each, one) => Math.abs(each - sums[one]) > near);
+    }
+  }
+  return {squares, even, off, others};
+})(1024, 800, 4, 128)
+"""
+
+
+@pytest.mark.parametrize("name", PAGES)
+def test_the_raster_has_the_pels_of_a_terminal(shown, name):
+    page = shown(os.path.join(FOLDER, name), bypass=True)
+    with open(os.path.join(FOLDER, name + ".svg"), encoding="utf-8") as svg:
+        want(page, svg.read(), SIZE)
+    still(page)
+    assert page.run("player.view.options[1].textContent") == "raster of 256 by 200"
+    page.run("player.setView('raster'); player.showNow(player.line.whole)")
+    how = page.run(RASTER)
+    # (at edges a pel belongs to one colour, and the mean to both)
+    assert how["even"] == how["squares"] == 256 * 200 and how["off"] > 10_000 and how["others"] < 0.2 * how["off"], how
+
+
+def test_each_button_does_what_it_says(shown):
+    page = shown(os.path.join(FOLDER, "weather.nap"))
+    assert page.run("document.querySelectorAll('canvas').length") == 1
+    assert page.run("[...player.speed.options].map((each) => each.textContent)") == [
+        "%d baud" % speed for speed in (300, 1200, 2400, 4800, 9600)]
+    places, length = page.run("[player.data.places, player.line.length]")
+    at = [place + 1 for place in places]
+    moments = [("to the start", 0), ("one byte on", 1), ("one entry on", at[1]), ("one byte on", at[1] + 1),
+               ("one byte on", at[1] + 2), ("one byte back", at[1] + 1), ("one entry on", at[2]),
+               ("one entry back", at[1]), ("to the end", length), ("one byte on", length), ("one entry back", at[-2])]
+    for label, come in moments:
+        page.run("document.querySelector('[aria-label=\"%s\"]').click()" % label)
+        assert page.run("player.moment") == {"done": sum(each <= come for each in at), "bytes": come}, label
+    page.run("player.advance = () => undefined")
+    for label, plays in (("play", True), ("stop", False)):
+        page.run("document.querySelector('[aria-label=%s]').click()" % label)
+        assert page.run("player.isPlaying") is plays
