@@ -17,8 +17,8 @@ from test_report_choices import made, report
 
 pytestmark = pytest.mark.skipif(not has("chromium"), reason="there is no chromium")
 LINES = StreamWriter().clear().domain().at(0.1, 0.2, "SCORES", "normal").at(0.1, 0.6, "ICE HOCKEY", "normal").made()
-FILES = {"can.nap": midst(picture(Random(5), 1), b"\x18"), "montreal.nap": b"\x0fMontr\x19\x42eal est belle",
-         "one.nap": POINT, "out.nap": OUTSIDE, "parity.nap": with_parity(words("NEWS")), "sub/hockey.nap": LINES,
+FILES = {"accents.nap": b"\x0fMontr\x19\x42eal est belle", "can.nap": midst(picture(Random(5), 1), b"\x18"),
+         "one.nap": POINT, "out.nap": OUTSIDE, "parity.nap": with_parity(words("NEWS")), "sub/lines.nap": LINES,
          "two.nap": SPELLED}
 
 
@@ -61,9 +61,9 @@ def shows(wall, *names):
 
 
 @pytest.mark.parametrize("typed, names", [
-    ("montreal", ["montreal.nap"]), ("MONTR\u00c9AL", ["montreal.nap"]), ("Montre\u0301al bel", ["montreal.nap"]),
-    ("hock scores", ["hockey.nap"]), ('"ice hockey"', ["hockey.nap"]), ('"hockey ice"', []), ("ockey ice", []),
-    ("news", ["parity.nap"]), ("sub/h", ["hockey.nap"]), ("Group 1", ["one.nap", "two.nap"])])
+    ("montreal", ["accents.nap"]), ("MONTR\u00c9AL", ["accents.nap"]), ("Montre\u0301al bel", ["accents.nap"]),
+    ("hock scores", ["lines.nap"]), ('"ice hockey"', ["lines.nap"]), ('"hockey ice"', []), ("ockey ice", []),
+    ("news", ["parity.nap"]), ("sub/l", ["lines.nap"]), ("Group 1", ["one.nap", "two.nap"])])
 def test_pages_are_found_by_their_words(wall, typed, names):
     wall.run("((it) => {it.value = %r; it.oninput()})(document.getElementById('text'))" % typed)
     shows(wall, *names)
@@ -84,8 +84,8 @@ def test_first_words_stand_beside_each_name(wall):
     said = wall.run("Object.fromEntries([...document.querySelectorAll('#files tr')].map((row) => [row.querySelector("
                     "'button.name').textContent, row.querySelector('.says')?.textContent || '']))")
     assert {**said, "can.nap": ""} == {
-        "can.nap": "", "montreal.nap": "Montr\u00e9al est belle", "one.nap": "", "out.nap": "", "parity.nap": "NEWS",
-        "sub/hockey.nap": "ICE HOCKEY SCORES", "two.nap": ""} and said["can.nap"]
+        "accents.nap": "Montr\u00e9al est belle", "can.nap": "", "one.nap": "", "out.nap": "", "parity.nap": "NEWS",
+        "sub/lines.nap": "ICE HOCKEY SCORES", "two.nap": ""} and said["can.nap"]
 
 
 def test_spellings_and_held_pages_stand_side_by_side(wall, address):
