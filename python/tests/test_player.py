@@ -167,13 +167,20 @@ def flashing(number):
     return page.made()
 
 
+def blinking():
+    """A page whose one area, as large as the screen, blinks five times in a second."""
+    page = StreamWriter().clear().domain().select(5).rectangle(0, 0, 0.999, 0.78)
+    return page.code(0x3C, page.colour(0, 1, 0)).code(0x3F, b"\x7c" + bytes((0x41, 0x41, 0x40))).made()
+
+
 @pytest.mark.parametrize("wanted", [False, True])
-def test_nothing_flashes_above_three_a_second_unless_that_is_wanted(shown, wanted):
-    page = shown(flashing(150))
+@pytest.mark.parametrize("made", [flashing(150), blinking()], ids=["areas", "a blink"])
+def test_nothing_flashes_above_three_a_second_unless_that_is_wanted(shown, made, wanted):
+    page = shown(made)
     # (the frames of two and a half seconds, whatever time they take here)
     changes = page.run("""(() => {
       const found = [];
-      let last = -1;
+      let last = null;
       performance.now = () => 0;
       player.flashing.checked = %s;
       player.setSpeed(2400);
@@ -181,9 +188,9 @@ def test_nothing_flashes_above_three_a_second_unless_that_is_wanted(shown, wante
       player.setPlaying(true);
       for (let now = 1000; now < 3500; now += 40) {
         player.onFrame(now);
-        const level = player.screen.context.getImageData(500, 400, 1, 1).data[0];
-        if (last >= 0 && Math.abs(level - last) > 25) found.push(now);
-        last = level;
+        const levels = [...player.screen.context.getImageData(500, 400, 1, 1).data];
+        if (last?.some((each, at) => Math.abs(each - levels[at]) > 25)) found.push(now);
+        last = levels;
       }
       player.setPlaying(false);
       return found;
@@ -303,21 +310,32 @@ def test_what_earlier_pages_drew_is_there_at_the_start(shown, program, tmp_path)
     assert page.run("document.querySelector('.about li').textContent").endswith(" of a page before it")
 
 
-def test_it_plays_to_its_end(shown):
-    page = shown(os.path.join(FOLDER, "logo.nap"))
-    came = page.run("""(() => {
+@pytest.mark.parametrize("view", ["smooth", "raster"])
+@pytest.mark.parametrize("name", ["index.nap", "logo.nap"])
+def test_it_plays_to_its_end(shown, name, view):
+    page = shown(os.path.join(FOLDER, name))
+    still(page)
+    came, is_shown = page.run("""(() => {
+      const pels = () => player.screen.context.getImageData(0, 0, 1024, 800).data;
       const came = [];
+      player.setView("%s");
+      player.flashing.checked = true;
       player.setSpeed(9600);
       player.toggle();
-      for (let now = 1000; player.isPlaying && came.length < 1000; now += 16) {
+      let now = 1000;
+      for (; player.isPlaying && came.length < 1000; now += 16) {
         player.onFrame(now);
         came.push(player.moment.done);
       }
-      return came;
-    })()""")
+      for (; player.isDue; now += 16) player.onFrame(now);
+      const shown = pels();
+      player.showNow(player.line.whole);
+      return [came, pels().every((each, at) => each === shown[at])];
+    })()""" % view)
     number = page.run("player.line.number")
     assert came == sorted(came) and came[0] == 0 and any(0 < done < number for done in came) and came[-1] == number
     assert page.run("player.moment.bytes === player.line.length") and not page.run("player.isPlaying")
+    assert is_shown
 
 
 def test_reduced_motion_is_followed(browser, shown):

@@ -195,6 +195,7 @@ class Player {
     if (seconds >= this.line.end) {
       this.moment = this.line.whole;
       this.setPlaying(false);
+      this.isDue = true;
     }
     this.tell();
   }
