@@ -96,3 +96,25 @@ def test_spellings_and_held_pages_stand_side_by_side(wall, address):
         one, two = wall.run("[...document.querySelectorAll('#details %s')].map((each) => {const box = "
                             "each.getBoundingClientRect(); return [box.left, box.right, box.top]})" % pictures)
         assert one[1] <= two[0] and one[2] == two[2]
+
+
+def test_what_is_closed_plays_no_more(wall, address):
+    told = "document.querySelector('.told').textContent"
+    later = "new Promise((done) => setTimeout(() => done(%s), 400))" % told
+    wall.open("%s#page=%s" % (address, hashlib.sha256(LINES).hexdigest()[:16]))
+    wall.until(OPEN)
+    wall.run("document.getElementById('as-played').click()")
+    wall.until("document.querySelector('.player canvas')")
+    wall.run("document.querySelector('.player').focus()")
+    wall.press("1")
+    wall.press(" ")
+    wall.until("!%s.startsWith('Byte 0 ')" % told)
+    wall.run("document.getElementById('as-sketch').click()")
+    assert wall.run(told) == wall.run(later)
+    wall.run("document.getElementById('as-played').click()")
+    assert wall.run(told) == wall.run(later)
+    wall.run("document.querySelector('.player').focus()")
+    wall.press(" ")
+    wall.press("Escape")
+    wall.until("!" + OPEN)
+    assert wall.run(told) == wall.run(later)

@@ -174,7 +174,7 @@ class Player {
 
   onFrame(now) {
     this.frame = 0;
-    if (!this.box.isConnected) return;
+    if (!this.box.clientWidth) return;  // (nobody sees it; what shows it again asks for a picture)
     const gone = this.last ? Math.min((now - this.last) / 1000, LONGEST) : 0;
     this.last = now;
     if (this.isPlaying) this.advance(gone);
