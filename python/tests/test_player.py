@@ -472,6 +472,14 @@ def test_the_raster_has_the_pels_of_a_terminal(shown, name):
     assert how["even"] == how["squares"] == 256 * 200 and how["off"] > 10_000 and how["others"] < 0.2 * how["off"], how
 
 
+def test_a_page_that_draws_above_the_screen_has_a_higher_raster(shown):
+    page = shown(StreamWriter().clear().domain().rectangle(0.1, 0.5, 0.2, 0.45).made())
+    assert page.run("player.view.options[1].textContent") == "raster of 256 by 256"
+    page.run("player.setView('raster'); player.showNow(player.line.whole)")
+    assert page.run("[player.canvas.width, player.canvas.height]") == [1024, 1024]
+    assert page.run("[100, 60].map((y) => player.screen.context.getImageData(200, y, 1, 1).data[0])") == [255, 255]
+
+
 def test_each_button_does_what_it_says(shown):
     page = shown(os.path.join(FOLDER, "weather.nap"))
     assert page.run("document.querySelectorAll('canvas').length") == 1
