@@ -237,7 +237,6 @@ def test_a_click_leads_from_shapes_to_bytes_and_back(shown):
 def test_keys(shown):
     page = shown(os.path.join(FOLDER, "weather.nap"))
     moment = "[player.moment.done, player.moment.bytes]"
-    page.run("player.box.focus()")
     assert page.run("player.codes.box.scrollTop") > 0
     page.press("Home")
     assert page.run(moment) == [0, 0] and page.run("player.codes.box.scrollTop") == 0
