@@ -247,6 +247,9 @@ def test_keys(shown):
     page.press("ArrowRight")
     page.press("ArrowLeft")
     assert one[1] == 2 and page.run(moment)[0] == 1
+    page.run("player.slider.focus()")  # (whose own steps are a thousandth of a second)
+    page.press("ArrowRight")
+    assert page.run(moment)[0] == 2
     page.press("End")
     assert page.run(moment) == [108, 678]
     for key, speed in (("1", 300), ("5", 9600)):

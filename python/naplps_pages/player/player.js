@@ -80,8 +80,8 @@ class Player {
     this.box.addEventListener("keydown", (event) => {
       if (event.key.startsWith("Arrow")) event.stopPropagation();
       if (event.ctrlKey || event.metaKey || event.altKey || event.target.tagName === "SELECT") return;
-      if (event.target === this.slider && event.key.startsWith("Arrow")) return;
-      if (event.key === " " && ["BUTTON", "INPUT", "SUMMARY"].includes(event.target.tagName)) return;
+      const takesSpace = ["BUTTON", "INPUT", "SUMMARY"].includes(event.target.tagName) && event.target !== this.slider;
+      if (event.key === " " && takesSpace) return;
       if (this.key(event.key, event.shiftKey)) event.preventDefault();
     });
   }
