@@ -4,6 +4,7 @@ import os
 import re
 import subprocess
 from urllib.parse import unquote
+from urllib.request import urlopen
 
 import pytest
 
@@ -54,11 +55,22 @@ def settings(folder, naplps):
     return dict(os.environ, NAPLPS=naplps, PATH=os.path.join(folder, "pages") + os.pathsep + os.environ["PATH"])
 
 
+def assert_is_served(command, folder, settings):
+    """Runs a command that serves until it is ended, and opens the address that it prints."""
+    with subprocess.Popen(["sh", "-c", "exec " + command], cwd=folder, stdout=subprocess.PIPE, env=settings) as server:
+        with urlopen(server.stdout.readline().decode("ascii").strip()) as page:
+            assert page.read(15) == b"<!doctype html>"
+        server.terminate()
+
+
 @pytest.mark.parametrize("command", sorted(set(shown())))
 def test_commands_of_the_documents(folder, settings, command):
     if "pages.db" in command and "naplps-pages scan" not in command:
         scan = ["naplps-pages", "scan", "pages", "--into", "pages.db", "--words"]
         subprocess.run(scan, cwd=folder, env=settings, check=True)
+    if "naplps-pages serve" in command:
+        assert_is_served(command, folder, settings)
+        return
     said = subprocess.run(["sh", "-c", command], cwd=folder, capture_output=True, env=settings)
     told = said.stderr.decode("utf-8", "replace")
     assert said.returncode in (0, 1), told

@@ -9,6 +9,7 @@ from hypothesis import strategies as st
 from conftest import file
 from naplps import drawing
 from naplps.client import Client
+from naplps_pages import cli
 from naplps_pages.guessing import MOST_CODES, Guesser
 from naplps_pages.listing import listed
 from naplps_pages.source import Page
@@ -83,8 +84,23 @@ def test_without_the_option_nothing_is_guessed(run):
     data = POINT + b"\x18" + BEHIND
     svg = run(["look", "-"], data).stdout.decode()
     assert "mask" not in svg and rects(tree(svg)) == [FIRST]
-    assert run(["list", "-", "--past"], data).returncode == 2
     assert run(["list", "-"], data).stdout == b"" and run(["canon", "-"], data).stdout == b""
+
+
+@pytest.mark.parametrize("command", sorted({*cli.COMMANDS} - {"look"}))
+def test_no_other_command_guesses(run, command):
+    words = ["--into", "x"] if command in ("play", "split", "scan", "convert", "report") else []
+    said = run([command, "a", *(["b"] if command in ("find", "merge") else []), *words, "--past"])
+    assert said.returncode == 2 and b"unrecognized arguments: --past\n" in said.stderr and said.stdout == b""
+
+
+def test_a_guess_changes_no_answer_of_a_store(run, tmp_path):
+    page, store = file(tmp_path, "page", POINT + b"\x18" + BEHIND), os.path.join(str(tmp_path), "pages.db")
+    file(tmp_path, "other", POINT + BEHIND)
+    run(["look", page, "--past", "--into", os.path.join(str(tmp_path), "to")])
+    assert run(["scan", page, os.path.join(str(tmp_path), "other"), "--into", store]).returncode == 0
+    assert run(["equal", store]).stdout == b""
+    assert b"page: refused 6 LeftOut CAN at 5\n" in run(["files", store]).stdout
 
 
 def test_an_accepted_page_has_no_guess(run):

@@ -25,7 +25,7 @@ from test_sketch_bounds import bomb
 
 pytestmark = pytest.mark.skipif(not has("chromium"), reason="there is no chromium")
 FOLDER = os.path.join(TOP, "examples", "gallery")
-PAGES = [name for name in gallery.NAMES if "relative" not in name]
+PAGES = gallery.NAMES
 SIZE = (1024, 800)
 # Shapes are told by the entries that they came with; a run of letters is one.
 STEPS = "player.screen.table.steps.map((step, at) => step.draw ? at : -1).filter((at) => at >= 0)"
@@ -167,13 +167,20 @@ def flashing(number):
     return page.made()
 
 
+def blinking():
+    """A page whose one area, as large as the screen, blinks five times in a second."""
+    page = StreamWriter().clear().domain().select(5).rectangle(0, 0, 0.999, 0.78)
+    return page.code(0x3C, page.colour(0, 1, 0)).code(0x3F, b"\x7c" + bytes((0x41, 0x41, 0x40))).made()
+
+
 @pytest.mark.parametrize("wanted", [False, True])
-def test_nothing_flashes_above_three_a_second_unless_that_is_wanted(shown, wanted):
-    page = shown(flashing(150))
+@pytest.mark.parametrize("made", [flashing(150), blinking()], ids=["areas", "a blink"])
+def test_nothing_flashes_above_three_a_second_unless_that_is_wanted(shown, made, wanted):
+    page = shown(made)
     # (the frames of two and a half seconds, whatever time they take here)
     changes = page.run("""(() => {
       const found = [];
-      let last = -1;
+      let last = null;
       performance.now = () => 0;
       player.flashing.checked = %s;
       player.setSpeed(2400);
@@ -181,9 +188,9 @@ def test_nothing_flashes_above_three_a_second_unless_that_is_wanted(shown, wante
       player.setPlaying(true);
       for (let now = 1000; now < 3500; now += 40) {
         player.onFrame(now);
-        const level = player.screen.context.getImageData(500, 400, 1, 1).data[0];
-        if (last >= 0 && Math.abs(level - last) > 25) found.push(now);
-        last = level;
+        const levels = [...player.screen.context.getImageData(500, 400, 1, 1).data];
+        if (last?.some((each, at) => Math.abs(each - levels[at]) > 25)) found.push(now);
+        last = levels;
       }
       player.setPlaying(false);
       return found;
@@ -230,7 +237,6 @@ def test_a_click_leads_from_shapes_to_bytes_and_back(shown):
 def test_keys(shown):
     page = shown(os.path.join(FOLDER, "weather.nap"))
     moment = "[player.moment.done, player.moment.bytes]"
-    page.run("player.box.focus()")
     assert page.run("player.codes.box.scrollTop") > 0
     page.press("Home")
     assert page.run(moment) == [0, 0] and page.run("player.codes.box.scrollTop") == 0
@@ -241,6 +247,9 @@ def test_keys(shown):
     page.press("ArrowRight")
     page.press("ArrowLeft")
     assert one[1] == 2 and page.run(moment)[0] == 1
+    page.run("player.slider.focus()")  # (whose own steps are a thousandth of a second)
+    page.press("ArrowRight")
+    assert page.run(moment)[0] == 2
     page.press("End")
     assert page.run(moment) == [108, 678]
     for key, speed in (("1", 300), ("5", 9600)):
@@ -303,21 +312,32 @@ def test_what_earlier_pages_drew_is_there_at_the_start(shown, program, tmp_path)
     assert page.run("document.querySelector('.about li').textContent").endswith(" of a page before it")
 
 
-def test_it_plays_to_its_end(shown):
-    page = shown(os.path.join(FOLDER, "logo.nap"))
-    came = page.run("""(() => {
+@pytest.mark.parametrize("view", ["smooth", "raster"])
+@pytest.mark.parametrize("name", ["index.nap", "logo.nap"])
+def test_it_plays_to_its_end(shown, name, view):
+    page = shown(os.path.join(FOLDER, name))
+    still(page)
+    came, is_shown = page.run("""(() => {
+      const pels = () => player.screen.context.getImageData(0, 0, 1024, 800).data;
       const came = [];
+      player.setView("%s");
+      player.flashing.checked = true;
       player.setSpeed(9600);
       player.toggle();
-      for (let now = 1000; player.isPlaying && came.length < 1000; now += 16) {
+      let now = 1000;
+      for (; player.isPlaying && came.length < 1000; now += 16) {
         player.onFrame(now);
         came.push(player.moment.done);
       }
-      return came;
-    })()""")
+      for (; player.isDue; now += 16) player.onFrame(now);
+      const shown = pels();
+      player.showNow(player.line.whole);
+      return [came, pels().every((each, at) => each === shown[at])];
+    })()""" % view)
     number = page.run("player.line.number")
     assert came == sorted(came) and came[0] == 0 and any(0 < done < number for done in came) and came[-1] == number
     assert page.run("player.moment.bytes === player.line.length") and not page.run("player.isPlaying")
+    assert is_shown
 
 
 def test_reduced_motion_is_followed(browser, shown):
@@ -409,3 +429,73 @@ def test_a_refused_page_is_played_up_to_its_refusal(naplps, tmp_path, shown):
     assert "refused 6 LeftOut" in page.run("document.querySelector('header').textContent")
     said, _ = play(naplps, os.path.join(FOLDER, "signature.nap"), os.path.join(str(tmp_path), "other.html"))
     assert said.returncode == 1 and b"the player shows what comes before" in said.stderr
+
+
+# Of the squares of so many pels both ways: how many there are, how many have one colour, how many aren't black in the
+# player or the sketch, and of how many of these the colour isn't near to the mean of the sketch.
+RASTER = """
+((wide, high, size, near) => {
+  const shown = player.screen.context.getImageData(0, 0, wide, high).data;
+  let even = 0, off = 0, others = 0, squares = 0;
+  for (let top = 0; top < high; top += size) {
+    for (let left = 0; left < wide; left += size) {
+      const sums = [0, 0, 0], first = (top * wide + left) * 4;
+      let isEven = true;
+      for (let at = 0; at < size * size; at++) {
+        const pel = ((top + Math.floor(at / size)) * wide + left + at % size) * 4;
+        for (let one = 0; one < 3; one++) {
+          sums[one] += wanted[pel + one] / size / size;
+          isEven &&= shown[pel + one] === shown[first + one];
+        }
+      }
+      const colour = [...shown.slice(first, first + 3)];
+      squares++;
+      even += isEven;
+      if (!colour.concat(sums).some((each) => each > 0)) continue;
+      off++;
+      others += colour.some((each, one) => Math.abs(each - sums[one]) > near);
+    }
+  }
+  return {squares, even, off, others};
+})(1024, 800, 4, 128)
+"""
+
+
+@pytest.mark.parametrize("name", PAGES)
+def test_the_raster_has_the_pels_of_a_terminal(shown, name):
+    page = shown(os.path.join(FOLDER, name), bypass=True)
+    with open(os.path.join(FOLDER, name + ".svg"), encoding="utf-8") as svg:
+        want(page, svg.read(), SIZE)
+    still(page)
+    assert page.run("player.view.options[1].textContent") == "raster of 256 by 200"
+    page.run("player.setView('raster'); player.showNow(player.line.whole)")
+    how = page.run(RASTER)
+    # (at edges a pel belongs to one colour, and the mean to both)
+    assert how["even"] == how["squares"] == 256 * 200 and how["off"] > 10_000 and how["others"] < 0.2 * how["off"], how
+
+
+def test_a_page_that_draws_above_the_screen_has_a_higher_raster(shown):
+    page = shown(StreamWriter().clear().domain().rectangle(0.1, 0.5, 0.2, 0.45).made())
+    assert page.run("player.view.options[1].textContent") == "raster of 256 by 256"
+    page.run("player.setView('raster'); player.showNow(player.line.whole)")
+    assert page.run("[player.canvas.width, player.canvas.height]") == [1024, 1024]
+    assert page.run("[100, 60].map((y) => player.screen.context.getImageData(200, y, 1, 1).data[0])") == [255, 255]
+
+
+def test_each_button_does_what_it_says(shown):
+    page = shown(os.path.join(FOLDER, "weather.nap"))
+    assert page.run("document.querySelectorAll('canvas').length") == 1
+    assert page.run("[...player.speed.options].map((each) => each.textContent)") == [
+        "%d baud" % speed for speed in (300, 1200, 2400, 4800, 9600)]
+    places, length = page.run("[player.data.places, player.line.length]")
+    at = [place + 1 for place in places]
+    moments = [("to the start", 0), ("one byte on", 1), ("one entry on", at[1]), ("one byte on", at[1] + 1),
+               ("one byte on", at[1] + 2), ("one byte back", at[1] + 1), ("one entry on", at[2]),
+               ("one entry back", at[1]), ("to the end", length), ("one byte on", length), ("one entry back", at[-2])]
+    for label, come in moments:
+        page.run("document.querySelector('[aria-label=\"%s\"]').click()" % label)
+        assert page.run("player.moment") == {"done": sum(each <= come for each in at), "bytes": come}, label
+    page.run("player.advance = () => undefined")
+    for label, plays in (("play", True), ("stop", False)):
+        page.run("document.querySelector('[aria-label=%s]').click()" % label)
+        assert page.run("player.isPlaying") is plays

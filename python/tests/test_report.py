@@ -9,6 +9,7 @@ import zlib
 import pytest
 
 from conftest import file
+from naplps_pages import cli
 from naplps_pages.collection.store import open_to_read
 from naplps_pages.report import choices, making
 from naplps_pages.report.block_queue import IS_FULL, Room
@@ -164,6 +165,18 @@ def test_how_many_sketches(made, more, sketches):
     html, said = made({"a": POINT, "b": b"", "c": POINT + b"\x0a" + POINT, "d": OUTSIDE, "e": b"\x1b"}, *more)
     assert b"%d of 5 sketches" % sketches in said.stdout and said.returncode == 0
     assert sum(len(block["sketch"]) for block in held(html)[1]) == sketches
+
+
+def test_how_many_sketches_where_nothing_or_all_is_said(made, naplps, tmp_path):
+    usual, all_of_them = (cli.parser("report").parse_args(["report", "s.db", "--into", "html", *some])
+                          for some in ([], ["--all"]))
+    assert (usual.sketches, usual.all, all_of_them.all) == (10_000, False, True)
+    made({"a": POINT, "b": OUTSIDE, "c": b""})
+    store, html = os.path.join(str(tmp_path), "pages.db"), os.path.join(str(tmp_path), "again.html")
+    options = making.ReportOptions(store, html, naplps, 2, False, 1, 20.0)
+    assert making.make(open_to_read(store), options).sketches == 2
+    whole = options._replace(all=True, replace=True)
+    assert making.make(open_to_read(store), whole).sketches == 3
 
 
 class Sorted:

@@ -68,8 +68,8 @@ PARTS: Dict[str, Part] = {
     "report": Part(
         "reports, and words of pages: what they hold, how they look and act in a browser, and what a served one "
         "answers",
-        ("report", "report_treated", "report_browser", "report_choices", "report_hostile", "serve", "screen_text",
-         "find"),
+        ("report", "report_treated", "report_browser", "report_choices", "report_pages", "report_hostile", "serve",
+         "screen_text", "find"),
     ),
     "scans": Part(
         "scans that fail, are stopped or killed and go on, and that their table is the same however they ran",

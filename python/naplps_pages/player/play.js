@@ -11,6 +11,7 @@ let player;
 
 (async () => {
   player = new Player(document.getElementById("player"), await unpacked(document.getElementById("page")));
+  player.box.focus({preventScroll: true});  // (its keys are there from the start)
   document.body.dataset.ready = "yes";
 })().catch((error) => {
   document.getElementById("fault").textContent = "The page couldn't be shown: " + (error.message || error);

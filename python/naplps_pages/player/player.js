@@ -80,8 +80,8 @@ class Player {
     this.box.addEventListener("keydown", (event) => {
       if (event.key.startsWith("Arrow")) event.stopPropagation();
       if (event.ctrlKey || event.metaKey || event.altKey || event.target.tagName === "SELECT") return;
-      if (event.target === this.slider && event.key.startsWith("Arrow")) return;
-      if (event.key === " " && ["BUTTON", "INPUT", "SUMMARY"].includes(event.target.tagName)) return;
+      const takesSpace = ["BUTTON", "INPUT", "SUMMARY"].includes(event.target.tagName) && event.target !== this.slider;
+      if (event.key === " " && takesSpace) return;
       if (this.key(event.key, event.shiftKey)) event.preventDefault();
     });
   }
@@ -174,7 +174,7 @@ class Player {
 
   onFrame(now) {
     this.frame = 0;
-    if (!this.box.isConnected) return;
+    if (!this.box.clientWidth) return;  // (nobody sees it; what shows it again asks for a picture)
     const gone = this.last ? Math.min((now - this.last) / 1000, LONGEST) : 0;
     this.last = now;
     if (this.isPlaying) this.advance(gone);
@@ -195,6 +195,7 @@ class Player {
     if (seconds >= this.line.end) {
       this.moment = this.line.whole;
       this.setPlaying(false);
+      this.isDue = true;
     }
     this.tell();
   }

@@ -16,8 +16,12 @@ class PlayTab {
     this.tabs.forEach((tab, at) => tab.setAttribute("aria-pressed", String((at === 1) === isPlayed)));
     this.sketch.hidden = isPlayed;
     this.box.hidden = !isPlayed;
-    if (this.player) this.player.setPlaying(false);
-    else if (isPlayed) await this.begin();
+    if (this.player) {
+      this.player.setPlaying(false);
+      this.player.refresh();
+    } else if (isPlayed) {
+      await this.begin();
+    }
   }
 
   async begin() {
