@@ -1,7 +1,6 @@
-use Rattle.std.proofs.Common.{ℕ, zero, suc, Option, ◌≡◌, ◌≢◌, ◌⊎◌, Bool, true, false, List, [], ◌∷◌, ◌++◌, length, take, None, ◌||◌, min, ◌^◌, Result, Ok, Err, refl, ap, sym, subst, ◌∙◌, inl, inr, append-nil, append_assoc, arith}
+use Rattle.std.proofs.Common.{ℕ, zero, suc, Option, ◌≡◌, Bool, true, false, List, [], ◌∷◌, ◌++◌, length, take, None, ◌||◌, Result, Ok, Err, refl, ap, sym, subst, ◌∙◌, inl, inr, append-nil, append_assoc, arith}
 use Rattle.std.proofs.Math.Seq.{take-append_seam}
-use Rattle.std.proofs.Math.Bool.{or-false}
-use Rattle.std.proofs.KnownBytes.{Appends-kept, Appends-nil}
+use Rattle.std.proofs.KnownBytes.{Appends-kept}
 use Rattle.std.specs.Prelude.{MatchResult}
 use Rattle.std.specs.Io.KnownBytes.{Appends, Keeps}
 use Rattle.nap_draw.specs.Draws.{Cause, stream, memory, device}
@@ -11,8 +10,9 @@ use Rattle.nap_list.specs.declared.sink.Sink.{Ghosts}
 use Rattle.nap_list.specs.Flushing.{FlushedOnce, flushed}
 use Rattle.nap_list.specs.Reading.{Reading, IsReadWhole}
 use Rattle.nap_list.specs.State.{start}
+use Rattle.nap_list.specs.Sending.{Grows, grows_none, sending}
 use Rattle.nap_lines.specs.Listing.{lines, lines_join}
-use Rattle.nap_lines.specs.Printing.{Broke, Closes, Passes, Printing, Sends, Took, sending, shown}
+use Rattle.nap_lines.specs.Printing.{Broke, Closes, Passes, Printing, Took, shown}
 use Rattle.nap_lines.specs.PrintingLaws.{passes_more}
 use Rattle.nap_reader.specs.declared.fault.Fault.{Fault}
 use Rattle.nap_reader.specs.declared.fault.Fault.TheVariants as fault
@@ -21,7 +21,6 @@ use Rattle.nap_reader.specs.Breaking.{cause_of, BreaksWithin, TookFront}
 use Rattle.nap_reader.specs.Collecting.{RefusedBy}
 use Rattle.nap_reader.specs.Stream.{means}
 use Rattle.nap_reader.specs.Twice.{IsReadTwice, ReadsTwice}
-use Rattle.nap_canon.specs.Converting.{count_of}
 use Rattle.nap_canon.specs.Streams.{list_of}
 use Rattle.nap_command.specs.declared.answer.Verdict.{Verdict}
 use Rattle.nap_command.specs.declared.answer.Verdict.TheVariants as verdict
@@ -77,7 +76,7 @@ module _ {O S : Type 0} (o : outlet.Ghosts O) (w : O) (works : o.failed w ≡ fa
   -- what went out, which is a front of what is printed
   pub record Leaves (u : O) (n : ℕ) (read : Result S Refusal) : Type 0 where
     pub q : List ℕ
-    pub sends : Sends (sending o w 0) q (sending o u n)
+    pub grows : Grows (sending o w 0) q (sending o u n)
     pub partly : ForPage (λ p seen. IsPartly c p seen q)
     pub ends : o.failed u ≡ false → ForPage (λ p seen. EndsListed c p seen q false (ended_so read))
 
@@ -87,14 +86,7 @@ module _ {O S : Type 0} (o : outlet.Ghosts O) (w : O) (works : o.failed w ≡ fa
       let fails : ForPage (λ p seen. Fails c p seen (failure.Refused r)) = λ p seen whole streams. list_refuses c p page seen r list whole streams refusal in
       record {
         q = [];
-        sends = rw (output, written) (record {
-          taken = Appends-nil (o.taken w);
-          count = omega arith;
-          fails = false;
-          failed = sym (or-false (o.failed w));
-          write_failed = sym (or-false (o.write_failed w));
-          flushes = refl;
-        });
+        grows = rw (output, written) (grows_none (sending o w 0));
         partly = λ p seen whole streams. inr (failure.Refused r, fails p seen whole streams, refl);
         ends = λ clear p seen whole streams. (fails p seen whole streams, inl refl);
       }
@@ -113,7 +105,7 @@ module _ {O S : Type 0} (o : outlet.Ghosts O) (w : O) (works : o.failed w ≡ fa
         let parts = sym (append-nil (lines (list_of c.budget page))) ∙ all.parts in
         record {
           q = all.sent;
-          sends = all.sends;
+          grows = all.grows;
           partly = partly_of all.sent closes.left parts;
           ends = λ clear p seen whole streams.
               let same = parts ∙ ap (λ (left : List ℕ). all.sent ++ left) (closes.all clear) ∙ append-nil all.sent in
@@ -132,7 +124,7 @@ module _ {O S : Type 0} (o : outlet.Ghosts O) (w : O) (works : o.failed w ≡ fa
           ap lines entries ∙ lines_join first rest ∙ ap (λ (bytes : List ℕ). bytes ++ lines rest) passes.parts ∙ append_assoc passes.sent left (lines rest) in
           record {
             q = passes.sent;
-            sends = rw (output, written) passes.sends;
+            grows = rw (output, written) passes.grows;
             partly = partly_of passes.sent (left ++ lines rest) parts;
             ends = λ clear p seen whole streams.
                 let is = fault_is (ap o.failed (sym output) ∙ clear) in (
@@ -175,14 +167,14 @@ module _ {O S : Type 0} (o : outlet.Ghosts O) (w : O) (works : o.failed w ≡ fa
 
     at : (failed : Bool) → o.failed v ≡ failed → EndsSo found n failed answer → ForPage (λ p seen. EndsListed c p seen out.q failed answer)
     at false is h = λ p seen whole streams. rw h (out.ends (works_on (o.failed u) refl is) p seen whole streams)
-    at true is h = λ p seen whole streams. rw h (omega (arith, out.sends.count), out.partly p seen whole streams)
+    at true is h = λ p seen whole streams. rw h (omega (arith, out.grows.count), out.partly p seen whole streams)
 
     pub ends : (q : List ℕ) × Appends (o.taken w) (o.taken v) q × ForPage (λ p seen. EndsListed c p seen q (o.failed v) answer)
-    ends = (out.q, Appends-kept (o.taken w) (o.taken u) (o.taken v) out.q out.sends.taken keeps, at (o.failed v) refl so)
+    ends = (out.q, Appends-kept (o.taken w) (o.taken u) (o.taken v) out.q out.grows.taken keeps, at (o.failed v) refl so)
 
   -- it was flushed once where no write failed
   pub flushes_once : (u v : O) (n : ℕ) (found : Result S Refusal) → Leaves u n found → o.write_failed w ≡ false → o.flushes v ≡ flushed (o.failed u) (o.flushes u) →
       o.write_failed v ≡ o.write_failed u → FlushedOnce o w v
   flushes_once u v n found out none flushes wrote =
-      let same : o.failed u ≡ o.write_failed u = out.sends.failed ∙ ap (λ (b : Bool). b || out.sends.fails) (works ∙ sym none) ∙ sym out.sends.write_failed in
-      flushes ∙ ap (λ (b : Bool). flushed b (o.flushes u)) (same ∙ sym wrote) ∙ ap (flushed (o.write_failed v)) out.sends.flushes
+      let same : o.failed u ≡ o.write_failed u = out.grows.writes.failed ∙ ap (λ (b : Bool). b || out.grows.writes.fails) (works ∙ sym none) ∙ sym out.grows.writes.write_failed in
+      flushes ∙ ap (λ (b : Bool). flushed b (o.flushes u)) (same ∙ sym wrote) ∙ ap (flushed (o.write_failed v)) out.grows.writes.flushes
