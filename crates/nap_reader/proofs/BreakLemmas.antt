@@ -1,16 +1,11 @@
-use Rattle.std.proofs.Common.{◌++◌, ◌<◌, Bool, Err, IsSome, List, None, Ok, Option, Result, Some, [], ap, append-nil, append_assoc, arith, cond, false, inl, inr, length, length-append, refl, subst, sym, true, ℕ, ◌∙◌, ◌∷◌, ◌≡◌, ◌≢◌, ◌≤◌, ◌⊎◌}
-use Rattle.nap_reader.specs.Below.{Cause, DrawFault, Drawn, Entry, Ghosts, memory, rule, run_limit, stream}
-use Rattle.nap_reader.proofs.Common.{ActsRun, Breaks, BreaksAt, BreaksBetween, BreaksFrom, BreaksInBody, BreaksInRun, BreaksSome, Continues, ContinuesPast, Holding, Input, IsHeld, IsHeldIn, IsLive, IsOpenBody, Machine, OpenBody, OpenRun, Outcome, Placed, Refusal, RunAt, StopsRun, TookPart, Unfinished, Works, after_drawing, asked, asks_if, at_word, begun, cause_of, closed_by, draw_fault, ended_by, front, half_read, held_by, in_code, is_operand, is_operand_byte, means, outcome_from, placed_at, placed_from, refusal, with_code, with_drawn, with_run}
+use Rattle.nap_reader.proofs.Common.{ActsRun, BeginsAll, Bool, Breaks, BreaksAt, BreaksBetween, BreaksFrom, BreaksInBody, BreaksInRun, BreaksNext, BreaksPast, BreaksSome, BreaksWith, CanBreakAt, CanLackAt, Cause, ClosesInto, Continues, ContinuesPast, DrawFault, Drawn, Ends, Entry, Err, Executes, Ghosts, Holding, Input, IsCharged, IsHeld, IsHeldIn, IsLive, IsOpenBody, IsSome, IsTaken, List, Machine, None, Ok, OpenBody, OpenRun, Option, Outcome, Placed, Refusal, Result, RunAt, Some, StopsRun, TookPart, Unfinished, WantsMemory, Works, [], after_drawing, ap, append-nil, append_assoc, arith, asked, asks_if, at_word, begun, behind_run, body_broke, cause_of, charged_broke, closed_by, cond, draw_fault, ended_by, false, front, half_read, held_by, in_code, in_run, inl, inr, is_operand, is_operand_byte, length, length-append, means, memory, next_broke, open_place, outcome_from, placed_at, placed_from, refl, refusal, rule, run_broke, run_limit, run_place, run_refused, some_broke, stream, subst, sym, true, unfinished_by, with_code, with_drawn, with_run, ℕ, ◌++◌, ◌<◌, ◌∙◌, ◌∷◌, ◌≡◌, ◌≢◌, ◌≤◌, ◌⊎◌}
 use Rattle.nap_draw.specs.Draws as draws
 use Rattle.nap_draw.specs.declared.fault.DrawFault.TheVariants as draw_faults
 use Rattle.nap_reader.specs.declared.fault.Fault.TheVariants as faults
 use Rattle.nap_reader.specs.Stream as model
 use Rattle.nap_reader.specs.Course as course
-use Rattle.nap_reader.specs.Breaking.{BreaksWith, CanBreakAt, CanLackAt, IsCharged, WantsMemory, open_place, run_place}
-use Rattle.nap_reader.specs.Standing.{IsTaken}
-use Rattle.nap_reader.specs.Holding.{BeginsAll, BreaksNext, BreaksPast, ClosesInto, Ends, body_broke, charged_broke, next_broke, run_broke, run_refused, some_broke, unfinished_by}
 use Rattle.nap_reader.specs.declared.machine.Machine as struct
-use Rattle.nap_reader.specs.Steps.{Executes, behind_run, in_body, in_run}
+use Rattle.nap_reader.specs.Steps.{in_body}
 use Rattle.nap_reader.proofs.ReadingLemmas.{Lawful, TookMore, by_front, is_open_run, leads_entries, leads_machine, leads_more, leads_on, leads_taken, leads_unfinished, leads_unrefused, none_held, over, rule_part, word_joins}
 use Rattle.nap_reader.proofs.LawLemmas.{more_bytes_keep_entries}
 use Rattle.nap_reader.proofs.PartLemmas.{body_breaks_from, breaks_longer, rule_breaks, some_in_body, wants_from}

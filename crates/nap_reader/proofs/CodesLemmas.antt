@@ -1,36 +1,18 @@
-use Rattle.std.proofs.Common.{ℕ, ◌≡◌, ◌<◌, List, [], ◌∷◌, ◌++◌, All, Bool, false, length, take, drop, Option, Some, None, Result, inl, refl, ap, sym, ◌∙◌, subst, arith, ◌≢◌, true, ap₂, length-append, ◌≤◌}
-use Rattle.std.proofs.lemmas.List.{length-map, take-append-le, take-map}
-use Rattle.std.proofs.lemmas.List.Elements.{All-head}
+use Rattle.nap_reader.proofs.Common.{All, All-head, AreCharacters, Bool, Calls, CallsBy, CharSet, Code, CodeFault, CodeSets, CodeTakes, Codes, Continues, DrawFault, Drawn, Entry, Ghosts, HaltsAfter, Holding, IsHeld, IsLive, IsOpcodeByte, IsText, IsTyped, Kind, LeadsOn, Leaves, LexerState, List, None, Opcode, Option, Outcome, Passes, Placed, Refusal, Request, Result, RunAt, SinkFault, Some, Stops, StopsByte, Takes, TakesBy, Tells, TellsSink, Work, Works, [], ap, ap₂, arith, as_it_was, asked, at_byte, bytes_of, code_fault, code_front, code_rule, draw_fault, drawn, drawn_front, drop, false, false≢true, fault_of, front, in_body, in_code, in_text, inl, kind_of, length, length-append, length-map, one_byte_opcode, place_at, refl, refusal, shows_of, some_broke, subst, sym, take, take-append-le, take-map, text, true, with_machine, ℕ, ◌++◌, ◌<◌, ◌∙◌, ◌∷◌, ◌≡◌, ◌≢◌, ◌≤◌}
+use Rattle.nap_reader.proofs.Base.{Fails, IsAt, KindMade, Lawful, TookMore, acts_itself, binds_code, body_begins, byte_refused, code_breaks, code_ends, code_fault_own, code_goes_on, code_over, conveys_nothing, first_of, front_kind_made, is_between, leads_nowhere, leads_on, leads_past, leads_to_fault, leads_to_refusal, nothing_half, opcode_alone, opcode_of_kind, opens_drawn, place_at-append, run_opens}
 use Rattle.nap_codes.specs.declared.code.Code.TheVariants as code
 use Rattle.nap_codes.specs.Front as codes
 use Rattle.nap_draw.specs.Codes as draws_codes
-use Rattle.nap_draw.specs.Codes.{text}
-use Rattle.nap_draw.specs.Rule.{drawn}
 use Rattle.nap_reader.specs.declared.fault.Fault.TheVariants as faults
 use Rattle.nap_reader.specs.declared.kind.Kind.TheVariants as kinds
 use Rattle.nap_reader.specs.declared.machine.Request.TheVariants as requests
-use Rattle.nap_reader.specs.Steps.{AreCharacters, CallsBy, IsText, TellsSink, CodeTakes}
-use Rattle.nap_reader.specs.Holding.{some_broke}
 use Rattle.nap_reader.specs.Stream as model
-use Rattle.nap_reader.specs.Stream.{front}
-use Rattle.nap_reader.proofs.PartLemmas.{Fails, code_breaks}
 use Rattle.nap_reader.proofs.TakingLemmas.{Drew, LeftBy, left_is, one_takes, stop_takes, own_tells}
-use Rattle.nap_reader.proofs.SpelledLemmas.{KindMade, acts_itself, binds_code, front_kind_made, opcode_alone}
-use Rattle.nap_reader.proofs.ReadingLemmas.{Lawful, TookMore, is_between, leads_on, leads_to_fault, leads_past, leads_to_refusal, byte_refused, code_goes_on, run_opens, nothing_half, opcode_of_kind, opens_drawn, code_over, code_ends}
-use Rattle.nap_reader.proofs.OpenBodyLemmas.{body_begins}
-use Rattle.nap_reader.proofs.StepLemmas.{IsAt, code_fault_own, conveys_nothing, leads_nowhere}
 use Rattle.nap_reader.proofs.TextLemmas.{text_passes, with_text, halts_less}
-use Rattle.std.proofs.lemmas.Bool.{false≢true}
-use Rattle.nap_reader.specs.Below.{Code, CodeFault, CharSet, CodeSets, Opcode, Entry, Ghosts, IsTyped, DrawFault, Work, code_rule, fault_of, Drawn, LexerState, SinkFault, HaltsAfter, shows_of}
-use Rattle.nap_reader.proofs.Common.{Refusal, Request, in_body, code_fault, draw_fault, Continues, Holding, RunAt, kind_of, Calls, IsOpcodeByte, LeadsOn, Passes, StopsByte, TakesBy, as_it_was, asked, in_code, IsLive, Leaves, Takes, Works, at_byte, with_machine, Codes, Stops, in_text, Outcome, Placed, bytes_of, drawn_front, refusal, place_at, IsHeld, Kind, code_front}
 use Rattle.nap_codes.specs.declared.code.CodeFault.TheVariants as code_faults
-use Rattle.nap_codes.proofs.PublicLaws.{one_byte_opcode}
 use Rattle.nap_list.specs.declared.sink.SinkFault.TheVariants as sink_faults
-use Rattle.nap_list.specs.Putting.{Tells}
 use Rattle.nap_reader.specs.declared.machine.Machine.{Machine}
 use Rattle.nap_reader.specs.declared.machine.codes.CodeOutcome.TheVariants as outcomes
-use Rattle.nap_reader.proofs.ComingLemmas.{first_of}
-use Rattle.nap_reader.proofs.StreamLemmas.{place_at-append}
 
 -- One code, where nothing is open.
 

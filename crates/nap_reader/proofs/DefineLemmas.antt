@@ -1,30 +1,11 @@
-use Rattle.std.proofs.Common.{◌*◌, ◌+◌, ◌++◌, ◌-◌, ◌<◌, All, Bool, IsSome, List, None, Option, Some, [], ap, append_assoc, ap₂, arith, drop, eq-eqb, eqb, false, get_or, length, length-append, ltb, not, refl, subst, sym, take, true, ℕ, ◌∙◌, ◌∷◌, ◌≡◌, ◌≢◌, ◌≤◌, ◌⊎◌}
-use Rattle.std.specs.List.{prefix_len}
-use Rattle.std.proofs.lemmas.Bool.{and_parts, lt-ltb, ltb-true, ne_eqb}
-use Rattle.std.proofs.lemmas.List.{drop-append-le, get_or-take, length-map, length-take-le, take-map}
-use Rattle.std.proofs.lemmas.List.Elements.{All-head, All-map, All-tail}
-use Rattle.std.proofs.lemmas.List.Sums.{prefix_len-le-length, prefix_len_passes}
-use Rattle.nap_reader.specs.Below.{Entry, Ghosts, memory}
-use Rattle.nap_reader.proofs.Common.{Advances, Breaks, BreaksInBody, Came, CanAdvance, CannotShow, Comes, Continues, ContinuesPast, Conveys, Counts, Fault, GoesOn, Holding, Input, IsHeld, IsLive, IsNext, IsNextByte, LeadsOn, OpenBody, Outcome, Passes, Placed, Reads, RunAt, Sets, Shows, Stops, StopsByte, StoreState, Works, after_body, all_at, as_it_was, at_byte, bound, bytes_of, charged, closed, coming, ends_body, fed_of, front, grown, held_by, in_body, is_of_body, placed_at, refusal, shown_front, spaced, store_limit, unread, unread_of}
+use Rattle.nap_reader.proofs.Common.{Advances, All, All-head, All-map, All-tail, Binds, Bool, Breaks, BreaksInBody, Came, CanAdvance, CannotShow, Comes, Continues, ContinuesPast, Conveys, Counts, Entry, Fault, Ghosts, Goes, GoesOn, Holding, Input, IsHeld, IsLive, IsNext, IsNextByte, IsSome, Keeps, LeadsOn, List, None, OpenBody, Option, Outcome, Passes, Placed, Reads, ReadsOn, RunAt, Sets, Shows, Some, Step, Steps, Stops, StopsByte, StoreState, Works, [], after_body, all_at, and_parts, ap, append_assoc, ap₂, arith, as_it_was, at_byte, body_broke, bound, breaks_in_body, bytes_of, charged, closed, coming, drop, drop-append-le, ends_body, eq-eqb, eqb, false, fed_of, front, get_or, get_or-take, grown, held_by, in_body, is_of_body, length, length-append, length-map, length-take-le, lt-ltb, ltb, ltb-true, memory, ne_eqb, next_broke, not, placed_at, prefix_len, prefix_len-le-length, prefix_len_passes, refl, refusal, shown_front, spaced, store_limit, subst, sym, take, take-map, true, unread, unread_of, ℕ, ◌*◌, ◌++◌, ◌+◌, ◌-◌, ◌<◌, ◌∙◌, ◌∷◌, ◌≡◌, ◌≢◌, ◌≤◌, ◌⊎◌}
+use Rattle.nap_reader.proofs.Base.{IsPlain, TookMore, body_charged, body_over, body_shows, byte-spaced, byte_comes, byte_full, byte_kept, came_coming, can_pass, cannot_stops, conveys_nothing, escape_full, escape_held, escape_kept, escape_steps, escape_unrefused, escape_waits, leads_shown, leads_unrefused, length-all_at, length-spaced, reads_on, stops_own, taken_next, text_next, unread-grown, wants_from, wants_next}
 use Rattle.nap_reader.specs.declared.fault.Fault.TheVariants as faults
 use Rattle.nap_reader.specs.declared.machine.Machine.{Machine}
-use Rattle.nap_reader.specs.Steps.{Binds, in_body as breaks_in_body}
-use Rattle.nap_reader.specs.Holding.{ReadsOn, body_broke, next_broke}
 use Rattle.nap_reader.specs.Stream as model
-use Rattle.nap_reader.proofs.PartLemmas.{wants_from, wants_next}
-use Rattle.nap_reader.specs.Pieces.{Goes}
 use Rattle.nap_reader.proofs.FurtherLemmas.{came_same, comes_grown, coming_bytes, counts_passed, counts_still, counts_then, goes_by, held_parts, held_sets, next_same, passed_come, passed_none, reads_at, reads_still, same_comes, sets_then}
-use Rattle.nap_reader.proofs.ReadingLemmas.{TookMore, leads_shown, leads_unrefused}
-use Rattle.nap_reader.proofs.OpenBodyLemmas.{IsPlain, body_charged, body_over, body_shows, byte_full, byte_kept, escape_full, escape_held, escape_kept, escape_unrefused, reads_on}
-use Rattle.nap_reader.proofs.StepLemmas.{cannot_stops, conveys_nothing, stops_own}
-use Rattle.nap_reader.specs.Coming.{Keeps}
-use Rattle.nap_reader.proofs.ComingLemmas.{byte_comes, came_coming, can_pass, length-spaced, taken_next, text_next, unread-grown, byte-spaced}
-use Rattle.nap_codes.specs.declared.code.Step.{Step}
-use Rattle.nap_codes.specs.Lexer.{Steps}
 use Rattle.nap_reader.proofs.TakingLemmas.{held_is}
 use Rattle.nap_reader.proofs.PieceLemmas.{reaches_called}
-use Rattle.nap_reader.proofs.StreamLemmas.{length-all_at}
-use Rattle.nap_reader.proofs.SpelledLemmas.{escape_steps, escape_waits}
 
 -- Bytes of a body that is being defined.
 

@@ -1,24 +1,11 @@
-use Rattle.std.proofs.Common.{◌*◌, ◌+◌, ◌++◌, ◌-◌, ◌<◌, Bool, Err, IsSome, List, MatchResult, None, Ok, OnOk, Option, Result, Some, [], ◌^◌, ap, append-nil, ap₂, arith, drop, false, inl, inr, is_some, length, length-append, refl, subst, sym, take, true, ℕ, ◌∙◌, ◌∷◌, ◌≡◌, ◌≢◌, ◌≤◌, ◌⊎◌}
-use Rattle.std.proofs.lemmas.List.{drop-drop, drop_at, length-drop, length-take-le, nil_from_length, take-append-drop, take_all}
-use Rattle.nap_reader.specs.Below.{Ghosts}
-use Rattle.nap_reader.proofs.Common.{Acted, Advances, Calls, Came, CanAdvance, CannotShow, Comes, Continues, Counts, Fault, Frame, GoesOn, Holding, Input, IsHeld, IsLive, IsNext, IsNextByte, IsOver, LeadsOn, Leaves, OpenBody, Outcome, Passed, Passes, Placed, Reaches, Reader, Reads, Refusal, Request, Sets, Shows, Stops, StopsAt, StopsByte, StoreState, Takes, TakesBy, Works, ahead, all_at, as_it_was, asked, at_byte, begun, behind, body_of, bound, budget_of, bytes_of, charged, coming, fed_of, front, held_by, holding_of, in_code, in_text, place_at, placed_at, placed_from, refusal, refusal_of, shown_front, sink_of, spaced, unread, unread_of}
+use Rattle.nap_reader.proofs.Common.{Acted, Advances, All-map, Bool, Calls, Came, CanAdvance, CannotShow, Comes, Continues, Counts, Err, Fault, Frame, Ghosts, Goes, GoesOn, Holding, Input, IsHeld, IsLive, IsNext, IsNextByte, IsOver, IsSome, Latches, LeadsOn, Leaves, List, MatchResult, None, Ok, OnOk, OpenBody, Option, Outcome, Passed, Passes, Placed, Reaches, Reader, Reads, ReadsPiece, ReadsTo, Refusal, RefusesPiece, Request, Result, Sets, Shows, Some, StillComes, Stops, StopsAt, StopsByte, StopsFrom, StopsPiece, StoreState, Takes, TakesBy, TakesPiece, Turn, Works, [], ahead, all_at, all_next, ap, append-nil, ap₂, arith, as_it_was, asked, at_byte, begun, behind, body_of, bound, budget_of, bytes_of, charged, coming, drop, drop-drop, drop_at, false, fed_of, front, held_by, holding_of, in_code, in_text, inl, inr, is_some, length, length-append, length-drop, length-take-le, machine_of, mode_of, nil_from_length, place_at, placed_at, placed_from, refl, refusal, refusal_of, shown_front, sink_of, spaced, subst, sym, take, take-append-drop, take_all, true, unread, unread_of, ℕ, ◌*◌, ◌++◌, ◌+◌, ◌-◌, ◌<◌, ◌^◌, ◌∙◌, ◌∷◌, ◌≡◌, ◌≢◌, ◌≤◌, ◌⊎◌}
+use Rattle.nap_reader.proofs.Base.{Lawful, TookMore, byte_comes, bytes_of-append, bytes_of-placed, bytes_of-spaced, call_breaks, came_coming, came_next, came_take, came_within, can_pass, cannot_stops, comes_still, conveys_nothing, fits, frames-unread, holds_nothing, is_between, is_half, leads_shown, length-all_at, length-placed, length-spaced, passed_rest, passed_to, place_at-append, place_at-spaced, stands_behind_stop, stands_by, text_next}
 use Rattle.nap_reader.specs.declared.fault.Fault.TheVariants as faults
 use Rattle.nap_reader.specs.declared.machine.Machine.{Machine}
-use Rattle.nap_reader.specs.Coming.{Stays, StillComes}
-use Rattle.nap_reader.specs.Holding.{machine_of, mode_of}
-use Rattle.nap_reader.specs.Pieces.{Goes, ReadsPiece, ReadsTo, RefusesPiece, StopsFrom, StopsPiece, TakesPiece, Turn}
-use Rattle.nap_reader.specs.Steps.{Latches}
-use Rattle.nap_reader.proofs.ComingLemmas.{byte_comes, bytes_of-spaced, came_coming, came_next, came_take, came_within, can_pass, comes_still, fits, frames-unread, length-placed, length-spaced, passed_rest, passed_to, place_at-spaced, text_next}
-use Rattle.nap_reader.proofs.ReadingLemmas.{Lawful, TookMore, holds_nothing, is_between, is_half, leads_shown}
+use Rattle.nap_reader.specs.Coming.{Stays}
 use Rattle.nap_reader.proofs.PieceLemmas.{reaches_called, reaches_on}
-use Rattle.nap_reader.proofs.StandingLemmas.{stands_behind_stop, stands_by}
-use Rattle.nap_reader.proofs.StepLemmas.{cannot_stops, conveys_nothing}
 use Rattle.nap_reader.proofs.StopLemmas.{stops_reached}
-use Rattle.nap_reader.proofs.StreamLemmas.{bytes_of-append, bytes_of-placed, length-all_at, place_at-append}
-use Rattle.std.proofs.lemmas.List.Elements.{All-map}
 use Rattle.nap_reader.specs.declared.machine.Request.TheVariants as requests
-use Rattle.nap_reader.specs.Framed.{all_next}
-use Rattle.nap_reader.proofs.PartLemmas.{call_breaks}
 use Rattle.nap_reader.proofs.TakingLemmas.{place_at-drop, stops_behind}
 
 -- How a reader comes further in a piece, and where it stops.

@@ -1,27 +1,11 @@
-use Rattle.std.proofs.Common.{◌+◌, ◌++◌, ◌<◌, All, Bool, Err, List, None, Ok, Option, Result, Some, [], ap, append-nil, arith, drop, false, get_or, if◌then◌else◌, inl, inr, length, length-append, refl, subst, suc, sym, take, true, zero, ℕ, ◌∙◌, ◌∷◌, ◌≡◌, ◌≢◌, ◌⊎◌}
-use Rattle.std.proofs.Math.Seq.{take-append-add}
-use Rattle.std.proofs.lemmas.List.{get_or-append-add}
-use Rattle.nap_reader.specs.Below.{Cause, DrawFault, Drawn, Entry, Ghosts, Opcode, Opened, Work, device, memory, rule, stream, walk}
-use Rattle.nap_reader.proofs.Common.{BreaksAt, BreaksBetween, BreaksFrom, Front, IsBroken, Machine, Outcome, Placed, Refusal, StopsBy, Unfinished, begun, cause_of, closed_by, ended_by, front, go, is_operand_byte, means, nothing, onward, open_body, open_run, outcome, placed_from, start_machine, with_code, with_definition, with_drawn, with_end, with_run, with_run_by}
-use Rattle.nap_reader.specs.Breaking.{BreaksWith, CanLackAt, LacksWithin}
-use Rattle.nap_reader.specs.Laws.{AcceptedIsLegal, BegunComesFirst, BreaksAmong, EndBreaksAmong, FedBreaksAmong, ReadValuesAreInRange, WantsSome}
-use Rattle.nap_reader.specs.Stream.{half_code}
-use Rattle.nap_reader.proofs.BreakLemmas.{First, breaks_there, lacks_there, run_first, same_first}
-use Rattle.nap_reader.proofs.LawLemmas.{more_bytes_keep_entries}
-use Rattle.nap_reader.proofs.PartLemmas.{breaks_longer, breaks_more, took_front}
-use Rattle.nap_reader.proofs.StandingLemmas.{taken_all}
-use Rattle.std.specs.Prelude.{IfSome}
-use Rattle.std.proofs.lemmas.List.Elements.{All-append, All-nil}
-use Rattle.nap_values.specs.Laws.{IsWord}
-use Rattle.nap_list.specs.declared.state.State.{State}
-use Rattle.nap_list.specs.State.{AllFit, Legal, start}
+use Rattle.nap_reader.proofs.Common.{AcceptedIsLegal, All, All-append, All-nil, AllFit, BegunComesFirst, Bool, BreaksAmong, BreaksAt, BreaksBetween, BreaksFrom, BreaksWith, CanLackAt, Cause, DrawFault, Drawn, EndBreaksAmong, Entry, Err, FedBreaksAmong, Front, Ghosts, IfSome, IsBroken, IsWord, LacksWithin, Legal, List, Machine, None, Ok, Opcode, Option, Outcome, Placed, ReadValuesAreInRange, Refusal, Result, Some, State, StopsBy, Unfinished, WantsSome, Work, [], ap, append-nil, arith, begun, cause_of, closed_by, code_fits, code_values_are_in_range, device, drawn_values_are_in_range, drop, ended_by, false, front, get_or, get_or-append-add, go, half_code, if◌then◌else◌, inl, inr, is_operand_byte, length, length-append, means, memory, nothing, onward, open_body, open_run, outcome, placed_from, refl, rule, rule_fits, start, start_machine, stream, subst, suc, sym, take, take-append-add, true, walk, with_code, with_definition, with_drawn, with_end, with_run, with_run_by, zero, ℕ, ◌++◌, ◌+◌, ◌<◌, ◌∙◌, ◌∷◌, ◌≡◌, ◌≢◌, ◌⊎◌}
+use Rattle.nap_reader.proofs.Base.{First, Fronts, IsOfWords, Puts, acts, breaks_longer, breaks_more, breaks_there, by_code, by_rule, front_fronts, lacks_there, more_bytes_keep_entries, pauses, puts_nothing, refuses, run_first, same_first, taken_all, took_front}
+use Rattle.nap_list.specs.declared.state.Opened.{Opened}
 use Rattle.nap_list.specs.Agreement.{DefinitionsAgree, StatesAgree}
 use Rattle.nap_list.specs.Range.{AllInRange, InRange, MapColourInRange, StateInRange}
 use Rattle.nap_list.proofs.PublicLaws.{fits_join, start_agrees, walks_join}
-use Rattle.nap_draw.proofs.PublicLaws.{code_fits, code_values_are_in_range, drawn_values_are_in_range, rule_fits}
 use Rattle.nap_reader.specs.Course as course
 use Rattle.nap_reader.specs.Stream as model
-use Rattle.nap_reader.proofs.StreamLemmas.{Fronts, IsOfWords, Puts, acts, by_code, by_rule, front_fronts, pauses, puts_nothing, refuses}
 
 -- The end of a stream keeps what it has.
 

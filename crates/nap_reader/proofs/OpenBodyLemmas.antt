@@ -1,13 +1,7 @@
-use Rattle.std.proofs.Common.{ℕ, ◌+◌, ◌-◌, ◌≡◌, ◌≢◌, ◌<◌, ◌≤◌, ◌⊎◌, inl, inr, List, [], ◌∷◌, ◌++◌, length, take, drop, Bool, true, false, cond, eqb, leb, Option, Some, None, refl, ap, sym, ◌∙◌, subst, arith, append_assoc, append-nil, length-append}
-use Rattle.std.proofs.lemmas.List.{drop_at, length-map, take_at}
-use Rattle.std.proofs.lemmas.Bool.Decides.{nat_tests}
-use Rattle.nap_reader.specs.Below.{Entry, Ghosts}
-use Rattle.nap_reader.proofs.Common.{OpenBody, Fault, Mode, between, in_body, BodyFront, ends_body, store_limit, body_front, prepend, onward, Placed, Machine, Outcome, bytes_of, refusal, place_at, after_body, charged, bound_front, shown_front, body_front_by, front, outcome_from, Holding, IsOpenBody, IsHeld, IsHeldIn, IsRefused, Continues}
+use Rattle.nap_reader.proofs.Common.{AreOfBody, AtBody, BodyFront, Bool, Continues, Entry, Fault, Ghosts, Holding, IsHeld, IsHeldIn, IsOpenBody, IsRefused, List, Machine, Mode, None, OpenBody, Option, Outcome, Placed, ReadsOn, Some, [], after_body, ap, append-nil, append_assoc, arith, between, body_front, body_front_by, bound_front, bytes_of, charged, cond, drop, drop_at, ends_body, eqb, false, front, held_escape, in_body, inl, inr, leb, length, length-append, length-map, nat_tests, one_further, onward, outcome_from, past, place_at, prepend, refl, refusal, shown_front, store_limit, stores, subst, sym, take, take_at, true, ℕ, ◌++◌, ◌+◌, ◌-◌, ◌<◌, ◌∙◌, ◌∷◌, ◌≡◌, ◌≢◌, ◌≤◌, ◌⊎◌}
 use Rattle.nap_reader.specs.declared.fault.Fault.TheVariants as faults
 use Rattle.nap_reader.specs.Bodies as bodies
-use Rattle.nap_reader.specs.Bodies.{one_further, stores}
 use Rattle.nap_reader.specs.Course as course
-use Rattle.nap_reader.specs.Holding.{held_escape, past, AreOfBody, AtBody, ReadsOn}
 use Rattle.nap_reader.proofs.ReadingLemmas.{place_at-behind, front_body, leads_left, leads_shown, leads_to_refusal, leads_past, leads_shift, leads_unrefused, code_goes_on, holds_nothing}
 use Rattle.nap_reader.proofs.StreamLemmas.{bytes_of-append, outcome_from-front}
 use Rattle.nap_reader.proofs.SpelledLemmas.{escape_unfinished}

@@ -1,14 +1,7 @@
-use Rattle.std.proofs.Common.{length-append, ℕ, ◌≡◌, ◌≢◌, ◌<◌, ◌≤◌, List, [], ◌∷◌, ◌++◌, length, Some, None, Result, Ok, refl, ap, sym, ◌∙◌, subst, inl, inr, ltb, arith, append-nil, true, false, Option, append_assoc}
-use Rattle.std.proofs.lemmas.Bool.{cond-false, le-ltb}
-use Rattle.nap_reader.proofs.Common.{body_front, front}
-use Rattle.nap_reader.specs.Below.{Entry, Ghosts, DrawFault, Cause, stream, memory, device, Drawn}
-use Rattle.nap_reader.proofs.Common.{draw_fault, Mode, between, in_body, prepend, paused, onward, continue_by, Placed, Machine, Outcome, Unfinished, nothing, open_body, all_at, charged, after_drawing, drawn_front, shown_front, front_in, outcome_from, cause_of, BreaksFrom, TookFront, TookPart, Holding, ContinuesPast, BreaksInBody, BreaksSome, Continues, Refusal}
+use Rattle.nap_reader.proofs.Common.{BreaksFrom, BreaksInBody, BreaksNext, BreaksPast, BreaksSome, Cause, Continues, ContinuesPast, DrawFault, Drawn, Entry, Ghosts, GivesSome, Holding, List, Machine, Mode, None, Ok, Option, Outcome, Placed, Refusal, Result, Some, TakesPart, TookFront, TookPart, Unfinished, WantsBy, [], after_drawing, all_at, ap, append-nil, append_assoc, arith, between, body_broke, body_front, cause_of, charged, charged_broke, cond-false, continue_by, device, draw_fault, drawn_front, false, front, front_in, in_body, inl, inr, le-ltb, length, length-append, ltb, memory, next_broke, nothing, onward, open_body, outcome_from, paused, prepend, refl, shown_front, some_broke, stream, subst, sym, true, ℕ, ◌++◌, ◌<◌, ◌∙◌, ◌∷◌, ◌≡◌, ◌≢◌, ◌≤◌}
 use Rattle.nap_draw.specs.declared.fault.DrawFault.TheVariants as draw_faults
-use Rattle.nap_draw.specs.Acts.{WantsBy, GivesSome}
 use Rattle.nap_draw.specs.Draws as draws
 use Rattle.nap_reader.specs.Course as course
-use Rattle.nap_reader.specs.Breaking.{TakesPart}
-use Rattle.nap_reader.specs.Holding.{BreaksPast, BreaksNext, body_broke, charged_broke, next_broke, some_broke}
 use Rattle.nap_reader.proofs.ReadingLemmas.{half_read_pauses, Known, Lawful, by_front, rule_part, was_failed}
 use Rattle.nap_reader.proofs.StreamLemmas.{outcome_from-front, outcome_from-left, outcome_from-append}
 use Rattle.nap_reader.proofs.SpelledLemmas.{nothing_yet}

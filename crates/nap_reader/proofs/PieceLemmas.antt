@@ -1,16 +1,5 @@
-use Rattle.std.proofs.Common.{ℕ, ◌≡◌, ◌≢◌, ◌<◌, ◌≤◌, ◌+◌, List, [], ◌∷◌, ◌++◌, All, length, take, drop, get_or, None, Some, refl, ap, sym, ◌∙◌, subst, arith, append_assoc, append-nil, length-append, take-add}
-use Rattle.std.proofs.lemmas.List.{drop_more, length-drop, length-take-le}
-use Rattle.std.proofs.lemmas.List.Elements.{All-append, All-cons, All-head, All-nil}
-use Rattle.nap_reader.specs.Below.{Entry, Ghosts, Cause, stream, memory, device}
-use Rattle.nap_reader.proofs.Common.{Refusal, Reader, placed_at, Placed, Machine, Outcome, begun, bytes_of, outcome_from, placed_from, BreaksFrom, cause_of, Continues, Holding, IsOwn, RunAt, LeadsTo, Reaches, IsBroken, Stands, StopsBy, budget_of, fed_of, refusal_of, Acted, as_it_was, Came, Conveys, LeadsOn, Passes, StaysInText, of_body, of_piece}
-use Rattle.nap_reader.specs.Pieces.{Amid}
-use Rattle.nap_reader.specs.Standing.{IsKnown}
-use Rattle.nap_reader.proofs.BreakLemmas.{uses_breaks}
-use Rattle.nap_reader.proofs.ComingLemmas.{came_none}
-use Rattle.nap_reader.proofs.ReadingLemmas.{Lawful, TookMore, leads_entries, leads_left, leads_machine, leads_more, leads_unrefused}
-use Rattle.nap_reader.proofs.PartLemmas.{breaks_behind}
-use Rattle.nap_reader.proofs.StandingLemmas.{taken_more}
-use Rattle.nap_reader.proofs.StepLemmas.{IsAt, acted_then, all_front, all_rest, left_acted, passes_acted, run_acted, typed_then}
+use Rattle.nap_reader.proofs.Common.{Acted, All, All-append, All-cons, All-head, All-nil, Amid, BreaksFrom, Came, Cause, Continues, Conveys, Entry, Ghosts, Holding, IsBroken, IsKnown, IsOwn, LeadsOn, LeadsTo, List, Machine, None, Outcome, Passes, Placed, Reaches, Reader, Refusal, RunAt, Some, Stands, StaysInText, StopsBy, [], ap, append-nil, append_assoc, arith, as_it_was, begun, budget_of, bytes_of, cause_of, device, drop, drop_more, fed_of, get_or, length, length-append, length-drop, length-take-le, memory, of_body, of_piece, outcome_from, placed_at, placed_from, refl, refusal_of, stream, subst, sym, take, take-add, ℕ, ◌++◌, ◌+◌, ◌<◌, ◌∙◌, ◌∷◌, ◌≡◌, ◌≢◌, ◌≤◌}
+use Rattle.nap_reader.proofs.Base.{IsAt, Lawful, TookMore, acted_then, all_front, all_rest, breaks_behind, came_none, leads_entries, leads_left, leads_machine, leads_more, leads_unrefused, left_acted, passes_acted, run_acted, taken_more, typed_then, uses_breaks}
 
 -- How a piece is taken.
 

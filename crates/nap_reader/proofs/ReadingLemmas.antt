@@ -1,13 +1,6 @@
-use Rattle.std.proofs.Common.{◌+◌, ◌++◌, ◌-◌, ◌<◌, Bool, Err, IfErr, List, MatchResult, None, Ok, OnOk, Option, Result, Some, [], ap, append-nil, append_assoc, arith, cond, drop, eq-eqb, false, inl, inr, length, length-append, ltb, nat_lt, refl, subst, suc, sym, take, true, ℕ, ◌∙◌, ◌∷◌, ◌≡◌, ◌≢◌, ◌≤◌, ◌⊎◌}
-use Rattle.std.proofs.lemmas.Bool.{cond-false, cond-true, le-ltb, lt-ltb}
-use Rattle.std.proofs.lemmas.Bool.Decides.{nat_tests}
-use Rattle.std.proofs.lemmas.List.{drop_at, length-map, take_at}
-use Rattle.std.proofs.lemmas.List.Folds.{length-prefix_len, prefix_len-append}
-use Rattle.nap_reader.specs.Below.{Code, CodeFault, CodeSets, DrawFault, Drawn, Entry, Ghosts, IsDrawn, LexerState, Opcode, StepsBy, device, rule, run_limit, stream}
-use Rattle.nap_reader.proofs.Common.{Continues, Front, Holding, IsHeld, IsHeldIn, IsOpenBody, IsOpenRun, IsRefused, Machine, Mode, OpenBody, OpenRun, Outcome, Placed, Refusal, TookPart, all_at, begun, between, body_front, body_front_by, bytes_of, cause_of, charged, code_fault, code_front, continue, draw_fault, drawn_front, front, front_by, front_in, half_read, in_body, is_operand, kind_of, onward, opcode_front, outcome_from, paused, place_at, placed_from, prepend, refusal, run_length, shown_front, start_machine, store_limit, words_of}
+use Rattle.nap_reader.proofs.Common.{Bool, Code, CodeFault, CodeSets, Continues, DrawFault, Drawn, Entry, Err, Front, Ghosts, Holding, IfErr, IsDrawn, IsHalf, IsHeld, IsHeldBy, IsHeldIn, IsInRange, IsOpenBody, IsOpenRun, IsRefused, LexerState, List, Machine, MatchResult, Mode, None, Ok, OnOk, Opcode, OpenBody, OpenRun, Option, Outcome, Placed, Refusal, Result, Some, StepsBy, TookPart, [], all_at, ap, append-nil, append_assoc, arith, begun, between, body_front, body_front_by, bytes_of, cause_of, charged, code_fault, code_front, code_ranges, cond, cond-false, cond-true, continue, device, draw_fault, drawn_front, drop, drop_at, eq-eqb, false, front, front_by, front_in, half_read, held_escape, in_body, inl, inr, is_operand, kind_of, le-ltb, length, length-append, length-map, length-prefix_len, lt-ltb, ltb, nat_lt, nat_tests, onward, opcode_front, opcodes_are_drawn, outcome_from, past, paused, place_at, placed_from, prefix_len-append, prepend, refl, refusal, refused_stays, rule, run_length, run_limit, shown_front, start_machine, start_sets, store_limit, stream, subst, suc, sym, take, take_at, true, unfinished_by, unfinished_of, whole_stays, words_of, ℕ, ◌++◌, ◌+◌, ◌-◌, ◌<◌, ◌∙◌, ◌∷◌, ◌≡◌, ◌≢◌, ◌≤◌, ◌⊎◌}
 use Rattle.nap_codes.specs.declared.code.Code.TheVariants as code
 use Rattle.nap_codes.specs.Front as codes
-use Rattle.nap_codes.proofs.PublicLaws.{code_ranges, refused_stays, whole_stays}
 use Rattle.nap_reader.specs.declared.fault.Fault.TheVariants as faults
 use Rattle.nap_reader.specs.Course as course
 use Rattle.nap_reader.specs.Stream as model
@@ -16,13 +9,8 @@ use Rattle.nap_draw.specs.declared.fault.DrawFault.TheVariants as draw_faults
 use Rattle.nap_list.specs.Putting as puts
 use Rattle.nap_draw.specs.Draws as draws
 use Rattle.nap_reader.specs.Bodies as bodies
-use Rattle.nap_reader.specs.Holding.{IsHalf, IsHeldBy, held_escape, past, unfinished_by, unfinished_of}
-use Rattle.nap_codes.specs.Laws.{IsInRange}
-use Rattle.nap_draw.proofs.PublicLaws.{opcodes_are_drawn}
-use Rattle.nap_codes.specs.CodeSets.{start_sets}
 use Rattle.nap_codes.specs.declared.code.Step.TheVariants as steps
 use Rattle.nap_reader.specs.declared.kind.Kind.TheVariants as kinds
-use Rattle.nap_reader.specs.Stream.{front, placed_from}
 use Rattle.nap_reader.proofs.SpelledLemmas.{nothing_yet}
 
 -- a list, cut behind one of its bytes

@@ -1,21 +1,9 @@
-use Rattle.std.proofs.Common.{ℕ, ◌+◌, ◌-◌, ◌≡◌, ◌≤◌, List, [], ◌∷◌, ◌++◌, map, length, All, true, None, Some, sym, arith, append-nil, append_assoc, length-append, ◌<◌, Bool, take, drop, get_or, inl, inr, refl, ap, ◌∙◌, subst}
-use Rattle.std.proofs.lemmas.List.Elements.{All-head, All-tail}
-use Rattle.nap_reader.proofs.ReadingLemmas.{word_joins, word_too_many, TookMore}
-use Rattle.std.specs.List.{prefix_len}
-use Rattle.std.proofs.lemmas.List.{drop-append-le, drop-map, drop_more, length-map, length-take-le, take-append-le, take-map}
-use Rattle.std.proofs.lemmas.List.Sums.{prefix_len-le-length, prefix_len_passes}
-use Rattle.nap_reader.specs.Below.{Ghosts, run_limit, CharSet, CodeSets, DrawsBy, carried, Opcode, DrawFault, Drawn, rule}
-use Rattle.nap_reader.proofs.Common.{OpenRun, Placed, Outcome, bytes_of, is_operand_byte, place_at, refusal, after_drawing, Holding, Continues, run_by, Refusal, AllCharacters, ActsRun, Conveys, IsLive, IsOver, LeadsOn, Refuses, Stops, StopsRun, Takes, ahead, as_it_was, asked, asks_if, at_byte, at_word, with_machine, Codes, IsOpcodeByte, IsWholeRun, Request, draw_fault}
+use Rattle.nap_reader.proofs.Common.{ActsRun, All, All-head, All-tail, AllCharacters, Bool, CharSet, CodeSets, CodeTakes, Codes, Continues, Conveys, DrawFault, Drawn, DrawsBy, Executes, FailsRun, Ghosts, Holding, IsLive, IsOpcodeByte, IsOver, IsWholeRun, LeadsOn, List, NoCharacters, None, Opcode, OpenRun, Outcome, Placed, Refusal, Refuses, Request, Some, Stops, StopsRun, Takes, TellsSink, [], after_drawing, ahead, ap, append-nil, append_assoc, arith, as_it_was, asked, asks_if, at_byte, at_word, bytes_of, carried, draw_fault, drop, drop-append-le, drop-map, drop_more, get_or, inl, inr, is_operand_byte, length, length-append, length-map, length-take-le, map, place_at, prefix_len, prefix_len-le-length, prefix_len_passes, refl, refusal, rule, run_by, run_limit, subst, sym, take, take-append-le, take-map, true, with_machine, ℕ, ◌++◌, ◌+◌, ◌-◌, ◌<◌, ◌∙◌, ◌∷◌, ◌≡◌, ◌≤◌}
+use Rattle.nap_reader.proofs.Base.{TookMore, as_many_words, bytes_of-append, conveys_nothing, first_of, more_words, no_some, operands_in_front, place_at-append, run_over, same_words, split_bytes, stops_run, word_joins, word_too_many}
 use Rattle.nap_reader.specs.declared.fault.Fault.TheVariants as faults
 use Rattle.nap_reader.specs.declared.machine.Machine.{Machine}
 use Rattle.nap_reader.specs.declared.machine.Request.TheVariants as requests
-use Rattle.nap_reader.specs.Carried.{NoCharacters}
-use Rattle.nap_reader.specs.Steps.{Executes, FailsRun, TellsSink, CodeTakes}
 use Rattle.nap_reader.proofs.TakingLemmas.{held_is, stop_takes, Drew, LeftBy, asked_is, asks_takes, own_tells, leads_behind, stops_behind, takes_then}
-use Rattle.nap_reader.proofs.OperandLemmas.{as_many_words, more_words, operands_in_front, run_over, same_words}
-use Rattle.nap_reader.proofs.ComingLemmas.{first_of, split_bytes}
-use Rattle.nap_reader.proofs.StepLemmas.{no_some, conveys_nothing, stops_run}
-use Rattle.nap_reader.proofs.StreamLemmas.{bytes_of-append, place_at-append}
 use Rattle.nap_draw.specs.Draws as draws
 use Rattle.nap_reader.specs.declared.machine.codes.CodeOutcome.TheVariants as outcomes
 use Rattle.nap_reader.proofs.CodesLemmas.{StartsRun, open_at, run_opened}

@@ -1,7 +1,4 @@
-use Rattle.std.proofs.Common.{◌<◌, ◌≤◌, ◌⊎◌, inl, inr, length, arith, length-append, ℕ, ◌≡◌, List, [], ◌∷◌, ◌++◌, All, get_or, false, Some, None, refl, ap, sym, ◌∙◌, subst, append_assoc, append-nil}
-use Rattle.std.proofs.lemmas.List.Elements.{All-cons, All-head, All-nil, All-tail}
-use Rattle.nap_reader.specs.Below.{CodeFault, IsGraphic, Ghosts, DrawFault, stream}
-use Rattle.nap_reader.proofs.Common.{Refusal, after_drawing, code_fault, draw_fault, Placed, Outcome, bytes_of, is_operand, is_operand_byte, cause_of, Holding, Continues, ContinuesPast, IsRefused, RunAt, Acted, ActsRun, Breaks, Conveys, LeadsOn, StaysInText, StopsByte, StopsRun, StopsText, ahead, as_it_was, at_word, bound, in_code, Fault, shown_front, refusal}
+use Rattle.nap_reader.proofs.Common.{Acted, ActsRun, All, All-cons, All-head, All-nil, All-tail, Breaks, BreaksCode, CodeFault, Continues, ContinuesPast, Conveys, DrawFault, Fault, Ghosts, Holding, IsGraphic, IsRefused, LeadsOn, List, None, Outcome, Placed, Refusal, RunAt, Some, StaysInText, StopsByte, StopsRun, StopsText, [], after_drawing, ahead, ap, append-nil, append_assoc, arith, as_it_was, at_word, behind_run, bound, bytes_of, cause_of, code_fault, draw_fault, false, front, get_or, in_code, in_run, inl, inr, is_operand, is_operand_byte, length, length-append, refl, refusal, shown_front, stream, subst, sym, ℕ, ◌++◌, ◌<◌, ◌∙◌, ◌∷◌, ◌≡◌, ◌≤◌, ◌⊎◌}
 use Rattle.nap_codes.specs.declared.code.Code.TheVariants as code
 use Rattle.nap_codes.specs.declared.code.CodeFault.TheVariants as code_faults
 use Rattle.nap_codes.specs.Front as codes
@@ -9,8 +6,7 @@ use Rattle.nap_draw.specs.declared.fault.DrawFault.TheVariants as draw_faults
 use Rattle.nap_reader.specs.declared.fault.Fault.TheVariants as faults
 use Rattle.nap_reader.specs.Bodies as bodies
 use Rattle.nap_reader.specs.Stream as model
-use Rattle.nap_reader.specs.Stream.{front}
-use Rattle.nap_reader.specs.Steps.{BreaksCode, behind_run, in_body, in_run}
+use Rattle.nap_reader.specs.Steps.{in_body}
 use Rattle.nap_reader.proofs.PartLemmas.{some_in_body}
 use Rattle.nap_reader.proofs.ReadingLemmas.{TookMore, leads_on, leads_to_fault, none_held, over, leads_budget}
 use Rattle.nap_reader.proofs.OpenBodyLemmas.{body_bound, held_body, same_done}

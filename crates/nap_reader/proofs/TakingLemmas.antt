@@ -1,19 +1,9 @@
-use Rattle.std.proofs.Common.{◌*◌, ◌+◌, ◌++◌, ◌-◌, ◌<◌, Bool, Err, List, None, Ok, OnErr, OnOk, Option, Result, Some, [], ap, arith, drop, false, get_or, if◌then◌else◌, inl, inr, is_err, length, refl, subst, suc, sym, take, take-add, true, zero, ℕ, ◌∙◌, ◌∷◌, ◌≡◌, ◌≢◌, ◌≤◌, ◌⊎◌}
+use Rattle.nap_reader.proofs.Common.{ActsRun, Bool, Calls, Conveys, DrawFault, Drawn, DrawsBy, Err, Fault, Ghosts, Holding, IsLive, IsOver, LeadsOn, Leaves, LexerState, List, None, Ok, OnErr, OnOk, OpenRun, Option, Placed, Progresses, Refusal, Request, Result, Some, Stops, StopsByte, StopsRun, StopsText, Takes, TakesBy, TellsSink, Work, Works, [], after_drawing, ap, arith, asked, asks_if, at_byte, bytes_of, carried, draw_fault, drop, drop-append-le, drop-drop, drop-map, false, false≢true, get_or, if◌then◌else◌, in_text, inl, inr, is_err, length, length-drop, no_names, place_at, placed_at, refl, refusal, rule, run_by, spaced, subst, suc, sym, take, take-add, take-append-drop, true, with_machine, zero, ℕ, ◌*◌, ◌++◌, ◌+◌, ◌-◌, ◌<◌, ◌∙◌, ◌∷◌, ◌≡◌, ◌≢◌, ◌≤◌, ◌⊎◌}
+use Rattle.nap_reader.proofs.Base.{TookMore, byte-spaced, bytes_of-append, halts_then, leads_nowhere, leads_then, stops_then, words_kept}
 use Rattle.nap_draw.specs.Draws as draws
 use Rattle.nap_reader.specs.declared.machine.Machine.{Machine}
-use Rattle.nap_reader.proofs.OperandLemmas.{words_kept}
-use Rattle.std.proofs.lemmas.Bool.{false≢true}
-use Rattle.nap_reader.specs.Below.{DrawFault, Drawn, DrawsBy, Ghosts, LexerState, Work, carried, rule}
-use Rattle.nap_reader.proofs.Common.{ActsRun, Calls, Conveys, Fault, Holding, IsLive, IsOver, LeadsOn, Leaves, OpenRun, Placed, Refusal, Request, Stops, StopsByte, StopsRun, StopsText, Takes, TakesBy, Works, after_drawing, asked, asks_if, at_byte, bytes_of, draw_fault, in_text, no_names, place_at, placed_at, refusal, run_by, with_machine}
 use Rattle.nap_reader.specs.declared.fault.Fault.TheVariants as faults
 use Rattle.nap_reader.specs.declared.machine.Request.TheVariants as requests
-use Rattle.nap_reader.specs.Framed.{spaced}
-use Rattle.nap_reader.specs.Steps.{Progresses, TellsSink}
-use Rattle.nap_reader.proofs.ComingLemmas.{byte-spaced}
-use Rattle.std.proofs.lemmas.List.{drop-append-le, drop-drop, drop-map, length-drop, take-append-drop}
-use Rattle.nap_reader.proofs.ReadingLemmas.{TookMore}
-use Rattle.nap_reader.proofs.StepLemmas.{halts_then, leads_nowhere, leads_then, stops_then}
-use Rattle.nap_reader.proofs.StreamLemmas.{bytes_of-append}
 
 -- What is held where a machine is known.
 

@@ -14,6 +14,7 @@ pub mod Collecting
 pub mod Counting
 -- what a reader keeps and does, which no one sees
 pub mod Below
+pub mod Shared
 pub mod Carried
 pub mod Stored
 pub mod Framed

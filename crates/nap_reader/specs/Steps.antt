@@ -1,17 +1,12 @@
-use Rattle.std.specs.Prelude.{All, Bool, if◌then◌else◌, ⊤, ◌≡◌, ◌≢◌, ◌<◌, ◌≤◌, ◌⊎◌, ◌+◌, ◌++◌, ℕ, false, true, List, [], ◌∷◌, Option, Some, None, Ok, length, take, drop}
-use Rattle.nap_reader.specs.Below.{CharSet, CodeSets, Opcode, IsGraphic, LexerState, Entry, Ghosts, SinkFault, IsTyped, HaltsAfter, shows_of, DrawFault, DrawsBy, fault_of, stream, run_limit, Drawn, IsDrawn, rule}
+use Rattle.nap_reader.specs.Shared.{All, Bool, if◌then◌else◌, ⊤, ◌≡◌, ◌≢◌, ◌<◌, ◌≤◌, ◌⊎◌, ◌+◌, ◌++◌, ℕ, false, true, List, [], ◌∷◌, Option, Some, None, Ok, length, take, drop, CharSet, CodeSets, Opcode, IsGraphic, LexerState, Entry, Ghosts, SinkFault, IsTyped, HaltsAfter, shows_of, DrawFault, DrawsBy, fault_of, stream, run_limit, Drawn, IsDrawn, rule, OpenBody, Fault, Refusal, OpenRun, body_of, no_names, draw_fault, Placed, Outcome, after_drawing, bytes_of, front, is_operand, is_operand_byte, place_at, placed_from, refusal, shown_front, cause_of, Holding, BreaksInBody, BreaksSome, Continues, ContinuesPast, IsHeld, IsOwn, IsRefused, RunAt, run_by}
 use Rattle.nap_codes.specs.Front as codes
 use Rattle.nap_codes.specs.Lexer.{IsShift}
 use Rattle.nap_codes.specs.declared.code.Code.TheVariants as code
 use Rattle.nap_list.specs.Agreement.{StatesAgree}
 use Rattle.nap_draw.specs.Codes as draws_codes
 use Rattle.nap_draw.specs.Draws as draws
-use Rattle.nap_reader.specs.declared.body.OpenBody.{OpenBody}
-use Rattle.nap_reader.specs.declared.fault.Fault.{Fault}
 use Rattle.nap_reader.specs.declared.fault.Fault.TheVariants as faults
-use Rattle.nap_reader.specs.declared.fault.Refusal.{Refusal}
 use Rattle.nap_reader.specs.declared.machine.Machine.{Machine}
-use Rattle.nap_reader.specs.declared.machine.OpenRun.{OpenRun}
 use Rattle.nap_reader.specs.declared.machine.Request.{Request}
 use Rattle.nap_reader.specs.declared.machine.Request.TheVariants as requests
 use Rattle.nap_reader.specs.declared.machine.front.Front.{Front}
@@ -20,12 +15,7 @@ use Rattle.nap_reader.specs.declared.machine.codes.CodeOutcome.{CodeOutcome}
 use Rattle.nap_reader.specs.declared.machine.codes.CodeOutcome.TheVariants as outcomes
 use Rattle.nap_reader.specs.Carried.{AllCharacters}
 use Rattle.nap_reader.specs.Bodies as bodies
-use Rattle.nap_reader.specs.Bodies.{body_of, no_names}
-use Rattle.nap_reader.specs.Faults.{draw_fault}
 use Rattle.nap_reader.specs.Stream as model
-use Rattle.nap_reader.specs.Stream.{Placed, Outcome, after_drawing, bytes_of, front, is_operand, is_operand_byte, place_at, placed_from, refusal, shown_front}
-use Rattle.nap_reader.specs.Breaking.{cause_of}
-use Rattle.nap_reader.specs.Holding.{Holding, BreaksInBody, BreaksSome, Continues, ContinuesPast, IsHeld, IsOwn, IsRefused, RunAt, run_by}
 
 -- What a reader does with the bytes that come next. No one sees this.
 

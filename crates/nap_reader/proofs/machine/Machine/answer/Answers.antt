@@ -1,8 +1,5 @@
-use Rattle.std.proofs.Common.{◌≡◌, inl, refl, ap, sym, ◌∙◌}
-use Rattle.nap_reader.proofs.Common.{no_names, StoreState}
+use Rattle.nap_reader.proofs.{Lawful, StoreState, ap, call_goes, call_refuses, held_sets, inl, match_goes, no_names, on_ok_by, reads_still, refl, same_comes, stop_passes, sym, turn_as, turn_counts, turn_goes, turn_passes, turn_stops, turn_takes, ◌∙◌, ◌≡◌}
 use Rattle.nap_reader.specs.declared.machine.Request.TheVariants as requests
-use Rattle.nap_reader.proofs.FurtherLemmas.{held_sets, match_goes, reads_still, same_comes, call_goes, call_refuses, stop_passes, turn_as, turn_counts, turn_goes, turn_passes, turn_stops, turn_takes}
-use Rattle.nap_reader.proofs.ReadingLemmas.{on_ok_by, Lawful}
 use Rattle.nap_reader.proofs.machine.Machine.answer.Goals as goal
 
 pub advance-requires : goal.advance-requires

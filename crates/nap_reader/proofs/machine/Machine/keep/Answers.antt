@@ -1,12 +1,5 @@
-use Rattle.std.proofs.Common.{ℕ, ◌≡◌, ◌+◌, ◌*◌, List, [], length, Some, refl, ap, sym, ◌∙◌, subst, arith}
-use Rattle.std.proofs.lemmas.List.Sums.{prefix_len-le-length}
-use Rattle.nap_reader.proofs.Common.{Input, Advances, CanAdvance, IsNextByte, coming, placed_at, unread, held_by, is_of_body, Stops, StoreState, Placed, refusal}
+use Rattle.nap_reader.proofs.{Advances, CanAdvance, HasName, Input, IsNextByte, Lawful, List, Placed, Some, Stops, StoreState, [], ap, arith, body_fills, byte_comes, byte_lacks, byte_passed, byte_stops, can_pass, coming, fill_passes, first_plain, goes_less, held_by, holds_goes, is_of_body, keeps_goes, latches_own, length, memory_other, next_same, passed_then, placed_at, prefix_len-le-length, refl, refusal, same_comes, stops_from, store_other, subst, sym, unread, ℕ, ◌*◌, ◌+◌, ◌∙◌, ◌≡◌}
 use Rattle.nap_reader.specs.declared.fault.Fault.TheVariants as faults
-use Rattle.nap_reader.specs.Carried.{HasName}
-use Rattle.nap_reader.proofs.ComingLemmas.{byte_comes, can_pass}
-use Rattle.nap_reader.proofs.DefineLemmas.{byte_lacks, memory_other, store_other, body_fills, fill_passes, first_plain, holds_goes, keeps_goes}
-use Rattle.nap_reader.proofs.FurtherLemmas.{byte_passed, byte_stops, goes_less, latches_own, next_same, passed_then, same_comes, stops_from}
-use Rattle.nap_reader.proofs.ReadingLemmas.{Lawful}
 use Rattle.nap_reader.proofs.machine.Machine.keep.Goals as goal
 
 pub hold_escape-requires : goal.hold_escape-requires

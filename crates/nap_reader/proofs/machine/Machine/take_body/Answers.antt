@@ -1,14 +1,6 @@
-use Rattle.std.proofs.Common.{◌≡◌, ◌≢◌, inl, inr, is_some, None, Some, get_or, refl, ap, sym, ◌∙◌, subst, arith}
-use Rattle.std.proofs.lemmas.Result.{err_from_is_err_and}
-use Rattle.nap_reader.proofs.Common.{placed_at, held_by, IsLive, refusal}
+use Rattle.nap_reader.proofs.{IsLive, Lawful, None, Some, ap, arith, byte_eighth, byte_passed, byte_stops, can_pass, err_from_is_err_and, get_or, goes_nowhere, goes_then, held_by, inl, inr, is_some, next_byte, placed_at, refl, refusal, smaller, stops_own, stops_then, subst, sym, ◌∙◌, ◌≡◌, ◌≢◌}
 use Rattle.nap_reader.specs.declared.fault.Fault.TheVariants as faults
-use Rattle.nap_reader.proofs.ComingLemmas.{can_pass}
-use Rattle.nap_reader.proofs.FurtherLemmas.{byte_passed, byte_stops, goes_nowhere, goes_then, smaller, stops_then}
-use Rattle.nap_reader.proofs.DefineLemmas.{next_byte}
-use Rattle.nap_reader.proofs.OpenBodyLemmas.{byte_eighth}
-use Rattle.nap_reader.proofs.ReadingLemmas.{Lawful}
 use Rattle.nap_reader.proofs.machine.Machine.take_body.Goals as goal
-use Rattle.nap_reader.proofs.StepLemmas.{stops_own}
 
 pub loop-input-init : goal.loop-input-init
 loop-input-init g c = record {
