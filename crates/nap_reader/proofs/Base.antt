@@ -9,5 +9,5 @@ pub use Rattle.nap_reader.proofs.ReadingLemmas.{Lawful, TookMore, begins, byte_r
 unfoldable pub use Rattle.nap_reader.proofs.ReadingLemmas.{leads_more}
 pub use Rattle.nap_reader.proofs.SpelledLemmas.{KindMade, acts_itself, binds_code, calls_by_name, calls_by_shift, escape_steps, escape_waits, front_kind_made, front_made, nothing_yet, opcode_alone}
 pub use Rattle.nap_reader.proofs.StandingLemmas.{stands_behind_stop, stands_by, stays, taken_all, taken_more}
-pub use Rattle.nap_reader.proofs.StepLemmas.{IsAt, acted_then, all_front, all_rest, cannot_stops, code_fault_own, conveys_nothing, halts_then, leads_nowhere, leads_then, left_acted, no_some, passes_acted, run_acted, sink_fault, stops_acted, stops_own, stops_run, stops_then, typed_then}
+pub use Rattle.nap_reader.proofs.StepLemmas.{IsAt, acted_then, acted_typed, all_front, all_rest, cannot_stops, code_fault_own, conveys_nothing, halts_then, leads_nowhere, leads_then, left_acted, no_some, passes_acted, run_acted, sink_fault, stops_acted, stops_own, stops_run, stops_then}
 pub use Rattle.nap_reader.proofs.StreamLemmas.{Fronts, IsOfWords, Puts, acts, by_code, by_rule, bytes_of-append, bytes_of-placed, front_fronts, length-all_at, outcome_from-front, pauses, place_at-append, prepend-append, puts_nothing, refuses}

@@ -45,7 +45,7 @@ pub use Rattle.nap_reader.specs.Laws.{AcceptedIsLegal, BegunComesFirst, BreaksAm
 pub use Rattle.nap_reader.specs.Pieces.{Amid, Goes, GoesOn, LeadsTo, Reaches, ReadsPiece, ReadsTo, RefusesPiece, StopsFrom, StopsPiece, TakesPiece, Turn}
 pub use Rattle.nap_reader.specs.Prefix.{is_from, is_of_body, is_of_text}
 pub use Rattle.nap_reader.specs.Standing.{Answers, AnswersBy, IsBroken, IsKnown, IsTaken, Stands, StopsAt, StopsBy, budget_of, fed_of, left_of, refusal_of, sink_of}
-pub use Rattle.nap_reader.specs.Steps.{Acted, ActsRun, AreCharacters, Binds, Breaks, BreaksCode, Calls, CallsBy, Came, CodeTakes, Codes, Conveys, Executes, FailsRun, IsLive, IsOpcodeByte, IsOver, IsText, IsWholeRun, Latches, LeadsOn, Leaves, Passes, Progresses, Refuses, StaysInText, Stops, StopsByte, StopsRun, StopsText, Takes, TakesBy, TellsSink, Works, ahead, as_it_was, asked, asks_if, at_byte, at_word, behind_run, bound, in_body as breaks_in_body, in_code, in_run, in_text, of_body, of_piece, with_machine}
+pub use Rattle.nap_reader.specs.Steps.{Acted, ActsRun, AreCharacters, Binds, Breaks, BreaksCode, Calls, CallsBy, Came, CodeTakes, Codes, Conveys, Executes, FailsRun, IsLive, IsOpcodeByte, IsOver, IsText, IsWholeRun, Latches, LeadsOn, Leaves, Passes, Progresses, Refuses, Stops, StopsByte, StopsRun, StopsText, Takes, TakesBy, TellsSink, Works, ahead, as_it_was, asked, asks_if, at_byte, at_word, behind_run, bound, in_body as breaks_in_body, in_code, in_run, in_text, of_body, of_piece, with_machine}
 pub use Rattle.nap_reader.specs.Stored.{IsBefore, StoreState, closed, grown, part, part_at, shown}
 pub use Rattle.nap_reader.specs.declared.feeding.FeedFault.{FeedFault}
 pub use Rattle.nap_reader.specs.declared.frames.Frame.{Frame}
@@ -56,3 +56,5 @@ pub use Rattle.nap_reader.specs.Below.{Cause, CharSet, Code, CodeFault, CodeSets
 unfoldable pub use Rattle.nap_reader.specs.Below.{control0_rows, row_of, walk}
 pub use Rattle.nap_reader.specs.Shared.{AreOfBody, AtBody, BeginsAll, BodyFront, BreaksAt, BreaksBetween, BreaksFrom, BreaksInBody, BreaksInRun, BreaksNext, BreaksPast, BreaksSome, BreaksWith, BreaksWithin, CanBreakAt, CanLackAt, ClosesInto, Comes, Continues, ContinuesPast, Ends, Fault, FramesIn, Front, Holding, Innermost, Input, IsCharged, IsFrame, IsHalf, IsHeld, IsHeldBy, IsHeldIn, IsOpenBody, IsOpenRun, IsOwn, IsRefused, LacksWithin, Lessens, Machine, Mode, OpenBody, OpenRun, Outcome, Placed, Reader, ReadsOn, Refusal, RunAt, TakesPart, TookFront, TookPart, Unfinished, WantsMemory, act, after_body, after_drawing, all_at, all_next, at_escape, begun, behind, between, body_broke, body_front_by, body_of, bound_front, bytes_of, cause_of, charged, charged_broke, closed_by, code_fault, code_front, continue, continue_by, draw_fault, drawn_front, ended, ended_by, ends_body, ends_of, frame_bytes, front_by, front_in, half_code, half_read, held_by, held_escape, holding_of, in_body, is_operand, is_operand_byte, machine_of, means, mode_of, next_broke, no_names, nothing, one_further, onward, opcode_front, open_body, open_place, open_run, outcome_from, past, pause, paused, place_at, placed_at, prepend, refusal, refuse, refused, run_broke, run_by, run_front, run_length, run_place, run_refused, shown_front, some_broke, start_machine, store_limit, stores, unfinished, unfinished_by, unfinished_of, unread, unread_of, with_code, with_definition, with_drawn, with_end, with_run, with_run_by, words_of}
 unfoldable pub use Rattle.nap_reader.specs.Shared.{body_front, front, go, outcome, placed_from, spaced}
+pub use Rattle.nap_reader.specs.declared.fault.Fault.TheVariants.{Budget, EighthBit, LongRun, Memory, Sink, Store, Stray, Unended}
+pub use Rattle.nap_reader.specs.declared.machine.Request.TheVariants.{Call, Clear, Define, Nothing, Stop}

@@ -1,5 +1,5 @@
 use Rattle.nap_reader.proofs.Common.{All, All-head, All-tail, Breaks, BreaksFrom, Came, Continues, Conveys, Fault, Ghosts, Holding, LeadsTo, List, Machine, Outcome, Placed, Reaches, Reader, Refusal, Stops, StopsAt, StopsByte, StopsText, [], ap, arith, at_byte, begun, budget_of, bytes_of, cause_of, draw_fault, drop, drop_at, fault_of, fed_of, get_or, in_text, left_of, length, length-append, length-drop, length-map, length-take-le, of_body, of_piece, place_at, placed_at, placed_from, refl, refusal, sink_of, subst, suc, sym, take, take-append-drop, zero, ℕ, ◌++◌, ◌+◌, ◌-◌, ◌<◌, ◌∙◌, ◌∷◌, ◌≡◌, ◌≤◌}
-use Rattle.nap_reader.proofs.Base.{IsAt, Lawful, all_front, breaks_byte, breaks_inside, breaks_more, breaks_place, bytes_of-append, bytes_of-placed, came_coming, came_next, came_none, came_take, cut, leads_left, leads_machine, leads_unrefused, left_acted, length-placed, stops_acted}
+use Rattle.nap_reader.proofs.Base.{IsAt, Lawful, acted_typed, all_front, breaks_byte, breaks_inside, breaks_more, breaks_place, bytes_of-append, bytes_of-placed, came_coming, came_next, came_none, came_take, cut, leads_left, leads_machine, leads_unrefused, left_acted, length-placed, stops_acted}
 use Rattle.nap_reader.proofs.PieceLemmas.{broken_amid, first_placed, known_amid, known_with, leads_past, length_taken, stops_by}
 use Rattle.nap_reader.proofs.TakingLemmas.{place_at-drop}
 use Rattle.nap_reader.proofs.TextLemmas.{halts_in, not_own, text_breaks_off, text_stops}
@@ -177,7 +177,7 @@ module _ {S : Type 0} {g : Ghosts S} {old : Reader S g} {piece : List ℕ} {at :
       let (u, held, leads, same, there) =
       reached first few' (λ (u : S) (held : Holding). StopsText g u held (bytes_of texts) taken (sink_of new) r) c stops
       (λ zero here.
-      let typed = by.typed here.set here.text_is.rested here.text_is.chars in
+      let typed = acted_typed by.acted here.set here.text_is.rested here.text_is.chars in
       subst (λ (held : Holding). StopsText g by.sink held (bytes_of texts) taken (sink_of new) r) typed.1 (subst (λ (w : S). StopsText g w h (bytes_of texts) taken (sink_of new) r) typed.0 here)) in
       stops_text new leads (left ∙ same) laws there
       (subst (Came behind (drop size behind) piece from (from + (size - length behind)) (fed_of old + from)) (ap (take size) (sym (then_is first few')))

@@ -4,7 +4,7 @@ use Rattle.nap_reader.specs.declared.machine.Machine.{Machine}
 use Rattle.nap_reader.specs.declared.machine.Request.{Request}
 use Rattle.nap_reader.specs.Coming.{Counts, IsNext, Reads}
 use Rattle.nap_reader.specs.Standing.{Stands, StopsAt, budget_of, charged_of, fed_of, refusal_of, sink_of, turns_of}
-use Rattle.nap_reader.specs.Steps.{Acted, StaysInText, Takes}
+use Rattle.nap_reader.specs.Steps.{Acted, Takes}
 
 -- How a piece is read. No one sees this.
 
@@ -36,7 +36,6 @@ pub record Reaches {S : Type 0} {g : Ghosts S} (old : Reader S g) (piece : List 
   pub holding : Holding
   pub leads : LeadsTo old piece at sink holding frames
   pub acted : Acted g sink holding t h (bytes_of frames ++ drop at piece)
-  pub typed : StaysInText sink holding t h
 
 -- A reader has come so far in a piece: the invariant of the loop.
 pub record ReadsTo {S : Type 0} {g : Ghosts S} (old : Reader S g) (piece : List ℕ) (machine : Machine S g) (input : Input) : Type 0 where

@@ -1,5 +1,4 @@
-use Rattle.nap_reader.proofs.{Ghosts, Joins, List, OpenRun, Some, ap, ap₂, arith, asks_if, bytes_of-spaced, is_operand_byte, lacked, length, length-spaced, length-take-le, operands_in, place_at, place_at-spaced, prefix_len, prefix_len-le-length, refl, refusal, run_acts, run_lacks, run_limit, run_stops, run_too_long, run_waits, spaced, sym, take, true, worked, ℕ, ◌*◌, ◌++◌, ◌+◌, ◌<◌, ◌∙◌, ◌≡◌, ◌≤◌}
-use Rattle.nap_reader.specs.declared.fault.Fault.TheVariants as faults
+use Rattle.nap_reader.proofs.{Ghosts, Joins, List, Memory, OpenRun, Some, ap, ap₂, arith, asks_if, bytes_of-spaced, is_operand_byte, lacked, length, length-spaced, length-take-le, operands_in, place_at, place_at-spaced, prefix_len, prefix_len-le-length, refl, refusal, run_acts, run_lacks, run_limit, run_stops, run_too_long, run_waits, spaced, sym, take, true, worked, ℕ, ◌*◌, ◌++◌, ◌+◌, ◌<◌, ◌∙◌, ◌≡◌, ◌≤◌}
 use Rattle.nap_reader.specs.declared.machine.Machine.{Machine}
 use Rattle.nap_reader.proofs.machine.Machine.join.Goals as goal
 use Rattle.nap_reader.proofs.machine.Machine.join.Goals.{After-execute, Else-is_err}
@@ -41,7 +40,7 @@ returns-then-is_err g c =
     let kept = c.stop-then-is_err.ensures.kept in
     rw c.stop-then-is_err.ensures.answer
     (run_lacks c.args.ended c.requires.run (omega (arith, n, less)) (omega (arith, n, c.if-count-most.false, m.short))
-    (kept.is ∙ ap (λ (p : ℕ). Some (refusal faults.Memory p)) first) kept.sink)
+    (kept.is ∙ ap (λ (p : ℕ). Some (refusal Memory p)) first) kept.sink)
 
 -- the machine that has them
 abbrev mid : (g : _) → Else-is_err g → Machine g.row.S.Denot g.S.Sink

@@ -1,6 +1,5 @@
-use Rattle.nap_reader.proofs.{Advances, CanAdvance, HasName, Input, Lawful, Option, Some, StoreState, [], again_goes, ap, arith, behind_escape, both_lack, byte_comes, byte_fills, byte_passed, byte_stops, can_pass, escape_fills, first_left, inl, inr, length, length-append, memory_other, next_same, next_still, pair_goes, passed_none, passed_then, refl, refusal, same_comes, store_limit, store_other, subst, sym, ℕ, ◌+◌, ◌-◌, ◌∙◌, ◌∷◌, ◌≡◌, ◌≢◌, ◌⊎◌}
+use Rattle.nap_reader.proofs.{Advances, CanAdvance, HasName, Input, Lawful, Option, Some, Store, StoreState, [], again_goes, ap, arith, behind_escape, both_lack, byte_comes, byte_fills, byte_passed, byte_stops, can_pass, escape_fills, first_left, inl, inr, length, length-append, memory_other, next_same, next_still, pair_goes, passed_none, passed_then, refl, refusal, same_comes, store_limit, store_other, subst, sym, ℕ, ◌+◌, ◌-◌, ◌∙◌, ◌∷◌, ◌≡◌, ◌≢◌, ◌⊎◌}
 use Rattle.std.specs.Option.{unwrap_or}
-use Rattle.nap_reader.specs.declared.fault.Fault.TheVariants as faults
 use Rattle.nap_reader.proofs.machine.Machine.keep_escape.Goals as goal
 
 pub advance-requires : goal.advance-requires
@@ -13,7 +12,7 @@ returns-then-room-eq0-clause-goes g c =
     let behind = behind_escape c.requires.open c.requires.held c.requires.next c.requires.other in
     let place : c.unwrap_or.result ≡ behind.escape = c.unwrap_or.ensures ∙ ap (λ (o : Option ℕ). unwrap_or o c.args.next.place) behind.held in
     rw c.refuse.ensures.answer
-    (byte_stops laws c.requires.next (c.refuse.ensures.latched.is ∙ ap (λ (n : ℕ). Some (refusal faults.Store n)) place) c.refuse.ensures.latched.sink store_other
+    (byte_stops laws c.requires.next (c.refuse.ensures.latched.is ∙ ap (λ (n : ℕ). Some (refusal Store n)) place) c.refuse.ensures.latched.sink store_other
     (byte_passed c.requires.next c.advance.ensures.passed)
     (escape_fills c.args.self.now behind c.requires.low (omega (arith, c.room-room.ensures, c.if-room-eq0.true))))
 

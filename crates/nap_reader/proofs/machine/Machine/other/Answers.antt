@@ -1,6 +1,4 @@
-use Rattle.nap_reader.proofs.{CodeSets, Err, Fault, IsOpcodeByte, IsRuled, LexerState, Lexes, List, Placed, Some, Takes, acts, ap, ap₂, arith, binds, bytes_of, bytes_of-spaced, call_takes, code_of, draw_fault, drop, drop-map, fault_takes, front_made, get_or, get_or-append_seam, get_or-drop, half_takes, inl, length, length-drop, length-spaced, macro_takes, more_of, nothing_takes, opcode_read, placed_at, refl, refusal, rested, ruled_stops, ruled_takes, sink_fault, spaced, strays_takes, subst, sym, take_all, takes_at, takes_same, ℕ, ◌*◌, ◌+◌, ◌-◌, ◌∙◌, ◌≡◌}
-use Rattle.nap_reader.specs.declared.fault.Fault.TheVariants as faults
-use Rattle.nap_reader.specs.declared.machine.Request.TheVariants as requests
+use Rattle.nap_reader.proofs.{Call, CodeSets, Err, Fault, IsOpcodeByte, IsRuled, LexerState, Lexes, List, Placed, Some, Stray, Takes, acts, ap, ap₂, arith, binds, bytes_of, bytes_of-spaced, call_takes, code_of, draw_fault, drop, drop-map, fault_takes, front_made, get_or, get_or-append_seam, get_or-drop, half_takes, inl, length, length-drop, length-spaced, macro_takes, more_of, nothing_takes, opcode_read, placed_at, refl, refusal, rested, ruled_stops, ruled_takes, sink_fault, spaced, strays_takes, subst, sym, take_all, takes_at, takes_same, ℕ, ◌*◌, ◌+◌, ◌-◌, ◌∙◌, ◌≡◌}
 use Rattle.nap_reader.proofs.ReadingLemmas.{fault_of}
 use Rattle.nap_reader.proofs.machine.Machine.other.Goals as goal
 use Rattle.nap_reader.proofs.machine.Machine.other.Goals.{After-control, In-Code}
@@ -31,8 +29,8 @@ returns-in-Some g c =
     record {
       from = omega arith;
       some = inl (omega (arith, k.counted));
-      takes = subst (λ (n : ℕ). Takes m m xs c.args.ended n (requests.Call (get_or bytes (at + more - 1) 0))) (let e : more ≡ at + more - at = omega arith in e)
-          (subst (λ (name : ℕ). Takes m m xs c.args.ended more (requests.Call name)) name (call_takes m k c.requires.closed xs is c.requires.live c.args.ended));
+      takes = subst (λ (n : ℕ). Takes m m xs c.args.ended n (Call (get_or bytes (at + more - 1) 0))) (let e : more ≡ at + more - at = omega arith in e)
+          (subst (λ (name : ℕ). Takes m m xs c.args.ended more (Call name)) name (call_takes m k c.requires.closed xs is c.requires.live c.args.ended));
     }
 
 pub returns-in-More-clause-takes : goal.returns-in-More-clause-takes
@@ -75,7 +73,7 @@ returns-in-Strays-clause-takes g c =
     let (after, k, lexer) = lexes g (goal.at.returns-in-Strays-clause-takes g c).In-Code in
     rw c.stop-in-Strays.ensures.answer
     (takes_at slice.place slice.step slice.bytes.now at c.requires.within (let e : at ≡ at + 0 = omega arith in e)
-    (strays_takes k (sym c.in-Strays.ensures) (kept.is ∙ ap (λ (place : ℕ). Some (refusal faults.Stray place)) c.place_of-in-Strays.ensures) kept.sink))
+    (strays_takes k (sym c.in-Strays.ensures) (kept.is ∙ ap (λ (place : ℕ). Some (refusal Stray place)) c.place_of-in-Strays.ensures) kept.sink))
 
 pub returns-in-AddsNothing-clause-takes : goal.returns-in-AddsNothing-clause-takes
 returns-in-AddsNothing-clause-takes g c =
