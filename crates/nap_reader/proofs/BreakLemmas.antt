@@ -1,16 +1,9 @@
-use Rattle.std.proofs.Common.{◌++◌, ◌<◌, Bool, Err, IsSome, List, None, Ok, Option, Result, Some, [], ap, append-nil, append_assoc, arith, cond, false, inl, inr, length, length-append, refl, subst, sym, true, ℕ, ◌∙◌, ◌∷◌, ◌≡◌, ◌≢◌, ◌≤◌, ◌⊎◌}
-use Rattle.nap_reader.specs.Below.{Cause, DrawFault, Drawn, Entry, Ghosts, memory, rule, run_limit, stream}
-use Rattle.nap_reader.proofs.Common.{ActsRun, Breaks, BreaksAt, BreaksBetween, BreaksFrom, BreaksInBody, BreaksInRun, BreaksSome, Continues, ContinuesPast, Holding, Input, IsHeld, IsHeldIn, IsLive, IsOpenBody, Machine, OpenBody, OpenRun, Outcome, Placed, Refusal, RunAt, StopsRun, TookPart, Unfinished, Works, after_drawing, asked, asks_if, at_word, begun, cause_of, closed_by, draw_fault, ended_by, front, half_read, held_by, in_code, is_operand, is_operand_byte, means, outcome_from, placed_at, placed_from, refusal, with_code, with_drawn, with_run}
+use Rattle.nap_reader.proofs.Common.{ActsRun, BeginsAll, Bool, Breaks, BreaksAt, BreaksBetween, BreaksFrom, BreaksInBody, BreaksInRun, BreaksNext, BreaksPast, BreaksSome, BreaksWith, CanBreakAt, CanLackAt, Cause, ClosesInto, Continues, ContinuesPast, DrawFault, Drawn, Ends, Entry, Err, Executes, Ghosts, Holding, Input, IsCharged, IsHeldIn, IsLive, IsOpenBody, IsSome, IsTaken, List, Machine, Memory, None, Ok, OpenBody, OpenRun, Option, Outcome, Placed, Refusal, Result, RunAt, Some, StopsRun, TookPart, Unended, Unfinished, WantsMemory, Works, [], act, after_drawing, ap, append-nil, append_assoc, arith, asked, asks_if, at_word, begun, behind_run, body_broke, cause_of, charged_broke, closed_by, cond, draw_fault, ended_by, false, half_read, held_by, in_code, in_run, inl, inr, is_operand_byte, length, length-append, means, memory, next_broke, open_place, outcome_from, placed_at, placed_from, refl, refusal, rule, run_broke, run_limit, run_place, run_refused, some_broke, stream, subst, sym, true, unfinished_by, with_code, with_drawn, with_run, ℕ, ◌++◌, ◌<◌, ◌∙◌, ◌∷◌, ◌≡◌, ◌≢◌, ◌≤◌, ◌⊎◌}
 use Rattle.nap_draw.specs.Draws as draws
 use Rattle.nap_draw.specs.declared.fault.DrawFault.TheVariants as draw_faults
-use Rattle.nap_reader.specs.declared.fault.Fault.TheVariants as faults
 use Rattle.nap_reader.specs.Stream as model
-use Rattle.nap_reader.specs.Course as course
-use Rattle.nap_reader.specs.Breaking.{BreaksWith, CanBreakAt, CanLackAt, IsCharged, WantsMemory, open_place, run_place}
-use Rattle.nap_reader.specs.Standing.{IsTaken}
-use Rattle.nap_reader.specs.Holding.{BeginsAll, BreaksNext, BreaksPast, ClosesInto, Ends, body_broke, charged_broke, next_broke, run_broke, run_refused, some_broke, unfinished_by}
 use Rattle.nap_reader.specs.declared.machine.Machine as struct
-use Rattle.nap_reader.specs.Steps.{Executes, behind_run, in_body, in_run}
+use Rattle.nap_reader.specs.Steps.{in_body}
 use Rattle.nap_reader.proofs.ReadingLemmas.{Lawful, TookMore, by_front, is_open_run, leads_entries, leads_machine, leads_more, leads_on, leads_taken, leads_unfinished, leads_unrefused, none_held, over, rule_part, word_joins}
 use Rattle.nap_reader.proofs.LawLemmas.{more_bytes_keep_entries}
 use Rattle.nap_reader.proofs.PartLemmas.{body_breaks_from, breaks_longer, rule_breaks, some_in_body, wants_from}
@@ -84,7 +77,7 @@ module _ {S : Type 0} {g : Ghosts S} {s : S} {t : S} {h : Holding} {open_run : O
   begins_all drawn by b other =
       let x : Placed = record { byte = b; place = length p } in
       let m' : Machine = after_drawing h.machine drawn in
-      let all = by_front (leads_more budget p (b ∷ []) k) (course.act drawn.entries m' (x ∷ [])) (over no_body is (leads_more budget p (b ∷ []) k) other _ by) in
+      let all = by_front (leads_more budget p (b ∷ []) k) (act drawn.entries m' (x ∷ [])) (over no_body is (leads_more budget p (b ∷ []) k) other _ by) in
       let more : List Entry = (outcome_from m' (x ∷ [])).entries in
       (more, ap (λ (y : Outcome). y.entries) all ∙ (sym (append_assoc k.done drawn.entries more) ∙ ap (λ (es : List Entry). es ++ more) (sym (run_entries drawn by))))
 
@@ -157,17 +150,17 @@ refused_at_end {g = g} {s = s} budget p {u} {r} own live (run_refused refused to
     subst (λ (o : Outcome). IsTaken g s o u (Some r)) (sym same) (refused, took)
 
 -- an open body is refused at the end
-pub body_ended : {S : Type 0} {g : Ghosts S} {s : S} (budget : ℕ) (p : List ℕ) {t : S} {h : Holding} {body : OpenBody} (fed : ℕ) → Continues g s (begun budget p) t h [] → h.open_body ≡ Some body → fed ≡ length p → IsTaken g s (means budget p) t (Some (refusal faults.Unended fed))
+pub body_ended : {S : Type 0} {g : Ghosts S} {s : S} (budget : ℕ) (p : List ℕ) {t : S} {h : Holding} {body : OpenBody} (fed : ℕ) → Continues g s (begun budget p) t h [] → h.open_body ≡ Some body → fed ≡ length p → IsTaken g s (means budget p) t (Some (refusal Unended fed))
 body_ended {g = g} {s = s} budget p {t} fed k opened all =
     let o : Outcome = begun budget p in
     let live = leads_unrefused k in
     let still = body_still k _ opened in
-    let is : means budget p ≡ record o { refusal = Some (refusal faults.Unended (length p)) } =
+    let is : means budget p ≡ record o { refusal = Some (refusal Unended (length p)) } =
     means_settled budget p live (ap (λ (x : Outcome). x.refusal) still ∙ live)
     ∙ ap (λ (x : Outcome). with_code x (length p) x.unfinished) still
     ∙ ap (with_code o (length p)) (body_open k _ opened) in
-    subst (λ (x : Outcome). IsTaken g s x t (Some (refusal faults.Unended fed))) (sym is)
-    (ap (λ (n : ℕ). Some (refusal faults.Unended n)) (sym all), leads_taken k)
+    subst (λ (x : Outcome). IsTaken g s x t (Some (refusal Unended fed))) (sym is)
+    (ap (λ (n : ℕ). Some (refusal Unended n)) (sym all), leads_taken k)
 
 -- what an opcode asks changes nothing of how a stream ends
 ends_asked : {S : Type 0} (g : Ghosts S) (s : S) (o : Outcome) (t : S) (h : Holding) (clears : Bool) → Ends g s o t (asked h (asks_if clears)) → Ends g s o t h
@@ -288,7 +281,7 @@ module _ {S : Type 0} {g : Ghosts S} {s : S} {t : S} {h : Holding} (budget : ℕ
   in_body_breaks r opened place (body_broke less from) = uses_breaks budget p b r place (charged less) from
 
   -- the run that the byte joins could not grow
-  pub growth_breaks : {open_run : OpenRun} → h.open_body ≡ None → h.open_run ≡ Some open_run → is_operand_byte b ≡ true → length h.run < run_limit → BreaksAt g s budget p b t (refusal faults.Memory (length p))
+  pub growth_breaks : {open_run : OpenRun} → h.open_body ≡ None → h.open_run ≡ Some open_run → is_operand_byte b ≡ true → length h.run < run_limit → BreaksAt g s budget p b t (refusal Memory (length p))
   unfolding placed_from
   growth_breaks {open_run} no_body is word few =
       let joined = word_joins {x = record { byte = b; place = length p }} no_body is (leads_more budget p (b ∷ []) k) word few in

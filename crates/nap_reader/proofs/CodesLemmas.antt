@@ -1,36 +1,16 @@
-use Rattle.std.proofs.Common.{ℕ, ◌≡◌, ◌<◌, List, [], ◌∷◌, ◌++◌, All, Bool, false, length, take, drop, Option, Some, None, Result, inl, refl, ap, sym, ◌∙◌, subst, arith, ◌≢◌, true, ap₂, length-append, ◌≤◌}
-use Rattle.std.proofs.lemmas.List.{length-map, take-append-le, take-map}
-use Rattle.std.proofs.lemmas.List.Elements.{All-head}
+use Rattle.nap_reader.proofs.Common.{All, All-head, AreCharacters, Bool, Call, Calls, CallsBy, CharSet, Code, CodeFault, CodeSets, CodeTakes, Codes, Continues, Define, DrawFault, Drawn, Entry, Ghosts, HaltsAfter, Holding, IsHeld, IsLive, IsOpcodeByte, IsText, IsTyped, Kind, LeadsOn, Leaves, LexerState, List, None, Nothing, Opcode, Option, Outcome, Passes, Placed, Refusal, Request, Result, RunAt, Sink, SinkFault, Some, Stop, StopsByte, Stray, Takes, TakesBy, Tells, TellsSink, Work, Works, [], ap, ap₂, arith, as_it_was, asked, at_byte, bytes_of, code_fault, code_front, code_rule, draw_fault, drawn, drawn_front, drop, false, false≢true, fault_of, front, in_body, in_code, in_text, inl, kind_of, length, length-append, length-map, one_byte_opcode, refl, refusal, shows_of, some_broke, subst, sym, take, take-append-le, take-map, text, true, with_machine, ℕ, ◌++◌, ◌<◌, ◌∙◌, ◌∷◌, ◌≡◌, ◌≢◌, ◌≤◌}
+use Rattle.nap_reader.proofs.Base.{Fails, IsAt, KindMade, Lawful, TookMore, acts_itself, binds_code, body_begins, byte_refused, code_breaks, code_ends, code_fault_own, code_goes_on, code_over, conveys_nothing, first_of, front_kind_made, is_between, leads_nowhere, leads_on, leads_past, leads_to_fault, leads_to_refusal, nothing_half, opcode_alone, opcode_of_kind, opens_drawn, place_at-append, run_opens}
 use Rattle.nap_codes.specs.declared.code.Code.TheVariants as code
 use Rattle.nap_codes.specs.Front as codes
 use Rattle.nap_draw.specs.Codes as draws_codes
-use Rattle.nap_draw.specs.Codes.{text}
-use Rattle.nap_draw.specs.Rule.{drawn}
-use Rattle.nap_reader.specs.declared.fault.Fault.TheVariants as faults
 use Rattle.nap_reader.specs.declared.kind.Kind.TheVariants as kinds
-use Rattle.nap_reader.specs.declared.machine.Request.TheVariants as requests
-use Rattle.nap_reader.specs.Steps.{AreCharacters, CallsBy, IsText, TellsSink, CodeTakes}
-use Rattle.nap_reader.specs.Holding.{some_broke}
 use Rattle.nap_reader.specs.Stream as model
-use Rattle.nap_reader.specs.Stream.{front}
-use Rattle.nap_reader.proofs.PartLemmas.{Fails, code_breaks}
 use Rattle.nap_reader.proofs.TakingLemmas.{Drew, LeftBy, left_is, one_takes, stop_takes, own_tells}
-use Rattle.nap_reader.proofs.SpelledLemmas.{KindMade, acts_itself, binds_code, front_kind_made, opcode_alone}
-use Rattle.nap_reader.proofs.ReadingLemmas.{Lawful, TookMore, is_between, leads_on, leads_to_fault, leads_past, leads_to_refusal, byte_refused, code_goes_on, run_opens, nothing_half, opcode_of_kind, opens_drawn, code_over, code_ends}
-use Rattle.nap_reader.proofs.OpenBodyLemmas.{body_begins}
-use Rattle.nap_reader.proofs.StepLemmas.{IsAt, code_fault_own, conveys_nothing, leads_nowhere}
 use Rattle.nap_reader.proofs.TextLemmas.{text_passes, with_text, halts_less}
-use Rattle.std.proofs.lemmas.Bool.{false≢true}
-use Rattle.nap_reader.specs.Below.{Code, CodeFault, CharSet, CodeSets, Opcode, Entry, Ghosts, IsTyped, DrawFault, Work, code_rule, fault_of, Drawn, LexerState, SinkFault, HaltsAfter, shows_of}
-use Rattle.nap_reader.proofs.Common.{Refusal, Request, in_body, code_fault, draw_fault, Continues, Holding, RunAt, kind_of, Calls, IsOpcodeByte, LeadsOn, Passes, StopsByte, TakesBy, as_it_was, asked, in_code, IsLive, Leaves, Takes, Works, at_byte, with_machine, Codes, Stops, in_text, Outcome, Placed, bytes_of, drawn_front, refusal, place_at, IsHeld, Kind, code_front}
 use Rattle.nap_codes.specs.declared.code.CodeFault.TheVariants as code_faults
-use Rattle.nap_codes.proofs.PublicLaws.{one_byte_opcode}
 use Rattle.nap_list.specs.declared.sink.SinkFault.TheVariants as sink_faults
-use Rattle.nap_list.specs.Putting.{Tells}
 use Rattle.nap_reader.specs.declared.machine.Machine.{Machine}
 use Rattle.nap_reader.specs.declared.machine.codes.CodeOutcome.TheVariants as outcomes
-use Rattle.nap_reader.proofs.ComingLemmas.{first_of}
-use Rattle.nap_reader.proofs.StreamLemmas.{place_at-append}
 
 -- One code, where nothing is open.
 
@@ -47,7 +27,6 @@ leads_by {u = u} {h' = h'} next sink held some left closed passes = record {
     none = λ none. absurd (omega (arith, some, ap length none));
   };
   acted = as_it_was sink held;
-  typed = λ set rested chars. (sink, held);
 }
 
 -- An opcode, where no code is half read.
@@ -71,13 +50,12 @@ run_opened {t = t} {x = x} {op = op} k next sink same = record {
     none = λ none. absurd (omega (arith, ap length none));
   };
   acted = as_it_was sink same;
-  typed = λ set rested chars. (sink, same);
 }
 
 -- It draws by a rule, and asks this.
 pub data IsRuled (c : Code) (request : Request) : Type 0 where
-  acts : (acting : Code) → kind_of c ≡ kinds.Acts acting → request ≡ requests.Nothing → IsRuled c request
-  binds : (name : ℕ) (show : Bool) → kind_of c ≡ kinds.Binds name show → request ≡ requests.Define name show → IsRuled c request
+  acts : (acting : Code) → kind_of c ≡ kinds.Acts acting → request ≡ Nothing → IsRuled c request
+  binds : (name : ℕ) (show : Bool) → kind_of c ≡ kinds.Binds name show → request ≡ Define name show → IsRuled c request
 
 -- what it draws
 abbrev pub drawn_by : List Entry → Work → Drawn
@@ -122,7 +100,7 @@ module _ {S : Type 0} (g : Ghosts S) (t : S) {h : Holding} {x : Placed} {c : Cod
       (λ s o pending c'. leads_on c' u entries h' pending more (code_over k.between k.closed c' h' k.between refl refl k.closed refl)
       (stands c' (acts_itself c acting kind) ∙ ap (drawn_front (record h.machine { sets = after }) x.place pending) drew.is) drew.took drew.clear))
   code_takes {u} {request} {entries} {work} {held} (binds name show kind is) same drew more behind many r =
-      let asks = requests.Define name show in
+      let asks = Define name show in
       let h' = asked (drawn_at h after work) asks in
       let rule = ap (code_rule h.machine.work) (sym (binds_code c name show kind)) ∙ drew.is in
       subst (TakesBy g t h u held (x ∷ behind) many 1 r) (sym is) (
@@ -153,7 +131,7 @@ module _ {S : Type 0} (g : Ghosts S) (t : S) {h : Holding} {x : Placed} {c : Cod
       stops_by (record h.machine { sets = after; mode = in_body name show }) (λ s o pending c'. stands c' kind) (subst (λ (c : Code). Fails g (code_rule h.machine.work c) t u fault) (binds_code c name show kind) fails) laws
 
   -- It is an operand outside a run.
-  strays_stops : kind_of c ≡ kinds.Strays → StopsByte g t h x t (refusal faults.Stray x.place)
+  strays_stops : kind_of c ≡ kinds.Strays → StopsByte g t h x t (refusal Stray x.place)
   strays_stops kind = record { own = λ own s o pending c'. leads_to_refusal c' _ (stands c' kind); broke = λ broke. absurd (broke refl) }
 
   -- It calls a macro.
@@ -197,7 +175,7 @@ text_leads {u = u} {xs = xs} next k same more took clear =
 -- What a machine makes of a byte, where no run is open.
 
 -- a fault of the lexer isn't the sink's
-lexer_is_own : (fault : CodeFault) → code_fault fault ≢ faults.Sink
+lexer_is_own : (fault : CodeFault) → code_fault fault ≢ Sink
 lexer_is_own code_faults.EighthBit is = cc
 lexer_is_own _ is = cc
 
@@ -207,13 +185,13 @@ works_on {g = g} same live = record { live = live; clear = λ clear. ap g.failed
 
 -- It is of a code that isn't whole.
 pub half_takes : {S : Type 0} {g : Ghosts S} {old new : Machine S g} {x : Placed} {zs : List Placed} {ended : Bool} → codes.front old.lexer.sets (old.lexer.half ++ x.byte ∷ []) ≡ codes.unfinished →
-    LeftBy old new old.work (record { sets = old.lexer.sets; half = old.lexer.half ++ x.byte ∷ [] }) → new.sink ≡ old.sink → IsLive new → Takes old new (x ∷ zs) ended 1 requests.Nothing
+    LeftBy old new old.work (record { sets = old.lexer.sets; half = old.lexer.half ++ x.byte ∷ [] }) → new.sink ≡ old.sink → IsLive new → Takes old new (x ∷ zs) ended 1 Nothing
 half_takes {x = x} {zs = zs} unfinished left same live =
     one_takes (works_on same live) left.closed (λ h behind between. half_leads x (bytes_of (zs ++ behind)) same (left_is left h) between left.before unfinished)
 
 -- It is refused.
 pub fault_takes : {S : Type 0} {g : Ghosts S} {old new : Machine S g} {x : Placed} {zs : List Placed} {ended : Bool} (fault : CodeFault) (index : ℕ) → codes.front old.lexer.sets (old.lexer.half ++ x.byte ∷ []) ≡ codes.refused fault index → index ≡ length old.lexer.half →
-    old.open_run ≡ None → new.refusal ≡ Some (refusal (code_fault fault) x.place) → new.sink ≡ old.sink → Takes old new (x ∷ zs) ended 0 requests.Stop
+    old.open_run ≡ None → new.refusal ≡ Some (refusal (code_fault fault) x.place) → new.sink ≡ old.sink → Takes old new (x ∷ zs) ended 0 Stop
 fault_takes {g = g} {old = old} {x = x} {zs = zs} fault index refused there closed is same =
     stop_takes is same (omega arith) (own_tells g old.sink (lexer_is_own fault))
     (λ h behind between over. at_byte x (zs ++ behind) refl (conveys_nothing g old.sink (with_machine h old)) (fault_stops x between closed refused there))
@@ -234,12 +212,12 @@ module _ {S : Type 0} {g : Ghosts S} {old : Machine S g} {x : Placed} {c : Code}
   ends h between = record { between = between; closed = k.closed; count = k.count; whole = k.whole; length_is = k.length_is }
 
   -- The code adds nothing.
-  pub nothing_takes : {new : Machine S g} {zs : List Placed} {ended : Bool} → kind_of c ≡ kinds.AddsNothing → LeftBy old new old.work (rested after) → new.sink ≡ old.sink → IsLive new → Takes old new (x ∷ zs) ended 1 requests.Nothing
+  pub nothing_takes : {new : Machine S g} {zs : List Placed} {ended : Bool} → kind_of c ≡ kinds.AddsNothing → LeftBy old new old.work (rested after) → new.sink ≡ old.sink → IsLive new → Takes old new (x ∷ zs) ended 1 Nothing
   nothing_takes {zs = zs} kind left same live =
       one_takes (works_on same live) left.closed (λ h behind between. nothing_leads g old.sink (ends h between) (bytes_of (zs ++ behind)) same (left_is left h) kind)
 
   -- It calls a macro.
-  pub macro_takes : {new : Machine S g} {zs : List Placed} {ended : Bool} {name : ℕ} → kind_of c ≡ kinds.Calls name → LeftBy old new old.work (rested after) → new.sink ≡ old.sink → IsLive new → Takes old new (x ∷ zs) ended 1 (requests.Call name)
+  pub macro_takes : {new : Machine S g} {zs : List Placed} {ended : Bool} {name : ℕ} → kind_of c ≡ kinds.Calls name → LeftBy old new old.work (rested after) → new.sink ≡ old.sink → IsLive new → Takes old new (x ∷ zs) ended 1 (Call name)
   macro_takes {zs = zs} kind left same live =
       one_takes (works_on same live) left.closed
       (λ h behind between. (0, refl, call_calls g old.sink (ends h between) (zs ++ behind) refl (leads_nowhere (bytes_of (x ∷ (zs ++ behind))) refl refl) kind same (left_is left h)))
@@ -255,12 +233,12 @@ module _ {S : Type 0} {g : Ghosts S} {old : Machine S g} {x : Placed} {c : Code}
 
   -- It is refused by its rule, or breaks.
   pub ruled_stops : {new : Machine S g} {zs : List Placed} {ended : Bool} {request : Request} {u : S} {fault : DrawFault} → IsRuled c request → Fails g (code_rule old.work c) old.sink u fault → TellsSink g old.sink u (draw_fault fault) → new.refusal ≡ Some (refusal (draw_fault fault) x.place) → new.sink ≡ u → Lawful g →
-      Takes old new (x ∷ zs) ended 0 requests.Stop
+      Takes old new (x ∷ zs) ended 0 Stop
   ruled_stops {zs = zs} ruled fails told is same laws =
       stop_takes is same (omega arith) told (λ h behind between over. at_byte x (zs ++ behind) refl (conveys_nothing g old.sink (with_machine h old)) (code_stops g old.sink (ends h between) ruled fails laws))
 
   -- It is an operand outside a run.
-  pub strays_takes : {new : Machine S g} {zs : List Placed} {ended : Bool} → kind_of c ≡ kinds.Strays → new.refusal ≡ Some (refusal faults.Stray x.place) → new.sink ≡ old.sink → Takes old new (x ∷ zs) ended 0 requests.Stop
+  pub strays_takes : {new : Machine S g} {zs : List Placed} {ended : Bool} → kind_of c ≡ kinds.Strays → new.refusal ≡ Some (refusal Stray x.place) → new.sink ≡ old.sink → Takes old new (x ∷ zs) ended 0 Stop
   strays_takes {zs = zs} kind is same =
       stop_takes is same (omega arith) (own_tells g old.sink (λ own. cc))
       (λ h behind between over. at_byte x (zs ++ behind) refl (conveys_nothing g old.sink (with_machine h old)) (strays_stops g old.sink (ends h between) kind))
@@ -310,7 +288,7 @@ module _ {S : Type 0} {g : Ghosts S} {old : Machine S g} {c : Code} {after : Cod
   alone_nothing {new} {ended} left same kind live = record {
     within = (omega arith, alone_within);
     closed = left.closed ∙ sym k.closed;
-    by = lexes_alone (λ xs. Takes old new xs ended 1 requests.Nothing) (λ x ys lexes. nothing_takes lexes kind left same live);
+    by = lexes_alone (λ xs. Takes old new xs ended 1 Nothing) (λ x ys lexes. nothing_takes lexes kind left same live);
   }
 
   -- It acts.
@@ -318,7 +296,7 @@ module _ {S : Type 0} {g : Ghosts S} {old : Machine S g} {c : Code} {after : Cod
   alone_acts {new} {ended} left kind drew live more = record {
     within = (omega arith, alone_within);
     closed = left.closed ∙ sym k.closed;
-    by = lexes_alone (λ xs. Takes old new xs ended 1 requests.Nothing) (λ x ys lexes. ruled_takes lexes (acts c kind refl) drew left live more);
+    by = lexes_alone (λ xs. Takes old new xs ended 1 Nothing) (λ x ys lexes. ruled_takes lexes (acts c kind refl) drew left live more);
   }
 
   -- It is refused, or breaks.
@@ -327,7 +305,7 @@ module _ {S : Type 0} {g : Ghosts S} {old : Machine S g} {c : Code} {after : Cod
     within = (omega arith, alone_within);
     closed = closed;
     by = lexes_alone (λ xs. CodeTakes old new xs ended (outcomes.Stopped 0 (draw_fault fault) 0))
-        (λ x ys lexes kept refuses. let ruled : IsRuled c requests.Nothing = acts c kind refl in ruled_stops lexes ruled fails told refuses.is refuses.sink laws);
+        (λ x ys lexes kept refuses. let ruled : IsRuled c Nothing = acts c kind refl in ruled_stops lexes ruled fails told refuses.is refuses.sink laws);
   }
 
 -- what a fault of a sink tells of it
@@ -438,7 +416,7 @@ module _ {S : Type 0} {g : Ghosts S} (old : Machine S g) {bytes : List ℕ} {cou
           (half_leads x (bytes_of (y ∷ (zs ++ behind))) refl refl between closed (ap (codes.front old.lexer.sets) half ∙ k.waits)) refl refl rest)
       by (b ∷ c ∷ more) many = absurd (omega (arith, ap length many, k.few))
 
-  pub call_takes : IsLive old → (ended : Bool) → Takes old old xs ended count (requests.Call k.name)
+  pub call_takes : IsLive old → (ended : Bool) → Takes old old xs ended count (Call k.name)
   call_takes live ended = record {
     within = omega (arith, k.counted, ap length all, length-append k.before (k.name ∷ k.behind), length-map xs (λ (x : Placed). x.byte));
     leaves = record { live = live; clear = λ clear. clear };

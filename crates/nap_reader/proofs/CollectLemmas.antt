@@ -1,30 +1,9 @@
-use Rattle.std.proofs.Common.{◌+◌, ◌++◌, ◌<◌, Bool, Err, List, None, Option, Result, Some, [], ap, append-nil, append_assoc, arith, false, get_or, inl, inr, length, length-append, refl, subst, sym, take, true, ◌||◌, ℕ, ◌∙◌, ◌≡◌, ◌≢◌, ◌≤◌, ◌⊎◌}
-use Rattle.std.proofs.Math.Bool.{or-false}
-use Rattle.std.specs.Prelude.{slice_index}
-use Rattle.std.specs.Io.KnownBytes.{Consumes}
-use Rattle.nap_reader.specs.Below.{Ghosts}
-use Rattle.nap_reader.proofs.Common.{Reader, Refusal, Stands, StopsAt, StopsBy, begun, budget_of, cause_of, left_of, refusal_of, sink_of}
+use Rattle.nap_reader.proofs.Common.{Answers, AnswersBy, Bool, BreaksAmong, BreaksWithin, Cause, Consumes, EndsBy, Entry, Err, Fault, FeedFault, Feeds, Ghosts, IsCutOff, IsReadOut, IsReadWhole, LacksMemoryFor, LacksWithin, List, None, NoneFailed, Option, Outcome, Reader, Reading, Refusal, RefusedBy, Result, Some, Stands, StopsAt, StopsBy, StopsInLast, WantsSome, [], ap, append-nil, append_assoc, arith, begun, budget_of, cause_of, device, ended_by, false, get_or, get_or_append_left, inl, inr, left_of, length, length-append, means, memory, or-false, reading, reads_limit, refl, refusal_of, sink_of, slice_index, stream, subst, sym, take, take-append-le, true, ℕ, ◌++◌, ◌+◌, ◌<◌, ◌||◌, ◌∙◌, ◌≡◌, ◌≢◌, ◌≤◌, ◌⊎◌}
 use Rattle.nap_list.specs.declared.device.inlet.Inlet as inlet
-use Rattle.nap_list.specs.Reading.{IsCutOff, IsReadWhole, NoneFailed, Reading, reading}
-use Rattle.nap_reader.specs.declared.feeding.FeedFault.{FeedFault}
 use Rattle.nap_reader.specs.declared.feeding.FeedFault.TheVariants as feed_fault
-use Rattle.nap_reader.specs.Feeding.{EndsBy, Feeds, StopsInLast}
-use Rattle.nap_reader.specs.Standing.{Answers, AnswersBy, Stands, StopsBy, budget_of, left_of, refusal_of, sink_of}
-use Rattle.std.proofs.lemmas.List.{get_or_append_left, take-append-le}
-use Rattle.nap_draw.specs.Draws.{Cause, device, memory, stream}
-use Rattle.nap_list.specs.Limits.{reads_limit}
-use Rattle.nap_list.specs.declared.entry.Entry.{Entry}
-use Rattle.nap_list.specs.declared.sink.Sink.{Ghosts}
-use Rattle.nap_reader.specs.declared.fault.Fault.{Fault}
 use Rattle.nap_reader.specs.declared.fault.Fault.TheVariants as fault
-use Rattle.nap_reader.specs.declared.fault.Refusal.{Refusal}
-use Rattle.nap_reader.specs.declared.reader.Reader.{Reader}
-use Rattle.nap_reader.specs.Breaking.{BreaksWithin, LacksWithin, cause_of}
-use Rattle.nap_reader.specs.Laws.{BreaksAmong, WantsSome}
-use Rattle.nap_reader.specs.Stream.{Outcome, begun, ended_by, means}
 use Rattle.nap_reader.proofs.PublicLaws.{begun_comes_first, fed_breaks_among, more_bytes_keep_refusal}
 use Rattle.nap_reader.specs.declared.collect.ReadFault.{ReadFault}
-use Rattle.nap_reader.specs.Collecting.{IsReadOut, LacksMemoryFor, RefusedBy}
 
 -- a call that doesn't fail leaves the flag
 pub flag_stays : (first before after : Bool) → before ≡ first → after ≡ (before || false) → after ≡ first

@@ -1,14 +1,5 @@
-use Rattle.std.proofs.Common.{◌*◌, ◌+◌, ◌++◌, ◌-◌, ◌<◌, All, Err, List, None, Ok, OnErr, OnOk, Result, Some, [], ap, append-nil, append_assoc, ap₂, arith, drop, get_or, inl, inr, length, length-append, length-drop, length-take, map, refl, set, subst, suc, sym, take, zero, ℕ, ◌∙◌, ◌∷◌, ◌≡◌, ◌≢◌, ◌≤◌, ◌⊎◌}
-use Rattle.std.proofs.lemmas.List.{drop-append-le, drop-drop, drop-map, drop_all, drop_at, drop_more, length-drop, length-map, length-take-le, map-append, map-set, nil_from_length, take-append-drop, take-append-le, take-map, take-take, take_all}
-use Rattle.std.proofs.Math.ListN.{drop_of_length-le}
-use Rattle.std.proofs.lemmas.List.Elements.{All-append, All-cons, All-head, All-nil, All-pop, All-tail}
-use Rattle.nap_reader.specs.declared.store.Span.{Span}
-use Rattle.nap_reader.specs.Stored.{IsBefore, StoreState, closed, grown, part, part_at, shown}
-use Rattle.std.proofs.Math.Seq.{drop-append_seam, get_or-append_seam, take-add, take-append_seam}
-use Rattle.nap_reader.proofs.Common.{Came, CanAdvance, Comes, Frame, FramesIn, Innermost, Input, IsFrame, IsNextByte, Passed, Placed, StoreState, all_at, behind, bytes_of, coming, grown, of_body, of_piece, part, place_at, placed_at, placed_from, spaced, store_limit, unread, unread_of}
-use Rattle.nap_reader.specs.Framed.{frame_bytes}
+use Rattle.nap_reader.proofs.Common.{All, All-append, All-cons, All-head, All-nil, All-pop, All-tail, Came, CanAdvance, Comes, Err, Frame, FramesIn, Innermost, Input, IsBefore, IsFrame, IsNextByte, List, None, Ok, OnErr, OnOk, Passed, Placed, Result, Some, Span, StoreState, [], all_at, ap, append-nil, append_assoc, ap₂, arith, behind, bytes_of, closed, coming, drop, drop-append-le, drop-append_seam, drop-drop, drop-map, drop_all, drop_at, drop_more, drop_of_length-le, frame_bytes, get_or, get_or-append_seam, grown, inl, inr, length, length-append, length-drop, length-map, length-take, length-take-le, map, map-append, map-set, nil_from_length, of_body, of_piece, part, part_at, place_at, placed_at, placed_from, refl, set, shown, slice_get, spaced, store_limit, subst, suc, sym, take, take-add, take-append-drop, take-append-le, take-append_seam, take-map, take-take, take_all, unread, unread_of, zero, ℕ, ◌*◌, ◌++◌, ◌+◌, ◌-◌, ◌<◌, ◌∙◌, ◌∷◌, ◌≡◌, ◌≢◌, ◌≤◌, ◌⊎◌}
 use Rattle.nap_reader.proofs.StreamLemmas.{bytes_of-all_at, bytes_of-append, length-all_at, placed_from-append}
-use Rattle.std.specs.Prelude.{slice_get}
 
 -- a part stays where the list grows
 pub part-grown : (bytes more : List ℕ) (start end : ℕ) → start ≤ end → end ≤ length bytes → part (bytes ++ more) start end ≡ part bytes start end

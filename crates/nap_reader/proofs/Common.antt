@@ -1,30 +1,60 @@
--- The names that most proofs cite, passed on from one place. Declares nothing.
-pub use Rattle.nap_reader.specs.Bodies.{BodyFront, Mode, between, body_of, ends_body, in_body, no_names, store_limit}
-unfoldable pub use Rattle.nap_reader.specs.Bodies.{body_front}
-pub use Rattle.nap_reader.specs.Breaking.{BreaksAt, BreaksBetween, BreaksFrom, BreaksInRun, TookFront, TookPart, cause_of, closed_by}
-pub use Rattle.nap_reader.specs.Carried.{AllCharacters}
-pub use Rattle.nap_reader.specs.Coming.{Advances, CanAdvance, CannotShow, Counts, IsNext, IsNextByte, Passed, Reads, Sets, Shows, coming}
-pub use Rattle.nap_reader.specs.Course.{Lessens, continue, continue_by, onward, paused, prepend}
-unfoldable pub use Rattle.nap_reader.specs.Course.{go, outcome}
-pub use Rattle.nap_reader.specs.Faults.{code_fault, draw_fault}
-pub use Rattle.nap_reader.specs.Framed.{Comes, FramesIn, Innermost, IsFrame, behind, placed_at, unread}
-unfoldable pub use Rattle.nap_reader.specs.Framed.{spaced}
-pub use Rattle.nap_reader.specs.Holding.{BreaksInBody, BreaksSome, Continues, ContinuesPast, Holding, IsHeld, IsHeldIn, IsOpenBody, IsOpenRun, IsOwn, IsRefused, RunAt, held_by, holding_of, run_by, unread_of}
+-- The names that proofs cite, passed on from one place. Declares nothing.
+pub use Rattle.std.proofs.Common.{All, Bool, Err, Fits, IfErr, IsSome, List, MatchOption, MatchResult, None, Ok, OnErr, OnOk, Option, Result, Some, [], ap, append-nil, append_assoc, ap₂, arith, cond, drop, eq-eqb, eqb, false, get_or, if◌then◌else◌, inl, inr, is_err, is_ok, is_some, leb, length, length-append, length-take, ltb, map, nat_lt, not, refl, replicate, rules, set, slice_index_or, subst, suc, sym, take, take-add, true, w8, zero, ℕ, ◌%◌, ◌&&◌, ◌*◌, ◌++◌, ◌+◌, ◌-◌, ◌<◌, ◌^◌, ◌||◌, ◌∙◌, ◌∷◌, ◌≡◌, ◌≢◌, ◌≤◌, ◌⊎◌}
+pub use Rattle.std.proofs.KnownBytes.{Consumes-kept, Consumes-nil, Consumes-trans}
+pub use Rattle.std.proofs.Math.Bool.{or-false, or-true}
+pub use Rattle.std.proofs.Math.ListN.{drop_of_length-le}
+pub use Rattle.std.proofs.Math.Seq.{drop-append_seam, get_or-append_seam, take-append-add, take-append_seam}
+pub use Rattle.std.proofs.lemmas.Bool.{and_parts, cond-false, cond-true, eqb-false, eqb-true, false≢true, le-leb, le-ltb, leb-false, leb-true, lt-leb, lt-ltb, ltb-false, ltb-true, ne_eqb}
+pub use Rattle.std.proofs.lemmas.Bool.Decides.{nat_tests}
+pub use Rattle.std.proofs.lemmas.List.{drop-append-le, drop-drop, drop-map, drop_all, drop_at, drop_more, get_or-append-add, get_or-drop, get_or-take, get_or_append_left, length-drop, length-map, length-take-le, map-append, map-set, nil_from_length, take-append-drop, take-append-le, take-map, take-take, take_all, take_at, take_more}
+pub use Rattle.std.proofs.lemmas.List.Elements.{All-append, All-cons, All-head, All-map, All-nil, All-pop, All-replicate, All-tail}
+pub use Rattle.std.proofs.lemmas.List.Folds.{length-prefix_len, prefix_len-append}
+pub use Rattle.std.proofs.lemmas.List.Sums.{prefix_len-drop_yes, prefix_len-le-length, prefix_len_passes, prefix_len_stops}
+pub use Rattle.std.proofs.lemmas.Result.{err_from_is_err_and}
+pub use Rattle.std.specs.Io.KnownBytes.{Consumes}
+pub use Rattle.std.specs.List.{prefix_len}
+pub use Rattle.std.specs.Prelude.{IfSome, IsTrue, slice_get, slice_index, ⊤}
+pub use Rattle.nap_codes.proofs.PublicLaws.{code_ranges, format_effector_front, one_byte_opcode, refused_index, refused_stays, whole_is_spelled, whole_length, whole_stays}
+pub use Rattle.nap_codes.specs.CodeSets.{start_sets}
+pub use Rattle.nap_codes.specs.Laws.{IsInRange}
+pub use Rattle.nap_codes.specs.Lexer.{Steps}
+unfoldable pub use Rattle.nap_codes.specs.Tables.{control1_rows, mask_rows, opcode_rows, set_rows}
+pub use Rattle.nap_codes.specs.declared.code.Step.{Step}
+pub use Rattle.nap_codes.specs.declared.code_set.CodeSet.TheVariants.{Macros}
+pub use Rattle.nap_draw.proofs.PublicLaws.{code_fits, code_values_are_in_range, drawn_values_are_in_range, opcodes_are_drawn, rule_fits, typed_rule}
+pub use Rattle.nap_draw.specs.Acts.{Acts, GivesSome, WantsBy, told}
+pub use Rattle.nap_draw.specs.Codes.{IsMade, code_as, typed_code}
+unfoldable pub use Rattle.nap_draw.specs.Codes.{text}
+pub use Rattle.nap_draw.specs.Rule.{drawn}
+pub use Rattle.nap_list.specs.Batches.{listed, typed}
+pub use Rattle.nap_list.specs.Limits.{reads_limit}
+pub use Rattle.nap_list.specs.Putting.{Put, PutSome, SinkShows, Tells}
+pub use Rattle.nap_list.specs.Reading.{IsCutOff, IsReadWhole, NoneFailed, Reading, reading}
+pub use Rattle.nap_list.specs.State.{Legal, after, hand_of, start}
+unfoldable pub use Rattle.nap_list.specs.State.{AllFit}
+pub use Rattle.nap_list.specs.declared.state.State.{State}
+pub use Rattle.nap_values.specs.Laws.{IsOperandByte, IsWord}
+pub use lib.Count.{count_trailing_zeros}
+pub use Rattle.nap_reader.specs.Carried.{AllCharacters, HasName, NoCharacters}
+pub use Rattle.nap_reader.specs.Collecting.{Collects, CountsAll, IsCount, IsReadOut, LacksMemoryFor, RefusedBy}
+pub use Rattle.nap_reader.specs.Coming.{Advances, CanAdvance, CannotShow, Counts, IsNext, IsNextByte, Keeps, Passed, Reads, Sets, Shows, StillComes, coming}
+pub use Rattle.nap_reader.specs.Counting.{Counting, GrowsBy, Took, counting, grows_none}
+pub use Rattle.nap_reader.specs.Feeding.{EndsBy, FailsBy, Feeds, StopsInLast}
 pub use Rattle.nap_reader.specs.Kinds.{kind_of}
-pub use Rattle.nap_reader.specs.Pieces.{GoesOn, LeadsTo, Reaches}
+pub use Rattle.nap_reader.specs.Laws.{AcceptedIsLegal, BegunComesFirst, BreaksAmong, CodeActs, EndBreaksAmong, FedBreaksAmong, FrontAfterFront, IsAlone, IsRun, MoreBytesKeepEntries, MoreBytesKeepRefusal, PiecesAgree, ReadValuesAreInRange, RunActs, RunWaits, WantsSome, in_pieces, joined}
+pub use Rattle.nap_reader.specs.Pieces.{Amid, Goes, GoesOn, LeadsTo, Reaches, ReadsPiece, ReadsTo, RefusesPiece, StopsFrom, StopsPiece, TakesPiece, Turn}
 pub use Rattle.nap_reader.specs.Prefix.{is_from, is_of_body, is_of_text}
-pub use Rattle.nap_reader.specs.Standing.{IsBroken, Stands, StopsAt, StopsBy, budget_of, fed_of, left_of, refusal_of, sink_of}
-pub use Rattle.nap_reader.specs.Steps.{Acted, ActsRun, Breaks, Calls, Came, Codes, Conveys, IsLive, IsOpcodeByte, IsOver, IsWholeRun, LeadsOn, Leaves, Passes, Refuses, StaysInText, Stops, StopsByte, StopsRun, StopsText, Takes, TakesBy, Works, ahead, as_it_was, asked, asks_if, at_byte, at_word, bound, in_code, in_text, of_body, of_piece, with_machine}
-pub use Rattle.nap_reader.specs.Stored.{IsBefore, StoreState, closed, grown, part}
-pub use Rattle.nap_reader.specs.Stream.{Front, Machine, Outcome, Placed, Unfinished, after_body, after_drawing, all_at, begun, body_front_by, bound_front, bytes_of, charged, closed_front, code_front, drawn_front, ended_by, front_by, front_in, half_read, is_operand, is_operand_byte, means, nothing, opcode_front, open_body, open_run, outcome_from, place_at, refusal, run_length, shown_front, start_machine, with_code, with_definition, with_drawn, with_end, with_run, with_run_by, words_of}
-unfoldable pub use Rattle.nap_reader.specs.Stream.{front, placed_from}
-pub use Rattle.nap_reader.specs.declared.body.OpenBody.{OpenBody}
-pub use Rattle.nap_reader.specs.declared.fault.Fault.{Fault}
-pub use Rattle.nap_reader.specs.declared.fault.Refusal.{Refusal}
+pub use Rattle.nap_reader.specs.Standing.{Answers, AnswersBy, IsBroken, IsKnown, IsTaken, Stands, StopsAt, StopsBy, budget_of, fed_of, left_of, refusal_of, sink_of}
+pub use Rattle.nap_reader.specs.Steps.{Acted, ActsRun, AreCharacters, Binds, Breaks, BreaksCode, Calls, CallsBy, Came, CodeTakes, Codes, Conveys, Executes, FailsRun, IsLive, IsOpcodeByte, IsOver, IsText, IsWholeRun, Latches, LeadsOn, Leaves, Passes, Progresses, Refuses, Stops, StopsByte, StopsRun, StopsText, Takes, TakesBy, TellsSink, Works, ahead, as_it_was, asked, asks_if, at_byte, at_word, behind_run, bound, in_body as breaks_in_body, in_code, in_run, in_text, of_body, of_piece, with_machine}
+pub use Rattle.nap_reader.specs.Stored.{IsBefore, StoreState, closed, grown, part, part_at, shown}
+pub use Rattle.nap_reader.specs.declared.feeding.FeedFault.{FeedFault}
 pub use Rattle.nap_reader.specs.declared.frames.Frame.{Frame}
-pub use Rattle.nap_reader.specs.declared.input.Input.{Input}
 pub use Rattle.nap_reader.specs.declared.kind.Kind.{Kind}
-pub use Rattle.nap_reader.specs.declared.machine.OpenRun.{OpenRun}
 pub use Rattle.nap_reader.specs.declared.machine.Request.{Request}
-pub use Rattle.nap_reader.specs.declared.reader.Reader.{Reader}
 pub use Rattle.nap_reader.specs.declared.store.Span.{Span}
+pub use Rattle.nap_reader.specs.Below.{Cause, CharSet, Code, CodeFault, CodeSets, DrawFault, Drawn, DrawsBy, Entry, Ghosts, HaltsAfter, IsDrawn, IsGraphic, IsTyped, LexerState, Opcode, SinkFault, StepsBy, TextStep, Work, carried, code_rule, device, fault_of, format_effector, memory, rule, run_limit, set_at, shows_of, stream}
+unfoldable pub use Rattle.nap_reader.specs.Below.{control0_rows, row_of, walk}
+pub use Rattle.nap_reader.specs.Shared.{AreOfBody, AtBody, BeginsAll, BodyFront, BreaksAt, BreaksBetween, BreaksFrom, BreaksInBody, BreaksInRun, BreaksNext, BreaksPast, BreaksSome, BreaksWith, BreaksWithin, CanBreakAt, CanLackAt, ClosesInto, Comes, Continues, ContinuesPast, Ends, Fault, FramesIn, Front, Holding, Innermost, Input, IsCharged, IsFrame, IsHalf, IsHeld, IsHeldBy, IsHeldIn, IsOpenBody, IsOpenRun, IsOwn, IsRefused, LacksWithin, Lessens, Machine, Mode, OpenBody, OpenRun, Outcome, Placed, Reader, ReadsOn, Refusal, RunAt, TakesPart, TookFront, TookPart, Unfinished, WantsMemory, act, after_body, after_drawing, all_at, all_next, at_escape, begun, behind, between, body_broke, body_front_by, body_of, bound_front, bytes_of, cause_of, charged, charged_broke, closed_by, code_fault, code_front, continue, continue_by, draw_fault, drawn_front, ended, ended_by, ends_body, ends_of, frame_bytes, front_by, front_in, half_code, half_read, held_by, held_escape, holding_of, in_body, is_operand, is_operand_byte, machine_of, means, mode_of, next_broke, no_names, nothing, one_further, onward, opcode_front, open_body, open_place, open_run, outcome_from, past, pause, paused, place_at, placed_at, prepend, refusal, refuse, refused, run_broke, run_by, run_front, run_length, run_place, run_refused, shown_front, some_broke, start_machine, store_limit, stores, unfinished, unfinished_by, unfinished_of, unread, unread_of, with_code, with_definition, with_drawn, with_end, with_run, with_run_by, words_of}
+unfoldable pub use Rattle.nap_reader.specs.Shared.{body_front, front, go, outcome, placed_from, spaced}
+pub use Rattle.nap_reader.specs.declared.fault.Fault.TheVariants.{Budget, EighthBit, LongRun, Memory, Sink, Store, Stray, Unended}
+pub use Rattle.nap_reader.specs.declared.machine.Request.TheVariants.{Call, Clear, Define, Nothing, Stop}

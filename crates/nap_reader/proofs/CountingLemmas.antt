@@ -1,18 +1,7 @@
-use Rattle.std.proofs.Common.{ℕ, ◌≡◌, List, [], ◌∷◌, ◌++◌, length, length-append, Option, None, Some, Result, Ok, Err, refl, ap, sym, subst, ◌∙◌, inl, inr, arith}
+use Rattle.nap_reader.proofs.Common.{Cause, Collects, Counting, CountsAll, Entry, Err, Ghosts, GrowsBy, HaltsAfter, IsCount, List, None, Ok, Option, Put, PutSome, Refusal, RefusedBy, Result, SinkFault, SinkShows, Some, Tells, Took, [], ap, arith, cause_of, counting, device, grows_none, inl, inr, length, length-append, means, memory, refl, shows_of, stream, subst, sym, ℕ, ◌++◌, ◌∙◌, ◌∷◌, ◌≡◌}
 use Rattle.std.specs.Result.{IsErrAnd}
-use Rattle.nap_list.specs.declared.entry.Entry.{Entry}
 use Rattle.nap_list.specs.declared.sink.BatchFault.{BatchFault}
-use Rattle.nap_list.specs.declared.sink.Sink.{Ghosts}
-use Rattle.nap_list.specs.declared.sink.SinkFault.{SinkFault}
 use Rattle.nap_list.specs.declared.sink.SinkFault.TheVariants as faults
-use Rattle.nap_list.specs.Putting.{HaltsAfter, Put, PutSome, SinkShows, Tells}
-use Rattle.nap_list.specs.Shown.{shows_of}
-use Rattle.nap_draw.specs.Draws.{Cause, stream, memory, device}
-use Rattle.nap_reader.specs.declared.fault.Refusal.{Refusal}
-use Rattle.nap_reader.specs.Breaking.{cause_of}
-use Rattle.nap_reader.specs.Stream.{means}
-use Rattle.nap_reader.specs.Collecting.{Collects, CountsAll, IsCount, RefusedBy}
-use Rattle.nap_reader.specs.Counting.{Counting, GrowsBy, Took, counting, grows_none}
 
 -- A sink that counts what another one takes.
 

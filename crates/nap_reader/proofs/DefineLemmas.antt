@@ -1,30 +1,10 @@
-use Rattle.std.proofs.Common.{◌*◌, ◌+◌, ◌++◌, ◌-◌, ◌<◌, All, Bool, IsSome, List, None, Option, Some, [], ap, append_assoc, ap₂, arith, drop, eq-eqb, eqb, false, get_or, length, length-append, ltb, not, refl, subst, sym, take, true, ℕ, ◌∙◌, ◌∷◌, ◌≡◌, ◌≢◌, ◌≤◌, ◌⊎◌}
-use Rattle.std.specs.List.{prefix_len}
-use Rattle.std.proofs.lemmas.Bool.{and_parts, lt-ltb, ltb-true, ne_eqb}
-use Rattle.std.proofs.lemmas.List.{drop-append-le, get_or-take, length-map, length-take-le, take-map}
-use Rattle.std.proofs.lemmas.List.Elements.{All-head, All-map, All-tail}
-use Rattle.std.proofs.lemmas.List.Sums.{prefix_len-le-length, prefix_len_passes}
-use Rattle.nap_reader.specs.Below.{Entry, Ghosts, memory}
-use Rattle.nap_reader.proofs.Common.{Advances, Breaks, BreaksInBody, Came, CanAdvance, CannotShow, Comes, Continues, ContinuesPast, Conveys, Counts, Fault, GoesOn, Holding, Input, IsHeld, IsLive, IsNext, IsNextByte, LeadsOn, OpenBody, Outcome, Passes, Placed, Reads, RunAt, Sets, Shows, Stops, StopsByte, StoreState, Works, after_body, all_at, as_it_was, at_byte, bound, bytes_of, charged, closed, coming, ends_body, fed_of, front, grown, held_by, in_body, is_of_body, placed_at, refusal, shown_front, spaced, store_limit, unread, unread_of}
-use Rattle.nap_reader.specs.declared.fault.Fault.TheVariants as faults
+use Rattle.nap_reader.proofs.Common.{Advances, All, All-head, All-map, All-tail, Binds, Bool, BreaksInBody, Came, CanAdvance, CannotShow, Comes, Continues, ContinuesPast, Conveys, Counts, Entry, Fault, Ghosts, Goes, GoesOn, Holding, Input, IsHeld, IsLive, IsNext, IsNextByte, IsSome, Keeps, LeadsOn, List, Memory, None, OpenBody, Option, Outcome, Passes, Placed, Reads, ReadsOn, RunAt, Sets, Shows, Sink, Some, Step, Steps, Stops, StopsByte, Store, StoreState, Works, [], after_body, all_at, and_parts, ap, append_assoc, ap₂, arith, as_it_was, at_byte, body_broke, bound, breaks_in_body, bytes_of, charged, closed, coming, drop, drop-append-le, ends_body, eq-eqb, eqb, false, fed_of, front, get_or, get_or-take, grown, held_by, in_body, is_of_body, length, length-append, length-map, length-take-le, lt-ltb, ltb, ltb-true, memory, ne_eqb, next_broke, not, placed_at, prefix_len, prefix_len-le-length, prefix_len_passes, refl, refusal, shown_front, spaced, store_limit, subst, sym, take, take-map, true, unread, unread_of, ℕ, ◌*◌, ◌++◌, ◌+◌, ◌-◌, ◌<◌, ◌∙◌, ◌∷◌, ◌≡◌, ◌≢◌, ◌≤◌, ◌⊎◌}
+use Rattle.nap_reader.proofs.Base.{IsPlain, TookMore, body_charged, body_over, body_shows, byte-spaced, byte_comes, byte_full, byte_kept, came_coming, can_pass, cannot_stops, conveys_nothing, escape_full, escape_held, escape_kept, escape_steps, escape_unrefused, escape_waits, leads_shown, leads_unrefused, length-all_at, length-spaced, reads_on, stops_own, taken_next, text_next, unread-grown, wants_from, wants_next}
 use Rattle.nap_reader.specs.declared.machine.Machine.{Machine}
-use Rattle.nap_reader.specs.Steps.{Binds, in_body as breaks_in_body}
-use Rattle.nap_reader.specs.Holding.{ReadsOn, body_broke, next_broke}
 use Rattle.nap_reader.specs.Stream as model
-use Rattle.nap_reader.proofs.PartLemmas.{wants_from, wants_next}
-use Rattle.nap_reader.specs.Pieces.{Goes}
 use Rattle.nap_reader.proofs.FurtherLemmas.{came_same, comes_grown, coming_bytes, counts_passed, counts_still, counts_then, goes_by, held_parts, held_sets, next_same, passed_come, passed_none, reads_at, reads_still, same_comes, sets_then}
-use Rattle.nap_reader.proofs.ReadingLemmas.{TookMore, leads_shown, leads_unrefused}
-use Rattle.nap_reader.proofs.OpenBodyLemmas.{IsPlain, body_charged, body_over, body_shows, byte_full, byte_kept, escape_full, escape_held, escape_kept, escape_unrefused, reads_on}
-use Rattle.nap_reader.proofs.StepLemmas.{cannot_stops, conveys_nothing, stops_own}
-use Rattle.nap_reader.specs.Coming.{Keeps}
-use Rattle.nap_reader.proofs.ComingLemmas.{byte_comes, came_coming, can_pass, length-spaced, taken_next, text_next, unread-grown, byte-spaced}
-use Rattle.nap_codes.specs.declared.code.Step.{Step}
-use Rattle.nap_codes.specs.Lexer.{Steps}
 use Rattle.nap_reader.proofs.TakingLemmas.{held_is}
 use Rattle.nap_reader.proofs.PieceLemmas.{reaches_called}
-use Rattle.nap_reader.proofs.StreamLemmas.{length-all_at}
-use Rattle.nap_reader.proofs.SpelledLemmas.{escape_steps, escape_waits}
 
 -- Bytes of a body that is being defined.
 
@@ -81,14 +61,13 @@ leads_still g t h h' xs next some left run passes = record {
     none = λ none. absurd (omega (arith, some, ap length none));
   };
   acted = as_it_was refl refl;
-  typed = λ set rested chars. (refl, refl);
 }
 
 -- What stops there.
 
 -- memory is wanting in a body
 pub stops_body : {S : Type 0} (g : Ghosts S) (t : S) (h : Holding) (x : Placed) (b : OpenBody) → h.open_body ≡ Some b → ((s : S) (known : List Entry) (o : Outcome) → ContinuesPast g s known o t h (x ∷ []) → BreaksInBody g s known o t h.machine.left memory) →
-    StopsByte g t h x t (refusal faults.Memory x.place)
+    StopsByte g t h x t (refusal Memory x.place)
 stops_body g t h x b opened part = record {
   own = λ own. let bad : ⊥ = cc in absurd bad;
   broke = λ broke. breaks_in_body (record { body = b; is = opened; place = refl; part = part });
@@ -96,16 +75,16 @@ stops_body g t h x b opened part = record {
 
 -- Bytes of a body, no more than it has room for, and another for which it has none.
 module _ {S : Type 0} (g : Ghosts S) (t : S) (h : Holding) {b : OpenBody} (opened : h.open_body ≡ Some b) (none : b.escape ≡ None) where
-  pub byte_lacks : (x : Placed) → IsPlain x.byte → store_limit - h.machine.stored - length h.body ≢ 0 → StopsByte g t h x t (refusal faults.Memory x.place)
+  pub byte_lacks : (x : Placed) → IsPlain x.byte → store_limit - h.machine.stored - length h.body ≢ 0 → StopsByte g t h x t (refusal Memory x.place)
   byte_lacks x plain some =
       stops_body g t h x b opened
       (λ s known o k.
       next_broke (wants_next k (leads_unrefused (byte_kept (reads_on opened k.continues none) plain some))))
 
-  pub bytes_fill : (xs : List Placed) (x : Placed) → All IsPlain (bytes_of xs) → IsPlain x.byte → h.machine.stored + length h.body + length xs ≡ store_limit → (c : Conveys g t h xs) × StopsByte g c.sink c.holding x t (refusal faults.Store x.place)
+  pub bytes_fill : (xs : List Placed) (x : Placed) → All IsPlain (bytes_of xs) → IsPlain x.byte → h.machine.stored + length h.body + length xs ≡ store_limit → (c : Conveys g t h xs) × StopsByte g c.sink c.holding x t (refusal Store x.place)
   bytes_fill [] x plain last full = (
     conveys_nothing g t h,
-    stops_own g t h x t (refusal faults.Store x.place) refl (λ s o pending k. byte_full (reads_on opened k none) last (omega (arith, full))),
+    stops_own g t h x t (refusal Store x.place) refl (λ s o pending k. byte_full (reads_on opened k none) last (omega (arith, full))),
   )
   bytes_fill (y ∷ ys) x plain last full =
       let h' = held_at h b None (h.body ++ bytes_of (y ∷ ys)) in
@@ -118,7 +97,7 @@ module _ {S : Type 0} (g : Ghosts S) (t : S) (h : Holding) {b : OpenBody} (opene
           passes = first_kept g t y ys h b opened none plain (omega (arith, full));
           none = λ gone. let bad : ⊥ = cc in absurd bad;
         },
-        stops_own g t h' x t (refusal faults.Store x.place) refl
+        stops_own g t h' x t (refusal Store x.place) refl
             (λ s o pending k.
             byte_full (reads_on {b = body} refl k refl) last (omega (arith, full, length-append h.body (bytes_of (y ∷ ys)), length-map (y ∷ ys) (λ (z : Placed). z.byte)))),
       )
@@ -153,10 +132,10 @@ behind_escape {input} {piece} {b} {byte} {place} {ending} opened some next ends 
     by (Some escape) held some = record { opened = opened; escape = escape; held = held; next = next; ends = ends }
 
 -- two faults that aren't the sink's
-pub store_other : faults.Store ≢ faults.Sink
+pub store_other : Store ≢ Sink
 store_other is = cc
 
-pub memory_other : faults.Memory ≢ faults.Sink
+pub memory_other : Memory ≢ Sink
 memory_other is = cc
 
 -- What an input keeps of the body that is being defined.
@@ -221,7 +200,7 @@ module _ {S : Type 0} {g : Ghosts S} (m : Machine S g) {input : Input} {piece : 
 
     -- The body has no room for the one with this index.
     pub body_fills : (room : ℕ) → room < prefix_len is_of_body text → input.store.stored + length input.store.body + room ≡ store_limit →
-        Stops g m.sink h (coming input piece) (length text) room m.sink (refusal faults.Store (first + step * room))
+        Stops g m.sink h (coming input piece) (length text) room m.sink (refusal Store (first + step * room))
     body_fills room less full =
         let within = prefix_len-le-length is_of_body text in
         let few : room < length text = omega (arith, less, within) in
@@ -272,8 +251,8 @@ module _ {S : Type 0} {g : Ghosts S} (m : Machine S g) {input : Input} {piece : 
   room = store_limit - input.store.stored - length input.store.body
 
   -- no room for the ESC
-  pub escape_fills : room ≡ 0 → StopsByte g m.sink hold x m.sink (refusal faults.Store behind.escape)
-  escape_fills full = stops_own g m.sink hold x m.sink (refusal faults.Store behind.escape) refl (λ s o pending k. escape_full behind.opened k behind.held low behind.ends full)
+  pub escape_fills : room ≡ 0 → StopsByte g m.sink hold x m.sink (refusal Store behind.escape)
+  escape_fills full = stops_own g m.sink hold x m.sink (refusal Store behind.escape) refl (λ s o pending k. escape_full behind.opened k behind.held low behind.ends full)
 
   -- the ESC is of the body
   abbrev hold' : Holding
@@ -283,13 +262,13 @@ module _ {S : Type 0} {g : Ghosts S} (m : Machine S g) {input : Input} {piece : 
   escape_is_kept some s o pending k = escape_kept behind.opened k behind.held low behind.ends some
 
   -- no room for the byte
-  pub byte_fills : room ≡ 1 → byte ≢ 27 → StopsByte g m.sink hold x m.sink (refusal faults.Store place)
+  pub byte_fills : room ≡ 1 → byte ≢ 27 → StopsByte g m.sink hold x m.sink (refusal Store place)
   byte_fills one plain =
-      stops_own g m.sink hold x m.sink (refusal faults.Store place) refl
+      stops_own g m.sink hold x m.sink (refusal Store place) refl
       (λ s o pending k. byte_full (escape_is_kept (omega (arith, one)) s o pending k) (record { low = low; other = plain }) (omega (arith, one, length-append input.store.body (27 ∷ []))))
 
   -- no memory
-  pub both_lack : room ≢ 0 → (byte ≡ 27) ⊎ (room ≢ 1) → StopsByte g m.sink hold x m.sink (refusal faults.Memory place)
+  pub both_lack : room ≢ 0 → (byte ≡ 27) ⊎ (room ≢ 1) → StopsByte g m.sink hold x m.sink (refusal Memory place)
   both_lack some two =
       stops_body g m.sink hold x b behind.opened
       (λ s known o k. next_broke (wants_next k (escape_unrefused behind.opened k.continues behind.held low behind.ends some two)))
@@ -389,7 +368,6 @@ module _ {S : Type 0} {g : Ghosts S} (m : Machine S g) {input : Input} {piece : 
         leads = subst (λ (t : S). LeadsOn g m.sink held_end t (held_by m' after) [] (bytes_of (unread_of after) ++ drop after.at piece)) (sym sink) (record {
           conveys = conveys_nothing g m.sink held_end;
           acted = bound byte (bytes_of ending.next.rest) still ending.ends refl binds;
-          typed = λ set rested chars. absurd (binds.waits rested);
         });
       })
 

@@ -1,24 +1,9 @@
-use Rattle.std.proofs.Common.{◌*◌, ◌+◌, ◌++◌, ◌-◌, ◌<◌, Bool, Err, IsSome, List, MatchResult, None, Ok, OnOk, Option, Result, Some, [], ◌^◌, ap, append-nil, ap₂, arith, drop, false, inl, inr, is_some, length, length-append, refl, subst, sym, take, true, ℕ, ◌∙◌, ◌∷◌, ◌≡◌, ◌≢◌, ◌≤◌, ◌⊎◌}
-use Rattle.std.proofs.lemmas.List.{drop-drop, drop_at, length-drop, length-take-le, nil_from_length, take-append-drop, take_all}
-use Rattle.nap_reader.specs.Below.{Ghosts}
-use Rattle.nap_reader.proofs.Common.{Acted, Advances, Calls, Came, CanAdvance, CannotShow, Comes, Continues, Counts, Fault, Frame, GoesOn, Holding, Input, IsHeld, IsLive, IsNext, IsNextByte, IsOver, LeadsOn, Leaves, OpenBody, Outcome, Passed, Passes, Placed, Reaches, Reader, Reads, Refusal, Request, Sets, Shows, Stops, StopsAt, StopsByte, StoreState, Takes, TakesBy, Works, ahead, all_at, as_it_was, asked, at_byte, begun, behind, body_of, bound, budget_of, bytes_of, charged, coming, fed_of, front, held_by, holding_of, in_code, in_text, place_at, placed_at, placed_from, refusal, refusal_of, shown_front, sink_of, spaced, unread, unread_of}
-use Rattle.nap_reader.specs.declared.fault.Fault.TheVariants as faults
+use Rattle.nap_reader.proofs.Common.{Acted, Advances, All-map, Bool, Budget, Call, Calls, Came, CanAdvance, CannotShow, Clear, Comes, Continues, Counts, Define, Err, Fault, Frame, Ghosts, Goes, GoesOn, Holding, Input, IsHeld, IsLive, IsNext, IsNextByte, IsOver, IsSome, Latches, LeadsOn, Leaves, List, MatchResult, Memory, None, Nothing, Ok, OnOk, OpenBody, Option, Outcome, Passed, Passes, Placed, Reaches, Reader, Reads, ReadsPiece, ReadsTo, Refusal, RefusesPiece, Request, Result, Sets, Shows, Sink, Some, StillComes, Stop, Stops, StopsAt, StopsByte, StopsFrom, StopsPiece, StoreState, Takes, TakesBy, TakesPiece, Turn, Works, [], ahead, all_at, all_next, ap, append-nil, ap₂, arith, as_it_was, asked, at_byte, begun, behind, body_of, bound, budget_of, bytes_of, charged, coming, drop, drop-drop, drop_at, false, fed_of, front, held_by, holding_of, in_code, in_text, inl, inr, is_some, length, length-append, length-drop, length-take-le, machine_of, mode_of, nil_from_length, place_at, placed_at, placed_from, refl, refusal, refusal_of, shown_front, sink_of, spaced, subst, sym, take, take-append-drop, take_all, true, unread, unread_of, ℕ, ◌*◌, ◌++◌, ◌+◌, ◌-◌, ◌<◌, ◌^◌, ◌∙◌, ◌∷◌, ◌≡◌, ◌≢◌, ◌≤◌, ◌⊎◌}
+use Rattle.nap_reader.proofs.Base.{Lawful, TookMore, byte_comes, bytes_of-append, bytes_of-placed, bytes_of-spaced, call_breaks, came_coming, came_next, came_take, came_within, can_pass, cannot_stops, comes_still, conveys_nothing, fits, frames-unread, holds_nothing, is_between, is_half, leads_shown, length-all_at, length-placed, length-spaced, passed_rest, passed_to, place_at-append, place_at-spaced, stands_behind_stop, stands_by, text_next}
 use Rattle.nap_reader.specs.declared.machine.Machine.{Machine}
-use Rattle.nap_reader.specs.Coming.{Stays, StillComes}
-use Rattle.nap_reader.specs.Holding.{machine_of, mode_of}
-use Rattle.nap_reader.specs.Pieces.{Goes, ReadsPiece, ReadsTo, RefusesPiece, StopsFrom, StopsPiece, TakesPiece, Turn}
-use Rattle.nap_reader.specs.Steps.{Latches}
-use Rattle.nap_reader.proofs.ComingLemmas.{byte_comes, bytes_of-spaced, came_coming, came_next, came_take, came_within, can_pass, comes_still, fits, frames-unread, length-placed, length-spaced, passed_rest, passed_to, place_at-spaced, text_next}
-use Rattle.nap_reader.proofs.ReadingLemmas.{Lawful, TookMore, holds_nothing, is_between, is_half, leads_shown}
+use Rattle.nap_reader.specs.Coming.{Stays}
 use Rattle.nap_reader.proofs.PieceLemmas.{reaches_called, reaches_on}
-use Rattle.nap_reader.proofs.StandingLemmas.{stands_behind_stop, stands_by}
-use Rattle.nap_reader.proofs.StepLemmas.{cannot_stops, conveys_nothing}
 use Rattle.nap_reader.proofs.StopLemmas.{stops_reached}
-use Rattle.nap_reader.proofs.StreamLemmas.{bytes_of-append, bytes_of-placed, length-all_at, place_at-append}
-use Rattle.std.proofs.lemmas.List.Elements.{All-map}
-use Rattle.nap_reader.specs.declared.machine.Request.TheVariants as requests
-use Rattle.nap_reader.specs.Framed.{all_next}
-use Rattle.nap_reader.proofs.PartLemmas.{call_breaks}
 use Rattle.nap_reader.proofs.TakingLemmas.{place_at-drop, stops_behind}
 
 -- How a reader comes further in a piece, and where it stops.
@@ -267,14 +252,14 @@ pub byte_passed : {input after : Input} {piece : List ℕ} {byte place : ℕ} (n
 byte_passed next passed = let slice = byte_comes next in passed_with next.reads slice.2 slice.3 passed
 
 -- why a body can't be shown isn't of the sink
-pub own_fault : {mid after : Input} {bytes : List ℕ} {fault : Fault} → CannotShow mid after bytes fault → fault ≢ faults.Sink
+pub own_fault : {mid after : Input} {bytes : List ℕ} {fault : Fault} → CannotShow mid after bytes fault → fault ≢ Sink
 own_fault {fault = fault} cannot device = elim cannot.reason [
-  | inl budget ↦ let bad : faults.Budget ≡ faults.Sink = sym budget.0 ∙ device in cc
-  | inr memory ↦ let bad : faults.Memory ≡ faults.Sink = sym memory.0 ∙ device in cc
+  | inl budget ↦ let bad : Budget ≡ Sink = sym budget.0 ∙ device in cc
+  | inr memory ↦ let bad : Memory ≡ Sink = sym memory.0 ∙ device in cc
 ]
 
 -- A refusal that isn't the sink's is kept.
-pub latches_own : {S : Type 0} {g : Ghosts S} {m m' : Machine S g} {r : Refusal} → m'.refusal ≡ Some r → m'.sink ≡ m.sink → r.fault ≢ faults.Sink → Latches m m'
+pub latches_own : {S : Type 0} {g : Ghosts S} {m m' : Machine S g} {r : Refusal} → m'.refusal ≡ Some r → m'.sink ≡ m.sink → r.fault ≢ Sink → Latches m m'
 latches_own {g = g} {r = r} is sink other = record {
   why = r;
   is = is;
@@ -312,7 +297,7 @@ stops_from {S} {g} {m} {m'} {input} {after} {piece} {many} {index} {r} laws latc
 
 -- The byte that comes next is refused, or memory is wanting for it.
 pub byte_stops : {S : Type 0} {g : Ghosts S} {m m' : Machine S g} {input after : Input} {piece : List ℕ} {many byte place : ℕ} {r : Refusal} → Lawful g → IsNextByte input piece byte place →
-    m'.refusal ≡ Some r → m'.sink ≡ m.sink → r.fault ≢ faults.Sink → PassedTo input after piece many 0 → StopsByte g m.sink (held_by m input) (placed_at byte place) m.sink r → StopsFrom piece m input m' after
+    m'.refusal ≡ Some r → m'.sink ≡ m.sink → r.fault ≢ Sink → PassedTo input after piece many 0 → StopsByte g m.sink (held_by m input) (placed_at byte place) m.sink r → StopsFrom piece m input m' after
 byte_stops {S} {g} {m} {m'} {input} {byte = byte} {place = place} {r = r} laws next is sink other passed stops =
     stops_from laws (latches_own is sink other) is passed
     (at_byte (placed_at byte place) next.rest next.is (conveys_nothing g m.sink (held_by m input)) (subst (λ (t : S). StopsByte g m.sink (held_by m input) (placed_at byte place) t r) (sym sink) stops))
@@ -372,7 +357,6 @@ module _ {S : Type 0} {g : Ghosts S} {m : Machine S g} {input begin : Input} {pi
             amid = λ some. absurd (omega (arith, some, ap (λ (frames : List Frame). length (unread old.input.store.bytes frames)) (ap (λ (i : Input). i.frames.stack.items) is_input ∙ none)));
           };
           acted = as_it_was refl refl;
-          typed = λ set rested chars. (refl, refl);
         };
       }))
 
@@ -425,8 +409,8 @@ comes_rested input piece empty =
 -- A piece that was refused, by the refusal that is kept.
 pub record IsRefusedBy {S : Type 0} {g : Ghosts S} (old new : Reader S g) (piece : List ℕ) (r : Refusal) : Type 0 where
   pub stops : (i : ℕ) × StopsAt old new piece r i
-  pub failed : r.fault ≡ faults.Sink → g.failed (sink_of new) ≡ true
-  pub kept : r.fault ≢ faults.Sink → g.failed (sink_of old) ≡ false → g.failed (sink_of new) ≡ false
+  pub failed : r.fault ≡ Sink → g.failed (sink_of new) ≡ true
+  pub kept : r.fault ≢ Sink → g.failed (sink_of old) ≡ false → g.failed (sink_of new) ≡ false
 
 pub refused_by : {S : Type 0} {g : Ghosts S} {old new : Reader S g} {piece : List ℕ} {r : Refusal} → RefusesPiece old new piece → refusal_of new ≡ Some r → IsRefusedBy old new piece r
 refused_by {S} {g} {old} {new} {piece} {r} refuses is = record {
@@ -438,7 +422,7 @@ refused_by {S} {g} {old} {new} {piece} {r} refuses is = record {
     why : refuses.why ≡ r
     why = let both : Some refuses.why ≡ Some r = sym refuses.is ∙ is in cc
 
-    by : (b : Bool) → g.failed (sink_of new) ≡ b → r.fault ≢ faults.Sink → g.failed (sink_of old) ≡ false → g.failed (sink_of new) ≡ false
+    by : (b : Bool) → g.failed (sink_of new) ≡ b → r.fault ≢ Sink → g.failed (sink_of old) ≡ false → g.failed (sink_of new) ≡ false
     by false e other working = e
     by true e other working = absurd (other (ap (λ (r : Refusal). r.fault) (sym why) ∙ refuses.kept working e))
 
@@ -652,12 +636,12 @@ between_slices {input} {piece} {first} {step} {text} {ended} next (inr empty) =
     let some = next.some in
     absurd (omega (arith, some, ap (λ (xs : List Placed). length xs) (sym parts.1 ∙ empty), length-append (spaced first step text) parts.0, length-spaced first step text))
 
-pub leaves_live : {S : Type 0} {g : Ghosts S} (old new : Machine S g) (request : Request) → Leaves old new request → request ≢ requests.Stop → IsLive new
-leaves_live old new requests.Nothing leaves other = leaves.live
-leaves_live old new requests.Clear leaves other = leaves.live
-leaves_live old new (requests.Call name) leaves other = leaves.live
-leaves_live old new (requests.Define name show) leaves other = leaves.live
-leaves_live old new requests.Stop leaves other = absurd (other refl)
+pub leaves_live : {S : Type 0} {g : Ghosts S} (old new : Machine S g) (request : Request) → Leaves old new request → request ≢ Stop → IsLive new
+leaves_live old new Nothing leaves other = leaves.live
+leaves_live old new Clear leaves other = leaves.live
+leaves_live old new (Call name) leaves other = leaves.live
+leaves_live old new (Define name show) leaves other = leaves.live
+leaves_live old new Stop leaves other = absurd (other refl)
 
 -- the place of the last byte that was taken
 pub last_place : (first step : ℕ) (text : List ℕ) (count place : ℕ) → place ≡ first + step * (count - 1) → count ≤ length text → 0 < count → place ≡ place_at (spaced first step text) (count - 1)
@@ -681,11 +665,11 @@ turn_is {piece = piece} {text = text} {first = first} {step = step} {place = pla
 }
 
 -- some bytes were taken, or the open run is over
-pub turn_less : {S : Type 0} {g : Ghosts S} (from now new : Machine S g) {bytes : List Placed} {ended : Bool} {count : ℕ} {request : Request} → Takes from now bytes ended count request → 0 < length bytes → request ≢ requests.Stop → (now.open_run ≡ None → new.open_run ≡ None) →
+pub turn_less : {S : Type 0} {g : Ghosts S} (from now new : Machine S g) {bytes : List Placed} {ended : Bool} {count : ℕ} {request : Request} → Takes from now bytes ended count request → 0 < length bytes → request ≢ Stop → (now.open_run ≡ None → new.open_run ≡ None) →
     (0 < count) ⊎ ((new.open_run ≡ None) × (from.open_run ≢ None))
 turn_less from now new {count = count} {request = request} takes some other run = by (takes.goes some)
   where
-    by : (0 < count) ⊎ (request ≡ requests.Stop) ⊎ ((now.open_run ≡ None) × (from.open_run ≢ None)) → (0 < count) ⊎ ((new.open_run ≡ None) × (from.open_run ≢ None))
+    by : (0 < count) ⊎ (request ≡ Stop) ⊎ ((now.open_run ≡ None) × (from.open_run ≢ None)) → (0 < count) ⊎ ((new.open_run ≡ None) × (from.open_run ≢ None))
     by (inl more) = inl more
     by (inr (inl stop)) = absurd (other stop)
     by (inr (inr (none, opened))) = inr (run none, opened)

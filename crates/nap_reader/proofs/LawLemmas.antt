@@ -1,7 +1,4 @@
-use Rattle.std.proofs.Common.{ℕ, ◌+◌, ◌≡◌, List, [], ◌∷◌, ◌++◌, length, Option, Some, None, refl, ap, sym, ◌∙◌, append_assoc, append-nil, length-append}
-use Rattle.nap_reader.specs.Below.{Entry}
-use Rattle.nap_reader.proofs.Common.{Refusal, continue_by, Outcome, outcome_from, placed_from, begun}
-use Rattle.nap_reader.specs.Laws.{MoreBytesKeepEntries, MoreBytesKeepRefusal, joined, in_pieces, PiecesAgree}
+use Rattle.nap_reader.proofs.Common.{Entry, List, MoreBytesKeepEntries, MoreBytesKeepRefusal, None, Option, Outcome, PiecesAgree, Refusal, Some, [], ap, append-nil, append_assoc, begun, continue_by, in_pieces, joined, length, length-append, outcome_from, placed_from, refl, sym, ℕ, ◌++◌, ◌+◌, ◌∙◌, ◌∷◌, ◌≡◌}
 use Rattle.nap_reader.proofs.StreamLemmas.{begun-append}
 
 pub more_bytes_keep_entries : MoreBytesKeepEntries

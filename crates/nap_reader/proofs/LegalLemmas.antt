@@ -1,27 +1,9 @@
-use Rattle.std.proofs.Common.{◌+◌, ◌++◌, ◌<◌, All, Bool, Err, List, None, Ok, Option, Result, Some, [], ap, append-nil, arith, drop, false, get_or, if◌then◌else◌, inl, inr, length, length-append, refl, subst, suc, sym, take, true, zero, ℕ, ◌∙◌, ◌∷◌, ◌≡◌, ◌≢◌, ◌⊎◌}
-use Rattle.std.proofs.Math.Seq.{take-append-add}
-use Rattle.std.proofs.lemmas.List.{get_or-append-add}
-use Rattle.nap_reader.specs.Below.{Cause, DrawFault, Drawn, Entry, Ghosts, Opcode, Opened, Work, device, memory, rule, stream, walk}
-use Rattle.nap_reader.proofs.Common.{BreaksAt, BreaksBetween, BreaksFrom, Front, IsBroken, Machine, Outcome, Placed, Refusal, StopsBy, Unfinished, begun, cause_of, closed_by, ended_by, front, go, is_operand_byte, means, nothing, onward, open_body, open_run, outcome, placed_from, start_machine, with_code, with_definition, with_drawn, with_end, with_run, with_run_by}
-use Rattle.nap_reader.specs.Breaking.{BreaksWith, CanLackAt, LacksWithin}
-use Rattle.nap_reader.specs.Laws.{AcceptedIsLegal, BegunComesFirst, BreaksAmong, EndBreaksAmong, FedBreaksAmong, ReadValuesAreInRange, WantsSome}
-use Rattle.nap_reader.specs.Stream.{half_code}
-use Rattle.nap_reader.proofs.BreakLemmas.{First, breaks_there, lacks_there, run_first, same_first}
-use Rattle.nap_reader.proofs.LawLemmas.{more_bytes_keep_entries}
-use Rattle.nap_reader.proofs.PartLemmas.{breaks_longer, breaks_more, took_front}
-use Rattle.nap_reader.proofs.StandingLemmas.{taken_all}
-use Rattle.std.specs.Prelude.{IfSome}
-use Rattle.std.proofs.lemmas.List.Elements.{All-append, All-nil}
-use Rattle.nap_values.specs.Laws.{IsWord}
-use Rattle.nap_list.specs.declared.state.State.{State}
-use Rattle.nap_list.specs.State.{AllFit, Legal, start}
+use Rattle.nap_reader.proofs.Common.{AcceptedIsLegal, All, All-append, All-nil, AllFit, BegunComesFirst, Bool, BreaksAmong, BreaksAt, BreaksBetween, BreaksFrom, BreaksWith, CanLackAt, Cause, DrawFault, Drawn, EndBreaksAmong, Entry, Err, FedBreaksAmong, Front, Ghosts, IfSome, IsBroken, IsWord, LacksWithin, Legal, List, Machine, None, Ok, Opcode, Option, Outcome, Placed, ReadValuesAreInRange, Refusal, Result, Some, State, StopsBy, Unfinished, WantsSome, Work, [], act, ap, append-nil, arith, begun, cause_of, closed_by, code_fits, code_values_are_in_range, device, drawn_values_are_in_range, drop, ended_by, false, front, get_or, get_or-append-add, go, half_code, if◌then◌else◌, inl, inr, is_operand_byte, length, length-append, means, memory, nothing, onward, open_body, open_run, outcome, pause, placed_from, refl, refuse, rule, rule_fits, start, start_machine, stream, subst, suc, sym, take, take-append-add, true, walk, with_code, with_definition, with_drawn, with_end, with_run, with_run_by, zero, ℕ, ◌++◌, ◌+◌, ◌<◌, ◌∙◌, ◌∷◌, ◌≡◌, ◌≢◌, ◌⊎◌}
+use Rattle.nap_reader.proofs.Base.{First, Fronts, IsOfWords, Puts, acts, breaks_longer, breaks_more, breaks_there, by_code, by_rule, front_fronts, lacks_there, more_bytes_keep_entries, pauses, puts_nothing, refuses, run_first, same_first, taken_all, took_front}
+use Rattle.nap_list.specs.declared.state.Opened.{Opened}
 use Rattle.nap_list.specs.Agreement.{DefinitionsAgree, StatesAgree}
 use Rattle.nap_list.specs.Range.{AllInRange, InRange, MapColourInRange, StateInRange}
 use Rattle.nap_list.proofs.PublicLaws.{fits_join, start_agrees, walks_join}
-use Rattle.nap_draw.proofs.PublicLaws.{code_fits, code_values_are_in_range, drawn_values_are_in_range, rule_fits}
-use Rattle.nap_reader.specs.Course as course
-use Rattle.nap_reader.specs.Stream as model
-use Rattle.nap_reader.proofs.StreamLemmas.{Fronts, IsOfWords, Puts, acts, by_code, by_rule, front_fronts, pauses, puts_nothing, refuses}
 
 -- The end of a stream keeps what it has.
 
@@ -153,9 +135,9 @@ record Sound (shown : State) (o : Outcome) : Type 0 where
 onward_sound : (next : Machine → List Placed → Outcome) → ((m : Machine) (xs : List Placed) (shown : State) → Stands m.work shown → Sound shown (next m xs)) →
     (m : Machine) (xs : List Placed) (shown : State) (f : Front) {k : ℕ} {f' : Front} → Stands m.work shown → Fronts [] m.work m.left k f f' → Sound shown (onward next m xs f)
 unfolding walk AllFit
-onward_sound next ih m xs shown (course.pause u) so (pauses words) = record { fit = tt; entries = All-nil InRange; unfinished = words; stands = λ _. so }
-onward_sound next ih m xs shown (course.refuse r) so refuses = record { fit = tt; entries = All-nil InRange; unfinished = tt; stands = λ e. cc }
-onward_sound next ih m xs shown (course.act es m' ys) so (acts same less few puts) =
+onward_sound next ih m xs shown (pause u) so (pauses words) = record { fit = tt; entries = All-nil InRange; unfinished = words; stands = λ _. so }
+onward_sound next ih m xs shown (refuse r) so refuses = record { fit = tt; entries = All-nil InRange; unfinished = tt; stands = λ e. cc }
+onward_sound next ih m xs shown (act es m' ys) so (acts same less few puts) =
     let (fit, ranged, after) = puts_stand shown puts so in
     let rest = ih m' ys (walk shown es) after in
     record {
@@ -203,7 +185,7 @@ with_drawn_sound o place op run (Ok drawn) e words none h =
 with_drawn_sound o place op run (Err fault) e words none h = record { fit = h.fit; entries = h.entries; unfinished = tt; stands = λ e. cc }
 
 with_run_sound : (o : Outcome) (u : Option Unfinished) → IfSome u IsOfWords → o.refusal ≡ None → Sound start o → Sound start (with_run_by o u)
-with_run_sound o (Some (model.open_run op place run)) words none h = with_drawn_sound o place op run _ refl words none h
+with_run_sound o (Some (open_run op place run)) words none h = with_drawn_sound o place op run _ refl words none h
 with_run_sound o _ words none h = h
 
 nothing_shown : (opened shown : Option Opened) → opened ≡ None → DefinitionsAgree opened shown → shown ≡ None
@@ -221,8 +203,8 @@ legal_at_end o n (Some opened) e none h accepted = cc
 
 legal_with_code : (o : Outcome) (n : ℕ) (u : Option Unfinished) → o.refusal ≡ None → Sound start o → (with_code o n u).refusal ≡ None →
     Legal (with_code o n u).entries
-legal_with_code o n (Some (model.half_code bytes)) none h accepted = cc
-legal_with_code o n (Some model.open_body) none h accepted = cc
+legal_with_code o n (Some (half_code bytes)) none h accepted = cc
+legal_with_code o n (Some open_body) none h accepted = cc
 legal_with_code o n _ none h accepted = legal_at_end o n o.machine.work.state.definition refl none h accepted
 
 legal_with_end : (o : Outcome) (n : ℕ) (r : Option Refusal) → o.refusal ≡ r → Sound start o → (with_end o n r).refusal ≡ None →

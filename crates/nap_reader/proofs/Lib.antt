@@ -1,4 +1,8 @@
+unfoldable pub use Common.*
+pub use Lemmas.*
 pub mod Common
+pub mod Base
+pub mod Lemmas
 pub mod TextLemmas
 pub mod AheadLemmas
 pub mod RunLemmas

@@ -1,13 +1,5 @@
-use Rattle.std.proofs.Common.{ℕ, ◌+◌, ◌-◌, ◌≡◌, ◌≢◌, ◌<◌, ◌≤◌, ◌⊎◌, inl, inr, List, [], ◌∷◌, ◌++◌, length, take, drop, Bool, true, false, cond, eqb, leb, Option, Some, None, refl, ap, sym, ◌∙◌, subst, arith, append_assoc, append-nil, length-append}
-use Rattle.std.proofs.lemmas.List.{drop_at, length-map, take_at}
-use Rattle.std.proofs.lemmas.Bool.Decides.{nat_tests}
-use Rattle.nap_reader.specs.Below.{Entry, Ghosts}
-use Rattle.nap_reader.proofs.Common.{OpenBody, Fault, Mode, between, in_body, BodyFront, ends_body, store_limit, body_front, prepend, onward, Placed, Machine, Outcome, bytes_of, refusal, place_at, after_body, charged, bound_front, shown_front, body_front_by, front, outcome_from, Holding, IsOpenBody, IsHeld, IsHeldIn, IsRefused, Continues}
-use Rattle.nap_reader.specs.declared.fault.Fault.TheVariants as faults
+use Rattle.nap_reader.proofs.Common.{AreOfBody, AtBody, BodyFront, Bool, Continues, EighthBit, Entry, Fault, Ghosts, Holding, IsHeld, IsHeldIn, IsOpenBody, IsRefused, List, Machine, Mode, None, OpenBody, Option, Outcome, Placed, ReadsOn, Some, Store, [], act, after_body, ap, append-nil, append_assoc, arith, between, body_front, body_front_by, bound_front, bytes_of, charged, cond, drop, drop_at, ends_body, eqb, false, front, held_escape, in_body, inl, inr, leb, length, length-append, length-map, nat_tests, one_further, onward, outcome_from, past, place_at, prepend, refl, refusal, refuse, shown_front, store_limit, stores, subst, sym, take, take_at, true, ℕ, ◌++◌, ◌+◌, ◌-◌, ◌<◌, ◌∙◌, ◌∷◌, ◌≡◌, ◌≢◌, ◌≤◌, ◌⊎◌}
 use Rattle.nap_reader.specs.Bodies as bodies
-use Rattle.nap_reader.specs.Bodies.{one_further, stores}
-use Rattle.nap_reader.specs.Course as course
-use Rattle.nap_reader.specs.Holding.{held_escape, past, AreOfBody, AtBody, ReadsOn}
 use Rattle.nap_reader.proofs.ReadingLemmas.{place_at-behind, front_body, leads_left, leads_shown, leads_to_refusal, leads_past, leads_shift, leads_unrefused, code_goes_on, holds_nothing}
 use Rattle.nap_reader.proofs.StreamLemmas.{bytes_of-append, outcome_from-front}
 use Rattle.nap_reader.proofs.SpelledLemmas.{escape_unfinished}
@@ -27,11 +19,11 @@ past-further n (bodies.ended k) = ap bodies.ended (omega arith)
 pub stores-some : (room : ℕ) (f : BodyFront) → room ≢ 0 → stores room f ≡ one_further f
 stores-some room f some = at (eqb room 0) refl
   where
-    at : (b : Bool) → eqb room 0 ≡ b → cond b (bodies.refused faults.Store 0) (one_further f) ≡ one_further f
+    at : (b : Bool) → eqb room 0 ≡ b → cond b (bodies.refused Store 0) (one_further f) ≡ one_further f
     at true e = absurd (some (grind (arith, nat_tests)))
     at false e = refl
 
-pub stores-none : (room : ℕ) (f : BodyFront) → room ≡ 0 → stores room f ≡ bodies.refused faults.Store 0
+pub stores-none : (room : ℕ) (f : BodyFront) → room ≡ 0 → stores room f ≡ bodies.refused Store 0
 stores-none room f none = rw none refl
 
 pub plain_front : (room byte : ℕ) (bytes : List ℕ) → IsPlain byte → body_front room (byte ∷ bytes) ≡ stores room (body_front (room - 1) bytes)
@@ -56,13 +48,13 @@ ended_front room byte bytes ends =
     let low : leb 128 byte ≡ false = grind (arith, nat_tests, ends) in
     rw (low, ends) refl
 
-eighth_front : (room byte : ℕ) (bytes : List ℕ) → 128 ≤ byte → body_front room (byte ∷ bytes) ≡ bodies.refused faults.EighthBit 0
+eighth_front : (room byte : ℕ) (bytes : List ℕ) → 128 ≤ byte → body_front room (byte ∷ bytes) ≡ bodies.refused EighthBit 0
 unfolding body_front
 eighth_front room byte bytes high =
     let test : leb 128 byte ≡ true = grind (arith, nat_tests) in
     rw test refl
 
-eighth_escape : (room byte : ℕ) (bytes : List ℕ) → 128 ≤ byte → body_front room (27 ∷ byte ∷ bytes) ≡ bodies.refused faults.EighthBit 1
+eighth_escape : (room byte : ℕ) (bytes : List ℕ) → 128 ≤ byte → body_front room (27 ∷ byte ∷ bytes) ≡ bodies.refused EighthBit 1
 unfolding body_front
 eighth_escape room byte bytes high =
     let test : leb 128 byte ≡ true = grind (arith, nat_tests) in
@@ -138,16 +130,16 @@ module _ {S : Type 0} {g : Ghosts S} {s : S} {o : Outcome} {t : S} {h : Holding}
   refused_next : (fault : Fault) → body_front room (x.byte ∷ bytes_of pending) ≡ bodies.refused fault 0 → IsRefused g s o t h (refusal fault x.place)
   refused_next fault e =
       let place = place_at-behind k.rest x pending (length h.body + 0) (omega (arith, held_length k.rest b h (x.byte ∷ []) k.at)) in
-      let is : o ≡ prepend k.done (onward outcome_from h.machine (k.rest ++ x ∷ pending) (course.refuse (refusal fault x.place))) =
+      let is : o ≡ prepend k.done (onward outcome_from h.machine (k.rest ++ x ∷ pending) (refuse (refusal fault x.place))) =
       k.leads ∙ ap (prepend k.done) (outcome_from-front h.machine (k.rest ++ x ∷ pending)
-      ∙ ap (onward outcome_from h.machine (k.rest ++ x ∷ pending)) (next_front (bodies.refused fault 0) e ∙ ap (λ (n : ℕ). course.refuse (refusal fault n)) place)) in (
+      ∙ ap (onward outcome_from h.machine (k.rest ++ x ∷ pending)) (next_front (bodies.refused fault 0) e ∙ ap (λ (n : ℕ). refuse (refusal fault n)) place)) in (
         ap (λ (o : Outcome). o.refusal) is,
         subst (λ (es : List Entry). g.took s es t) (sym (ap (λ (o : Outcome). o.entries) is ∙ append-nil k.done)) k.taken,
         ap (λ (o : Outcome). o.machine.left) is,
       )
 
-  pub byte_full : IsPlain x.byte → room ≡ 0 → IsRefused g s o t h (refusal faults.Store x.place)
-  byte_full plain none = refused_next faults.Store (plain_front room x.byte (bytes_of pending) plain ∙ stores-none room _ none)
+  pub byte_full : IsPlain x.byte → room ≡ 0 → IsRefused g s o t h (refusal Store x.place)
+  byte_full plain none = refused_next Store (plain_front room x.byte (bytes_of pending) plain ∙ stores-none room _ none)
 
   -- what is held once the byte is read
   abbrev pub reading_on : Option ℕ → List ℕ → Holding
@@ -256,11 +248,11 @@ module _ {S : Type 0} {g : Ghosts S} {s : S} {o : Outcome} {t : S} {h : Holding}
     body_length = held_length held_body.bytes b h (27 ∷ []) at_escape
 
     -- it belongs to the body, and has no room
-    pub escape_full : x.byte < 128 → ends_body x.byte ≡ false → unread_room ≡ 0 → IsRefused g s o t h (refusal faults.Store place)
+    pub escape_full : x.byte < 128 → ends_body x.byte ≡ false → unread_room ≡ 0 → IsRefused g s o t h (refusal Store place)
     escape_full few ends none =
-        let e = escape_at_front (bodies.refused faults.Store 0) (escape_front unread_room x.byte (bytes_of pending) few ends ∙ stores-none unread_room _ none) in
+        let e = escape_at_front (bodies.refused Store 0) (escape_front unread_room x.byte (bytes_of pending) few ends ∙ stores-none unread_room _ none) in
         let there = place_at-behind held_body.bytes escape (x ∷ pending) (length h.body + 0) (omega (arith, body_length)) in
-        leads_to_refusal k _ (e ∙ ap (λ (n : ℕ). course.refuse (refusal faults.Store n)) there)
+        leads_to_refusal k _ (e ∙ ap (λ (n : ℕ). refuse (refusal Store n)) there)
 
     -- it belongs to the body
     pub escape_kept : x.byte < 128 → ends_body x.byte ≡ false → unread_room ≢ 0 → ReadsOn g s o t (record h { body = h.body ++ 27 ∷ [] }) b x pending
@@ -303,12 +295,12 @@ module _ {S : Type 0} {g : Ghosts S} {s : S} {o : Outcome} {t : S} {h : Holding}
 
       -- and its end is the next code
       pub body_binds : b.show ≡ false →
-          front h.machine (k.rest ++ x ∷ pending) ≡ course.act [] (after_body h.machine b.name h.body) (escape ∷ x ∷ pending)
+          front h.machine (k.rest ++ x ∷ pending) ≡ act [] (after_body h.machine b.name h.body) (escape ∷ x ∷ pending)
       body_binds hidden =
           ends_at
           ∙ ap (λ (show : Bool). bound_front h.machine b.name show (length h.body) xs) hidden
-          ∙ ap (λ (body : List ℕ). course.act [] (after_body h.machine b.name body) (drop (length h.body) xs)) body_taken
-          ∙ ap (course.act [] (after_body h.machine b.name h.body)) pair_left
+          ∙ ap (λ (body : List ℕ). act [] (after_body h.machine b.name body) (drop (length h.body) xs)) body_taken
+          ∙ ap (act [] (after_body h.machine b.name h.body)) pair_left
 
       pub body_bound : b.show ≡ false →
           Continues g s o t (record h { machine = after_body h.machine b.name h.body; half = 27 ∷ []; open_run = None; run = []; open_body = None; body = [] }) (x ∷ pending)
@@ -356,11 +348,11 @@ module _ {S : Type 0} {g : Ghosts S} {s : S} {o : Outcome} {t : S} {h : Holding}
           omega (arith, size, few, leads_left there)
 
   -- the byte has the eighth bit
-  pub byte_eighth : 128 ≤ x.byte → IsRefused g s o t h (refusal faults.EighthBit x.place)
+  pub byte_eighth : 128 ≤ x.byte → IsRefused g s o t h (refusal EighthBit x.place)
   byte_eighth high = at b.escape refl
     where
-      at : (e : Option ℕ) → b.escape ≡ e → IsRefused g s o t h (refusal faults.EighthBit x.place)
-      at None none = refused_next (reads_on none) faults.EighthBit (eighth_front unread_room x.byte (bytes_of pending) high)
+      at : (e : Option ℕ) → b.escape ≡ e → IsRefused g s o t h (refusal EighthBit x.place)
+      at None none = refused_next (reads_on none) EighthBit (eighth_front unread_room x.byte (bytes_of pending) high)
       at (Some place) held =
           let escape : Placed = record { byte = 27; place = place } in
           let before : List Placed = held_body.bytes ++ escape ∷ [] in
@@ -369,7 +361,7 @@ module _ {S : Type 0} {g : Ghosts S} {s : S} {o : Outcome} {t : S} {h : Holding}
           ∙ place_at-behind before x pending (length h.body + 1) (omega (arith, body_length held, length-append held_body.bytes (escape ∷ []))) in
           leads_to_refusal k _
           (escape_at_front held _ (eighth_escape unread_room x.byte (bytes_of pending) high)
-          ∙ ap (λ (n : ℕ). course.refuse (refusal faults.EighthBit n)) there)
+          ∙ ap (λ (n : ℕ). refuse (refusal EighthBit n)) there)
 
 -- a held ESC and a byte behind it belong to a body, which has room for all of them that are stored
 module _ {S : Type 0} {g : Ghosts S} {s : S} {o : Outcome} {t : S} {h : Holding} {b : OpenBody} {x : Placed} {place : ℕ} (opened : h.open_body ≡ Some b) (k : Continues g s o t h (x ∷ [])) (held : b.escape ≡ Some place)

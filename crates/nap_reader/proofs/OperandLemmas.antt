@@ -1,19 +1,9 @@
+use Rattle.nap_reader.proofs.Common.{All, All-head, All-tail, Bool, Fits, IfSome, IsOver, IsTyped, IsWholeRun, List, MatchOption, None, OpenRun, Option, Some, TextStep, [], and_parts, ap, append_assoc, ap₂, arith, carried, cond, count_trailing_zeros, drop, drop-drop, eq-eqb, eqb, false, format_effector, get_or, get_or-drop, get_or-take, inr, is_from, is_of_text, is_operand_byte, is_some, le-leb, leb, leb-false, leb-true, length, length-drop, length-map, length-prefix_len, length-take-le, lt-leb, ltb, ltb-false, ltb-true, map, map-append, ne_eqb, not, or-true, prefix_len, prefix_len-append, prefix_len-drop_yes, prefix_len-le-length, prefix_len_passes, prefix_len_stops, refl, replicate, run_by, run_limit, subst, suc, sym, take, take-append-drop, take_all, true, w8, ℕ, ◌%◌, ◌&&◌, ◌*◌, ◌++◌, ◌+◌, ◌-◌, ◌<◌, ◌^◌, ◌||◌, ◌∙◌, ◌∷◌, ◌≡◌, ◌≤◌, ◌⊎◌}
+use Rattle.std.proofs.lemmas.Simd.{chunk-drop, leading_from_mask_l, length-chunk, mask_l-mod, trailing_mask_l}
+use lib.Lanes.{Each1, chunk, mask_l, top, zip2}
+
 -- Operand bytes at the front, and their words.
 -- Bytes of a range at the front, seen by blocks through the mask of those that are others.
-use Rattle.std.proofs.Common.{◌%◌, ◌&&◌, ◌*◌, ◌+◌, ◌++◌, ◌-◌, ◌<◌, All, Bool, Fits, IfSome, List, MatchOption, None, Option, Some, [], ◌^◌, ap, append_assoc, ap₂, arith, cond, drop, eqb, false, get_or, inr, leb, length, ltb, map, not, refl, replicate, subst, suc, sym, take, true, w8, ◌||◌, ℕ, ◌∙◌, ◌∷◌, ◌≡◌, ◌≤◌, ◌⊎◌}
-use Rattle.std.proofs.lemmas.List.{drop-drop, get_or-drop, get_or-take, length-drop, length-map, length-take-le, map-append, take-append-drop, take_all}
-use Rattle.std.proofs.lemmas.List.Sums.{prefix_len-drop_yes, prefix_len-le-length, prefix_len_passes, prefix_len_stops}
-use Rattle.std.proofs.lemmas.List.Elements.{All-head, All-tail}
-use Rattle.std.proofs.lemmas.Bool.{and_parts, eq-eqb, le-leb, leb-false, leb-true, lt-leb, ltb-false, ltb-true, ne_eqb}
-use Rattle.std.specs.List.{prefix_len}
-use Rattle.nap_reader.specs.Below.{IsTyped, TextStep, carried, format_effector, run_limit}
-use Rattle.nap_reader.proofs.Common.{IsOver, IsWholeRun, OpenRun, is_from, is_of_text, is_operand_byte, run_by}
-use Rattle.std.proofs.lemmas.Simd.{chunk-drop, leading_from_mask_l, length-chunk, mask_l-mod, trailing_mask_l}
-use Rattle.std.proofs.lemmas.List.Folds.{length-prefix_len, prefix_len-append}
-use Rattle.std.proofs.Math.Bool.{or-true}
-use Rattle.std.specs.Option.{is_some}
-use lib.Lanes.{Each1, chunk, mask_l, top, zip2}
-use lib.Count.{count_trailing_zeros}
 
 pub operands_in_front : (bytes : List ℕ) (n : ℕ) → n ≤ prefix_len is_operand_byte bytes → All (λ b. is_operand_byte b ≡ true) (take n bytes)
 operands_in_front bytes n few = λ k d within.

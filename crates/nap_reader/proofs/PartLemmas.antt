@@ -1,14 +1,6 @@
-use Rattle.std.proofs.Common.{length-append, ℕ, ◌≡◌, ◌≢◌, ◌<◌, ◌≤◌, List, [], ◌∷◌, ◌++◌, length, Some, None, Result, Ok, refl, ap, sym, ◌∙◌, subst, inl, inr, ltb, arith, append-nil, true, false, Option, append_assoc}
-use Rattle.std.proofs.lemmas.Bool.{cond-false, le-ltb}
-use Rattle.nap_reader.proofs.Common.{body_front, front}
-use Rattle.nap_reader.specs.Below.{Entry, Ghosts, DrawFault, Cause, stream, memory, device, Drawn}
-use Rattle.nap_reader.proofs.Common.{draw_fault, Mode, between, in_body, prepend, paused, onward, continue_by, Placed, Machine, Outcome, Unfinished, nothing, open_body, all_at, charged, after_drawing, drawn_front, shown_front, front_in, outcome_from, cause_of, BreaksFrom, TookFront, TookPart, Holding, ContinuesPast, BreaksInBody, BreaksSome, Continues, Refusal}
+use Rattle.nap_reader.proofs.Common.{BreaksFrom, BreaksInBody, BreaksNext, BreaksPast, BreaksSome, Cause, Continues, ContinuesPast, DrawFault, Drawn, Entry, Ghosts, GivesSome, Holding, List, Machine, Mode, None, Ok, Option, Outcome, Placed, Refusal, Result, Some, TakesPart, TookFront, TookPart, Unfinished, WantsBy, [], act, after_drawing, all_at, ap, append-nil, append_assoc, arith, between, body_broke, body_front, cause_of, charged, charged_broke, cond-false, continue_by, device, draw_fault, drawn_front, front, front_in, in_body, inl, inr, le-ltb, length, length-append, ltb, memory, next_broke, nothing, onward, open_body, outcome_from, pause, paused, prepend, refl, shown_front, some_broke, stream, subst, sym, true, ℕ, ◌++◌, ◌<◌, ◌∙◌, ◌∷◌, ◌≡◌, ◌≢◌, ◌≤◌}
 use Rattle.nap_draw.specs.declared.fault.DrawFault.TheVariants as draw_faults
-use Rattle.nap_draw.specs.Acts.{WantsBy, GivesSome}
 use Rattle.nap_draw.specs.Draws as draws
-use Rattle.nap_reader.specs.Course as course
-use Rattle.nap_reader.specs.Breaking.{TakesPart}
-use Rattle.nap_reader.specs.Holding.{BreaksPast, BreaksNext, body_broke, charged_broke, next_broke, some_broke}
 use Rattle.nap_reader.proofs.ReadingLemmas.{half_read_pauses, Known, Lawful, by_front, rule_part, was_failed}
 use Rattle.nap_reader.proofs.StreamLemmas.{outcome_from-front, outcome_from-left, outcome_from-append}
 use Rattle.nap_reader.proofs.SpelledLemmas.{nothing_yet}
@@ -20,7 +12,7 @@ nothing_comes : (m : Machine) → (u : Unfinished) × (outcome_from m [] ≡ pau
 unfolding front body_front
 nothing_comes m = in_mode m.mode refl
   where
-    waits : (u : Unfinished) → front m [] ≡ course.pause u → outcome_from m [] ≡ paused m [] (Some u)
+    waits : (u : Unfinished) → front m [] ≡ pause u → outcome_from m [] ≡ paused m [] (Some u)
     waits u e = outcome_from-front m [] ∙ ap (onward outcome_from m []) e
 
     in_mode : (mode : Mode) → m.mode ≡ mode → (u : Unfinished) × (outcome_from m [] ≡ paused m [] (Some u))
@@ -52,7 +44,7 @@ module _ {S : Type 0} {g : Ghosts S} {s : S} {known : List Entry} {o : Outcome} 
   known_taken : Known g s known t
   known_taken = record { taken = subst (λ (es : List Entry). g.took s es t) k.done k.continues.taken; clear = k.continues.clear }
 
-  adds_drawn : (m : Machine) (drawn : Drawn) → front h.machine (k.continues.rest ++ x ∷ []) ≡ course.act drawn.entries (after_drawing m drawn) [] → (o.entries ≡ known ++ drawn.entries) × (o.refusal ≡ None)
+  adds_drawn : (m : Machine) (drawn : Drawn) → front h.machine (k.continues.rest ++ x ∷ []) ≡ act drawn.entries (after_drawing m drawn) [] → (o.entries ≡ known ++ drawn.entries) × (o.refusal ≡ None)
   adds_drawn m drawn acts =
       let there = by_front k.continues _ acts ∙ ap (λ (y : Outcome). prepend k.continues.done (prepend drawn.entries y)) (nothing_comes (after_drawing m drawn)).1 in (
         ap (λ (y : Outcome). y.entries) there ∙ ap (λ (es : List Entry). k.continues.done ++ es) (append-nil drawn.entries) ∙ ap (λ (es : List Entry). es ++ drawn.entries) k.done,
@@ -108,7 +100,7 @@ module _ {S : Type 0} {g : Ghosts S} {s : S} {known : List Entry} {o : Outcome} 
   pub call_breaks : (m : Machine) (place : ℕ) (bytes : List ℕ) (ys : List Placed) → front h.machine (k.continues.rest ++ xs) ≡ shown_front m place bytes ys → m.left ≡ h.machine.left → 0 < length bytes → length bytes ≤ m.left → BreaksSome g s known o t h.machine.left memory
   call_breaks m place bytes ys shows same some few =
       let e = shows ∙ cond-false (ltb m.left (length bytes)) _ _ (le-ltb m.left (length bytes) few) in
-      let is = by_front k.continues (course.act [] (charged m (length bytes)) (all_at place bytes ++ ys)) e in
+      let is = by_front k.continues (act [] (charged m (length bytes)) (all_at place bytes ++ ys)) e in
       let falls = outcome_from-left (charged m (length bytes)) (all_at place bytes ++ ys) in
       let there : o.machine.left ≡ (outcome_from (charged m (length bytes)) (all_at place bytes ++ ys)).machine.left = ap (λ (o : Outcome). o.machine.left) is in
       charged_broke (omega (arith, falls, there, same)) wants_from
@@ -174,7 +166,7 @@ pub rule_breaks : {S : Type 0} {g : Ghosts S} {s : S} {o : Outcome} {t : S} {h :
     Lawful g → {u : S} (fault : DrawFault) → draws.DrawsBy g.took g.broke g.failed by t u fault (draws.cause_of fault) → cause_of (draw_fault fault) ≢ stream → BreaksFrom g s [] o u (cause_of (draw_fault fault))
 rule_breaks {g = g} {s = s} {o = o} k m place ys by acts laws {u} fault drew broke =
     let (drawn, is, part) = rule_part u by laws (record { taken = k.taken; clear = k.clear }) fault drew broke in
-    let there = by_front k (course.act drawn.entries (after_drawing m drawn) ys) (acts ∙ ap (drawn_front m place ys) is) in
+    let there = by_front k (act drawn.entries (after_drawing m drawn) ys) (acts ∙ ap (drawn_front m place ys) is) in
     let behind = (outcome_from (after_drawing m drawn) ys).entries in
     let drew : BreaksFrom g s k.done (record o { entries = k.done ++ drawn.entries }) u (cause_of (draw_fault fault)) =
     record { more = drawn.entries; adds = refl; part = took_front g s k.done drawn.entries u (cause_of (draw_fault fault)) part } in

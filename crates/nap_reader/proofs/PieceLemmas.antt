@@ -1,16 +1,5 @@
-use Rattle.std.proofs.Common.{ℕ, ◌≡◌, ◌≢◌, ◌<◌, ◌≤◌, ◌+◌, List, [], ◌∷◌, ◌++◌, All, length, take, drop, get_or, None, Some, refl, ap, sym, ◌∙◌, subst, arith, append_assoc, append-nil, length-append, take-add}
-use Rattle.std.proofs.lemmas.List.{drop_more, length-drop, length-take-le}
-use Rattle.std.proofs.lemmas.List.Elements.{All-append, All-cons, All-head, All-nil}
-use Rattle.nap_reader.specs.Below.{Entry, Ghosts, Cause, stream, memory, device}
-use Rattle.nap_reader.proofs.Common.{Refusal, Reader, placed_at, Placed, Machine, Outcome, begun, bytes_of, outcome_from, placed_from, BreaksFrom, cause_of, Continues, Holding, IsOwn, RunAt, LeadsTo, Reaches, IsBroken, Stands, StopsBy, budget_of, fed_of, refusal_of, Acted, as_it_was, Came, Conveys, LeadsOn, Passes, StaysInText, of_body, of_piece}
-use Rattle.nap_reader.specs.Pieces.{Amid}
-use Rattle.nap_reader.specs.Standing.{IsKnown}
-use Rattle.nap_reader.proofs.BreakLemmas.{uses_breaks}
-use Rattle.nap_reader.proofs.ComingLemmas.{came_none}
-use Rattle.nap_reader.proofs.ReadingLemmas.{Lawful, TookMore, leads_entries, leads_left, leads_machine, leads_more, leads_unrefused}
-use Rattle.nap_reader.proofs.PartLemmas.{breaks_behind}
-use Rattle.nap_reader.proofs.StandingLemmas.{taken_more}
-use Rattle.nap_reader.proofs.StepLemmas.{IsAt, acted_then, all_front, all_rest, left_acted, passes_acted, run_acted, typed_then}
+use Rattle.nap_reader.proofs.Common.{Acted, All, All-append, All-cons, All-head, All-nil, Amid, BreaksFrom, Came, Cause, Continues, Conveys, Entry, Ghosts, Holding, IsBroken, IsKnown, IsOwn, LeadsOn, LeadsTo, List, Machine, None, Outcome, Passes, Placed, Reaches, Reader, Refusal, RunAt, Some, Stands, StopsBy, [], ap, append-nil, append_assoc, arith, as_it_was, begun, budget_of, bytes_of, cause_of, device, drop, drop_more, fed_of, get_or, length, length-append, length-drop, length-take-le, memory, of_body, of_piece, outcome_from, placed_at, placed_from, refl, refusal_of, stream, subst, sym, take, take-add, ℕ, ◌++◌, ◌+◌, ◌<◌, ◌∙◌, ◌∷◌, ◌≡◌, ◌≢◌, ◌≤◌}
+use Rattle.nap_reader.proofs.Base.{IsAt, Lawful, TookMore, acted_then, all_front, all_rest, breaks_behind, came_none, leads_entries, leads_left, leads_machine, leads_more, leads_unrefused, left_acted, passes_acted, run_acted, taken_more, uses_breaks}
 
 -- How a piece is taken.
 
@@ -206,21 +195,18 @@ module _ {S : Type 0} {g : Ghosts S} {old : Reader S g} {piece : List ℕ} {at :
       let acted : Acted g t h u h' next =
       subst (Acted g t h u h') (sym first)
       (subst (λ (held : Holding). Acted g t held u h' (bytes_of rest ++ drop until piece)) same.1 (subst (λ (w : S). Acted g w then.conveys.holding u h' (bytes_of rest ++ drop until piece)) same.0 then.acted)) in
-      let typed : StaysInText t h u h' = subst (λ (held : Holding). StaysInText t held u h') same.1 (subst (λ (w : S). StaysInText w then.conveys.holding u h') same.0 then.typed) in
       subst (λ (n : ℕ). Reaches old piece n u h' rest) (sym still.1)
       (subst (Reaches old piece at u h') (sym still.0) (record {
         sink = by.sink;
         holding = by.holding;
         leads = by.leads;
         acted = acted_then by.acted acted;
-        typed = typed_then by.sink by.holding t h u h' by.typed typed;
       }))
   reaches_on {rest = rest} {until = until} (x ∷ xs) came then first = record {
     sink = then.conveys.sink;
     holding = then.conveys.holding;
     leads = leads_past (bytes_of xs ++ (bytes_of rest ++ drop until piece)) first then.conveys came;
     acted = then.acted;
-    typed = then.typed;
   }
 
   -- A byte calls or shows a body, which comes next.
@@ -237,5 +223,4 @@ module _ {S : Type 0} {g : Ghosts S} {old : Reader S g} {piece : List ℕ} {at :
       passes = λ s o pending k. passes s o pending (passes_acted more (λ c cs then. ap (λ (zs : List ℕ). get_or zs 0 0) (sym first ∙ then)) by.acted k);
     }) came_first;
     acted = as_it_was refl refl;
-    typed = λ set rested chars. (refl, refl);
   }

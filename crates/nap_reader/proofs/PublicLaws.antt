@@ -1,21 +1,8 @@
-use Rattle.std.proofs.Common.{ℕ, ◌+◌, ◌-◌, ◌≡◌, List, [], ◌∷◌, ◌++◌, length, All, true, refl, ◌∙◌, arith, length-append}
-use Rattle.std.proofs.lemmas.Bool.Decides.{nat_tests}
-use Rattle.std.proofs.lemmas.List.{length-map}
-use Rattle.std.proofs.lemmas.List.Elements.{All-head, All-tail}
-use Rattle.nap_values.specs.Laws.{IsOperandByte}
-use Rattle.nap_codes.specs.declared.code.Code.{Code}
+use Rattle.nap_reader.proofs.Common.{All, All-head, All-tail, Code, CodeActs, FrontAfterFront, IsAlone, IsOpenRun, IsOperandByte, IsRun, List, Machine, Opcode, Placed, RunActs, RunWaits, [], arith, bytes_of, code_front, code_rule, drawn_front, is_operand_byte, kind_of, length, length-append, length-map, nat_tests, refl, run_length, true, walk, words_of, ℕ, ◌++◌, ◌+◌, ◌-◌, ◌∙◌, ◌∷◌, ◌≡◌}
+use Rattle.nap_reader.proofs.Base.{front_code, front_run, open_run_pauses, outcome_from-front}
 use Rattle.nap_codes.specs.declared.code.Code.TheVariants as code
-use Rattle.nap_codes.specs.declared.opcode.Opcode.{Opcode}
-use Rattle.nap_list.specs.State.{walk}
-use Rattle.nap_draw.specs.Codes.{code_rule}
-use Rattle.nap_reader.specs.Holding.{IsOpenRun}
-use Rattle.nap_reader.specs.Kinds.{kind_of}
-use Rattle.nap_reader.specs.Laws.{FrontAfterFront, IsRun, RunActs, RunWaits, IsAlone, CodeActs}
-use Rattle.nap_reader.specs.Stream.{Placed, Machine, bytes_of, words_of, is_operand_byte, run_length, drawn_front, code_front}
 pub use Rattle.nap_reader.proofs.LegalLemmas.{begun_comes_first, end_breaks_among, fed_breaks_among, accepted_is_legal, read_values_are_in_range}
-use Rattle.nap_reader.proofs.ReadingLemmas.{front_code, front_run, open_run_pauses}
 pub use Rattle.nap_reader.proofs.LawLemmas.{more_bytes_keep_entries, more_bytes_keep_refusal, pieces_agree}
-use Rattle.nap_reader.proofs.StreamLemmas.{outcome_from-front}
 
 -- The proofs of the laws.
 

@@ -1,28 +1,14 @@
-use Rattle.std.proofs.Common.{◌+◌, ◌++◌, ◌-◌, ◌<◌, Bool, Err, IfErr, List, MatchResult, None, Ok, OnOk, Option, Result, Some, [], ap, append-nil, append_assoc, arith, cond, drop, eq-eqb, false, inl, inr, length, length-append, ltb, nat_lt, refl, subst, suc, sym, take, true, ℕ, ◌∙◌, ◌∷◌, ◌≡◌, ◌≢◌, ◌≤◌, ◌⊎◌}
-use Rattle.std.proofs.lemmas.Bool.{cond-false, cond-true, le-ltb, lt-ltb}
-use Rattle.std.proofs.lemmas.Bool.Decides.{nat_tests}
-use Rattle.std.proofs.lemmas.List.{drop_at, length-map, take_at}
-use Rattle.std.proofs.lemmas.List.Folds.{length-prefix_len, prefix_len-append}
-use Rattle.nap_reader.specs.Below.{Code, CodeFault, CodeSets, DrawFault, Drawn, Entry, Ghosts, IsDrawn, LexerState, Opcode, StepsBy, device, rule, run_limit, stream}
-use Rattle.nap_reader.proofs.Common.{Continues, Front, Holding, IsHeld, IsHeldIn, IsOpenBody, IsOpenRun, IsRefused, Machine, Mode, OpenBody, OpenRun, Outcome, Placed, Refusal, TookPart, all_at, begun, between, body_front, body_front_by, bytes_of, cause_of, charged, code_fault, code_front, continue, draw_fault, drawn_front, front, front_by, front_in, half_read, in_body, is_operand, kind_of, onward, opcode_front, outcome_from, paused, place_at, placed_from, prepend, refusal, run_length, shown_front, start_machine, store_limit, words_of}
+use Rattle.nap_reader.proofs.Common.{Bool, Budget, Code, CodeFault, CodeSets, Continues, DrawFault, Drawn, Entry, Err, Front, Ghosts, Holding, IfErr, IsDrawn, IsHalf, IsHeld, IsHeldBy, IsHeldIn, IsInRange, IsOpenBody, IsOpenRun, IsRefused, LexerState, List, LongRun, Machine, MatchResult, Mode, None, Ok, OnOk, Opcode, OpenBody, OpenRun, Option, Outcome, Placed, Refusal, Result, Some, StepsBy, TookPart, [], act, all_at, ap, append-nil, append_assoc, arith, begun, between, body_front, body_front_by, bytes_of, cause_of, charged, code_fault, code_front, code_ranges, cond, cond-false, cond-true, continue, device, draw_fault, drawn_front, drop, drop_at, eq-eqb, false, front, front_by, front_in, half_read, held_escape, in_body, inl, inr, is_operand, kind_of, le-ltb, length, length-append, length-map, length-prefix_len, lt-ltb, ltb, nat_lt, nat_tests, onward, opcode_front, opcodes_are_drawn, outcome_from, past, pause, paused, place_at, placed_from, prefix_len-append, prepend, refl, refusal, refuse, refused_stays, rule, run_length, run_limit, shown_front, start_machine, start_sets, store_limit, stream, subst, suc, sym, take, take_at, true, unfinished_by, unfinished_of, whole_stays, words_of, ℕ, ◌++◌, ◌+◌, ◌-◌, ◌<◌, ◌∙◌, ◌∷◌, ◌≡◌, ◌≢◌, ◌≤◌, ◌⊎◌}
 use Rattle.nap_codes.specs.declared.code.Code.TheVariants as code
 use Rattle.nap_codes.specs.Front as codes
-use Rattle.nap_codes.proofs.PublicLaws.{code_ranges, refused_stays, whole_stays}
-use Rattle.nap_reader.specs.declared.fault.Fault.TheVariants as faults
-use Rattle.nap_reader.specs.Course as course
 use Rattle.nap_reader.specs.Stream as model
 use Rattle.nap_reader.proofs.StreamLemmas.{begun-append, bytes_of-append, outcome_from-front, outcome_from-left, words_of-append, prepend-append}
 use Rattle.nap_draw.specs.declared.fault.DrawFault.TheVariants as draw_faults
 use Rattle.nap_list.specs.Putting as puts
 use Rattle.nap_draw.specs.Draws as draws
 use Rattle.nap_reader.specs.Bodies as bodies
-use Rattle.nap_reader.specs.Holding.{IsHalf, IsHeldBy, held_escape, past, unfinished_by, unfinished_of}
-use Rattle.nap_codes.specs.Laws.{IsInRange}
-use Rattle.nap_draw.proofs.PublicLaws.{opcodes_are_drawn}
-use Rattle.nap_codes.specs.CodeSets.{start_sets}
 use Rattle.nap_codes.specs.declared.code.Step.TheVariants as steps
 use Rattle.nap_reader.specs.declared.kind.Kind.TheVariants as kinds
-use Rattle.nap_reader.specs.Stream.{front, placed_from}
 use Rattle.nap_reader.proofs.SpelledLemmas.{nothing_yet}
 
 -- a list, cut behind one of its bytes
@@ -64,7 +50,7 @@ front_code {half} {c} {n} {after} m rest x pending mode is e len =
 -- a half-read code, which this byte can't continue
 pub front_fault : {half : List ℕ} {fault : CodeFault} {i : ℕ} (m : Machine) (rest : List Placed) (x : Placed) (pending : List Placed) → m.mode ≡ between →
     bytes_of rest ≡ half → codes.front m.sets (half ++ x.byte ∷ []) ≡ codes.refused fault i → i ≡ length half →
-    front m (rest ++ x ∷ pending) ≡ course.refuse (refusal (code_fault fault) x.place)
+    front m (rest ++ x ∷ pending) ≡ refuse (refusal (code_fault fault) x.place)
 front_fault {half} {fault} {i} m rest x pending mode is e index =
     let found : codes.front m.sets (bytes_of (rest ++ x ∷ pending)) ≡ codes.refused fault i =
     rw (bytes_past rest x pending half is) (refused_stays m.sets (half ++ x.byte ∷ []) (bytes_of pending) fault i e) in
@@ -123,7 +109,7 @@ run_goes_on operands pending all = rw (prefix_len-append is_operand operands pen
 -- an operand byte too many
 pub front_long : (m : Machine) (rest : List Placed) (open_run : OpenRun) (run : List ℕ) (x : Placed) (pending : List Placed) → m.mode ≡ between →
     IsOpenRun rest open_run run m.sets → is_operand x ≡ true → run_limit ≤ length run →
-    front m (rest ++ x ∷ pending) ≡ course.refuse (refusal faults.LongRun open_run.place)
+    front m (rest ++ x ∷ pending) ≡ refuse (refusal LongRun open_run.place)
 front_long m rest open_run run x pending mode h word many =
     let one : run_length (x ∷ pending) ≡ 1 + run_length pending = rw word refl in
     let goes = run_goes_on h.operands (x ∷ pending) h.all in
@@ -133,7 +119,7 @@ front_long m rest open_run run x pending mode h word many =
 
 -- An open run waits for more.
 pub open_run_pauses : (m : Machine) (rest : List Placed) (open_run : OpenRun) (run : List ℕ) → m.mode ≡ between → IsOpenRun rest open_run run m.sets →
-    front m rest ≡ course.pause (model.open_run open_run.op open_run.place run)
+    front m rest ≡ pause (model.open_run open_run.op open_run.place run)
 open_run_pauses m rest open_run run mode h =
     let none = drop_at h.operands [] (length h.operands) refl in
     let all : run_length (h.operands ++ []) ≡ length h.operands = ap run_length (append-nil h.operands) ∙ h.all in
@@ -144,10 +130,10 @@ open_run_pauses m rest open_run run mode h =
 
 -- A half-read code waits for more.
 pub half_read_pauses : (m : Machine) (rest : List Placed) (half : List ℕ) → m.mode ≡ between → bytes_of rest ≡ half →
-    codes.front m.sets half ≡ codes.unfinished → front m rest ≡ course.pause (half_read half)
+    codes.front m.sets half ≡ codes.unfinished → front m rest ≡ pause (half_read half)
 half_read_pauses m rest half mode is e =
     front_between m rest mode
-    ∙ ap (front_by m rest) (ap (codes.front m.sets) is ∙ e) ∙ ap (λ (bs : List ℕ). course.pause (half_read bs)) is
+    ∙ ap (front_by m rest) (ap (codes.front m.sets) is ∙ e) ∙ ap (λ (bs : List ℕ). pause (half_read bs)) is
 
 -- an opcode opens a run
 pub opens_run : (x : Placed) (op : Opcode) (sets : CodeSets) → codes.front sets (x.byte ∷ []) ≡ codes.whole (code.Op op) 1 sets →
@@ -233,16 +219,16 @@ unfolding front
 front_body rest body h pending mode = ap (λ (mode : Mode). front_in mode h.machine (rest ++ pending)) mode
 
 -- what is held back waits for more
-pub held_pauses : (h : Holding) (rest : List Placed) → IsHeld rest h → front h.machine rest ≡ course.pause (unfinished_of h)
+pub held_pauses : (h : Holding) (rest : List Placed) → IsHeld rest h → front h.machine rest ≡ pause (unfinished_of h)
 unfolding front
 held_pauses h rest held = in_mode h.open_body held
   where
     at : (open_run : Option OpenRun) → h.machine.mode ≡ between → IsHeldBy rest h open_run →
-        front h.machine rest ≡ course.pause (unfinished_by None open_run h.half h.run)
+        front h.machine rest ≡ pause (unfinished_by None open_run h.half h.run)
     at None mode k = half_read_pauses h.machine rest h.half mode k.0 k.1
     at (Some open_run) mode k = open_run_pauses h.machine rest open_run h.run mode k.0
 
-    in_mode : (body : Option OpenBody) → IsHeldIn rest h body → front h.machine rest ≡ course.pause (unfinished_by body h.open_run h.half h.run)
+    in_mode : (body : Option OpenBody) → IsHeldIn rest h body → front h.machine rest ≡ pause (unfinished_by body h.open_run h.half h.run)
     in_mode None k = at h.open_run k.mode k.half
     in_mode (Some body) k =
         ap (λ (mode : Mode). front_in mode h.machine rest) k.at.mode
@@ -271,7 +257,7 @@ module _ {S : Type 0} {g : Ghosts S} {s : S} {o : Outcome} {t : S} {h : Holding}
 
   -- what stands at the front acts, and then nothing is held
   unfoldable pub leads_on : (u : S) (es : List Entry) (h' : Holding) (ys : List Placed) → TookMore g → IsHeld [] h' →
-      front h.machine (k.rest ++ pending) ≡ course.act es h'.machine ys → g.took t es u → (g.failed t ≡ false → g.failed u ≡ false) →
+      front h.machine (k.rest ++ pending) ≡ act es h'.machine ys → g.took t es u → (g.failed t ≡ false → g.failed u ≡ false) →
       Continues g s o u h' ys
   leads_on u es h' ys law held e took clear = record {
     done = k.done ++ es;
@@ -279,24 +265,24 @@ module _ {S : Type 0} {g : Ghosts S} {s : S} {o : Outcome} {t : S} {h : Holding}
     clear = λ before. clear (k.clear before);
     rest = [];
     held = held;
-    leads = by_front (course.act es h'.machine ys) e ∙ sym (prepend-append k.done es (outcome_from h'.machine ys));
+    leads = by_front (act es h'.machine ys) e ∙ sym (prepend-append k.done es (outcome_from h'.machine ys));
   }
 
   -- what stands at the front acts, and puts nothing
-  unfoldable pub leads_past : (h' : Holding) (ys : List Placed) → IsHeld [] h' → front h.machine (k.rest ++ pending) ≡ course.act [] h'.machine ys → Continues g s o t h' ys
+  unfoldable pub leads_past : (h' : Holding) (ys : List Placed) → IsHeld [] h' → front h.machine (k.rest ++ pending) ≡ act [] h'.machine ys → Continues g s o t h' ys
   leads_past h' ys held e = record {
     done = k.done;
     taken = k.taken;
     clear = k.clear;
     rest = [];
     held = held;
-    leads = by_front (course.act [] h'.machine ys) e;
+    leads = by_front (act [] h'.machine ys) e;
   }
 
   -- what stands at the front is refused
-  pub leads_to_refusal : (r : Refusal) → front h.machine (k.rest ++ pending) ≡ course.refuse r → IsRefused g s o t h r
+  pub leads_to_refusal : (r : Refusal) → front h.machine (k.rest ++ pending) ≡ refuse r → IsRefused g s o t h r
   leads_to_refusal r e =
-      let is = by_front (course.refuse r) e in (
+      let is = by_front (refuse r) e in (
         ap (λ (x : Outcome). x.refusal) is,
         subst (λ (es : List Entry). g.took s es t) (sym (ap (λ (x : Outcome). x.entries) is ∙ append-nil k.done)) k.taken,
         ap (λ (x : Outcome). x.machine.left) is,
@@ -309,13 +295,13 @@ module _ {S : Type 0} {g : Ghosts S} {s : S} {o : Outcome} {t : S} {h : Holding}
       leads_past h' (all_at place bytes ++ ys) held
       (e
       ∙ cond-false (ltb m.left (length bytes)) _ _ (le-ltb m.left (length bytes) few)
-      ∙ ap (λ (m : Machine). course.act [] m (all_at place bytes ++ ys)) (sym same))
+      ∙ ap (λ (m : Machine). act [] m (all_at place bytes ++ ys)) (sym same))
 
   -- or it can't be charged
   pub leads_budget : (m : Machine) (place : ℕ) (bytes : List ℕ) (ys : List Placed) → front h.machine (k.rest ++ pending) ≡ shown_front m place bytes ys →
-      m.left < length bytes → IsRefused g s o t h (refusal faults.Budget place)
+      m.left < length bytes → IsRefused g s o t h (refusal Budget place)
   leads_budget m place bytes ys e many =
-      leads_to_refusal (refusal faults.Budget place) (e ∙ cond-true (ltb m.left (length bytes)) _ _ (lt-ltb m.left (length bytes) many))
+      leads_to_refusal (refusal Budget place) (e ∙ cond-true (ltb m.left (length bytes)) _ _ (lt-ltb m.left (length bytes) many))
 
   -- the rule of what stands at the front is refused
   pub leads_to_fault : (u : S) (m : Machine) (place : ℕ) (ys : List Placed) (by : Result Drawn DrawFault) → front h.machine (k.rest ++ pending) ≡ drawn_front m place ys by →
@@ -491,7 +477,7 @@ module _ {S : Type 0} {g : Ghosts S} {s : S} {o : Outcome} {t : S} {h : Holding}
       leads_shift k h' refl
       (holds_open_run h' (k.rest ++ x ∷ []) open_run no_body half_of.mode half_of.body is (joins_run k.rest open_run h.run h.machine.sets x open_of.0 word few) open_of.1)
 
-  pub word_too_many : is_operand x ≡ true → run_limit ≤ length h.run → IsRefused g s o t h (refusal faults.LongRun open_run.place)
+  pub word_too_many : is_operand x ≡ true → run_limit ≤ length h.run → IsRefused g s o t h (refusal LongRun open_run.place)
   word_too_many word many = leads_to_refusal k _ (front_long h.machine k.rest open_run h.run x pending half_of.mode open_of.0 word many)
 
   -- it ends the run

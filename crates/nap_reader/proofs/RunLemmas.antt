@@ -1,21 +1,7 @@
-use Rattle.std.proofs.Common.{ℕ, ◌+◌, ◌-◌, ◌≡◌, ◌≤◌, List, [], ◌∷◌, ◌++◌, map, length, All, true, None, Some, sym, arith, append-nil, append_assoc, length-append, ◌<◌, Bool, take, drop, get_or, inl, inr, refl, ap, ◌∙◌, subst}
-use Rattle.std.proofs.lemmas.List.Elements.{All-head, All-tail}
-use Rattle.nap_reader.proofs.ReadingLemmas.{word_joins, word_too_many, TookMore}
-use Rattle.std.specs.List.{prefix_len}
-use Rattle.std.proofs.lemmas.List.{drop-append-le, drop-map, drop_more, length-map, length-take-le, take-append-le, take-map}
-use Rattle.std.proofs.lemmas.List.Sums.{prefix_len-le-length, prefix_len_passes}
-use Rattle.nap_reader.specs.Below.{Ghosts, run_limit, CharSet, CodeSets, DrawsBy, carried, Opcode, DrawFault, Drawn, rule}
-use Rattle.nap_reader.proofs.Common.{OpenRun, Placed, Outcome, bytes_of, is_operand_byte, place_at, refusal, after_drawing, Holding, Continues, run_by, Refusal, AllCharacters, ActsRun, Conveys, IsLive, IsOver, LeadsOn, Refuses, Stops, StopsRun, Takes, ahead, as_it_was, asked, asks_if, at_byte, at_word, with_machine, Codes, IsOpcodeByte, IsWholeRun, Request, draw_fault}
-use Rattle.nap_reader.specs.declared.fault.Fault.TheVariants as faults
+use Rattle.nap_reader.proofs.Common.{ActsRun, All, All-head, All-tail, Bool, CodeTakes, Codes, Continues, Conveys, DrawFault, Drawn, DrawsBy, Executes, FailsRun, Ghosts, Holding, IsLive, IsOpcodeByte, IsOver, IsWholeRun, LeadsOn, List, LongRun, Memory, None, Nothing, Opcode, OpenRun, Outcome, Placed, Refusal, Refuses, Request, Some, Stop, Stops, StopsRun, Takes, TellsSink, [], after_drawing, ahead, ap, append-nil, append_assoc, arith, as_it_was, asked, asks_if, at_byte, at_word, bytes_of, carried, draw_fault, drop, drop-append-le, drop-map, drop_more, get_or, inl, inr, is_operand_byte, length, length-append, length-map, length-take-le, map, place_at, prefix_len, prefix_len-le-length, prefix_len_passes, refl, refusal, rule, run_by, run_limit, subst, sym, take, take-append-le, take-map, true, with_machine, ℕ, ◌++◌, ◌+◌, ◌-◌, ◌<◌, ◌∙◌, ◌∷◌, ◌≡◌, ◌≤◌}
+use Rattle.nap_reader.proofs.Base.{TookMore, as_many_words, bytes_of-append, conveys_nothing, first_of, more_words, no_some, operands_in_front, place_at-append, run_over, same_words, split_bytes, stops_run, word_joins, word_too_many}
 use Rattle.nap_reader.specs.declared.machine.Machine.{Machine}
-use Rattle.nap_reader.specs.declared.machine.Request.TheVariants as requests
-use Rattle.nap_reader.specs.Carried.{NoCharacters}
-use Rattle.nap_reader.specs.Steps.{Executes, FailsRun, TellsSink, CodeTakes}
 use Rattle.nap_reader.proofs.TakingLemmas.{held_is, stop_takes, Drew, LeftBy, asked_is, asks_takes, own_tells, leads_behind, stops_behind, takes_then}
-use Rattle.nap_reader.proofs.OperandLemmas.{as_many_words, more_words, operands_in_front, run_over, same_words}
-use Rattle.nap_reader.proofs.ComingLemmas.{first_of, split_bytes}
-use Rattle.nap_reader.proofs.StepLemmas.{no_some, conveys_nothing, stops_run}
-use Rattle.nap_reader.proofs.StreamLemmas.{bytes_of-append, place_at-append}
 use Rattle.nap_draw.specs.Draws as draws
 use Rattle.nap_reader.specs.declared.machine.codes.CodeOutcome.TheVariants as outcomes
 use Rattle.nap_reader.proofs.CodesLemmas.{StartsRun, open_at, run_opened}
@@ -41,11 +27,10 @@ words_join {g = g} {s = s} {o = o} {t = t} {h = h} (x ∷ xs) pending between op
 
 -- Operands of an open run.
 
--- This run is open, and no body; and not all bytes from 20 to 7F are characters.
+-- This run is open, and no body.
 pub record IsOpen (h : Holding) (open_run : OpenRun) : Type 0 where
   pub is : h.open_run ≡ Some open_run
   pub between : h.open_body ≡ None
-  pub alone : (set : CharSet) → AllCharacters h.machine.sets set → ⊥
 
 -- So many bytes at the front are operands, for which a run has room.
 pub record HasRoom (h : Holding) (all : List Placed) (k : ℕ) : Type 0 where
@@ -72,16 +57,12 @@ module _ {S : Type 0} (g : Ghosts S) (t : S) {h : Holding} {open_run : OpenRun} 
   -- They wait.
   operands_wait : {v : S} {held : Holding} (next : List ℕ) → v ≡ t → held ≡ joined → LeadsOn g t h v held (take k all) next
   unfolding joins
-  operands_wait next sink same = record { conveys = joins; acted = as_it_was sink same; typed = λ set rested chars. (sink, same) }
+  operands_wait next sink same = record { conveys = joins; acted = as_it_was sink same }
 
   -- The run acts ahead of a byte that is no operand.
   pub operands_act : {next : List ℕ} → IsOver next → {v : S} {h' : Holding} → ActsRun g t joined v h' → LeadsOn g t h v h' (take k all) next
   unfolding joins
-  operands_act over acts = record {
-    conveys = joins;
-    acted = ahead over.byte over.rest over.is over.other acts;
-    typed = λ set rested chars. absurd (run.alone set (subst (λ (sets : CodeSets). AllCharacters sets set) (ap (λ (h : Holding). h.machine.sets) acts.holds) chars));
-  }
+  operands_act over acts = record { conveys = joins; acted = ahead over.byte over.rest over.is over.other acts }
 
   -- It is refused, or breaks, there.
   pub operands_stop : IsOver (bytes_of (drop k all)) → {v : S} {r : Refusal} → StopsRun g t joined v r → (many : ℕ) → Stops g t h all many k v r
@@ -91,7 +72,7 @@ module _ {S : Type 0} (g : Ghosts S) (t : S) {h : Holding} {open_run : OpenRun} 
       at_byte x ys left joins (stops_run (ap is_operand_byte byte ∙ over.other) stops)
 
   -- There are more than it has room for.
-  pub operands_long : (x : Placed) (zs : List Placed) → drop k all ≡ x ∷ zs → is_operand_byte x.byte ≡ true → length h.run + k ≡ run_limit → (many : ℕ) → Stops g t h all many k t (refusal faults.LongRun open_run.place)
+  pub operands_long : (x : Placed) (zs : List Placed) → drop k all ≡ x ∷ zs → is_operand_byte x.byte ≡ true → length h.run + k ≡ run_limit → (many : ℕ) → Stops g t h all many k t (refusal LongRun open_run.place)
   unfolding joins
   operands_long x zs left word full many =
       at_byte x zs left joins (record {
@@ -136,7 +117,7 @@ module _ (xs behind : List Placed) where
 
 module _ {S : Type 0} {g : Ghosts S} (old : Machine S g) (open_run : OpenRun) (is : old.open_run ≡ Some open_run) (h : Holding) where
   is_open : h.open_body ≡ None → IsOpen (with_machine h old) open_run
-  is_open between = record { is = is; between = between; alone = subst (NoCharacters old.lexer) is old.drawing }
+  is_open between = record { is = is; between = between }
 
   counted : length (with_machine h old).run ≡ length old.run.items
   counted = as_many_words old.open_run open_run old.run.items is
@@ -150,7 +131,7 @@ module _ {S : Type 0} {g : Ghosts S} (old : Machine S g) (open_run : OpenRun) (i
 
 -- More come than the run has room for.
 pub run_too_long : {S : Type 0} {g : Ghosts S} {old new : Machine S g} {open_run : OpenRun} {xs : List Placed} (ended : Bool) (most : ℕ) → old.open_run ≡ Some open_run → most < operands_in xs → length old.run.items + most ≡ run_limit →
-    new.refusal ≡ Some (refusal faults.LongRun open_run.place) → new.sink ≡ old.sink → Takes old new xs ended most requests.Stop
+    new.refusal ≡ Some (refusal LongRun open_run.place) → new.sink ≡ old.sink → Takes old new xs ended most Stop
 run_too_long {g = g} {old = old} {open_run = open_run} {xs = xs} ended most is less full refused same =
     stop_takes refused same (omega (arith, less, within xs [])) (own_tells g old.sink (λ own. cc))
     (λ h behind between over.
@@ -159,7 +140,7 @@ run_too_long {g = g} {old = old} {open_run = open_run} {xs = xs} ended most is l
 
 -- Memory is wanting for them.
 pub run_lacks : {S : Type 0} {g : Ghosts S} {old new : Machine S g} {open_run : OpenRun} {xs : List Placed} (ended : Bool) → old.open_run ≡ Some open_run → 0 < operands_in xs → length old.run.items + operands_in xs ≤ run_limit →
-    new.refusal ≡ Some (refusal faults.Memory (place_at xs 0)) → new.sink ≡ old.sink → Takes old new xs ended 0 requests.Stop
+    new.refusal ≡ Some (refusal Memory (place_at xs 0)) → new.sink ≡ old.sink → Takes old new xs ended 0 Stop
 run_lacks {g = g} {old = old} {open_run = open_run} {xs = xs} ended is some short refused same =
     stop_takes refused same (omega arith) (own_tells g old.sink (λ own. cc))
     (λ h behind between over.
@@ -175,7 +156,7 @@ run_lacks {g = g} {old = old} {open_run = open_run} {xs = xs} ended is some shor
             word = word;
             few = omega (arith, some, short, counted old open_run is h);
             sink = refl;
-            why = ap (refusal faults.Memory) (sym here);
+            why = ap (refusal Memory) (sym here);
           });
     }))
 
@@ -208,7 +189,7 @@ module _ {S : Type 0} {g : Ghosts S} {old mid : Machine S g} {open_run : OpenRun
       ∙ ap (λ (bs : List ℕ). run_by old.open_run old.run.items ++ words bs) (sym (bytes_taken xs behind (operands_in xs) (omega arith))))
 
   -- They are all of the bytes.
-  pub run_waits : IsLive mid → operands_in xs ≡ length xs → Takes old mid xs ended (operands_in xs) requests.Nothing
+  pub run_waits : IsLive mid → operands_in xs ≡ length xs → Takes old mid xs ended (operands_in xs) Nothing
   run_waits live all = record {
     within = few;
     leaves = record { live = live; clear = λ clear. ap g.failed j.sink ∙ clear };
@@ -231,7 +212,7 @@ module _ {S : Type 0} {g : Ghosts S} {old mid : Machine S g} {open_run : OpenRun
       asks_takes clears (record { live = executes.0.live; clear = λ clear. executes.0.clear (ap g.failed j.sink ∙ clear) }) executes.1 few (λ some. inr (inr (executes.1, λ none. no_some (sym j.is ∙ none)))) (leads ends new clears executes)
 
   -- It is refused, or breaks.
-  pub run_stops : (operands_in xs ≡ length xs → ended ≡ true) → {failed new : Machine S g} {r : Refusal} → FailsRun mid failed r → Refuses failed new r → Takes old new xs ended (operands_in xs) requests.Stop
+  pub run_stops : (operands_in xs ≡ length xs → ended ≡ true) → {failed new : Machine S g} {r : Refusal} → FailsRun mid failed r → Refuses failed new r → Takes old new xs ended (operands_in xs) Stop
   run_stops ends {failed} {new} {r} (stopped, tells) refuses =
       stop_takes refuses.is refuses.sink few (tells.0, λ works fails. tells.1 (ap g.failed j.sink ∙ works) fails)
       (λ h behind between over.
@@ -286,7 +267,7 @@ module _ {S : Type 0} {g : Ghosts S} {old : Machine S g} {op : Opcode} {bytes : 
     begun = open_at start
 
     begun_open : IsOpen begun (record { op = op; place = x.place })
-    begun_open = record { is = refl; between = comes.between; alone = r.at.is.alone }
+    begun_open = record { is = refl; between = comes.between }
 
     room : HasRoom begun all (length run)
     room = record {
@@ -310,6 +291,7 @@ module _ {S : Type 0} {g : Ghosts S} {old : Machine S g} {op : Opcode} {bytes : 
           open_run = record { op = op; place = x.place };
           between = comes.between;
           is = refl;
+          alone = r.at.is.alone;
           drawn = drawn;
           by = ap (rule old.work op) (sym run_words) ∙ drew.is;
           took = drew.took;

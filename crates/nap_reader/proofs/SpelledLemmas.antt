@@ -1,27 +1,15 @@
-use Rattle.std.proofs.Common.{◌+◌, ◌++◌, ◌-◌, ◌<◌, Bool, List, None, Some, [], ap, arith, cond, drop, eqb, false, get_or, length, length-append, refl, subst, suc, sym, take, true, ℕ, ◌∙◌, ◌∷◌, ◌≡◌, ◌≢◌, ◌≤◌}
-use Rattle.nap_reader.specs.Below.{CharSet, Code, CodeSets, IsGraphic, LexerState, Opcode, Spells, StepsBy, TextStep, Whole, set_at}
-use Rattle.nap_reader.proofs.Common.{AllCharacters, BodyFront, Fault, Kind, ends_body, kind_of}
+use Rattle.nap_reader.proofs.Common.{AllCharacters, BodyFront, Bool, CallsBy, CharSet, Code, CodeSets, Fault, IsGraphic, IsInRange, IsMade, Kind, LexerState, List, Macros, None, Opcode, Some, Step, Steps, StepsBy, TextStep, [], ap, arith, at_escape, body_front, code_ranges, cond, control0_rows, control1_rows, drop, drop_more, ended, ends_body, eqb, false, get_or, kind_of, length, length-append, length-take-le, mask_rows, one_further, opcode_rows, refl, refused, row_of, set_at, set_rows, stores, subst, suc, sym, take, take_all, true, unfinished, whole_is_spelled, ℕ, ⊤, ◌++◌, ◌+◌, ◌-◌, ◌<◌, ◌∙◌, ◌∷◌, ◌≡◌, ◌≢◌, ◌≤◌}
+use Rattle.nap_codes.specs.Spelling.{Spells}
+use Rattle.nap_codes.specs.declared.control.Row.TheVariants.{Whole, More, Out}
 use Rattle.nap_codes.specs.declared.code.Code.TheVariants as code
 use Rattle.nap_codes.specs.declared.code_set.CodeSet.{CodeSet}
 use Rattle.nap_codes.specs.declared.code_set.CodeSet.TheVariants as code_sets
-use Rattle.nap_codes.specs.declared.code_set.CodeSet.TheVariants.{Macros}
-use Rattle.nap_codes.specs.declared.code.Step.{Step}
-use Rattle.nap_codes.specs.Lexer.{Steps}
-use Rattle.nap_reader.specs.Steps.{CallsBy}
 use Rattle.nap_codes.specs.declared.control.Row.{Row}
-use Rattle.nap_codes.specs.declared.control.Row.TheVariants.{More, Out}
 use Rattle.nap_codes.specs.Front as codes
 use Rattle.nap_codes.specs.Spelling as spelling
 use Rattle.nap_codes.specs.Tables as tables
-use Rattle.nap_codes.specs.Tables.{control0_rows, control1_rows, mask_rows, opcode_rows, row_of, set_rows}
-use Rattle.nap_codes.proofs.PublicLaws.{code_ranges, whole_is_spelled}
-use Rattle.std.proofs.lemmas.List.{drop_more, length-take-le, take_all}
-use Rattle.nap_reader.specs.Bodies.{at_escape, body_front, ended, one_further, refused, stores, unfinished}
-use Rattle.std.specs.Prelude.{⊤}
 use Rattle.nap_codes.specs.declared.control.TextStep.TheVariants as steps
-use Rattle.nap_codes.specs.Laws.{IsInRange}
 use Rattle.nap_list.specs.Entry.{IsCode, StepMade}
-use Rattle.nap_draw.specs.Codes.{IsMade}
 use Rattle.nap_reader.specs.declared.kind.Kind.TheVariants as kinds
 
 -- What some bytes spell.

@@ -1,8 +1,4 @@
-use Rattle.std.proofs.Common.{ap, ℕ, ◌+◌, ◌≡◌, ◌<◌, List, [], ◌∷◌, ◌++◌, length, take, drop, slice_index, get_or, Some, None, sym, ◌∙◌, subst, arith, append_assoc, length-append}
-use Rattle.std.proofs.lemmas.List.{take_all, take_more, take-append-drop, take-append-le, get_or_append_left, get_or-append-add}
-use Rattle.nap_reader.specs.Below.{Ghosts, Cause, stream, memory, device}
-use Rattle.nap_reader.proofs.Common.{Refusal, Reader, Machine, begun, cause_of, Continues, holding_of, IsBroken, StopsAt, StopsBy, Stands, budget_of, fed_of, left_of, refusal_of, sink_of}
-use Rattle.nap_reader.specs.Standing.{IsKnown, AnswersBy, Answers}
+use Rattle.nap_reader.proofs.Common.{Answers, AnswersBy, Cause, Continues, Ghosts, IsBroken, IsKnown, List, Machine, None, Reader, Refusal, Some, Stands, StopsAt, StopsBy, [], ap, append_assoc, arith, begun, budget_of, cause_of, device, drop, fed_of, get_or, get_or-append-add, get_or_append_left, holding_of, left_of, length, length-append, memory, refusal_of, sink_of, slice_index, stream, subst, sym, take, take-append-drop, take-append-le, take_all, take_more, ℕ, ◌++◌, ◌+◌, ◌<◌, ◌∙◌, ◌∷◌, ◌≡◌}
 use Rattle.nap_reader.proofs.ReadingLemmas.{leads_unrefused, leads_taken, leads_machine}
 use Rattle.nap_reader.proofs.LawLemmas.{more_bytes_keep_refusal}
 

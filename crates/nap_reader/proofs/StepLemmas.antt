@@ -1,16 +1,9 @@
-use Rattle.std.proofs.Common.{◌<◌, ◌≤◌, ◌⊎◌, inl, inr, length, arith, length-append, ℕ, ◌≡◌, List, [], ◌∷◌, ◌++◌, All, get_or, false, Some, None, refl, ap, sym, ◌∙◌, subst, append_assoc, append-nil}
-use Rattle.std.proofs.lemmas.List.Elements.{All-cons, All-head, All-nil, All-tail}
-use Rattle.nap_reader.specs.Below.{CodeFault, IsGraphic, Ghosts, DrawFault, stream}
-use Rattle.nap_reader.proofs.Common.{Refusal, after_drawing, code_fault, draw_fault, Placed, Outcome, bytes_of, is_operand, is_operand_byte, cause_of, Holding, Continues, ContinuesPast, IsRefused, RunAt, Acted, ActsRun, Breaks, Conveys, LeadsOn, StaysInText, StopsByte, StopsRun, StopsText, ahead, as_it_was, at_word, bound, in_code, Fault, shown_front, refusal}
+use Rattle.nap_reader.proofs.Common.{Acted, ActsRun, All, All-cons, All-head, All-nil, All-tail, AllCharacters, Breaks, BreaksCode, Budget, CharSet, CodeFault, Continues, ContinuesPast, Conveys, DrawFault, Fault, Ghosts, Holding, IsRefused, LeadsOn, List, Machine, Memory, None, Outcome, Placed, Refusal, RunAt, Sink, Some, StopsByte, StopsRun, StopsText, [], after_body, after_drawing, ahead, ap, append-nil, append_assoc, arith, as_it_was, at_word, behind_run, bound, bytes_of, cause_of, code_fault, draw_fault, false, front, get_or, in_code, in_run, inl, inr, is_operand, is_operand_byte, length, length-append, refl, refusal, shown_front, stream, subst, sym, ℕ, ◌++◌, ◌<◌, ◌∙◌, ◌∷◌, ◌≡◌, ◌≤◌, ◌⊎◌}
 use Rattle.nap_codes.specs.declared.code.Code.TheVariants as code
 use Rattle.nap_codes.specs.declared.code.CodeFault.TheVariants as code_faults
-use Rattle.nap_codes.specs.Front as codes
 use Rattle.nap_draw.specs.declared.fault.DrawFault.TheVariants as draw_faults
-use Rattle.nap_reader.specs.declared.fault.Fault.TheVariants as faults
 use Rattle.nap_reader.specs.Bodies as bodies
-use Rattle.nap_reader.specs.Stream as model
-use Rattle.nap_reader.specs.Stream.{front}
-use Rattle.nap_reader.specs.Steps.{BreaksCode, behind_run, in_body, in_run}
+use Rattle.nap_reader.specs.Steps.{in_body}
 use Rattle.nap_reader.proofs.PartLemmas.{some_in_body}
 use Rattle.nap_reader.proofs.ReadingLemmas.{TookMore, leads_on, leads_to_fault, none_held, over, leads_budget}
 use Rattle.nap_reader.proofs.OpenBodyLemmas.{body_bound, held_body, same_done}
@@ -21,7 +14,7 @@ no_some e = cc
 -- What a reader does with one byte, by what stands at the front then.
 
 -- the fault of a sink is one fault, for the rule and for the reader
-pub sink_fault : (fault : DrawFault) → draw_fault fault ≡ faults.Sink → fault ≡ draw_faults.Sink
+pub sink_fault : (fault : DrawFault) → draw_fault fault ≡ Sink → fault ≡ draw_faults.Sink
 sink_fault draw_faults.Sink is = refl
 sink_fault _ is = let bad : ⊥ = cc in absurd bad
 
@@ -90,7 +83,7 @@ module _ {S : Type 0} {g : Ghosts S} {t : S} {h : Holding} {u : S} {h' : Holding
           place = code.place;
           part = λ s known o k.
               let x_ends = ap bodies.ends_body (first b bs is) ∙ ends in
-              let after : Holding = record h { machine = model.after_body h.machine binds.body.name h.body; half = 27 ∷ []; open_run = None; run = []; open_body = None; body = [] } in
+              let after : Holding = record h { machine = after_body h.machine binds.body.name h.body; half = 27 ∷ []; open_run = None; run = []; open_body = None; body = [] } in
               let holds : h' ≡ after = binds.holds (held_body binds.is k.continues).at.half in
               let past : ContinuesPast g s known o t after (x ∷ []) = record {
                 continues = body_bound binds.is k.continues binds.held x_ends binds.hidden;
@@ -120,7 +113,7 @@ abbrev pub conveys_nothing : {S : Type 0} (g : Ghosts S) (t : S) (h : Holding) �
 conveys_nothing g t h = record { sink = t; holding = h; left = refl; run = λ n all before. before; passes = λ s o pending k. k; none = λ _. (refl, refl) }
 
 pub leads_nowhere : {S : Type 0} {g : Ghosts S} {t v : S} {h held : Holding} (next : List ℕ) → v ≡ t → held ≡ h → LeadsOn g t h v held [] next
-leads_nowhere {g = g} {t = t} {h = h} next sink same = record { conveys = conveys_nothing g t h; acted = as_it_was sink same; typed = λ set rested chars. (sink, same) }
+leads_nowhere {g = g} {t = t} {h = h} next sink same = record { conveys = conveys_nothing g t h; acted = as_it_was sink same }
 
 abbrev pub IsAt : ℕ → Placed → Type 0
 IsAt n x = x.place ≡ n
@@ -147,13 +140,11 @@ acted_then (ahead b bs is other acts) (bound c cs is' ends' sink' binds') =
 acted_then (bound b bs is ends sink binds) (bound c cs is' ends' sink' binds') =
     absurd (no_some (sym binds'.is ∙ binds.between))
 
-pub typed_then : {S : Type 0} (t : S) (h : Holding) (u : S) (h' : Holding) (v : S) (h'' : Holding) → StaysInText t h u h' → StaysInText u h' v h'' → StaysInText t h v h''
-typed_then t h u h' v h'' first then set rested chars =
-    let last = then set rested chars in
-    let before =
-    first set (ap (λ (held : Holding). held.half) (sym last.1) ∙ rested)
-    (subst (λ (held : Holding). (b : ℕ) → IsGraphic b → codes.front held.machine.sets (b ∷ []) ≡ codes.whole (code.Char set b) 1 held.machine.sets) last.1 chars) in
-    (last.0 ∙ before.0, last.1 ∙ before.1)
+-- It acted, or is bound, where no byte is a character by itself, or a code is half read.
+pub acted_typed : {S : Type 0} {g : Ghosts S} {t : S} {h : Holding} {u : S} {h' : Holding} {next : List ℕ} → Acted g t h u h' next → (set : CharSet) → h'.half ≡ [] → AllCharacters h'.machine.sets set → (u ≡ t) × (h' ≡ h)
+acted_typed (as_it_was sink holding) set rested chars = (sink, holding)
+acted_typed (ahead b bs is other acts) set rested chars = absurd (acts.alone set (subst (λ (held : Holding). AllCharacters held.machine.sets set) acts.holds chars))
+acted_typed (bound b bs is ends sink binds) set rested chars = absurd (binds.waits rested)
 
 -- Bytes were taken, and then more of those that came next.
 module _ {S : Type 0} {g : Ghosts S} {t : S} {h : Holding} {u : S} {h' : Holding} {xs : List Placed} {next : List ℕ} (more : TookMore g) (first : LeadsOn g t h u h' xs next) where
@@ -181,16 +172,13 @@ module _ {S : Type 0} {g : Ghosts S} {t : S} {h : Holding} {u : S} {h' : Holding
       let same = then.conveys.none refl in
       let c = first.conveys in
       let acted : Acted g u h' v h'' then_next = subst (λ (held : Holding). Acted g u held v h'' then_next) same.1 (subst (λ (w : S). Acted g w then.conveys.holding v h'' then_next) same.0 then.acted) in
-      let typed : StaysInText u h' v h'' = subst (λ (held : Holding). StaysInText u held v h'') same.1 (subst (λ (w : S). StaysInText w then.conveys.holding v h'') same.0 then.typed) in
       subst (λ (zs : List Placed). LeadsOn g t h v h'' zs then_next) (sym (append-nil xs)) (record {
         conveys = c;
         acted = acted_then (subst (Acted g c.sink c.holding u h') is first.acted) acted;
-        typed = typed_then c.sink c.holding u h' v h'' first.typed typed;
       })
   leads_then v h'' (y ∷ ys) then_next is then = record {
     conveys = conveys_then y ys (bytes_of ys ++ then_next) is then.conveys;
     acted = then.acted;
-    typed = then.typed;
   }
 
   -- They lead to a byte that is refused or breaks, or to characters of which one does.
@@ -212,7 +200,7 @@ module _ {S : Type 0} {g : Ghosts S} {t : S} {h : Holding} {u : S} {h' : Holding
       let same = c.none refl in
       let at = first.conveys in
       let here : StopsText g u h' text i v r = subst (λ (held : Holding). StopsText g u held text i v r) same.1 (subst (λ (w : S). StopsText g w c.holding text i v r) same.0 stops) in
-      let still = first.typed here.set here.text_is.rested here.text_is.chars in
+      let still = acted_typed first.acted here.set here.text_is.rested here.text_is.chars in
       let there : StopsText g at.sink at.holding text i v r = subst (λ (held : Holding). StopsText g at.sink held text i v r) still.1 (subst (λ (w : S). StopsText g w h' text i v r) still.0 here) in
       subst (λ (zs : List Placed). (k : Conveys g t h zs) × StopsText g k.sink k.holding text i v r) (sym (append-nil xs)) (at, there)
   halts_then (y ∷ ys) rest is c stops = (conveys_then y ys (bytes_of ys ++ rest) is c, stops)
@@ -223,12 +211,12 @@ pub stops_own : {S : Type 0} (g : Ghosts S) (t : S) (h : Holding) (x : Placed) (
 stops_own g t h x u r is refuses = record { own = λ own. refuses; broke = λ broke. absurd (broke is) }
 
 -- a byte calls or shows a body that can't be charged, or for which memory is wanting
-pub cannot_stops : {S : Type 0} {g : Ghosts S} {t : S} {h : Holding} {x : Placed} {fault : Fault} (left : ℕ) (m : model.Machine) (bytes : List ℕ) → left ≡ m.left →
+pub cannot_stops : {S : Type 0} {g : Ghosts S} {t : S} {h : Holding} {x : Placed} {fault : Fault} (left : ℕ) (m : Machine) (bytes : List ℕ) → left ≡ m.left →
     ((s : S) (o : Outcome) (pending : List Placed) (k : Continues g s o t h (x ∷ pending)) → front h.machine (k.rest ++ x ∷ pending) ≡ shown_front m x.place bytes pending) →
-    (0 < length bytes → length bytes ≤ m.left → Breaks g t h x t (refusal faults.Memory x.place)) →
-    ((fault ≡ faults.Budget) × (left < length bytes)) ⊎ ((fault ≡ faults.Memory) × (0 < length bytes) × (length bytes ≤ left)) → StopsByte g t h x t (refusal fault x.place)
+    (0 < length bytes → length bytes ≤ m.left → Breaks g t h x t (refusal Memory x.place)) →
+    ((fault ≡ Budget) × (left < length bytes)) ⊎ ((fault ≡ Memory) × (0 < length bytes) × (length bytes ≤ left)) → StopsByte g t h x t (refusal fault x.place)
 cannot_stops {g = g} {t = t} {h = h} {x = x} left m bytes same acting breaks (inl (is, many)) =
     subst (λ (fault : Fault). StopsByte g t h x t (refusal fault x.place)) (sym is)
-    (stops_own g t h x t (refusal faults.Budget x.place) refl (λ s o pending k. leads_budget k m x.place bytes pending (acting s o pending k) (omega (arith, many, same))))
+    (stops_own g t h x t (refusal Budget x.place) refl (λ s o pending k. leads_budget k m x.place bytes pending (acting s o pending k) (omega (arith, many, same))))
 cannot_stops {g = g} {t = t} {h = h} {x = x} left m bytes same acting breaks (inr (is, some, few)) =
     subst (λ (fault : Fault). StopsByte g t h x t (refusal fault x.place)) (sym is) (record { own = λ own. (let bad : ⊥ = cc in absurd bad); broke = λ broke. breaks some (omega (arith, few, same)) })

@@ -1,15 +1,6 @@
-use Rattle.std.proofs.Common.{ℕ, suc, zero, ◌≡◌, ◌<◌, ◌≤◌, ◌+◌, ◌-◌, List, [], ◌∷◌, ◌++◌, All, length, take, drop, get_or, refl, ap, sym, ◌∙◌, subst, arith, length-append}
-use Rattle.std.proofs.lemmas.List.{drop_at, length-drop, length-map, length-take-le, take-append-drop}
-use Rattle.std.proofs.lemmas.List.Elements.{All-head, All-tail}
-use Rattle.nap_reader.specs.Below.{Ghosts, fault_of}
-use Rattle.nap_reader.proofs.Common.{Fault, Refusal, Reader, draw_fault, placed_at, Machine, Outcome, Placed, begun, bytes_of, place_at, placed_from, refusal, BreaksFrom, cause_of, Continues, Holding, LeadsTo, Reaches, StopsAt, budget_of, fed_of, left_of, sink_of, Breaks, Came, Conveys, Stops, StopsByte, StopsText, at_byte, in_text, of_body, of_piece}
-use Rattle.nap_reader.proofs.BreakLemmas.{breaks_byte, breaks_place, breaks_inside}
-use Rattle.nap_reader.proofs.ComingLemmas.{came_coming, came_next, came_none, came_take, length-placed}
-use Rattle.nap_reader.proofs.ReadingLemmas.{Lawful, leads_left, leads_machine, leads_unrefused}
-use Rattle.nap_reader.proofs.PartLemmas.{breaks_more, cut}
+use Rattle.nap_reader.proofs.Common.{All, All-head, All-tail, Breaks, BreaksFrom, Came, Continues, Conveys, Fault, Ghosts, Holding, LeadsTo, List, Machine, Outcome, Placed, Reaches, Reader, Refusal, Stops, StopsAt, StopsByte, StopsText, [], ap, arith, at_byte, begun, budget_of, bytes_of, cause_of, draw_fault, drop, drop_at, fault_of, fed_of, get_or, in_text, left_of, length, length-append, length-drop, length-map, length-take-le, of_body, of_piece, place_at, placed_at, placed_from, refl, refusal, sink_of, subst, suc, sym, take, take-append-drop, zero, ℕ, ◌++◌, ◌+◌, ◌-◌, ◌<◌, ◌∙◌, ◌∷◌, ◌≡◌, ◌≤◌}
+use Rattle.nap_reader.proofs.Base.{IsAt, Lawful, acted_typed, all_front, breaks_byte, breaks_inside, breaks_more, breaks_place, bytes_of-append, bytes_of-placed, came_coming, came_next, came_none, came_take, cut, leads_left, leads_machine, leads_unrefused, left_acted, length-placed, stops_acted}
 use Rattle.nap_reader.proofs.PieceLemmas.{broken_amid, first_placed, known_amid, known_with, leads_past, length_taken, stops_by}
-use Rattle.nap_reader.proofs.StepLemmas.{IsAt, all_front, left_acted, stops_acted}
-use Rattle.nap_reader.proofs.StreamLemmas.{bytes_of-append, bytes_of-placed}
 use Rattle.nap_reader.proofs.TakingLemmas.{place_at-drop}
 use Rattle.nap_reader.proofs.TextLemmas.{halts_in, not_own, text_breaks_off, text_stops}
 
@@ -186,7 +177,7 @@ module _ {S : Type 0} {g : Ghosts S} {old : Reader S g} {piece : List ℕ} {at :
       let (u, held, leads, same, there) =
       reached first few' (λ (u : S) (held : Holding). StopsText g u held (bytes_of texts) taken (sink_of new) r) c stops
       (λ zero here.
-      let typed = by.typed here.set here.text_is.rested here.text_is.chars in
+      let typed = acted_typed by.acted here.set here.text_is.rested here.text_is.chars in
       subst (λ (held : Holding). StopsText g by.sink held (bytes_of texts) taken (sink_of new) r) typed.1 (subst (λ (w : S). StopsText g w h (bytes_of texts) taken (sink_of new) r) typed.0 here)) in
       stops_text new leads (left ∙ same) laws there
       (subst (Came behind (drop size behind) piece from (from + (size - length behind)) (fed_of old + from)) (ap (take size) (sym (then_is first few')))

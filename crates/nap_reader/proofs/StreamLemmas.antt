@@ -1,26 +1,11 @@
-use Rattle.std.proofs.Common.{◌+◌, ◌++◌, ◌-◌, ◌<◌, All, Bool, Err, List, None, Ok, Option, Result, Some, [], ap, append_assoc, arith, cond, drop, eqb, false, length, length-append, length-drop, ltb, refl, subst, suc, sym, take, true, zero, ℕ, ◌∙◌, ◌∷◌, ◌≡◌, ◌≢◌, ◌≤◌}
-use Rattle.nap_reader.specs.Course.{Lessens, Stays, act, continue, continue_by, go, onward, outcome, pause, prepend, refuse}
-use Rattle.std.specs.Prelude.{⊤}
-use Rattle.std.proofs.lemmas.Bool.{eqb-false, eqb-true, lt-ltb, ltb-false, ltb-true}
-use Rattle.std.proofs.lemmas.Bool.Decides.{nat_tests}
-use Rattle.std.proofs.Math.ListN.{drop_of_length-le}
-use Rattle.std.proofs.lemmas.List.{drop-append-le, length-map, take-append-le}
-use Rattle.std.proofs.lemmas.List.Elements.{All-cons, All-nil}
-use Rattle.std.proofs.lemmas.List.Folds.{length-prefix_len, prefix_len-append}
-use Rattle.std.proofs.lemmas.List.Sums.{prefix_len-le-length}
-use Rattle.nap_reader.specs.Below.{Code, CodeSets, DrawFault, Drawn, Entry, Opcode, Work, code_rule, rule, run_limit}
-use Rattle.nap_reader.proofs.Common.{Front, Kind, Lessens, Machine, Mode, Placed, Refusal, Unfinished, after_body, all_at, begun, between, body_front, body_front_by, body_of, bound_front, bytes_of, code_front, continue, drawn_front, front, front_by, front_in, half_read, in_body, is_operand, is_operand_byte, kind_of, onward, opcode_front, outcome_from, place_at, placed_from, refusal, run_length, shown_front, start_machine, store_limit, words_of}
-use Rattle.nap_values.specs.Laws.{IsWord}
+use Rattle.nap_reader.proofs.Common.{All, All-cons, All-nil, Bool, Code, CodeSets, DrawFault, Drawn, Entry, Err, Front, IsMade, IsWord, Kind, Lessens, List, LongRun, Machine, Mode, None, Ok, Opcode, Option, Placed, Refusal, Result, Some, Unfinished, Work, [], act, after_body, all_at, ap, append_assoc, arith, begun, between, body_front, body_front_by, body_of, bound_front, bytes_of, code_front, code_rule, cond, continue, continue_by, drawn_front, drop, drop-append-le, drop_of_length-le, ends_of, eqb, eqb-false, eqb-true, false, front, front_by, front_in, go, half_read, in_body, is_operand, is_operand_byte, kind_of, length, length-append, length-drop, length-map, length-prefix_len, lt-ltb, ltb, ltb-false, ltb-true, nat_tests, onward, opcode_front, open_run, outcome, outcome_from, pause, place_at, placed_from, prefix_len-append, prefix_len-le-length, prepend, refl, refusal, refuse, refused_index, refused_stays, rule, run_front, run_length, run_limit, shown_front, start_machine, store_limit, subst, suc, sym, take, take-append-le, true, whole_length, whole_stays, words_of, zero, ℕ, ⊤, ◌++◌, ◌+◌, ◌-◌, ◌<◌, ◌∙◌, ◌∷◌, ◌≡◌, ◌≢◌, ◌≤◌}
+use Rattle.nap_reader.specs.Course.{Stays}
 use Rattle.nap_codes.specs.declared.code.Code.TheVariants as code
 use Rattle.nap_codes.specs.Front as codes
-use Rattle.nap_codes.proofs.PublicLaws.{refused_index, refused_stays, whole_length, whole_stays}
-use Rattle.nap_draw.specs.Codes.{IsMade}
-use Rattle.nap_reader.specs.declared.fault.Fault.TheVariants as faults
 use Rattle.nap_reader.specs.declared.kind.Kind.TheVariants as kinds
 use Rattle.nap_reader.specs.Bodies as bodies
 use Rattle.nap_reader.specs.Course as course
-use Rattle.nap_reader.specs.Stream as model
-use Rattle.nap_reader.specs.Stream.{ends_of, left_of, run_front}
+use Rattle.nap_reader.specs.Stream.{left_of}
 use Rattle.nap_reader.proofs.SpelledLemmas as settled
 use Rattle.nap_reader.proofs.SpelledLemmas.{KindMade, Settled, body_front-Settled, definition_length, ends, front_kind_made, waits}
 
@@ -118,7 +103,7 @@ module _ {M E F U B : Type 0} (front : M → List B → course.Front M E F U B) 
 
 -- an open run is of words
 abbrev pub IsOfWords : Unfinished → Type 0
-IsOfWords (model.open_run op place run) = All IsWord run
+IsOfWords (open_run op place run) = All IsWord run
 IsOfWords _ = ⊤
 
 -- these entries are put, and the work is then this: nothing, what an opcode's rule gives of words, or what a code's rule gives
@@ -221,8 +206,8 @@ open_fronts m op place run more rest q {k} words h =
     Fronts-cond_left (ltb run_limit (length run))
     (λ e.
     let long : ltb run_limit (length more) ≡ true = lt-ltb run_limit (length more) (let least = ltb-true run_limit (length run) e in omega arith) in
-    let is : run_front m op place more rest ≡ course.refuse (refusal faults.LongRun place) = rw long refl in
-    subst (Fronts q m.work m.left k (course.refuse (refusal faults.LongRun place))) (sym is) refuses)
+    let is : run_front m op place more rest ≡ course.refuse (refusal LongRun place) = rw long refl in
+    subst (Fronts q m.work m.left k (course.refuse (refusal LongRun place))) (sym is) refuses)
     (λ _. pauses words)
 
 -- the run of an opcode, ended or still open

@@ -1,19 +1,7 @@
-use Rattle.std.proofs.Common.{◌*◌, ◌+◌, ◌++◌, ◌-◌, ◌<◌, Bool, Err, List, None, Ok, OnErr, OnOk, Option, Result, Some, [], ap, arith, drop, false, get_or, if◌then◌else◌, inl, inr, is_err, length, refl, subst, suc, sym, take, take-add, true, zero, ℕ, ◌∙◌, ◌∷◌, ◌≡◌, ◌≢◌, ◌≤◌, ◌⊎◌}
+use Rattle.nap_reader.proofs.Common.{ActsRun, Bool, Call, Calls, Conveys, Define, DrawFault, Drawn, DrawsBy, Err, Fault, Ghosts, Holding, IsLive, IsOver, LeadsOn, Leaves, LexerState, List, NoCharacters, None, Nothing, Ok, OnErr, OnOk, OpenRun, Option, Placed, Progresses, Refusal, Request, Result, Sink, Some, Stop, Stops, StopsByte, StopsRun, StopsText, Takes, TakesBy, TellsSink, Work, Works, [], after_drawing, ap, arith, asked, asks_if, at_byte, bytes_of, carried, draw_fault, drop, drop-append-le, drop-drop, drop-map, false, false≢true, get_or, if◌then◌else◌, in_text, inl, inr, is_err, length, length-drop, no_names, place_at, placed_at, refl, refusal, rule, run_by, spaced, subst, suc, sym, take, take-add, take-append-drop, true, with_machine, zero, ℕ, ◌*◌, ◌++◌, ◌+◌, ◌-◌, ◌<◌, ◌∙◌, ◌∷◌, ◌≡◌, ◌≢◌, ◌≤◌, ◌⊎◌}
+use Rattle.nap_reader.proofs.Base.{TookMore, byte-spaced, bytes_of-append, halts_then, leads_nowhere, leads_then, stops_then, words_kept}
 use Rattle.nap_draw.specs.Draws as draws
 use Rattle.nap_reader.specs.declared.machine.Machine.{Machine}
-use Rattle.nap_reader.proofs.OperandLemmas.{words_kept}
-use Rattle.std.proofs.lemmas.Bool.{false≢true}
-use Rattle.nap_reader.specs.Below.{DrawFault, Drawn, DrawsBy, Ghosts, LexerState, Work, carried, rule}
-use Rattle.nap_reader.proofs.Common.{ActsRun, Calls, Conveys, Fault, Holding, IsLive, IsOver, LeadsOn, Leaves, OpenRun, Placed, Refusal, Request, Stops, StopsByte, StopsRun, StopsText, Takes, TakesBy, Works, after_drawing, asked, asks_if, at_byte, bytes_of, draw_fault, in_text, no_names, place_at, placed_at, refusal, run_by, with_machine}
-use Rattle.nap_reader.specs.declared.fault.Fault.TheVariants as faults
-use Rattle.nap_reader.specs.declared.machine.Request.TheVariants as requests
-use Rattle.nap_reader.specs.Framed.{spaced}
-use Rattle.nap_reader.specs.Steps.{Progresses, TellsSink}
-use Rattle.nap_reader.proofs.ComingLemmas.{byte-spaced}
-use Rattle.std.proofs.lemmas.List.{drop-append-le, drop-drop, drop-map, length-drop, take-append-drop}
-use Rattle.nap_reader.proofs.ReadingLemmas.{TookMore}
-use Rattle.nap_reader.proofs.StepLemmas.{halts_then, leads_nowhere, leads_then, stops_then}
-use Rattle.nap_reader.proofs.StreamLemmas.{bytes_of-append}
 
 -- What is held where a machine is known.
 
@@ -63,6 +51,7 @@ module _ {S : Type 0} {g : Ghosts S} (old : Machine S g) (open_run : OpenRun) (i
     open_run = open_run;
     between = between;
     is = is;
+    alone = subst (NoCharacters old.lexer) is old.drawing;
     drawn = drawn;
     by = ap (rule old.work open_run.op) (words_kept old.open_run open_run old.run.items is) ∙ drew.is;
     took = drew.took;
@@ -97,7 +86,7 @@ lacked (Err _) A failed was fails so = so
 
 -- it stops
 pub stop_takes : {S : Type 0} {g : Ghosts S} {old new : Machine S g} {bytes : List Placed} {ended : Bool} {count : ℕ} {r : Refusal} {u : S} → new.refusal ≡ Some r → new.sink ≡ u → count ≤ length bytes → TellsSink g old.sink u r.fault →
-    ((h : Holding) (behind : List Placed) → h.open_body ≡ None → (ended ≡ true → IsOver (bytes_of behind)) → Stops g old.sink (with_machine h old) (bytes ++ behind) (length bytes) count u r) → Takes old new bytes ended count requests.Stop
+    ((h : Holding) (behind : List Placed) → h.open_body ≡ None → (ended ≡ true → IsOver (bytes_of behind)) → Stops g old.sink (with_machine h old) (bytes ++ behind) (length bytes) count u r) → Takes old new bytes ended count Stop
 stop_takes {S} {g} {old} {new} {bytes} {ended} {count} {r} is same few tells stops = record {
   within = few;
   leaves = record { why = r; is = is; tells = subst (λ (u : S). TellsSink g old.sink u r.fault) (sym same) tells };
@@ -107,7 +96,7 @@ stop_takes {S} {g} {old} {new} {bytes} {ended} {count} {r} is same few tells sto
 }
 
 -- a fault that isn't the sink's tells nothing of it
-pub own_tells : {S : Type 0} (g : Ghosts S) (t : S) {fault : Fault} → fault ≢ faults.Sink → TellsSink g t t fault
+pub own_tells : {S : Type 0} (g : Ghosts S) (t : S) {fault : Fault} → fault ≢ Sink → TellsSink g t t fault
 own_tells g t other = (λ device. absurd (other device), λ works fails. absurd (false≢true (sym works ∙ fails)))
 
 -- it goes on where its sink worked if it did before
@@ -118,7 +107,7 @@ leaves_from {g = g} old mid new request still leaves = by request leaves
     works w = record { live = w.live; clear = λ clear. w.clear (still clear) }
 
     by : (request : Request) → Leaves mid new request → Leaves old new request
-    by requests.Stop l = record { why = l.why; is = l.is; tells = (l.tells.0, λ clear fails. l.tells.1 (still clear) fails) }
+    by Stop l = record { why = l.why; is = l.is; tells = (l.tells.0, λ clear fails. l.tells.1 (still clear) fails) }
     by _ w = works w
 
 -- it may ask that all names are unbound
@@ -209,9 +198,9 @@ module _ {S : Type 0} {g : Ghosts S} {t : S} {h : Holding} {u : S} {h' : Holding
   }
 
   pub takes_behind : (new : Machine S g) (k : Holding) (request : Request) (many m : ℕ) → TakesBy g u h' new.sink (with_machine k new) (drop n all) (many - n) m new.refusal request → TakesBy g t h new.sink (with_machine k new) all many (n + m) new.refusal request
-  takes_behind new k (requests.Define name show) many m (some, graphic, later) = (omega (arith, some), graphic, leads_behind m later)
-  takes_behind new k (requests.Call name) many m (index, counted, calls) = (n + index, omega (arith, counted), calls_behind index calls)
-  takes_behind new k requests.Stop many m (why, is, stops) = (why, is, stops_behind many m stops)
+  takes_behind new k (Define name show) many m (some, graphic, later) = (omega (arith, some), graphic, leads_behind m later)
+  takes_behind new k (Call name) many m (index, counted, calls) = (n + index, omega (arith, counted), calls_behind index calls)
+  takes_behind new k Stop many m (why, is, stops) = (why, is, stops_behind many m stops)
   takes_behind new k _ many m later = leads_behind m later
 
 -- The machine took so many bytes of a slice, and goes on behind them.
@@ -233,11 +222,11 @@ pub took_none : {S : Type 0} {g : Ghosts S} {old : Machine S g} (xs : List Place
 took_none xs ended live closed = took_same (record { before = closed; closed = closed; work_is = refl; lexer_is = refl }) refl live
 
 -- Nothing is asked.
-pub took : {S : Type 0} {g : Ghosts S} {old new : Machine S g} {xs : List Placed} {ended : Bool} {count : ℕ} → Takes old new xs ended count requests.Nothing → Took old new xs ended count
+pub took : {S : Type 0} {g : Ghosts S} {old new : Machine S g} {xs : List Placed} {ended : Bool} {count : ℕ} → Takes old new xs ended count Nothing → Took old new xs ended count
 took takes = record { within = takes.within; works = takes.leaves; by = takes.by }
 
 -- It took all of them.
-pub took_all : {S : Type 0} {g : Ghosts S} {old new : Machine S g} {xs : List Placed} {ended : Bool} {count : ℕ} → Took old new xs ended count → length xs ≤ count → Takes old new xs ended count requests.Nothing
+pub took_all : {S : Type 0} {g : Ghosts S} {old new : Machine S g} {xs : List Placed} {ended : Bool} {count : ℕ} → Took old new xs ended count → length xs ≤ count → Takes old new xs ended count Nothing
 took_all t all = record {
   within = t.within;
   leaves = t.works;

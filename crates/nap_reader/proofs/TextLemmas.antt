@@ -1,25 +1,9 @@
-use Rattle.std.proofs.Common.{ℕ, suc, ◌+◌, ◌-◌, ◌≡◌, ◌≢◌, ◌<◌, ◌≤◌, ◌⊎◌, List, [], ◌∷◌, ◌++◌, length, length-take, take, drop, get_or, All, Bool, true, false, cond, Option, Some, None, refl, ap, ap₂, sym, ◌∙◌, subst, inl, inr, arith, append-nil, append_assoc, length-append}
-use Rattle.std.proofs.Math.Seq.{take-append_seam, get_or-append_seam}
-use Rattle.std.proofs.lemmas.List.{take-take, get_or-drop, get_or-take, get_or_append_left, length-drop}
-use Rattle.std.proofs.lemmas.List.Elements.{All-head, All-tail}
-use Rattle.nap_reader.specs.Below.{CharSet, CodeSets, TextStep, format_effector, Entry, Ghosts, SinkFault, IsTyped, HaltsAfter, shows_of, walk, fault_of, memory, device, stream}
-use Rattle.nap_reader.proofs.Common.{Fault, Refusal, Kind, Reader, between, AllCharacters, prepend, paused, onward, draw_fault, kind_of, code_front, drawn_front, Placed, Machine, Outcome, Unfinished, bytes_of, nothing, refusal, is_operand_byte, outcome_from, placed_from, begun, with_run, with_run_by, cause_of, closed_by, BreaksFrom, TookFront, TookPart, Holding, Continues, LeadsTo, IsBroken, Stands, StopsAt, budget_of, fed_of, left_of, sink_of, StopsText}
+use Rattle.nap_reader.proofs.Common.{All, All-head, All-tail, AllCharacters, Bool, BreaksFrom, CharSet, CodeSets, Continues, Entry, Fault, Ghosts, HaltsAfter, Holding, IsBroken, IsText, IsTyped, Kind, LeadsTo, List, Machine, None, Option, Outcome, Placed, Reader, Refusal, SinkFault, Some, Stands, State, StopsAt, StopsText, TextStep, TookFront, TookPart, Unfinished, [], after, ap, append-nil, append_assoc, ap₂, arith, begun, between, budget_of, bytes_of, cause_of, closed_by, code_as, code_front, cond, device, draw_fault, drawn, drawn_front, drop, false, fault_of, fed_of, format_effector, format_effector_front, get_or, get_or-append_seam, get_or-drop, get_or-take, get_or_append_left, hand_of, inl, inr, is_operand_byte, kind_of, left_of, length, length-append, length-drop, length-take, memory, nothing, onward, outcome_from, paused, placed_from, prepend, refl, refusal, shows_of, sink_of, stream, subst, suc, sym, take, take-append_seam, take-take, text, true, typed, typed_code, typed_rule, walk, with_run, with_run_by, ℕ, ◌++◌, ◌+◌, ◌-◌, ◌<◌, ◌∙◌, ◌∷◌, ◌≡◌, ◌≢◌, ◌≤◌, ◌⊎◌}
+use Rattle.nap_reader.proofs.Base.{Lawful, TookMore, brings_breaks, bytes_of-placed, fails_part, front_code, half_read_pauses, holds_nothing, is_between, is_half, leads_more, nothing_yet, outcome_from-front, prepend-append, rest_of_nothing, was_failed}
 use Rattle.nap_codes.specs.Front as codes
-use Rattle.nap_codes.proofs.PublicLaws.{format_effector_front}
 use Rattle.nap_list.specs.declared.sink.SinkFault.TheVariants as sink_faults
-use Rattle.nap_list.specs.declared.state.State.{State}
-use Rattle.nap_list.specs.Batches.{typed}
-use Rattle.nap_list.specs.State.{after, hand_of}
-use Rattle.nap_draw.specs.Codes.{code_as, text, typed_code}
-use Rattle.nap_draw.specs.Rule.{drawn}
-use Rattle.nap_draw.proofs.PublicLaws.{typed_rule}
 use Rattle.nap_reader.specs.declared.kind.Kind.TheVariants as kinds
-use Rattle.nap_reader.proofs.StreamLemmas.{prepend-append, bytes_of-placed, outcome_from-front}
-use Rattle.nap_reader.proofs.ReadingLemmas.{front_code, half_read_pauses, Lawful, TookMore, fails_part, is_between, leads_more, was_failed, rest_of_nothing, is_half, holds_nothing}
-use Rattle.nap_reader.proofs.BreakLemmas.{brings_breaks}
 use Rattle.nap_reader.proofs.PieceLemmas.{length_taken, stops_by, taken_further}
-use Rattle.nap_reader.specs.Steps.{IsText}
-use Rattle.nap_reader.proofs.SpelledLemmas.{nothing_yet}
 
 -- A stretch of a text is its characters, and the moves among them, in turn.
 

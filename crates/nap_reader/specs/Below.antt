@@ -2,14 +2,12 @@
 pub use Rattle.nap_codes.specs.CodeSets.{set_at}
 pub use Rattle.nap_codes.specs.Laws.{IsGraphic}
 pub use Rattle.nap_codes.specs.Lexer.{LexerState, StepsBy}
-pub use Rattle.nap_codes.specs.Spelling.{Spells}
 pub use Rattle.nap_codes.specs.Tables.{format_effector}
 unfoldable pub use Rattle.nap_codes.specs.Tables.{control0_rows, row_of}
 pub use Rattle.nap_codes.specs.declared.code.Code.{Code}
 pub use Rattle.nap_codes.specs.declared.code.CodeFault.{CodeFault}
 pub use Rattle.nap_codes.specs.declared.code_set.CharSet.{CharSet}
 pub use Rattle.nap_codes.specs.declared.code_set.CodeSets.{CodeSets}
-pub use Rattle.nap_codes.specs.declared.control.Row.TheVariants.{Whole}
 pub use Rattle.nap_codes.specs.declared.control.TextStep.{TextStep}
 pub use Rattle.nap_codes.specs.declared.opcode.Opcode.{Opcode}
 pub use Rattle.nap_draw.specs.Codes.{code_rule}

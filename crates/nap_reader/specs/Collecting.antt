@@ -1,11 +1,6 @@
-use Rattle.std.specs.Prelude.{ℕ, ◌≡◌, ◌⊎◌, ◌^◌, ◌≤◌, true, List, Option, None, Some, Result, Ok, Err, length}
-use Rattle.nap_draw.specs.Draws.{Cause, stream, memory, device}
-use Rattle.nap_list.specs.declared.sink.Sink.{Ghosts}
+use Rattle.nap_reader.specs.Shared.{ℕ, ◌≡◌, ◌⊎◌, ◌^◌, ◌≤◌, true, List, Option, None, Some, Result, Ok, Err, length, Cause, stream, memory, device, Ghosts, Refusal, cause_of, BreaksWithin, LacksWithin, means}
 use Rattle.nap_list.specs.Reading.{Reading, NoneFailed, ReadFailed, IsCutOff, IsReadWhole}
-use Rattle.nap_reader.specs.declared.fault.Refusal.{Refusal}
-use Rattle.nap_reader.specs.Breaking.{cause_of, BreaksWithin, LacksWithin}
 use Rattle.nap_reader.specs.Laws.{WantsSome}
-use Rattle.nap_reader.specs.Stream.{means}
 use Rattle.nap_reader.specs.declared.collect.ReadFault.{ReadFault}
 
 -- A page is read into a sink, and its bytes aren't kept.

@@ -1,13 +1,7 @@
-use Rattle.std.specs.Prelude.{◌≡◌, ◌≢◌, ◌⊎◌, ◌<◌, ◌≤◌, ◌+◌, ◌-◌, ◌^◌, ◌++◌, ℕ, Bool, List, [], ◌∷◌, Option, true, length, take, drop}
-use Rattle.nap_reader.specs.declared.body.OpenBody.{OpenBody}
-use Rattle.nap_reader.specs.declared.fault.Fault.{Fault}
+use Rattle.nap_reader.specs.Shared.{◌≡◌, ◌≢◌, ◌⊎◌, ◌<◌, ◌≤◌, ◌+◌, ◌-◌, ◌^◌, ◌++◌, ℕ, Bool, List, [], ◌∷◌, Option, true, length, take, drop, OpenBody, Fault, Input, Comes, MovesOn, behind, placed_at, unread_of, Placed, all_at, bytes_of, placed_from}
 use Rattle.nap_reader.specs.declared.fault.Fault.TheVariants as faults
-use Rattle.nap_reader.specs.declared.input.Input.{Input}
-use Rattle.nap_reader.specs.Framed.{Comes, MovesOn, behind, placed_at}
-use Rattle.nap_reader.specs.Holding.{unread_of}
 use Rattle.nap_reader.specs.Steps.{IsOver}
 use Rattle.nap_reader.specs.Stored.{StoreState, grown}
-use Rattle.nap_reader.specs.Stream.{Placed, all_at, bytes_of, placed_from}
 
 -- What comes next, and what an input makes of it. No one sees this.
 

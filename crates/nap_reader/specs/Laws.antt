@@ -1,16 +1,10 @@
-use Rattle.std.specs.Prelude.{◌≡◌, ◌≢◌, ◌⊎◌, ◌<◌, ◌≤◌, ◌+◌, ℕ, false, List, [], ◌∷◌, ◌++◌, Some, None, All, ⊤, length, take, slice_index}
-use Rattle.nap_reader.specs.Below.{Code, CodeSets, Opcode, code_rule, stream, memory, rule, Entry, Ghosts, run_limit}
+use Rattle.nap_reader.specs.Shared.{◌≡◌, ◌≢◌, ◌⊎◌, ◌<◌, ◌≤◌, ◌+◌, ℕ, false, List, [], ◌∷◌, ◌++◌, Some, None, All, ⊤, length, take, slice_index, Code, CodeSets, Opcode, code_rule, stream, memory, rule, Entry, Ghosts, run_limit, Refusal, between, cause_of, BreaksFrom, BreaksInRun, BreaksWithin, LacksWithin, pause, continue, onward, Placed, Machine, Outcome, bytes_of, words_of, is_operand, open_run, drawn_front, front, placed_from, outcome_from, begun, means}
 use Rattle.nap_values.specs.Laws.{IsOperandByte}
 use Rattle.nap_codes.specs.declared.code.Code.TheVariants as code
 use Rattle.nap_codes.specs.Front as codes
 use Rattle.nap_list.specs.State.{Legal}
 use Rattle.nap_list.specs.Range.{AllInRange}
-use Rattle.nap_reader.specs.declared.fault.Refusal.{Refusal}
-use Rattle.nap_reader.specs.Bodies.{between}
-use Rattle.nap_reader.specs.Breaking.{cause_of, BreaksFrom, BreaksInRun, BreaksWithin, LacksWithin}
-use Rattle.nap_reader.specs.Course.{pause, continue, onward}
 use Rattle.nap_reader.specs.Standing.{StopsBy}
-use Rattle.nap_reader.specs.Stream.{Placed, Machine, Outcome, bytes_of, words_of, is_operand, open_run, drawn_front, front, placed_from, outcome_from, begun, means}
 
 -- What comes of a list is what its front gives, and then what comes of the list that stands there then.
 abbrev pub FrontAfterFront : Type 0

@@ -16,6 +16,7 @@ pub mod Counting
 pub mod Twice
 -- what a reader keeps and does, which no one sees
 pub mod Below
+pub mod Shared
 pub mod Carried
 pub mod Stored
 pub mod Framed

@@ -1,17 +1,10 @@
-use Rattle.std.specs.Prelude.{All, Bool, ◌≡◌, ◌<◌, ◌≤◌, ◌+◌, ◌-◌, ◌++◌, ℕ, List, [], ◌∷◌, Some, None, false, true, length, take, drop, slice_index, IsSome}
-use Rattle.nap_list.specs.declared.sink.Sink.{Ghosts}
+use Rattle.nap_reader.specs.Shared.{All, Bool, ◌≡◌, ◌<◌, ◌≤◌, ◌+◌, ◌-◌, ◌++◌, ℕ, List, [], ◌∷◌, Some, None, false, true, length, take, drop, slice_index, IsSome, Ghosts, Refusal, Input, Reader, placed_at, spaced, Continues, Holding, RunAt, held_by, unread_of, Outcome, Placed, begun, bytes_of, place_at}
 use Rattle.nap_reader.specs.declared.fault.Fault.TheVariants as faults
-use Rattle.nap_reader.specs.declared.fault.Refusal.{Refusal}
-use Rattle.nap_reader.specs.declared.input.Input.{Input}
 use Rattle.nap_reader.specs.declared.machine.Machine.{Machine}
 use Rattle.nap_reader.specs.declared.machine.Request.{Request}
-use Rattle.nap_reader.specs.declared.reader.Reader.{Reader}
 use Rattle.nap_reader.specs.Coming.{Counts, IsNext, Reads}
-use Rattle.nap_reader.specs.Framed.{placed_at, spaced}
-use Rattle.nap_reader.specs.Holding.{Continues, Holding, RunAt, held_by, unread_of}
 use Rattle.nap_reader.specs.Standing.{Stands, StopsAt, budget_of, charged_of, fed_of, refusal_of, sink_of, turns_of}
-use Rattle.nap_reader.specs.Steps.{Acted, StaysInText, Takes}
-use Rattle.nap_reader.specs.Stream.{Outcome, Placed, begun, bytes_of, place_at}
+use Rattle.nap_reader.specs.Steps.{Acted, Takes}
 
 -- How a piece is read. No one sees this.
 
@@ -43,7 +36,6 @@ pub record Reaches {S : Type 0} {g : Ghosts S} (old : Reader S g) (piece : List 
   pub holding : Holding
   pub leads : LeadsTo old piece at sink holding frames
   pub acted : Acted g sink holding t h (bytes_of frames ++ drop at piece)
-  pub typed : StaysInText sink holding t h
 
 -- A reader has come so far in a piece: the invariant of the loop.
 pub record ReadsTo {S : Type 0} {g : Ghosts S} (old : Reader S g) (piece : List ℕ) (machine : Machine S g) (input : Input) : Type 0 where

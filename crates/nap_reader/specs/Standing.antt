@@ -1,11 +1,4 @@
-use Rattle.std.specs.Prelude.{◌≡◌, ◌-◌, ◌+◌, ◌<◌, ◌≤◌, ◌++◌, ℕ, List, [], ◌∷◌, Option, Some, None, length, take, slice_index}
-use Rattle.nap_reader.specs.Below.{Ghosts, Cause, stream}
-use Rattle.nap_reader.specs.declared.fault.Refusal.{Refusal}
-use Rattle.nap_reader.specs.declared.reader.Reader.{Reader}
-use Rattle.nap_reader.specs.Bodies.{store_limit}
-use Rattle.nap_reader.specs.Stream.{Outcome, begun}
-use Rattle.nap_reader.specs.Breaking.{cause_of, BreaksAt}
-use Rattle.nap_reader.specs.Holding.{Continues, holding_of}
+use Rattle.nap_reader.specs.Shared.{◌≡◌, ◌-◌, ◌+◌, ◌<◌, ◌≤◌, ◌++◌, ℕ, List, [], ◌∷◌, Option, Some, None, length, take, slice_index, Ghosts, Cause, stream, Refusal, Reader, store_limit, Outcome, begun, cause_of, BreaksAt, Continues, holding_of}
 
 -- what a reader shows
 

@@ -1,17 +1,12 @@
-use Rattle.std.specs.Prelude.{All, Bool, if◌then◌else◌, ⊤, ◌≡◌, ◌≢◌, ◌<◌, ◌≤◌, ◌⊎◌, ◌+◌, ◌++◌, ℕ, false, true, List, [], ◌∷◌, Option, Some, None, Ok, length, take, drop}
-use Rattle.nap_reader.specs.Below.{CharSet, CodeSets, Opcode, IsGraphic, LexerState, Entry, Ghosts, SinkFault, IsTyped, HaltsAfter, shows_of, DrawFault, DrawsBy, fault_of, stream, run_limit, Drawn, IsDrawn, rule}
+use Rattle.nap_reader.specs.Shared.{All, Bool, if◌then◌else◌, ⊤, ◌≡◌, ◌≢◌, ◌<◌, ◌≤◌, ◌⊎◌, ◌+◌, ◌++◌, ℕ, false, true, List, [], ◌∷◌, Option, Some, None, Ok, length, take, drop, CharSet, CodeSets, Opcode, IsGraphic, LexerState, Entry, Ghosts, SinkFault, IsTyped, HaltsAfter, shows_of, DrawFault, DrawsBy, fault_of, stream, run_limit, Drawn, IsDrawn, rule, OpenBody, Fault, Refusal, OpenRun, body_of, no_names, draw_fault, Placed, Outcome, after_drawing, bytes_of, front, is_operand, is_operand_byte, place_at, placed_from, refusal, shown_front, cause_of, Holding, BreaksInBody, BreaksSome, Continues, ContinuesPast, IsHeld, IsOwn, IsRefused, RunAt, run_by}
 use Rattle.nap_codes.specs.Front as codes
 use Rattle.nap_codes.specs.Lexer.{IsShift}
 use Rattle.nap_codes.specs.declared.code.Code.TheVariants as code
 use Rattle.nap_list.specs.Agreement.{StatesAgree}
 use Rattle.nap_draw.specs.Codes as draws_codes
 use Rattle.nap_draw.specs.Draws as draws
-use Rattle.nap_reader.specs.declared.body.OpenBody.{OpenBody}
-use Rattle.nap_reader.specs.declared.fault.Fault.{Fault}
 use Rattle.nap_reader.specs.declared.fault.Fault.TheVariants as faults
-use Rattle.nap_reader.specs.declared.fault.Refusal.{Refusal}
 use Rattle.nap_reader.specs.declared.machine.Machine.{Machine}
-use Rattle.nap_reader.specs.declared.machine.OpenRun.{OpenRun}
 use Rattle.nap_reader.specs.declared.machine.Request.{Request}
 use Rattle.nap_reader.specs.declared.machine.Request.TheVariants as requests
 use Rattle.nap_reader.specs.declared.machine.front.Front.{Front}
@@ -20,12 +15,7 @@ use Rattle.nap_reader.specs.declared.machine.codes.CodeOutcome.{CodeOutcome}
 use Rattle.nap_reader.specs.declared.machine.codes.CodeOutcome.TheVariants as outcomes
 use Rattle.nap_reader.specs.Carried.{AllCharacters}
 use Rattle.nap_reader.specs.Bodies as bodies
-use Rattle.nap_reader.specs.Bodies.{body_of, no_names}
-use Rattle.nap_reader.specs.Faults.{draw_fault}
 use Rattle.nap_reader.specs.Stream as model
-use Rattle.nap_reader.specs.Stream.{Placed, Outcome, after_drawing, bytes_of, front, is_operand, is_operand_byte, place_at, placed_from, refusal, shown_front}
-use Rattle.nap_reader.specs.Breaking.{cause_of}
-use Rattle.nap_reader.specs.Holding.{Holding, BreaksInBody, BreaksSome, Continues, ContinuesPast, IsHeld, IsOwn, IsRefused, RunAt, run_by}
 
 -- What a reader does with the bytes that come next. No one sees this.
 
@@ -35,11 +25,12 @@ Passes {S} g t h xs u h' came = (s : S) (o : Outcome) (pending : List Placed) �
 
 -- The opcode of the open run.
 
--- It acts on its words.
+-- It acts on its words, and no byte is a character by itself.
 pub record ActsRun {S : Type 0} (g : Ghosts S) (t : S) (h : Holding) (u : S) (h' : Holding) : Type 0 where
   pub open_run : OpenRun
   pub between : h.open_body ≡ None
   pub is : h.open_run ≡ Some open_run
+  pub alone : (set : CharSet) → AllCharacters h.machine.sets set → ⊥
   pub drawn : Drawn
   pub by : rule h.machine.work open_run.op h.run ≡ Ok drawn
   pub took : g.took t drawn.entries u
@@ -138,10 +129,6 @@ pub data Came (frames rest : List Placed) (piece : List ℕ) (at until fed : ℕ
   of_body : 0 < length frames → frames ≡ xs ++ rest → until ≡ at → Came frames rest piece at until fed xs
   of_piece : frames ≡ [] → rest ≡ [] → xs ≡ placed_from fed (take (length xs) (drop at piece)) → until ≡ at + length xs → until ≤ length piece → Came frames rest piece at until fed xs
 
--- a sink is and this is held as it was, where no code is half read and each byte is a character by itself
-abbrev pub StaysInText : {S : Type 0} → S → Holding → S → Holding → Type 0
-StaysInText t h u h' = (set : CharSet) → h'.half ≡ [] → AllCharacters h'.machine.sets set → (u ≡ t) × (h' ≡ h)
-
 -- Where bytes lead to that were taken: a sink, and what is held. A run that is open there is at the place of the bytes, where one
 -- that was open before them is.
 pub record Conveys {S : Type 0} (g : Ghosts S) (t : S) (h : Holding) (xs : List Placed) : Type 0 where
@@ -152,12 +139,10 @@ pub record Conveys {S : Type 0} (g : Ghosts S) (t : S) (h : Holding) (xs : List 
   pub passes : Passes g t h xs sink holding []
   pub none : xs ≡ [] → (sink ≡ t) × (holding ≡ h)
 
--- They were taken, and others come next. The opcode of a run that they end with may have acted, but then no byte is a character
--- by itself.
+-- They were taken, and others come next. The opcode of a run that they end with may have acted.
 pub record LeadsOn {S : Type 0} (g : Ghosts S) (t : S) (h : Holding) (u : S) (h' : Holding) (xs : List Placed) (next : List ℕ) : Type 0 where
   pub conveys : Conveys g t h xs
   pub acted : Acted g conveys.sink conveys.holding u h' next
-  pub typed : StaysInText conveys.sink conveys.holding u h'
 
 -- The first of these bytes is no operand byte.
 pub record IsOver (bytes : List ℕ) : Type 0 where

@@ -1,6 +1,4 @@
-use Rattle.std.proofs.Common.{◌≡◌, ◌+◌, ◌-◌, ◌≤◌, length, drop}
-use Rattle.std.specs.List.{prefix_len}
-use Rattle.nap_reader.specs.Prefix.{is_of_body}
+use Rattle.nap_reader.proofs.{drop, is_of_body, length, prefix_len, ◌+◌, ◌-◌, ◌≡◌, ◌≤◌}
 use Rattle.nap_reader.proofs.body.body_bytes.Given as goal
 
 -- the bytes so far are of a body

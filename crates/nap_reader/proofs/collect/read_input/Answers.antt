@@ -1,14 +1,4 @@
-use Rattle.std.proofs.Common.{◌≡◌, ◌+◌, ◌-◌, ◌++◌, ◌∙◌, ℕ, Err, refl, ap, subst, arith}
-use Rattle.std.proofs.KnownBytes.{Consumes-trans}
-use Rattle.std.proofs.lemmas.Result.{err_from_is_err_and}
-use Rattle.nap_list.specs.Limits.{reads_limit}
-use Rattle.nap_list.specs.Reading.{reading}
-use Rattle.nap_reader.specs.Breaking.{cause_of}
-use Rattle.nap_reader.specs.declared.feeding.FeedFault.{FeedFault}
-use Rattle.nap_reader.specs.Feeding.{FailsBy, Feeds}
-use Rattle.nap_reader.specs.Standing.{sink_of}
-use Rattle.nap_reader.specs.Collecting.{RefusedBy}
-use Rattle.nap_reader.proofs.CollectLemmas.{cut_off, read_whole, reads_few, refused_whole}
+use Rattle.nap_reader.proofs.{Consumes-trans, Err, FailsBy, FeedFault, Feeds, RefusedBy, ap, arith, cause_of, cut_off, err_from_is_err_and, read_whole, reading, reads_few, reads_limit, refl, refused_whole, sink_of, subst, ℕ, ◌++◌, ◌+◌, ◌-◌, ◌∙◌, ◌≡◌}
 use Rattle.nap_reader.proofs.collect.read_input.Goals as goal
 
 pub overflow_sub-calls : goal.overflow_sub-calls

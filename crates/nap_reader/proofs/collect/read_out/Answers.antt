@@ -1,6 +1,4 @@
-use Rattle.std.proofs.Common.{◌≡◌, ◌++◌, take, length, length-append, arith}
-use Rattle.std.proofs.KnownBytes.{Consumes-trans}
-use Rattle.nap_reader.proofs.CollectLemmas.{flag_stays}
+use Rattle.nap_reader.proofs.{Consumes-trans, arith, flag_stays, length, length-append, take, ◌++◌, ◌≡◌}
 use Rattle.nap_reader.proofs.collect.read_out.Goals as goal
 
 pub loop-preserved : goal.loop-preserved

@@ -1,10 +1,4 @@
-use Rattle.std.proofs.Common.{◌++◌, ◌∙◌, ℕ, List, [], take, append-nil, subst}
-use Rattle.std.specs.Prelude.{slice_index}
-use Rattle.std.proofs.lemmas.Result.{err_from_is_err_and}
-use Rattle.nap_reader.specs.Breaking.{cause_of}
-use Rattle.nap_reader.specs.Standing.{StopsBy, left_of, sink_of}
-use Rattle.nap_reader.specs.Collecting.{RefusedBy}
-use Rattle.nap_reader.proofs.CollectLemmas.{device_fault, refused_behind}
+use Rattle.nap_reader.proofs.{List, RefusedBy, StopsBy, [], append-nil, cause_of, device_fault, err_from_is_err_and, left_of, refused_behind, sink_of, slice_index, subst, take, ℕ, ◌++◌, ◌∙◌}
 use Rattle.nap_reader.proofs.collect.read_stream.Goals as goal
 
 -- the stream is refused before its end

@@ -1,4 +1,4 @@
-use Rattle.nap_reader.proofs.CountingLemmas.{counted_all, counted_refused}
+use Rattle.nap_reader.proofs.{counted_all, counted_refused}
 use Rattle.nap_reader.proofs.counting.read_counted.Goals as goal
 
 pub returns-in-Ok : goal.returns-in-Ok

@@ -1,10 +1,5 @@
-use Rattle.std.proofs.Common.{◌≡◌, ◌++◌, ◌∙◌, ℕ, List, [], ap, subst, append-nil, Ok, Err, inl, inr, take, length, length-append, refl, arith}
-use Rattle.std.specs.Io.KnownBytes.{Consumes}
-use Rattle.std.proofs.KnownBytes.{Consumes-nil, Consumes-trans, Consumes-kept}
-use Rattle.std.proofs.Math.Bool.{or-true}
-use Rattle.std.proofs.lemmas.Result.{err_from_is_err_and}
+use Rattle.nap_reader.proofs.{Consumes, Consumes-kept, Consumes-nil, Consumes-trans, Err, Gave, List, Ok, [], ap, append-nil, arith, err_from_is_err_and, feeds_on, feeds_refused, flag_stays, inl, inr, length, length-append, or-true, refl, subst, take, ℕ, ◌++◌, ◌∙◌, ◌≡◌}
 use Rattle.nap_reader.specs.declared.feeding.FeedFault.TheVariants as feed_fault
-use Rattle.nap_reader.proofs.CollectLemmas.{Gave, feeds_on, feeds_refused, flag_stays}
 use Rattle.nap_reader.proofs.feeding.feed_from.Goals as goal
 
 -- a read failed

@@ -1,6 +1,4 @@
-use Rattle.std.proofs.Common.{◌≡◌, ◌+◌, ◌*◌, ◌≤◌, ℕ, List, [], false, None, length}
-use Rattle.std.specs.Io.KnownBytes.{Consumes}
-use Rattle.nap_reader.specs.Standing.{Stands, budget_of, fed_of, refusal_of, sink_of}
+use Rattle.nap_reader.proofs.{Consumes, List, None, Stands, [], budget_of, false, fed_of, length, refusal_of, sink_of, ℕ, ◌*◌, ◌+◌, ◌≡◌, ◌≤◌}
 use Rattle.nap_reader.proofs.feeding.feed_from.Given as goal
 
 abbrev pub invariant-loop : goal.invariant-loop

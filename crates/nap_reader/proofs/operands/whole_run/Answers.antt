@@ -1,5 +1,4 @@
-use Rattle.std.proofs.Common.{arith}
-use Rattle.nap_reader.proofs.OperandLemmas.{last_run_is, whole_run_is}
+use Rattle.nap_reader.proofs.{arith, last_run_is, whole_run_is}
 use Rattle.nap_reader.proofs.operands.whole_run.Goals as goal
 
 pub returns-then-count-piece : goal.returns-then-count-piece

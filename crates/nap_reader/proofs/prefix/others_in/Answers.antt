@@ -1,4 +1,4 @@
-use Rattle.nap_reader.proofs.OperandLemmas.{other_mask}
+use Rattle.nap_reader.proofs.{other_mask}
 use Rattle.nap_reader.proofs.prefix.others_in.Goals as goal
 
 pub returns : goal.returns

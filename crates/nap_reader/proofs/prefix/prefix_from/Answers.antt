@@ -1,6 +1,4 @@
-use Rattle.std.proofs.Common.{sym, ap, ◌∙◌, arith}
-use lib.Count.{count_trailing_zeros}
-use Rattle.nap_reader.proofs.OperandLemmas.{past_block, in_block}
+use Rattle.nap_reader.proofs.{ap, arith, count_trailing_zeros, in_block, past_block, sym, ◌∙◌}
 use Rattle.nap_reader.proofs.prefix.prefix_from.Goals as goal
 
 pub returns-then-others-ne0 : goal.returns-then-others-ne0

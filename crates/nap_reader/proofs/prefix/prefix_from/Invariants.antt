@@ -1,6 +1,4 @@
-use Rattle.std.proofs.Common.{◌≡◌, ◌+◌, ◌-◌, ◌≤◌, length, drop}
-use Rattle.std.specs.List.{prefix_len}
-use Rattle.nap_reader.specs.Prefix.{is_from}
+use Rattle.nap_reader.proofs.{drop, is_from, length, prefix_len, ◌+◌, ◌-◌, ◌≡◌, ◌≤◌}
 use Rattle.nap_reader.proofs.prefix.prefix_from.Given as goal
 
 -- the bytes so far are of the range

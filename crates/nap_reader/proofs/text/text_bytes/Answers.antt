@@ -1,11 +1,4 @@
-use Rattle.std.proofs.Common.{◌≡◌, ◌+◌, ◌<◌, drop, get_or, ap, sym, ◌∙◌, subst, arith}
-use Rattle.std.proofs.lemmas.List.{get_or-take, length-drop, length-take-le}
-use Rattle.std.proofs.lemmas.List.Sums.{prefix_len-le-length, prefix_len_passes}
-use Rattle.std.specs.List.{prefix_len}
-use Rattle.std.specs.Option.{is_some}
-use Rattle.nap_list.specs.Batches.{IsTyped}
-use Rattle.nap_reader.specs.Prefix.{is_from, is_of_text}
-use Rattle.nap_reader.proofs.OperandLemmas.{of_text_is, past_effector, past_graphic}
+use Rattle.nap_reader.proofs.{IsTyped, ap, arith, drop, get_or, get_or-take, is_from, is_of_text, is_some, length-drop, length-take-le, of_text_is, past_effector, past_graphic, prefix_len, prefix_len-le-length, prefix_len_passes, subst, sym, ◌+◌, ◌<◌, ◌∙◌, ◌≡◌}
 use Rattle.nap_reader.proofs.text.text_bytes.Goals as goal
 
 pub loop-at-init : goal.loop-at-init

@@ -1,6 +1,4 @@
-use Rattle.std.proofs.Common.{◌≡◌, ◌+◌, ◌-◌, ◌≤◌, length, drop}
-use Rattle.std.specs.List.{prefix_len}
-use Rattle.nap_reader.specs.Prefix.{is_from, is_of_text}
+use Rattle.nap_reader.proofs.{drop, is_from, is_of_text, length, prefix_len, ◌+◌, ◌-◌, ◌≡◌, ◌≤◌}
 use Rattle.nap_reader.proofs.text.text_bytes.Given as goal
 
 -- the bytes so far are of a text, and the next one isn't from 20 to 7F

@@ -1,5 +1,4 @@
-use Rattle.std.proofs.Common.{refl}
-use Rattle.nap_list.specs.State.{walk}
+use Rattle.nap_reader.proofs.{refl, walk}
 use Rattle.nap_reader.proofs.whole.read_all.Goals as goal
 
 pub new-reader-requires : goal.new-reader-requires

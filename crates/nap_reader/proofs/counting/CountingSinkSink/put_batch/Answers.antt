@@ -1,10 +1,6 @@
-use Rattle.std.proofs.Common.{◌≡◌, length, ap, ◌∙◌, sym, subst}
-use Rattle.nap_list.specs.Batches.{listed}
-use Rattle.nap_list.specs.Putting.{Put}
-use Rattle.nap_reader.specs.Counting.{Counting, counting}
-use Rattle.nap_reader.proofs.CountingLemmas.{made, puts, taken_of}
+use Rattle.nap_reader.proofs.{Counting, Put, ap, length, listed, made, puts, subst, sym, taken_of, ◌∙◌, ◌≡◌}
+use Rattle.nap_reader.proofs.Common.{counting}
 use Rattle.nap_reader.proofs.counting.CountingSinkSink.put_batch.Goals as goal
-use Rattle.nap_reader.proofs.counting.CountingSinkSink.put_batch.Goals.{in-Ok, in-Err}
 
 pub returns : goal.returns
 returns g c =
@@ -14,8 +10,8 @@ returns g c =
     let t = made c.put_batch-put.new.self c.counted-self-inside.result in
     let is : c.match-put.taken ≡ taken_of (length list) put =
     elim c.match-put.branch [
-      | in-Ok w ↦ w.taken-is ∙ w.len-taken.ensures ∙ sym (ap (taken_of (length list)) w.in-Ok.is)
-      | in-Err w ↦ w.taken-is ∙ sym (ap (taken_of (length list)) w.in-Err.is)
+      | goal.in-Ok w ↦ w.taken-is ∙ w.len-taken.ensures ∙ sym (ap (taken_of (length list)) w.in-Ok.is)
+      | goal.in-Err w ↦ w.taken-is ∙ sym (ap (taken_of (length list)) w.in-Err.is)
     ] in
     subst (λ (x : Counting g.row.S.Denot). Put (counting g.S.Sink) list x t put) c.self.view_is
     (puts g.S.Sink list s t put c.match-put.taken is c.counted-self-inside.ensures.grows c.counted-self-inside.ensures.none c.put_batch-put.ensures)

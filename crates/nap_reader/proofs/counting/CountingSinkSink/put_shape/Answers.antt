@@ -1,8 +1,6 @@
-use Rattle.std.proofs.Common.{[], ◌∷◌, subst}
-use Rattle.nap_list.specs.Putting.{PutSome}
+use Rattle.nap_reader.proofs.{Counting, PutSome, [], made, puts_none, subst, ◌∷◌}
+use Rattle.nap_reader.proofs.Common.{counting}
 use Rattle.nap_list.specs.Shapes.{drawn_shape}
-use Rattle.nap_reader.specs.Counting.{Counting, counting}
-use Rattle.nap_reader.proofs.CountingLemmas.{made, puts_none}
 use Rattle.nap_reader.proofs.counting.CountingSinkSink.put_shape.Goals as goal
 
 pub returns-in_err-put_shape : goal.returns-in_err-put_shape

@@ -1,10 +1,5 @@
-use Rattle.std.proofs.Common.{◌≡◌, ◌≢◌, ◌<◌, ◌≤◌, ◌-◌, inl, inr, ℕ, List, [], ◌∷◌, length, slice_index_or, ap, sym, ◌∙◌, subst, arith}
-use Rattle.std.proofs.lemmas.Bool.{eqb-false, eqb-true}
-use Rattle.std.proofs.lemmas.List.{nil_from_length}
-use Rattle.nap_reader.proofs.Common.{Frame, behind}
-use Rattle.nap_reader.proofs.ComingLemmas.{behind_in_body, behind_in_piece, none_behind}
+use Rattle.nap_reader.proofs.{Frame, List, [], ap, arith, behind, behind_in_body, behind_in_piece, eqb-false, eqb-true, inl, inr, length, nil_from_length, none_behind, slice_index_or, subst, sym, ℕ, ◌-◌, ◌<◌, ◌∙◌, ◌∷◌, ◌≡◌, ◌≢◌, ◌≤◌}
 use Rattle.nap_reader.proofs.frames.Frames.byte_behind.Goals as goal
-use Rattle.nap_reader.proofs.frames.Frames.byte_behind.Goals.{then-is_empty-via-then-is_empty, then-is_empty-via-else-is_empty+then-at-piece}
 
 pub returns-then-frames-gt1 : goal.returns-then-frames-gt1
 returns-then-frames-gt1 c text fed place comes =
@@ -26,9 +21,9 @@ returns-then-is_empty c text fed place comes =
     let frames = c.args.self.now.stack.items in
     let one : length frames ≤ 1 = omega (arith, c.if-frames-gt1.false, ap length c.as_slice-frames.ensures) in
     elim c.then-is_empty.branch [
-      | then-is_empty-via-then-is_empty w ↦
+      | goal.then-is_empty-via-then-is_empty w ↦
           none_behind c.args.bytes.now frames c.args.piece.now text c.args.at fed place one
           (inl (nil_from_length frames (omega (arith, eqb-true _ 0 (sym c.is_empty.ensures ∙ w.if-is_empty.true), ap length c.as_slice-frames.ensures)))) comes
-      | then-is_empty-via-else-is_empty+then-at-piece w ↦
+      | goal.then-is_empty-via-else-is_empty+then-at-piece w ↦
           none_behind c.args.bytes.now frames c.args.piece.now text c.args.at fed place one (inr (omega (arith, w.if-at-piece.true))) comes
     ]

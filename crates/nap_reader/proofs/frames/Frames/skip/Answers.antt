@@ -1,7 +1,4 @@
-use Rattle.std.proofs.Common.{[], ◌+◌, ◌∷◌, ◌++◌, List, take, length, Some, ap, sym, subst, ◌∙◌, arith}
-use Rattle.std.proofs.lemmas.List.Elements.{All-append, All-cons, All-nil, All-pop}
-use Rattle.nap_reader.proofs.Common.{Frame, FramesIn, IsFrame, unread, Placed, all_at}
-use Rattle.nap_reader.proofs.ComingLemmas.{last-frame, gives-some, gives-all, same-front}
+use Rattle.nap_reader.proofs.{All-append, All-cons, All-nil, All-pop, Frame, FramesIn, IsFrame, List, Placed, Some, [], all_at, ap, arith, gives-all, gives-some, last-frame, length, same-front, subst, sym, take, unread, ◌++◌, ◌+◌, ◌∙◌, ◌∷◌}
 use Rattle.nap_reader.proofs.frames.Frames.skip.Goals as goal
 
 pub overflow_sub-frame : goal.overflow_sub-frame

@@ -1,5 +1,4 @@
-use Rattle.std.proofs.Common.{length, ap, arith, refl}
-use Rattle.std.proofs.lemmas.List.{length-drop}
+use Rattle.nap_reader.proofs.{ap, arith, length, length-drop, refl}
 use Rattle.nap_reader.proofs.input.Input.advance.Goals as goal
 
 pub overflow_add-self-then-is_empty : goal.overflow_add-self-then-is_empty

@@ -1,7 +1,4 @@
-use Rattle.std.proofs.Common.{◌≡◌, ◌+◌, ◌-◌, ◌≤◌, ◌++◌, [], ◌∷◌, ℕ, List, OnOk, length, take, drop, ap, refl, sym, ◌∙◌, subst, arith, length-append, length-take}
-use Rattle.nap_reader.proofs.Common.{Frame, coming, grown, part, bytes_of}
-use Rattle.nap_reader.proofs.ComingLemmas.{grown_either, grown_few, grown_framed, grown_paired, grown_turned, part_inside, taken_next, same-frame}
-use Rattle.nap_reader.proofs.ReadingLemmas.{on_ok_by}
+use Rattle.nap_reader.proofs.{Frame, List, OnOk, [], ap, arith, bytes_of, coming, drop, grown, grown_either, grown_few, grown_framed, grown_paired, grown_turned, length, length-append, length-take, on_ok_by, part, part_inside, refl, same-frame, subst, sym, take, taken_next, ℕ, ◌++◌, ◌+◌, ◌-◌, ◌∙◌, ◌∷◌, ◌≡◌, ◌≤◌}
 use Rattle.nap_reader.proofs.input.Input.append.Goals as goal
 use Rattle.nap_reader.proofs.input.Input.append.Goals.{After-extend_within, After-next}
 

@@ -1,7 +1,4 @@
-use Rattle.std.proofs.Common.{◌≡◌, ◌+◌, ◌++◌, [], ◌∷◌, ℕ, List, inl, inr, length, refl, ap, sym, ◌∙◌, subst, arith}
-use Rattle.std.proofs.lemmas.List.{nil_from_length}
-use Rattle.nap_reader.proofs.Common.{Frame, body_of, Shows, FramesIn, unread, all_at}
-use Rattle.nap_reader.proofs.ComingLemmas.{frames-push, length-part, length-unread-push, unread-push}
+use Rattle.nap_reader.proofs.{Frame, FramesIn, List, Shows, [], all_at, ap, arith, body_of, frames-push, inl, inr, length, length-part, length-unread-push, nil_from_length, refl, subst, sym, unread, unread-push, ℕ, ◌++◌, ◌+◌, ◌∙◌, ◌∷◌, ◌≡◌}
 use Rattle.nap_reader.proofs.input.Input.call.Goals as goal
 use Rattle.nap_reader.proofs.input.Input.call.Goals.{After-span-span}
 

@@ -1,6 +1,4 @@
-use Rattle.std.specs.Prelude.{not, IsTrue}
-use Rattle.std.proofs.Common.{◌≡◌, ℕ, List, ◌∷◌, Bool, false, true, sym, subst}
-use Rattle.nap_reader.proofs.Common.{Comes, behind, IsOver, is_operand_byte}
+use Rattle.nap_reader.proofs.{Bool, Comes, IsOver, IsTrue, List, behind, false, is_operand_byte, not, subst, sym, true, ℕ, ◌∷◌, ◌≡◌}
 use Rattle.nap_reader.proofs.input.Input.is_ended.Goals as goal
 
 -- bytes are over where their first is no operand byte

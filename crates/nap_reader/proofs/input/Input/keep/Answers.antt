@@ -1,6 +1,4 @@
-use Rattle.std.proofs.Common.{refl, take}
-use Rattle.nap_reader.proofs.Common.{coming, bytes_of}
-use Rattle.nap_reader.proofs.FurtherLemmas.{comes_grown, reads_still}
+use Rattle.nap_reader.proofs.{bytes_of, comes_grown, coming, reads_still, refl, take}
 use Rattle.nap_reader.proofs.input.Input.keep.Goals as goal
 
 pub advance-requires : goal.advance-requires

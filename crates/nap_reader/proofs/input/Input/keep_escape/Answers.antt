@@ -1,6 +1,4 @@
-use Rattle.std.proofs.Common.{◌≡◌, ◌≤◌, [], ◌∷◌, ℕ, List, length, arith}
-use Rattle.nap_reader.specs.Stored.{grown}
-use Rattle.nap_reader.proofs.ComingLemmas.{grown_either, grown_few, grown_framed, grown_paired, grown_turned}
+use Rattle.nap_reader.proofs.{List, [], arith, grown, grown_either, grown_few, grown_framed, grown_paired, grown_turned, length, ℕ, ◌∷◌, ◌≡◌, ◌≤◌}
 use Rattle.nap_reader.proofs.input.Input.keep_escape.Goals as goal
 use Rattle.nap_reader.proofs.input.Input.keep_escape.Goals.{After-push}
 

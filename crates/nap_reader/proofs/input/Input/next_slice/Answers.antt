@@ -1,6 +1,4 @@
-use Rattle.std.proofs.Common.{List, ℕ, arith, refl, subst}
-use Rattle.nap_reader.specs.Framed.{Innermost}
-use Rattle.nap_reader.proofs.ComingLemmas.{comes_inside, none_left, some_inside, text_inside}
+use Rattle.nap_reader.proofs.{Innermost, List, arith, comes_inside, none_left, refl, some_inside, subst, text_inside, ℕ}
 use Rattle.nap_reader.proofs.input.Input.next_slice.Goals as goal
 
 pub returns-then-self-piece : goal.returns-then-self-piece

@@ -1,7 +1,4 @@
-use Rattle.std.proofs.Common.{◌≡◌, ◌+◌, ◌-◌, ◌≤◌, ◌<◌, ◌++◌, [], ◌∷◌, ℕ, List, length, refl, ap, sym, ◌∙◌, subst, arith, length-append}
-use Rattle.nap_reader.proofs.Common.{Frame, FramesIn, unread, Span, StoreState, Placed, all_at}
-use Rattle.nap_reader.specs.Stored.{part_at}
-use Rattle.nap_reader.proofs.ComingLemmas.{frames-push, frames-store, length-part, length-unread-push, unread-push, unread-store}
+use Rattle.nap_reader.proofs.{Frame, FramesIn, List, Placed, Span, StoreState, [], all_at, ap, arith, frames-push, frames-store, length, length-append, length-part, length-unread-push, part_at, refl, subst, sym, unread, unread-push, unread-store, ℕ, ◌++◌, ◌+◌, ◌-◌, ◌<◌, ◌∙◌, ◌∷◌, ◌≡◌, ◌≤◌}
 use Rattle.nap_reader.proofs.input.Input.show.Goals as goal
 
 -- how many bytes come next

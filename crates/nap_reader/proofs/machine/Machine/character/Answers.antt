@@ -1,15 +1,8 @@
-use Rattle.std.proofs.Common.{◌≡◌, ◌++◌, ℕ, List, All, Some, Err, refl, ap, sym, subst, arith}
-use Rattle.std.specs.Prelude.{slice_get}
-use Rattle.std.proofs.lemmas.List.Elements.{All-head}
+use Rattle.nap_reader.proofs.{All, All-head, Err, IsGraphic, List, Some, alone_acts, alone_stops, ap, arith, draw_fault, first_byte, refl, sink_fault, slice_get, subst, sym, ℕ, ◌++◌, ◌≡◌}
 use Rattle.nap_codes.specs.declared.code.Code.TheVariants as code
-use Rattle.nap_codes.specs.Laws.{IsGraphic}
-use Rattle.nap_reader.specs.Faults.{draw_fault}
-use Rattle.nap_reader.proofs.CodesLemmas.{IsAlone, alone_acts, alone_stops}
-use Rattle.nap_reader.proofs.ComingLemmas.{first_byte}
-use Rattle.nap_reader.proofs.StepLemmas.{sink_fault}
-use Rattle.nap_reader.proofs.machine.Machine.character.Given.{Over}
-use Rattle.nap_reader.proofs.machine.Machine.character.Goals.{In-Some}
+use Rattle.nap_reader.proofs.CodesLemmas.{IsAlone}
 use Rattle.nap_reader.proofs.machine.Machine.character.Goals as goal
+use Rattle.nap_reader.proofs.machine.Machine.character.Goals.{In-Some}
 
 -- the first of them
 first_graphic : (bytes : List ℕ) (b : ℕ) → slice_get bytes 0 ≡ Some b → All IsGraphic bytes → IsGraphic b
@@ -21,7 +14,7 @@ text-requires-clause-made g c =
     (graphic.0, omega (arith, graphic.1))
 
 -- It is a code by itself.
-is_alone : (g : Over) (c : In-Some g) (behind : List ℕ) → IsAlone c.args.self.now (code.Char c.args.set c.in-Some.byte.now) c.args.self.now.lexer.sets (c.args.text.now ++ behind)
+is_alone : (g : _) (c : In-Some g) (behind : List ℕ) → IsAlone c.args.self.now (code.Char c.args.set c.in-Some.byte.now) c.args.self.now.lexer.sets (c.args.text.now ++ behind)
 is_alone g c behind =
     let b = c.in-Some.byte.now in
     let (rest, parts) = first_byte c.args.text.now b (sym c.in-Some.ensures.value) in

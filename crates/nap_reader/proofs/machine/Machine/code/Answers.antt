@@ -1,15 +1,9 @@
-use Rattle.std.proofs.Common.{◌≡◌, ◌∷◌, [], ◌++◌, ℕ, List, Err, length, get_or, refl, ap, sym, ◌∙◌, arith}
+use Rattle.nap_reader.proofs.{Err, List, [], alone_acts, alone_nothing, alone_stops, ap, arith, code_of, draw_fault, first_byte, front_made, get_or, length, refl, sink_fault, sym, ℕ, ◌++◌, ◌∙◌, ◌∷◌, ◌≡◌}
 use Rattle.nap_codes.specs.declared.code.Code.TheVariants as code
 use Rattle.nap_codes.specs.Front as codes
-use Rattle.nap_reader.specs.Faults.{draw_fault}
-use Rattle.nap_reader.proofs.CodesLemmas.{IsAlone, alone_acts, alone_nothing, alone_stops}
-use Rattle.nap_reader.proofs.SpelledLemmas.{front_made}
-use Rattle.nap_reader.proofs.ReadingLemmas.{code_of}
-use Rattle.nap_reader.proofs.ComingLemmas.{first_byte}
-use Rattle.nap_reader.proofs.StepLemmas.{sink_fault}
-use Rattle.nap_reader.proofs.machine.Machine.code.Given.{Over}
-use Rattle.nap_reader.proofs.machine.Machine.code.Goals.{In-Effector}
+use Rattle.nap_reader.proofs.CodesLemmas.{IsAlone}
 use Rattle.nap_reader.proofs.machine.Machine.code.Goals as goal
+use Rattle.nap_reader.proofs.machine.Machine.code.Goals.{In-Effector}
 
 pub opcode-requires-clause-is : goal.opcode-requires-clause-is
 opcode-requires-clause-is g c =
@@ -46,7 +40,7 @@ pub control-requires-clause-made : goal.control-requires-clause-made
 control-requires-clause-made g c = front_made _ _ (code.Step c.in-Effector.step) _ _ c.in-Effector.ensures.1
 
 -- It is a move by itself.
-is_alone : (g : Over) (c : In-Effector g) → IsAlone c.args.self.now (code.Step c.in-Effector.step) c.args.self.now.lexer.sets c.args.bytes.now
+is_alone : (g : _) (c : In-Effector g) → IsAlone c.args.self.now (code.Step c.in-Effector.step) c.args.self.now.lexer.sets c.args.bytes.now
 is_alone g c =
     let (rest, parts) = first_byte c.args.bytes.now c.in-Some.byte.now (sym c.in-Some.ensures.value) in
     record { byte = c.in-Some.byte.now; rest = rest; is = parts; closed = c.requires.closed; half = c.in-Effector.ensures.0; front = c.in-Effector.ensures.1 }

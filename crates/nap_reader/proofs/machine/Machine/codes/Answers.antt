@@ -1,12 +1,6 @@
-use Rattle.std.proofs.Common.{◌≡◌, ◌<◌, ◌+◌, ◌-◌, ℕ, List, Bool, None, length, take, drop, inr, refl, ap, sym, ◌∙◌, subst, arith}
-use Rattle.std.proofs.lemmas.List.{length-drop, take_all}
-use Rattle.nap_reader.specs.Below.{Ghosts}
-use Rattle.nap_reader.proofs.Common.{Request, Refuses, Takes, bytes_of, place_at, refusal}
+use Rattle.nap_reader.proofs.{Bool, Ghosts, List, None, Refuses, Request, Takes, TookMore, ap, arith, bytes_of, bytes_of-spaced, drop, inr, left_bytes, length, length-drop, length-spaced, place_at, place_at-drop, place_at-spaced, refl, refusal, spaced, subst, sym, take, take_all, takes_then, took, took_all, took_none, ℕ, ◌+◌, ◌-◌, ◌<◌, ◌∙◌, ◌≡◌}
 use Rattle.nap_reader.specs.declared.machine.Machine.{Machine}
-use Rattle.nap_reader.specs.Framed.{spaced}
-use Rattle.nap_reader.proofs.ComingLemmas.{bytes_of-spaced, length-spaced, place_at-spaced}
-use Rattle.nap_reader.proofs.ReadingLemmas.{TookMore}
-use Rattle.nap_reader.proofs.TakingLemmas.{Took, left_bytes, place_at-drop, takes_then, took, took_all, took_none}
+use Rattle.nap_reader.proofs.TakingLemmas.{Took}
 use Rattle.nap_reader.proofs.machine.Machine.codes.Goals as goal
 
 -- the bytes behind so many

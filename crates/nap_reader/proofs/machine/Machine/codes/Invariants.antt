@@ -1,6 +1,4 @@
-use Rattle.std.proofs.Common.{◌≡◌, ◌<◌, ◌-◌, None, length}
-use Rattle.nap_reader.specs.Framed.{spaced}
-use Rattle.nap_reader.proofs.Common.{IsLive}
+use Rattle.nap_reader.proofs.{IsLive, None, length, spaced, ◌-◌, ◌<◌, ◌≡◌}
 use Rattle.nap_reader.proofs.TakingLemmas.{Took}
 use Rattle.nap_reader.proofs.machine.Machine.codes.Given as goal
 

@@ -1,9 +1,4 @@
-use Rattle.std.proofs.Common.{◌≡◌, ◌++◌, ◌∷◌, [], Bool, false, true, not, None, refl, sym, subst}
-use Rattle.nap_reader.proofs.Common.{CannotShow, Shows, StoreState, closed}
-use Rattle.nap_reader.proofs.ComingLemmas.{can_pass}
-use Rattle.nap_reader.proofs.DefineLemmas.{behind_escape, bound_goes, shown_goes, shown_stops}
-use Rattle.nap_reader.proofs.FurtherLemmas.{byte_passed, byte_stops, own_fault, passed_still}
-use Rattle.nap_reader.proofs.ReadingLemmas.{Lawful}
+use Rattle.nap_reader.proofs.{Bool, CannotShow, Lawful, None, Shows, StoreState, [], behind_escape, bound_goes, byte_passed, byte_stops, can_pass, closed, false, not, own_fault, passed_still, refl, shown_goes, shown_stops, subst, sym, true, ◌++◌, ◌∷◌, ◌≡◌}
 use Rattle.nap_reader.proofs.machine.Machine.end_body.Goals as goal
 
 was_not : (b : Bool) → not b ≡ false → b ≡ true

@@ -1,9 +1,4 @@
-use Rattle.std.proofs.Common.{ℕ, List, None, Ok, Err, refl, ap, subst}
-use Rattle.nap_reader.specs.Below.{carried, Drawn, rule}
-use Rattle.nap_reader.proofs.Common.{draw_fault}
-use Rattle.nap_draw.specs.Acts.{Acts, told}
-use Rattle.nap_reader.proofs.TakingLemmas.{executes, fails_run}
-use Rattle.nap_reader.proofs.StepLemmas.{sink_fault}
+use Rattle.nap_reader.proofs.{Acts, Drawn, Err, List, None, Ok, ap, carried, draw_fault, executes, fails_run, refl, rule, sink_fault, subst, told, ℕ}
 use Rattle.nap_reader.proofs.machine.Machine.execute.Goals as goal
 
 pub returns-in-Ok : goal.returns-in-Ok

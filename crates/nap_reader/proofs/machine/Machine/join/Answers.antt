@@ -1,18 +1,7 @@
-use Rattle.std.proofs.Common.{ℕ, ◌≡◌, ◌<◌, ◌≤◌, ◌+◌, ◌*◌, ◌++◌, List, Some, true, length, take, refl, ap, ap₂, sym, ◌∙◌, arith}
-use Rattle.std.specs.List.{prefix_len}
-use Rattle.std.proofs.lemmas.List.{length-take-le}
-use Rattle.std.proofs.lemmas.List.Sums.{prefix_len-le-length}
-use Rattle.nap_reader.specs.Below.{Ghosts, run_limit}
-use Rattle.nap_reader.proofs.Common.{OpenRun, asks_if, is_operand_byte, place_at, refusal}
-use Rattle.nap_reader.specs.declared.fault.Fault.TheVariants as faults
+use Rattle.nap_reader.proofs.{Ghosts, Joins, List, Memory, OpenRun, Some, ap, ap₂, arith, asks_if, bytes_of-spaced, is_operand_byte, lacked, length, length-spaced, length-take-le, operands_in, place_at, place_at-spaced, prefix_len, prefix_len-le-length, refl, refusal, run_acts, run_lacks, run_limit, run_stops, run_too_long, run_waits, spaced, sym, take, true, worked, ℕ, ◌*◌, ◌++◌, ◌+◌, ◌<◌, ◌∙◌, ◌≡◌, ◌≤◌}
 use Rattle.nap_reader.specs.declared.machine.Machine.{Machine}
-use Rattle.nap_reader.specs.Framed.{spaced}
-use Rattle.nap_reader.proofs.ComingLemmas.{bytes_of-spaced, length-spaced, place_at-spaced}
-use Rattle.nap_reader.proofs.TakingLemmas.{lacked, worked}
-use Rattle.nap_reader.proofs.RunLemmas.{Joins, operands_in, run_acts, run_lacks, run_stops, run_too_long, run_waits}
-use Rattle.nap_reader.proofs.machine.Machine.join.Given.{Over}
-use Rattle.nap_reader.proofs.machine.Machine.join.Goals.{After-execute, Else-is_err, else-count-slice-via-then-count-slice+else-not-ended, else-count-slice-via-else-count-slice}
 use Rattle.nap_reader.proofs.machine.Machine.join.Goals as goal
+use Rattle.nap_reader.proofs.machine.Machine.join.Goals.{After-execute, Else-is_err}
 
 -- how many operands there are
 counted : (place step : ℕ) (bytes : List ℕ) (count : ℕ) → count ≡ prefix_len is_operand_byte bytes → operands_in (spaced place step bytes) ≡ count
@@ -51,25 +40,25 @@ returns-then-is_err g c =
     let kept = c.stop-then-is_err.ensures.kept in
     rw c.stop-then-is_err.ensures.answer
     (run_lacks c.args.ended c.requires.run (omega (arith, n, less)) (omega (arith, n, c.if-count-most.false, m.short))
-    (kept.is ∙ ap (λ (p : ℕ). Some (refusal faults.Memory p)) first) kept.sink)
+    (kept.is ∙ ap (λ (p : ℕ). Some (refusal Memory p)) first) kept.sink)
 
 -- the machine that has them
-abbrev mid : (g : Over) → Else-is_err g → Machine g.row.S.Denot g.S.Sink
+abbrev mid : (g : _) → Else-is_err g → Machine g.row.S.Denot g.S.Sink
 mid g c = record c.args.self.now { run = c.append.new.run; short = c.self-1.given.0; rule = c.self-1.given.1.0; drawing = c.self-1.given.1.1.0 }
 
-join_of : (g : Over) (c : Else-is_err g) → Joins c.args.self.now (mid g c) c.args.open_run (spaced c.args.slice.now.place c.args.slice.now.step c.args.slice.now.bytes.now)
+join_of : (g : _) (c : Else-is_err g) → Joins c.args.self.now (mid g c) c.args.open_run (spaced c.args.slice.now.place c.args.slice.now.step c.args.slice.now.bytes.now)
 join_of g c =
     joined c.args.slice.now.place c.args.slice.now.step c.args.slice.now.bytes.now c.operand_bytes-count.result c.operand_bytes-count.ensures c.requires.run (omega (arith, c.if-count-most.false, c.args.self.now.short))
     (worked c.append.result _ c.is_err.result c.is_err.ensures.value c.if-is_err.false c.append.ensures.ok) (refl, refl, refl, refl)
 
-count_of : (g : Over) (c : Else-is_err g) → operands_in (spaced c.args.slice.now.place c.args.slice.now.step c.args.slice.now.bytes.now) ≡ c.operand_bytes-count.result
+count_of : (g : _) (c : Else-is_err g) → operands_in (spaced c.args.slice.now.place c.args.slice.now.step c.args.slice.now.bytes.now) ≡ c.operand_bytes-count.result
 count_of g c = counted c.args.slice.now.place c.args.slice.now.step c.args.slice.now.bytes.now c.operand_bytes-count.result c.operand_bytes-count.ensures
 
 -- Where they are all of the bytes, the run has ended.
-ends_of : (g : Over) (c : After-execute g) → operands_in (spaced c.args.slice.now.place c.args.slice.now.step c.args.slice.now.bytes.now) ≡ length (spaced c.args.slice.now.place c.args.slice.now.step c.args.slice.now.bytes.now) → c.args.ended ≡ true
+ends_of : (g : _) (c : After-execute g) → operands_in (spaced c.args.slice.now.place c.args.slice.now.step c.args.slice.now.bytes.now) ≡ length (spaced c.args.slice.now.place c.args.slice.now.step c.args.slice.now.bytes.now) → c.args.ended ≡ true
 ends_of g c = elim c.else-count-slice.branch [
-  | else-count-slice-via-then-count-slice+else-not-ended w ↦ λ all. w.if-not-ended.false
-  | else-count-slice-via-else-count-slice w ↦ λ all.
+  | goal.else-count-slice-via-then-count-slice+else-not-ended w ↦ λ all. w.if-not-ended.false
+  | goal.else-count-slice-via-else-count-slice w ↦ λ all.
       absurd (w.if-count-slice.false (omega (arith, all, counted c.args.slice.now.place c.args.slice.now.step c.args.slice.now.bytes.now c.operand_bytes-count.result c.operand_bytes-count.ensures, length-spaced c.args.slice.now.place c.args.slice.now.step c.args.slice.now.bytes.now)))
 ]
 

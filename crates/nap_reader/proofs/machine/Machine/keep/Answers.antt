@@ -1,12 +1,4 @@
-use Rattle.std.proofs.Common.{ℕ, ◌≡◌, ◌+◌, ◌*◌, List, [], length, Some, refl, ap, sym, ◌∙◌, subst, arith}
-use Rattle.std.proofs.lemmas.List.Sums.{prefix_len-le-length}
-use Rattle.nap_reader.proofs.Common.{Input, Advances, CanAdvance, IsNextByte, coming, placed_at, unread, held_by, is_of_body, Stops, StoreState, Placed, refusal}
-use Rattle.nap_reader.specs.declared.fault.Fault.TheVariants as faults
-use Rattle.nap_reader.specs.Carried.{HasName}
-use Rattle.nap_reader.proofs.ComingLemmas.{byte_comes, can_pass}
-use Rattle.nap_reader.proofs.DefineLemmas.{byte_lacks, memory_other, store_other, body_fills, fill_passes, first_plain, holds_goes, keeps_goes}
-use Rattle.nap_reader.proofs.FurtherLemmas.{byte_passed, byte_stops, goes_less, latches_own, next_same, passed_then, same_comes, stops_from}
-use Rattle.nap_reader.proofs.ReadingLemmas.{Lawful}
+use Rattle.nap_reader.proofs.{Advances, CanAdvance, HasName, Input, IsNextByte, Lawful, List, Placed, Some, Stops, Store, StoreState, [], ap, arith, body_fills, byte_comes, byte_lacks, byte_passed, byte_stops, can_pass, coming, fill_passes, first_plain, goes_less, held_by, holds_goes, is_of_body, keeps_goes, latches_own, length, memory_other, next_same, passed_then, placed_at, prefix_len-le-length, refl, refusal, same_comes, stops_from, store_other, subst, sym, unread, ℕ, ◌*◌, ◌+◌, ◌∙◌, ◌≡◌}
 use Rattle.nap_reader.proofs.machine.Machine.keep.Goals as goal
 
 pub hold_escape-requires : goal.hold_escape-requires
@@ -60,12 +52,12 @@ returns-then-count-room-clause-goes g c =
     let room = c.room-room.result in
     let first = c.advance-then-count-room.ensures in
     let mid = c.advance-then-count-room.new.self in
-    let is = c.refuse.ensures.latched.is ∙ ap (λ (n : ℕ). Some (refusal faults.Store n)) c.place_of-place.ensures in
+    let is = c.refuse.ensures.latched.is ∙ ap (λ (n : ℕ). Some (refusal Store n)) c.place_of-place.ensures in
     rw c.refuse.ensures.answer
     (stops_from laws (latches_own is c.refuse.ensures.latched.sink store_other) is
     (passed_then c.requires.next.reads next.comes (omega (arith, c.body_bytes-count.ensures, prefix_len-le-length is_of_body text, c.if-count-room.true)) first.passed
     (ap (λ (store : StoreState). unread store.bytes mid.frames.stack.items) (sym first.store)) c.advance-then-count-room-2.ensures.passed)
-    (subst (λ t. Stops g.S.Sink m.sink (held_by m input) (coming input c.args.piece.now) (length text) room t (refusal faults.Store (c.in-Some.slice.place + c.in-Some.slice.step * room))) (sym c.refuse.ensures.latched.sink)
+    (subst (λ t. Stops g.S.Sink m.sink (held_by m input) (coming input c.args.piece.now) (length text) room t (refusal Store (c.in-Some.slice.place + c.in-Some.slice.step * room))) (sym c.refuse.ensures.latched.sink)
     (body_fills m c.requires.open c.requires.held c.requires.next.reads next room (omega (arith, c.body_bytes-count.ensures, c.if-count-room.true)) (omega (arith, c.room-room.ensures)))))
 
 pub keep-requires-clause-next : goal.keep-requires-clause-next

@@ -1,14 +1,6 @@
-use Rattle.std.proofs.Common.{ℕ, ◌≡◌, ◌≢◌, ◌⊎◌, ◌-◌, ◌+◌, inl, inr, [], ◌∷◌, length, Option, Some, refl, ap, sym, ◌∙◌, subst, arith, length-append}
+use Rattle.nap_reader.proofs.{Advances, CanAdvance, HasName, Input, Lawful, Option, Some, Store, StoreState, [], again_goes, ap, arith, behind_escape, both_lack, byte_comes, byte_fills, byte_passed, byte_stops, can_pass, escape_fills, first_left, inl, inr, length, length-append, memory_other, next_same, next_still, pair_goes, passed_none, passed_then, refl, refusal, same_comes, store_limit, store_other, subst, sym, ℕ, ◌+◌, ◌-◌, ◌∙◌, ◌∷◌, ◌≡◌, ◌≢◌, ◌⊎◌}
 use Rattle.std.specs.Option.{unwrap_or}
-use Rattle.nap_reader.proofs.Common.{Input, store_limit, Advances, CanAdvance, StoreState, refusal}
-use Rattle.nap_reader.specs.declared.fault.Fault.TheVariants as faults
-use Rattle.nap_reader.specs.Carried.{HasName}
-use Rattle.nap_reader.proofs.ComingLemmas.{byte_comes, can_pass}
-use Rattle.nap_reader.proofs.DefineLemmas.{behind_escape, memory_other, store_other, again_goes, both_lack, byte_fills, escape_fills, first_left, next_still, pair_goes}
-use Rattle.nap_reader.proofs.FurtherLemmas.{byte_passed, byte_stops, next_same, passed_none, passed_then, same_comes}
-use Rattle.nap_reader.proofs.ReadingLemmas.{Lawful}
 use Rattle.nap_reader.proofs.machine.Machine.keep_escape.Goals as goal
-use Rattle.nap_reader.proofs.machine.Machine.keep_escape.Goals.{else-room-eq1-via-then-room-eq1+else-next-ne27, else-room-eq1-via-else-room-eq1}
 
 pub advance-requires : goal.advance-requires
 advance-requires g c = can_pass c.requires.next
@@ -20,7 +12,7 @@ returns-then-room-eq0-clause-goes g c =
     let behind = behind_escape c.requires.open c.requires.held c.requires.next c.requires.other in
     let place : c.unwrap_or.result ≡ behind.escape = c.unwrap_or.ensures ∙ ap (λ (o : Option ℕ). unwrap_or o c.args.next.place) behind.held in
     rw c.refuse.ensures.answer
-    (byte_stops laws c.requires.next (c.refuse.ensures.latched.is ∙ ap (λ (n : ℕ). Some (refusal faults.Store n)) place) c.refuse.ensures.latched.sink store_other
+    (byte_stops laws c.requires.next (c.refuse.ensures.latched.is ∙ ap (λ (n : ℕ). Some (refusal Store n)) place) c.refuse.ensures.latched.sink store_other
     (byte_passed c.requires.next c.advance.ensures.passed)
     (escape_fills c.args.self.now behind c.requires.low (omega (arith, c.room-room.ensures, c.if-room-eq0.true))))
 
@@ -49,8 +41,8 @@ returns-in_default-clause-goes g c =
     let slice = byte_comes c.requires.next in
     let adv = subst (λ (input : Input). Advances input c.advance-in_default.new.self 1) c.in_default.ensures.err c.advance-in_default.ensures in
     let two = elim c.else-room-eq1.branch as (λ _. (c.args.next.byte ≡ 27) ⊎ (store_limit - c.args.input.now.store.stored - length c.args.input.now.store.body ≢ 1)) [
-      | else-room-eq1-via-then-room-eq1+else-next-ne27 w ↦ inl w.if-next-ne27.false
-      | else-room-eq1-via-else-room-eq1 w ↦ inr (omega (arith, c.room-room.ensures, w.if-room-eq1.false))
+      | goal.else-room-eq1-via-then-room-eq1+else-next-ne27 w ↦ inl w.if-next-ne27.false
+      | goal.else-room-eq1-via-else-room-eq1 w ↦ inr (omega (arith, c.room-room.ensures, w.if-room-eq1.false))
     ] in
     rw c.refuse-in_default.ensures.answer
     (byte_stops laws c.requires.next c.refuse-in_default.ensures.latched.is c.refuse-in_default.ensures.latched.sink memory_other
@@ -92,8 +84,8 @@ keep-requires-clause-few g c =
     let input = c.args.input.now in
     let grew = ap (λ (store : StoreState). store.stored + length store.body) c.in-Ok.ensures.ok.store_is in
     elim c.else-room-eq1.branch [
-      | else-room-eq1-via-then-room-eq1+else-next-ne27 w ↦ absurd (c.if-next-eq27.false w.if-next-ne27.false)
-      | else-room-eq1-via-else-room-eq1 w ↦ omega (arith, grew, length-append input.store.body (27 ∷ []), c.room-room.ensures, c.if-room-eq0.false, w.if-room-eq1.false)
+      | goal.else-room-eq1-via-then-room-eq1+else-next-ne27 w ↦ absurd (c.if-next-eq27.false w.if-next-ne27.false)
+      | goal.else-room-eq1-via-else-room-eq1 w ↦ omega (arith, grew, length-append input.store.body (27 ∷ []), c.room-room.ensures, c.if-room-eq0.false, w.if-room-eq1.false)
     ]
 
 pub advance-requires-in_default-keep : goal.advance-requires-in_default-keep
@@ -110,8 +102,8 @@ returns-in_default-keep-clause-goes g c =
     let sets = c.in-Ok.ensures.ok in
     let adv = subst (λ (input : Input). Advances input c.advance-in_default-keep.new.self 1) c.in_default-keep.ensures.err c.advance-in_default-keep.ensures in
     let two = elim c.else-room-eq1.branch as (λ _. (c.args.next.byte ≡ 27) ⊎ (store_limit - c.args.input.now.store.stored - length c.args.input.now.store.body ≢ 1)) [
-      | else-room-eq1-via-then-room-eq1+else-next-ne27 w ↦ inl w.if-next-ne27.false
-      | else-room-eq1-via-else-room-eq1 w ↦ inr (omega (arith, c.room-room.ensures, w.if-room-eq1.false))
+      | goal.else-room-eq1-via-then-room-eq1+else-next-ne27 w ↦ inl w.if-next-ne27.false
+      | goal.else-room-eq1-via-else-room-eq1 w ↦ inr (omega (arith, c.room-room.ensures, w.if-room-eq1.false))
     ] in
     rw c.refuse-in_default-keep.ensures.answer
     (byte_stops laws c.requires.next c.refuse-in_default-keep.ensures.latched.is c.refuse-in_default-keep.ensures.latched.sink memory_other
@@ -124,8 +116,8 @@ returns g c =
     let behind = behind_escape c.requires.open c.requires.held c.requires.next c.requires.other in
     let some = c.if-room-eq0.false in
     let two = elim c.else-room-eq1.branch as (λ _. store_limit - c.args.input.now.store.stored - length c.args.input.now.store.body ≢ 1) [
-      | else-room-eq1-via-then-room-eq1+else-next-ne27 w ↦ absurd (c.if-next-eq27.false w.if-next-ne27.false)
-      | else-room-eq1-via-else-room-eq1 w ↦ omega (arith, c.room-room.ensures, w.if-room-eq1.false)
+      | goal.else-room-eq1-via-then-room-eq1+else-next-ne27 w ↦ absurd (c.if-next-eq27.false w.if-next-ne27.false)
+      | goal.else-room-eq1-via-else-room-eq1 w ↦ omega (arith, c.room-room.ensures, w.if-room-eq1.false)
     ] in
     record {
       same = refl;

@@ -1,15 +1,9 @@
-use Rattle.std.proofs.Common.{◌-◌, ℕ, List, Err, length, drop, refl, ap, ◌∙◌, subst, arith}
-use Rattle.std.proofs.lemmas.List.{length-drop, take_all}
-use Rattle.nap_reader.specs.Below.{Drawn}
-use Rattle.nap_reader.proofs.Common.{draw_fault, IsWholeRun}
-use Rattle.nap_reader.proofs.RunLemmas.{RunsWhole, opcode_acts, opcode_stops}
-use Rattle.nap_reader.proofs.StepLemmas.{sink_fault}
-use Rattle.nap_reader.proofs.machine.Machine.opcode.Given.{Over}
-use Rattle.nap_reader.proofs.machine.Machine.opcode.Goals.{In-Some}
+use Rattle.nap_reader.proofs.{Drawn, Err, IsWholeRun, List, RunsWhole, ap, arith, draw_fault, drop, length, length-drop, opcode_acts, opcode_stops, refl, sink_fault, subst, take_all, ℕ, ◌-◌, ◌∙◌}
 use Rattle.nap_reader.proofs.machine.Machine.opcode.Goals as goal
+use Rattle.nap_reader.proofs.machine.Machine.opcode.Goals.{In-Some}
 
 -- Its run is whole.
-runs_whole : (g : Over) (c : In-Some g) → RunsWhole c.args.self.now c.args.op c.args.bytes.now c.args.ended c.in-Some.run'.now
+runs_whole : (g : _) (c : In-Some g) → RunsWhole c.args.self.now c.args.op c.args.bytes.now c.args.ended c.in-Some.run'.now
 runs_whole g c =
     let (byte, rest, bytes, is) = c.requires.is in
     record {

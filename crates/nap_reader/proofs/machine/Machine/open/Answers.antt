@@ -1,8 +1,4 @@
-use Rattle.std.proofs.Common.{◌≡◌, ◌+◌, ◌-◌, ℕ, List, Some, length, take, drop, refl, ap, arith}
-use Rattle.std.proofs.lemmas.List.{length-drop, take_all}
-use Rattle.nap_reader.proofs.ComingLemmas.{length-spaced}
-use Rattle.nap_reader.proofs.TakingLemmas.{takes_at}
-use Rattle.nap_reader.proofs.RunLemmas.{open_takes}
+use Rattle.nap_reader.proofs.{List, Some, ap, arith, drop, length, length-drop, length-spaced, open_takes, refl, take, take_all, takes_at, ℕ, ◌+◌, ◌-◌, ◌≡◌}
 use Rattle.nap_reader.proofs.machine.Machine.open.Goals as goal
 
 -- the bytes behind the opcode

@@ -1,27 +1,14 @@
-use Rattle.std.proofs.Common.{◌≡◌, ◌+◌, ◌*◌, ◌-◌, ℕ, List, Some, Err, inl, length, drop, get_or, refl, ap, ap₂, sym, ◌∙◌, subst, arith}
-use Rattle.std.proofs.Math.Seq.{get_or-append_seam}
-use Rattle.std.proofs.lemmas.List.{drop-map, get_or-drop, length-drop, take_all}
-use Rattle.nap_reader.specs.Below.{CodeSets, LexerState}
-use Rattle.nap_reader.proofs.Common.{Fault, draw_fault, placed_at, IsOpcodeByte, Takes, Placed, bytes_of, refusal}
-use Rattle.nap_reader.specs.declared.fault.Fault.TheVariants as faults
-use Rattle.nap_reader.specs.declared.machine.Request.TheVariants as requests
-use Rattle.nap_reader.specs.Framed.{spaced}
-use Rattle.nap_reader.proofs.CodesLemmas.{call_takes, IsRuled, acts, binds, Lexes, fault_takes, half_takes, macro_takes, nothing_takes, opcode_read, rested, ruled_stops, ruled_takes, strays_takes}
-use Rattle.nap_reader.proofs.TakingLemmas.{takes_same, takes_at}
-use Rattle.nap_reader.proofs.ComingLemmas.{bytes_of-spaced, length-spaced}
-use Rattle.nap_reader.proofs.SpelledLemmas.{front_made}
-use Rattle.nap_reader.proofs.ReadingLemmas.{code_of, fault_of, more_of}
-use Rattle.nap_reader.proofs.StepLemmas.{sink_fault}
-use Rattle.nap_reader.proofs.machine.Machine.other.Given.{Over}
-use Rattle.nap_reader.proofs.machine.Machine.other.Goals.{After-control, In-Code, in-Acts, in-Binds}
+use Rattle.nap_reader.proofs.{Call, CodeSets, Err, Fault, IsOpcodeByte, IsRuled, LexerState, Lexes, List, Placed, Some, Stray, Takes, acts, ap, ap₂, arith, binds, bytes_of, bytes_of-spaced, call_takes, code_of, draw_fault, drop, drop-map, fault_takes, front_made, get_or, get_or-append_seam, get_or-drop, half_takes, inl, length, length-drop, length-spaced, macro_takes, more_of, nothing_takes, opcode_read, placed_at, refl, refusal, rested, ruled_stops, ruled_takes, sink_fault, spaced, strays_takes, subst, sym, take_all, takes_at, takes_same, ℕ, ◌*◌, ◌+◌, ◌-◌, ◌∙◌, ◌≡◌}
+use Rattle.nap_reader.proofs.ReadingLemmas.{fault_of}
 use Rattle.nap_reader.proofs.machine.Machine.other.Goals as goal
+use Rattle.nap_reader.proofs.machine.Machine.other.Goals.{After-control, In-Code}
 
 -- the byte, at its place
-abbrev here : (g : Over) → In-Code g → Placed
+abbrev here : (g : _) → In-Code g → Placed
 here g c = placed_at (get_or c.args.slice.now.bytes.now c.args.at 0) (c.args.slice.now.place + c.args.slice.now.step * c.args.at)
 
 -- It ends the code.
-lexes : (g : Over) (c : In-Code g) → (after : CodeSets) × Lexes c.args.self.now (here g c) c.in-Code.code after × (c.step.new.self ≡ rested after)
+lexes : (g : _) (c : In-Code g) → (after : CodeSets) × Lexes c.args.self.now (here g c) c.in-Code.code after × (c.step.new.self ≡ rested after)
 lexes g c =
     let (n, after, front, counted, lexer) = code_of _ c.args.self.now.lexer (here g c).byte c.in-Code.code c.step.new.self c.in-Code.ensures.steps in
     (after, record { closed = c.requires.closed; count = n; whole = front; length_is = counted }, lexer)
@@ -42,8 +29,8 @@ returns-in-Some g c =
     record {
       from = omega arith;
       some = inl (omega (arith, k.counted));
-      takes = subst (λ (n : ℕ). Takes m m xs c.args.ended n (requests.Call (get_or bytes (at + more - 1) 0))) (let e : more ≡ at + more - at = omega arith in e)
-          (subst (λ (name : ℕ). Takes m m xs c.args.ended more (requests.Call name)) name (call_takes m k c.requires.closed xs is c.requires.live c.args.ended));
+      takes = subst (λ (n : ℕ). Takes m m xs c.args.ended n (Call (get_or bytes (at + more - 1) 0))) (let e : more ≡ at + more - at = omega arith in e)
+          (subst (λ (name : ℕ). Takes m m xs c.args.ended more (Call name)) name (call_takes m k c.requires.closed xs is c.requires.live c.args.ended));
     }
 
 pub returns-in-More-clause-takes : goal.returns-in-More-clause-takes
@@ -86,7 +73,7 @@ returns-in-Strays-clause-takes g c =
     let (after, k, lexer) = lexes g (goal.at.returns-in-Strays-clause-takes g c).In-Code in
     rw c.stop-in-Strays.ensures.answer
     (takes_at slice.place slice.step slice.bytes.now at c.requires.within (let e : at ≡ at + 0 = omega arith in e)
-    (strays_takes k (sym c.in-Strays.ensures) (kept.is ∙ ap (λ (place : ℕ). Some (refusal faults.Stray place)) c.place_of-in-Strays.ensures) kept.sink))
+    (strays_takes k (sym c.in-Strays.ensures) (kept.is ∙ ap (λ (place : ℕ). Some (refusal Stray place)) c.place_of-in-Strays.ensures) kept.sink))
 
 pub returns-in-AddsNothing-clause-takes : goal.returns-in-AddsNothing-clause-takes
 returns-in-AddsNothing-clause-takes g c =
@@ -109,10 +96,10 @@ control-requires-clause-made g c =
     front_made _ _ c.in-Code.code k.count after k.whole
 
 -- It draws by a rule.
-ruled : (g : Over) (c : After-control g) → IsRuled c.in-Code.code c.match-of.request
+ruled : (g : _) (c : After-control g) → IsRuled c.in-Code.code c.match-of.request
 ruled g c = elim c.match-of.branch [
-  | in-Acts w ↦ acts w.in-Acts.field-0 (sym w.in-Acts.ensures) w.request-is
-  | in-Binds w ↦ binds w.in-Binds.name w.in-Binds.show (sym w.in-Binds.ensures) w.request-is
+  | goal.in-Acts w ↦ acts w.in-Acts.field-0 (sym w.in-Acts.ensures) w.request-is
+  | goal.in-Binds w ↦ binds w.in-Binds.name w.in-Binds.show (sym w.in-Binds.ensures) w.request-is
 ]
 
 pub returns-in-Ok-clause-takes : goal.returns-in-Ok-clause-takes

@@ -1,8 +1,4 @@
-use Rattle.std.proofs.Common.{ℕ, ◌≡◌, ◌+◌, ◌-◌, ◌*◌, ap, sym, ◌∙◌, subst, arith}
-use Rattle.std.proofs.lemmas.Result.{err_from_is_err_and}
-use Rattle.nap_reader.specs.Pieces.{ReadsTo, Turn}
-use Rattle.nap_reader.proofs.ComingLemmas.{length-spaced}
-use Rattle.nap_reader.proofs.FurtherLemmas.{begin_reads, comes_rested, reads_piece, smaller, stops_piece, stops_then, leaves_live, turn_is, turn_less}
+use Rattle.nap_reader.proofs.{ReadsTo, Turn, ap, arith, begin_reads, comes_rested, err_from_is_err_and, leaves_live, length-spaced, reads_piece, smaller, stops_piece, stops_then, subst, sym, turn_is, turn_less, ℕ, ◌*◌, ◌+◌, ◌-◌, ◌∙◌, ◌≡◌}
 use Rattle.nap_reader.proofs.machine.Machine.read.Goals as goal
 use Rattle.nap_reader.proofs.machine.Machine.read.Goals.{After-place_of-place}
 

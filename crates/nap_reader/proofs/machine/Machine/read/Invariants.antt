@@ -1,6 +1,4 @@
-use Rattle.std.proofs.Common.{◌≡◌, ◌⊎◌, ◌+◌, ◌*◌, [], None}
-use Rattle.nap_reader.proofs.Common.{Reads, coming, GoesOn, IsLive}
-use Rattle.nap_reader.proofs.FurtherLemmas.{is_open, to_come}
+use Rattle.nap_reader.proofs.{GoesOn, IsLive, None, Reads, [], coming, is_open, to_come, ◌*◌, ◌+◌, ◌≡◌, ◌⊎◌}
 use Rattle.nap_reader.proofs.machine.Machine.read.Given as goal
 
 -- so far some bytes were taken, and no body is being defined

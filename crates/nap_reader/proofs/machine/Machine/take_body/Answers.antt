@@ -1,14 +1,5 @@
-use Rattle.std.proofs.Common.{◌≡◌, ◌≢◌, inl, inr, is_some, None, Some, get_or, refl, ap, sym, ◌∙◌, subst, arith}
-use Rattle.std.proofs.lemmas.Result.{err_from_is_err_and}
-use Rattle.nap_reader.proofs.Common.{placed_at, held_by, IsLive, refusal}
-use Rattle.nap_reader.specs.declared.fault.Fault.TheVariants as faults
-use Rattle.nap_reader.proofs.ComingLemmas.{can_pass}
-use Rattle.nap_reader.proofs.FurtherLemmas.{byte_passed, byte_stops, goes_nowhere, goes_then, smaller, stops_then}
-use Rattle.nap_reader.proofs.DefineLemmas.{next_byte}
-use Rattle.nap_reader.proofs.OpenBodyLemmas.{byte_eighth}
-use Rattle.nap_reader.proofs.ReadingLemmas.{Lawful}
+use Rattle.nap_reader.proofs.{EighthBit, IsLive, Lawful, None, Sink, Some, ap, arith, byte_eighth, byte_passed, byte_stops, can_pass, err_from_is_err_and, get_or, goes_nowhere, goes_then, held_by, inl, inr, is_some, next_byte, placed_at, refl, refusal, smaller, stops_own, stops_then, subst, sym, ◌∙◌, ◌≡◌, ◌≢◌}
 use Rattle.nap_reader.proofs.machine.Machine.take_body.Goals as goal
-use Rattle.nap_reader.proofs.StepLemmas.{stops_own}
 
 pub loop-input-init : goal.loop-input-init
 loop-input-init g c = record {
@@ -29,7 +20,7 @@ advance-requires g c = can_pass (next_byte c.loop-input.invariant.goes.counts.re
 some_body : {A : Type 0} {x : A} → Some x ≡ None → ⊥
 some_body e = cc
 
-eighth_other : faults.EighthBit ≢ faults.Sink
+eighth_other : EighthBit ≢ Sink
 eighth_other is = cc
 
 pub returns-then-next-ge128-clause-goes : goal.returns-then-next-ge128-clause-goes
@@ -43,7 +34,7 @@ returns-then-next-ge128-clause-goes g c =
     rw c.refuse.ensures.answer
     (stops_then c.loop-input.invariant.goes.on
     (byte_stops laws next c.refuse.ensures.latched.is c.refuse.ensures.latched.sink eighth_other (byte_passed next c.advance.ensures.passed)
-    (stops_own g.S.Sink m.sink h (placed_at byte place) m.sink (refusal faults.EighthBit place) refl
+    (stops_own g.S.Sink m.sink h (placed_at byte place) m.sink (refusal EighthBit place) refl
     (λ s o pending k. byte_eighth c.in-Some.is k c.if-next-ge128.true))))
 
 pub keep-requires-clause-next : goal.keep-requires-clause-next

@@ -1,7 +1,4 @@
-use Rattle.std.proofs.Common.{◌≡◌, ◌+◌, ◌*◌, None}
-use Rattle.nap_reader.proofs.Common.{IsLive}
-use Rattle.nap_reader.specs.Pieces.{Goes}
-use Rattle.nap_reader.proofs.FurtherLemmas.{is_open, to_come}
+use Rattle.nap_reader.proofs.{Goes, IsLive, None, is_open, to_come, ◌*◌, ◌+◌, ◌≡◌}
 use Rattle.nap_reader.proofs.machine.Machine.take_body.Given as goal
 
 -- so far some bytes were taken

@@ -1,14 +1,6 @@
-use Rattle.std.proofs.Common.{◌≡◌, ◌<◌, ◌≤◌, [], ◌∷◌, ◌++◌, ℕ, List, All, Option, Some, None, length, take, drop, get_or, slice_index, refl, ap, sym, ◌∙◌, subst, arith}
-use Rattle.std.proofs.lemmas.List.{take-append-drop}
-use Rattle.std.proofs.lemmas.List.Elements.{All-cons, All-head, All-nil}
-use Rattle.nap_reader.specs.Below.{TextStep, IsGraphic, format_effector, IsTyped}
-use Rattle.nap_reader.proofs.Common.{is_of_text, Codes}
-use Rattle.nap_codes.proofs.PublicLaws.{format_effector_front}
-use Rattle.nap_reader.proofs.CodesLemmas.{IsTextOf, text_halts, text_taken}
-use Rattle.nap_reader.proofs.OperandLemmas.{at_front}
-use Rattle.nap_reader.proofs.machine.Machine.text.Given.{Over}
-use Rattle.nap_reader.proofs.machine.Machine.text.Goals.{Else-text-lt2}
+use Rattle.nap_reader.proofs.{All, All-cons, All-head, All-nil, Codes, IsGraphic, IsTextOf, IsTyped, List, None, Option, Some, TextStep, [], ap, arith, at_front, drop, format_effector, format_effector_front, get_or, is_of_text, length, refl, slice_index, subst, sym, take, take-append-drop, text_halts, text_taken, ℕ, ◌++◌, ◌<◌, ◌∙◌, ◌∷◌, ◌≡◌, ◌≤◌}
 use Rattle.nap_reader.proofs.machine.Machine.text.Goals as goal
+use Rattle.nap_reader.proofs.machine.Machine.text.Goals.{Else-text-lt2}
 
 -- a byte of a text that is no format effector is graphic
 typed_graphic : (b : ℕ) → IsTyped b → 0x20 ≤ b → IsGraphic b
@@ -38,7 +30,7 @@ returns-then-text-lt2 g c = λ ended.
     subst (λ (bytes : List ℕ). Codes c.args.self.now c.character.new.self bytes ended c.character.result) (parts c.args.bytes.now c.text_bytes-text.result.now _ c.text_bytes-text.ensures.bytes) (c.character.ensures ended _)
 
 -- It is more than one byte.
-is_text : (g : Over) (c : Else-text-lt2 g) → IsTextOf c.args.self.now c.args.set c.args.bytes.now c.text_bytes-text.result.now
+is_text : (g : _) (c : Else-text-lt2 g) → IsTextOf c.args.self.now c.args.set c.args.bytes.now c.text_bytes-text.result.now
 is_text g c =
     let front = at_front is_of_text c.args.bytes.now c.text_bytes-text.result.now c.text_bytes-text.ensures.bytes in
     record { front = sym front.1; few = front.0; some = omega arith; typed = c.text_bytes-text.ensures.typed; closed = c.requires.closed; are = c.requires.set }

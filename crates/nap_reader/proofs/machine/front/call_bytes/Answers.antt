@@ -1,10 +1,7 @@
-use Rattle.std.proofs.Common.{◌≡◌, refl, sym, ap, ◌∙◌, rules, arith}
-use Rattle.nap_reader.specs.Below.{CodeSets, set_at}
+use Rattle.nap_reader.proofs.{CodeSets, Macros, ap, arith, calls_by_name, calls_by_shift, refl, rules, set_at, sym, ◌∙◌, ◌≡◌}
 use denote.Enum.Bare.{same_true}
 use Rattle.nap_codes.specs.contracts.code_set.CodeSet.{the_type}
-use Rattle.nap_codes.specs.declared.code_set.CodeSet.TheVariants.{Macros}
 use Rattle.nap_reader.proofs.machine.front.call_bytes.Goals as goal
-use Rattle.nap_reader.proofs.SpelledLemmas.{calls_by_name, calls_by_shift}
 
 pub returns-then-eq : goal.returns-then-eq
 returns-then-eq c =

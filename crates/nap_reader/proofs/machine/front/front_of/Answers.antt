@@ -1,7 +1,5 @@
-use Rattle.std.proofs.Common.{[], ◌∷◌, refl, arith}
+use Rattle.nap_reader.proofs.{[], arith, opcode_alone, opens_drawn, refl, ◌∷◌}
 use Rattle.nap_codes.specs.declared.code.Code.TheVariants as code
-use Rattle.nap_reader.proofs.ReadingLemmas.{opens_drawn}
-use Rattle.nap_reader.proofs.SpelledLemmas.{opcode_alone}
 use Rattle.nap_reader.proofs.machine.front.front_of.Goals as goal
 
 pub returns-in-Some : goal.returns-in-Some

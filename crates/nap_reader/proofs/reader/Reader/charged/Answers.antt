@@ -1,5 +1,4 @@
-use Rattle.std.proofs.Common.{arith}
-use Rattle.nap_reader.proofs.ComingLemmas.{frames-unread}
+use Rattle.nap_reader.proofs.{arith, frames-unread}
 use Rattle.nap_reader.proofs.reader.Reader.charged.Goals as goal
 
 pub returns-clause-bounded : goal.returns-clause-bounded

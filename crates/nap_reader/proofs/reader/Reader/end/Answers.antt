@@ -1,10 +1,4 @@
-use Rattle.std.proofs.Common.{ℕ, List, MatchResult, ◌≡◌, true, false, IfErr, None, Some, ap, sym, ◌∙◌, subst}
-use Rattle.nap_reader.specs.Below.{device, stream}
-use Rattle.nap_reader.proofs.Common.{cause_of, IsOwn, holding_of, Stands, Outcome, begun, means, with_run}
-use Rattle.nap_reader.specs.Holding.{ClosesInto}
-use Rattle.nap_reader.specs.Standing.{IsTaken}
-use Rattle.nap_reader.proofs.BreakLemmas.{broke_in_run, EndsRun, body_ended, ended_is, ends_run, ends_works, refused_at_end, stops_at_end}
-use Rattle.nap_reader.proofs.ReadingLemmas.{Lawful, leads_unrefused, on_ok_by, if_err_by}
+use Rattle.nap_reader.proofs.{ClosesInto, EndsRun, IfErr, IsOwn, IsTaken, Lawful, List, MatchResult, None, Outcome, Some, Stands, ap, begun, body_ended, broke_in_run, cause_of, device, ended_is, ends_run, ends_works, false, holding_of, if_err_by, leads_unrefused, means, on_ok_by, refused_at_end, stops_at_end, stream, subst, sym, true, with_run, ℕ, ◌∙◌, ◌≡◌}
 use Rattle.nap_reader.proofs.reader.Reader.end.Goals as goal
 use Rattle.nap_reader.proofs.reader.Reader.end.Goals.{After-check_finished, In-Err, In_default-end_run}
 

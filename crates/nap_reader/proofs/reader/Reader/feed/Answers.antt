@@ -1,10 +1,4 @@
-use Rattle.std.proofs.Common.{◌≡◌, Err, IsSome, refl, arith, rules}
-use Rattle.std.proofs.lemmas.Result.{err_from_is_err_and}
-use Rattle.nap_reader.specs.declared.reader.Reader.{Reader}
-use Rattle.nap_reader.specs.Pieces.{ReadsPiece, StopsPiece}
-use Rattle.nap_reader.proofs.FurtherLemmas.{refused_by, unrefused}
-use Rattle.nap_reader.proofs.ReadingLemmas.{matched_err}
-use Rattle.nap_reader.proofs.StandingLemmas.{stays}
+use Rattle.nap_reader.proofs.{Err, IsSome, Reader, ReadsPiece, StopsPiece, arith, err_from_is_err_and, matched_err, refl, refused_by, rules, stays, unrefused, ◌≡◌}
 use Rattle.nap_reader.proofs.reader.Reader.feed.Goals as goal
 use Rattle.nap_reader.proofs.reader.Reader.feed.Goals.{After-read}
 

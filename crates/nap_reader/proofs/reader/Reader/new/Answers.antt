@@ -1,6 +1,4 @@
-use Rattle.std.proofs.Common.{[], arith}
-use Rattle.nap_reader.proofs.ReadingLemmas.{begins}
-use Rattle.nap_reader.proofs.StandingLemmas.{stands_by}
+use Rattle.nap_reader.proofs.{[], arith, begins, stands_by}
 use Rattle.nap_reader.proofs.reader.Reader.new.Goals as goal
 
 pub returns-clause-stands : goal.returns-clause-stands

@@ -1,6 +1,5 @@
-use Rattle.std.proofs.Common.{◌≡◌, ◌-◌, ◌+◌, ℕ, length, set, ap, ◌∙◌}
-use Rattle.nap_reader.specs.Stored.{StoreState, closed}
-use Rattle.nap_reader.proofs.ComingLemmas.{state_of, bound}
+use Rattle.nap_reader.proofs.{StoreState, ap, closed, length, set, state_of, ℕ, ◌+◌, ◌-◌, ◌∙◌, ◌≡◌}
+use Rattle.nap_reader.proofs.ComingLemmas.{bound}
 use Rattle.nap_reader.proofs.store.Store.bind.Goals as goal
 
 pub returns : goal.returns

@@ -1,7 +1,4 @@
-use Rattle.std.proofs.Common.{◌++◌, List, ℕ, ap, cond, is_ok, ◌∙◌}
-use Rattle.nap_reader.specs.Stored.{StoreState, grown}
-use Rattle.nap_reader.proofs.ReadingLemmas.{on_ok_by}
-use Rattle.nap_reader.proofs.ComingLemmas.{grown_by, state_of}
+use Rattle.nap_reader.proofs.{List, StoreState, ap, cond, grown, grown_by, is_ok, on_ok_by, state_of, ℕ, ◌++◌, ◌∙◌}
 use Rattle.nap_reader.proofs.store.Store.extend.Goals as goal
 
 pub returns-then-bytes-ne1-clause-ok : goal.returns-then-bytes-ne1-clause-ok

@@ -1,6 +1,4 @@
-use Rattle.std.proofs.Common.{arith, refl}
-use Rattle.std.proofs.lemmas.List.Elements.{All-replicate}
-use Rattle.nap_reader.specs.Stored.{IsBefore}
+use Rattle.nap_reader.proofs.{All-replicate, IsBefore, arith, refl}
 use Rattle.nap_reader.proofs.store.Store.new.Goals as goal
 
 pub invariant_of-result : goal.invariant_of-result

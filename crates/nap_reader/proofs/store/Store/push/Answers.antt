@@ -1,6 +1,4 @@
-use Rattle.std.proofs.Common.{[], ◌∷◌, List, ℕ, ap, ◌∙◌}
-use Rattle.nap_reader.specs.Stored.{StoreState, grown}
-use Rattle.nap_reader.proofs.ComingLemmas.{grown_by, state_of}
+use Rattle.nap_reader.proofs.{List, StoreState, [], ap, grown, grown_by, state_of, ℕ, ◌∙◌, ◌∷◌}
 use Rattle.nap_reader.proofs.store.Store.push.Goals as goal
 
 pub returns-clause-ok : goal.returns-clause-ok

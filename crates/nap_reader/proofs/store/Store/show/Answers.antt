@@ -1,6 +1,4 @@
-use Rattle.std.proofs.Common.{◌≡◌, ◌-◌, ◌+◌, ◌++◌, ◌∷◌, [], List, ℕ, length, set, ap, append_assoc, ◌∙◌}
-use Rattle.nap_reader.specs.Stored.{StoreState, shown}
-use Rattle.nap_reader.proofs.ComingLemmas.{state_of, bound_grown}
+use Rattle.nap_reader.proofs.{List, StoreState, [], ap, append_assoc, bound_grown, length, set, shown, state_of, ℕ, ◌++◌, ◌+◌, ◌-◌, ◌∙◌, ◌∷◌, ◌≡◌}
 use Rattle.nap_reader.proofs.store.Store.show.Goals as goal
 
 pub returns-clause-ok : goal.returns-clause-ok
