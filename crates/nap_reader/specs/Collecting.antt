@@ -1,4 +1,5 @@
-use Rattle.nap_reader.specs.Shared.{ℕ, ◌≡◌, ◌⊎◌, ◌^◌, ◌≤◌, true, List, Option, None, Some, Result, Ok, Err, length, Cause, stream, memory, device, Ghosts, Refusal, cause_of, BreaksWithin, LacksWithin, means}
+use Rattle.std.specs.Prelude.{ℕ, ◌≡◌, ◌⊎◌, ◌^◌, ◌≤◌, true, List, Option, None, Some, Result, Ok, Err, length}
+use Rattle.nap_reader.specs.Shared.{Cause, stream, memory, device, Ghosts, Refusal, cause_of, BreaksWithin, LacksWithin, means}
 use Rattle.nap_list.specs.Reading.{Reading, NoneFailed, ReadFailed, IsCutOff, IsReadWhole}
 use Rattle.nap_reader.specs.Laws.{WantsSome}
 use Rattle.nap_reader.specs.declared.collect.ReadFault.{ReadFault}

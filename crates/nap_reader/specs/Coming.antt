@@ -1,4 +1,5 @@
-use Rattle.nap_reader.specs.Shared.{◌≡◌, ◌≢◌, ◌⊎◌, ◌<◌, ◌≤◌, ◌+◌, ◌-◌, ◌^◌, ◌++◌, ℕ, Bool, List, [], ◌∷◌, Option, true, length, take, drop, OpenBody, Fault, Input, Comes, MovesOn, behind, placed_at, unread_of, Placed, all_at, bytes_of, placed_from}
+use Rattle.std.specs.Prelude.{◌≡◌, ◌≢◌, ◌⊎◌, ◌<◌, ◌≤◌, ◌+◌, ◌-◌, ◌^◌, ◌++◌, ℕ, Bool, List, [], ◌∷◌, Option, true, length, take, drop}
+use Rattle.nap_reader.specs.Shared.{OpenBody, Fault, Input, Comes, MovesOn, behind, placed_at, unread_of, Placed, all_at, bytes_of, placed_from}
 use Rattle.nap_reader.specs.declared.fault.Fault.TheVariants as faults
 use Rattle.nap_reader.specs.Steps.{IsOver}
 use Rattle.nap_reader.specs.Stored.{StoreState, grown}

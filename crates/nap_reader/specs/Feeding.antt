@@ -1,4 +1,5 @@
-use Rattle.nap_reader.specs.Shared.{◌≡◌, ◌≢◌, ◌+◌, ◌<◌, ◌≤◌, ◌++◌, ℕ, List, Bool, true, false, Option, Some, None, Result, Ok, Err, length, take, slice_index, ⊤, Ghosts, Refusal, Reader, cause_of, begun}
+use Rattle.std.specs.Prelude.{◌≡◌, ◌≢◌, ◌+◌, ◌<◌, ◌≤◌, ◌++◌, ℕ, List, Bool, true, false, Option, Some, None, Result, Ok, Err, length, take, slice_index, ⊤}
+use Rattle.nap_reader.specs.Shared.{Ghosts, Refusal, Reader, cause_of, begun}
 use Rattle.std.specs.Io.KnownBytes.{Consumes}
 use Rattle.nap_list.specs.declared.device.inlet.Inlet as inlet
 use Rattle.nap_list.specs.Reading.{Reading, NoneFailed, IsCutOff, IsReadWhole, reading}

@@ -1,4 +1,5 @@
-use Rattle.nap_reader.specs.Shared.{◌≡◌, ◌≢◌, ◌⊎◌, ◌<◌, ◌≤◌, ◌+◌, ℕ, false, List, [], ◌∷◌, ◌++◌, Some, None, All, ⊤, length, take, slice_index, Code, CodeSets, Opcode, code_rule, stream, memory, rule, Entry, Ghosts, run_limit, Refusal, between, cause_of, BreaksFrom, BreaksInRun, BreaksWithin, LacksWithin, pause, continue, onward, Placed, Machine, Outcome, bytes_of, words_of, is_operand, open_run, drawn_front, front, placed_from, outcome_from, begun, means}
+use Rattle.std.specs.Prelude.{◌≡◌, ◌≢◌, ◌⊎◌, ◌<◌, ◌≤◌, ◌+◌, ℕ, false, List, [], ◌∷◌, ◌++◌, Some, None, All, ⊤, length, take, slice_index}
+use Rattle.nap_reader.specs.Shared.{Code, CodeSets, Opcode, code_rule, stream, memory, rule, Entry, Ghosts, run_limit, Refusal, between, cause_of, BreaksFrom, BreaksInRun, BreaksWithin, LacksWithin, pause, continue, onward, Placed, Machine, Outcome, bytes_of, words_of, is_operand, open_run, drawn_front, front, placed_from, outcome_from, begun, means}
 use Rattle.nap_values.specs.Laws.{IsOperandByte}
 use Rattle.nap_codes.specs.declared.code.Code.TheVariants as code
 use Rattle.nap_codes.specs.Front as codes

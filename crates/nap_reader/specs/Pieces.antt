@@ -1,4 +1,5 @@
-use Rattle.nap_reader.specs.Shared.{All, Bool, ◌≡◌, ◌<◌, ◌≤◌, ◌+◌, ◌-◌, ◌++◌, ℕ, List, [], ◌∷◌, Some, None, false, true, length, take, drop, slice_index, IsSome, Ghosts, Refusal, Input, Reader, placed_at, spaced, Continues, Holding, RunAt, held_by, unread_of, Outcome, Placed, begun, bytes_of, place_at}
+use Rattle.std.specs.Prelude.{All, Bool, ◌≡◌, ◌<◌, ◌≤◌, ◌+◌, ◌-◌, ◌++◌, ℕ, List, [], ◌∷◌, Some, None, false, true, length, take, drop, slice_index, IsSome}
+use Rattle.nap_reader.specs.Shared.{Ghosts, Refusal, Input, Reader, placed_at, spaced, Continues, Holding, RunAt, held_by, unread_of, Outcome, Placed, begun, bytes_of, place_at}
 use Rattle.nap_reader.specs.declared.fault.Fault.TheVariants as faults
 use Rattle.nap_reader.specs.declared.machine.Machine.{Machine}
 use Rattle.nap_reader.specs.declared.machine.Request.{Request}

@@ -1,5 +1,4 @@
 -- The names that most definitions cite, passed on from one place. Declares nothing.
-pub use Rattle.std.specs.Prelude.{All, Bool, Err, IsSome, List, None, Ok, Option, Result, Some, [], drop, false, if◌then◌else◌, length, slice_index, take, true, ℕ, ⊤, ◌++◌, ◌+◌, ◌-◌, ◌<◌, ◌^◌, ◌∷◌, ◌≡◌, ◌≢◌, ◌≤◌, ◌⊎◌}
 pub use Rattle.nap_reader.specs.Below.{Cause, CharSet, Code, CodeSets, DrawFault, Drawn, DrawsBy, Entry, Ghosts, HaltsAfter, IsDrawn, IsGraphic, IsTyped, LexerState, Opcode, SinkFault, code_rule, device, fault_of, memory, rule, run_limit, shows_of, stream}
 pub use Rattle.nap_reader.specs.Bodies.{BodyFront, Mode, at_escape, between, body_of, ended, ends_body, in_body, no_names, one_further, refused, store_limit, stores, unfinished}
 unfoldable pub use Rattle.nap_reader.specs.Bodies.{body_front}

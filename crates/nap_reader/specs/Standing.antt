@@ -1,4 +1,5 @@
-use Rattle.nap_reader.specs.Shared.{◌≡◌, ◌-◌, ◌+◌, ◌<◌, ◌≤◌, ◌++◌, ℕ, List, [], ◌∷◌, Option, Some, None, length, take, slice_index, Ghosts, Cause, stream, Refusal, Reader, store_limit, Outcome, begun, cause_of, BreaksAt, Continues, holding_of}
+use Rattle.std.specs.Prelude.{◌≡◌, ◌-◌, ◌+◌, ◌<◌, ◌≤◌, ◌++◌, ℕ, List, [], ◌∷◌, Option, Some, None, length, take, slice_index}
+use Rattle.nap_reader.specs.Shared.{Ghosts, Cause, stream, Refusal, Reader, store_limit, Outcome, begun, cause_of, BreaksAt, Continues, holding_of}
 
 -- what a reader shows
 

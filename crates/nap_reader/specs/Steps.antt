@@ -1,4 +1,5 @@
-use Rattle.nap_reader.specs.Shared.{All, Bool, if◌then◌else◌, ⊤, ◌≡◌, ◌≢◌, ◌<◌, ◌≤◌, ◌⊎◌, ◌+◌, ◌++◌, ℕ, false, true, List, [], ◌∷◌, Option, Some, None, Ok, length, take, drop, CharSet, CodeSets, Opcode, IsGraphic, LexerState, Entry, Ghosts, SinkFault, IsTyped, HaltsAfter, shows_of, DrawFault, DrawsBy, fault_of, stream, run_limit, Drawn, IsDrawn, rule, OpenBody, Fault, Refusal, OpenRun, body_of, no_names, draw_fault, Placed, Outcome, after_drawing, bytes_of, front, is_operand, is_operand_byte, place_at, placed_from, refusal, shown_front, cause_of, Holding, BreaksInBody, BreaksSome, Continues, ContinuesPast, IsHeld, IsOwn, IsRefused, RunAt, run_by}
+use Rattle.std.specs.Prelude.{All, Bool, if◌then◌else◌, ⊤, ◌≡◌, ◌≢◌, ◌<◌, ◌≤◌, ◌⊎◌, ◌+◌, ◌++◌, ℕ, false, true, List, [], ◌∷◌, Option, Some, None, Ok, length, take, drop}
+use Rattle.nap_reader.specs.Shared.{CharSet, CodeSets, Opcode, IsGraphic, LexerState, Entry, Ghosts, SinkFault, IsTyped, HaltsAfter, shows_of, DrawFault, DrawsBy, fault_of, stream, run_limit, Drawn, IsDrawn, rule, OpenBody, Fault, Refusal, OpenRun, body_of, no_names, draw_fault, Placed, Outcome, after_drawing, bytes_of, front, is_operand, is_operand_byte, place_at, placed_from, refusal, shown_front, cause_of, Holding, BreaksInBody, BreaksSome, Continues, ContinuesPast, IsHeld, IsOwn, IsRefused, RunAt, run_by}
 use Rattle.nap_codes.specs.Front as codes
 use Rattle.nap_codes.specs.Lexer.{IsShift}
 use Rattle.nap_codes.specs.declared.code.Code.TheVariants as code
