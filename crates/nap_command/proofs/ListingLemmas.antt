@@ -5,6 +5,7 @@ use Rattle.std.proofs.KnownBytes.{Appends-kept, Appends-nil}
 use Rattle.std.specs.Prelude.{MatchResult}
 use Rattle.std.specs.Io.KnownBytes.{Appends, Keeps}
 use Rattle.nap_draw.specs.Draws.{Cause, stream, memory, device}
+use Rattle.nap_list.specs.declared.count_sink.CountSink.{CountSink}
 use Rattle.nap_list.specs.declared.device.outlet.Outlet as outlet
 use Rattle.nap_list.specs.declared.entry.Entry.{Entry}
 use Rattle.nap_list.specs.declared.sink.Sink.{Ghosts}
@@ -66,7 +67,7 @@ listed_after c p seen before old new b (failure.Write n) h k e = (
     nothing (suc n) = refl
 listed_after c p seen before old new b _ h k e = absurd k
 
-module _ {O S : Type 0} (o : outlet.Ghosts O) (w : O) (works : o.failed w ≡ false) (c : Command) (list : c.action ≡ action.List) (page : List ℕ) where
+module _ {O : Type 0} (o : outlet.Ghosts O) (w : O) (works : o.failed w ≡ false) (c : Command) (list : c.action ≡ action.List) (page : List ℕ) where
   abbrev begun : Printing O
   begun = record { outlet = w; written = 0; held = []; state = start }
 
@@ -75,7 +76,7 @@ module _ {O S : Type 0} (o : outlet.Ghosts O) (w : O) (works : o.failed w ≡ fa
   ForPage claim = (p : List ℕ) (seen : Reading) → IsReadWhole seen p → IsStream c.hex p page → claim p seen
 
   -- what went out, which is a front of what is printed
-  pub record Leaves (u : O) (n : ℕ) (read : Result S Refusal) : Type 0 where
+  pub record Leaves (u : O) (n : ℕ) (read : Result CountSink Refusal) : Type 0 where
     pub q : List ℕ
     pub sends : Sends (sending o w 0) q (sending o u n)
     pub partly : ForPage (λ p seen. IsPartly c p seen q)
@@ -107,7 +108,7 @@ module _ {O S : Type 0} (o : outlet.Ghosts O) (w : O) (works : o.failed w ≡ fa
     partly_of q left is p seen whole streams =
         inl (lines (list_of c.budget page), verdict.Accepted, finds p seen whole streams, front_taken q left (lines (list_of c.budget page)) is)
 
-    all_printed : (t : S) → Took o begun (list_of c.budget page) v → Closes o v u n → Leaves u n (Ok t)
+    all_printed : (t : CountSink) → Took o begun (list_of c.budget page) v → Closes o v u n → Leaves u n (Ok t)
     all_printed t took closes =
         let all = passes_more (sending o w 0) (shown o v) (sending o u n) [] v.held closes.left (lines (list_of c.budget page)) [] took.passes closes.passes in
         let parts = sym (append-nil (lines (list_of c.budget page))) ∙ all.parts in
@@ -142,7 +143,7 @@ module _ {O S : Type 0} (o : outlet.Ghosts O) (w : O) (works : o.failed w ≡ fa
           }
 
   -- What both readings gave, of which the second is a printer's.
-  module _ (g : Ghosts S) (s : S) (sound : (t : S) → g.failed t ≡ false) (k : Ghosts (Printing O)) (fresh : k.failed begun ≡ false)
+  module _ (g : Ghosts CountSink) (s : CountSink) (sound : (t : CountSink) → g.failed t ≡ false) (k : Ghosts (Printing O)) (fresh : k.failed begun ≡ false)
       (took_is : (t : Printing O) (d : List Entry) → k.took begun d t → Took o begun d t) (broke_is : (t : Printing O) (d : List Entry) (e : Entry) → k.broke begun d e t → Broke o begun d e t)
       (u : O) (n : ℕ) (v : Printing O) where
     breaks : (accepted : (means c.budget page).refusal ≡ None) (r : Refusal) (cause : Cause) → cause_of r.fault ≡ cause → BreaksWithin c.budget page r.place →
@@ -156,18 +157,18 @@ module _ {O S : Type 0} (o : outlet.Ghosts O) (w : O) (works : o.failed w ≡ fa
         some_printed accepted u n v r place output written (front ++ next ∷ []) rest h.left (entries ∙ sym (append_assoc front (next ∷ []) rest)) h.passes
         (λ clear. (let bad : true ≡ false = sym h.failed ∙ clear in cc))
 
-    by : (read : Result S Refusal) → ReadsTwice g k s begun c.budget page v read → MatchResult read (λ _. Closes o v u n) (λ _. (u ≡ v.outlet) × (n ≡ v.written)) → Leaves u n read
+    by : (read : Result CountSink Refusal) → ReadsTwice g k s begun c.budget page v read → MatchResult read (λ _. Closes o v u n) (λ _. (u ≡ v.outlet) × (n ≡ v.written)) → Leaves u n read
     by (Ok t) (accepted, counted, took) closes = all_printed accepted u n v t (took_is v (means c.budget page).entries took) closes
     by (Err r) (inl (refused, same)) (output, written) =
         none_printed u n r (output ∙ ap (λ (v : Printing O). v.outlet) same) (written ∙ ap (λ (v : Printing O). v.written) same) (refusal_by g s sound c page r.fault r.place refused)
     by (Err r) (inr (accepted, broke)) (output, written) = breaks accepted r (cause_of r.fault) refl broke.place broke.part output written
 
-    pub leaves : (read : Result S Refusal) → IsReadTwice g k s begun c.budget page v read → MatchResult read (λ _. Closes o v u n) (λ _. (u ≡ v.outlet) × (n ≡ v.written)) →
+    pub leaves : (read : Result CountSink Refusal) → IsReadTwice g k s begun c.budget page v read → MatchResult read (λ _. Closes o v u n) (λ _. (u ≡ v.outlet) × (n ≡ v.written)) →
         Leaves u n read
     leaves read h = by read h.reads
 
   -- the output as it is given back
-  module _ (u v : O) (n : ℕ) (found : Result S Refusal) (answer : Result Verdict Failure) (out : Leaves u n found) (keeps : Keeps (o.taken u) (o.taken v))
+  module _ (u v : O) (n : ℕ) (found : Result CountSink Refusal) (answer : Result Verdict Failure) (out : Leaves u n found) (keeps : Keeps (o.taken u) (o.taken v))
       (fails : o.failed u ≡ true → o.failed v ≡ true) (so : EndsSo found n (o.failed v) answer) where
     works_on : (b : Bool) → o.failed u ≡ b → o.failed v ≡ false → b ≡ false
     works_on false is whole = refl
@@ -181,7 +182,7 @@ module _ {O S : Type 0} (o : outlet.Ghosts O) (w : O) (works : o.failed w ≡ fa
     ends = (out.q, Appends-kept (o.taken w) (o.taken u) (o.taken v) out.q out.sends.taken keeps, at (o.failed v) refl so)
 
   -- it was flushed once where no write failed
-  pub flushes_once : (u v : O) (n : ℕ) (found : Result S Refusal) → Leaves u n found → o.write_failed w ≡ false → o.flushes v ≡ flushed (o.failed u) (o.flushes u) →
+  pub flushes_once : (u v : O) (n : ℕ) (found : Result CountSink Refusal) → Leaves u n found → o.write_failed w ≡ false → o.flushes v ≡ flushed (o.failed u) (o.flushes u) →
       o.write_failed v ≡ o.write_failed u → FlushedOnce o w v
   flushes_once u v n found out none flushes wrote =
       let same : o.failed u ≡ o.write_failed u = out.sends.failed ∙ ap (λ (b : Bool). b || out.sends.fails) (works ∙ sym none) ∙ sym out.sends.write_failed in
