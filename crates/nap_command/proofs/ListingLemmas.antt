@@ -163,9 +163,10 @@ module _ {O : Type 0} (o : outlet.Ghosts O) (w : O) (works : o.failed w ≡ fals
         none_printed u n r (output ∙ ap (λ (v : Printing O). v.outlet) same) (written ∙ ap (λ (v : Printing O). v.written) same) (refusal_by g s sound c page r.fault r.place refused)
     by (Err r) (inr (accepted, broke)) (output, written) = breaks accepted r (cause_of r.fault) refl broke.place broke.part output written
 
-    pub leaves : (read : Result CountSink Refusal) → IsReadTwice g k s begun c.budget page v read → MatchResult read (λ _. Closes o v u n) (λ _. (u ≡ v.outlet) × (n ≡ v.written)) →
-        Leaves u n read
-    leaves read h = by read h.reads
+    pub leaves : (printer : Printing O) → printer ≡ begun → (bytes : List ℕ) → bytes ≡ page → (read : Result CountSink Refusal) → IsReadTwice g k s printer c.budget bytes v read →
+        MatchResult read (λ _. Closes o v u n) (λ _. (u ≡ v.outlet) × (n ≡ v.written)) → Leaves u n read
+    leaves printer new bytes same read h =
+        by read (subst (λ (p : List ℕ). ReadsTwice g k s begun c.budget p v read) same (subst (λ (x : Printing O). ReadsTwice g k s x c.budget bytes v read) new h.reads))
 
   -- the output as it is given back
   module _ (u v : O) (n : ℕ) (found : Result CountSink Refusal) (answer : Result Verdict Failure) (out : Leaves u n found) (keeps : Keeps (o.taken u) (o.taken v))
