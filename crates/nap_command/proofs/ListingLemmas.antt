@@ -4,6 +4,7 @@ use Rattle.std.proofs.KnownBytes.{Appends-kept}
 use Rattle.std.specs.Prelude.{MatchResult}
 use Rattle.std.specs.Io.KnownBytes.{Appends, Keeps}
 use Rattle.nap_draw.specs.Draws.{Cause, stream, memory, device}
+use Rattle.nap_list.specs.declared.count_sink.CountSink.{CountSink}
 use Rattle.nap_list.specs.declared.device.outlet.Outlet as outlet
 use Rattle.nap_list.specs.declared.entry.Entry.{Entry}
 use Rattle.nap_list.specs.declared.sink.Sink.{Ghosts}
@@ -73,109 +74,109 @@ module _ {O : Type 0} (o : outlet.Ghosts O) (w : O) (works : o.failed w ≡ fals
   abbrev ForPage : (List ℕ → Reading → Type 0) → Type 0
   ForPage claim = (p : List ℕ) (seen : Reading) → IsReadWhole seen p → IsStream c.hex p page → claim p seen
 
-  module _ {S : Type 0} where
-    -- what went out, which is a front of what is printed
-    pub record Leaves (u : O) (n : ℕ) (read : Result S Refusal) : Type 0 where
-      pub q : List ℕ
-      pub grows : Grows (sending o w 0) q (sending o u n)
-      pub partly : ForPage (λ p seen. IsPartly c p seen q)
-      pub ends : o.failed u ≡ false → ForPage (λ p seen. EndsListed c p seen q false (ended_so read))
+  -- what went out, which is a front of what is printed
+  pub record Leaves (u : O) (n : ℕ) (read : Result CountSink Refusal) : Type 0 where
+    pub q : List ℕ
+    pub grows : Grows (sending o w 0) q (sending o u n)
+    pub partly : ForPage (λ p seen. IsPartly c p seen q)
+    pub ends : o.failed u ≡ false → ForPage (λ p seen. EndsListed c p seen q false (ended_so read))
 
-    -- the page is refused, and nothing went out
-    none_printed : (u : O) (n : ℕ) (r : Refusal) → u ≡ w → n ≡ 0 → IsRefusal c page r → Leaves u n (Err r)
-    none_printed u n r output written refusal =
-        let fails : ForPage (λ p seen. Fails c p seen (failure.Refused r)) = λ p seen whole streams. list_refuses c p page seen r list whole streams refusal in
+  -- the page is refused, and nothing went out
+  none_printed : (u : O) (n : ℕ) (r : Refusal) → u ≡ w → n ≡ 0 → IsRefusal c page r → Leaves u n (Err r)
+  none_printed u n r output written refusal =
+      let fails : ForPage (λ p seen. Fails c p seen (failure.Refused r)) = λ p seen whole streams. list_refuses c p page seen r list whole streams refusal in
+      record {
+        q = [];
+        grows = rw (output, written) (grows_none (sending o w 0));
+        partly = λ p seen whole streams. inr (failure.Refused r, fails p seen whole streams, refl);
+        ends = λ clear p seen whole streams. (fails p seen whole streams, inl refl);
+      }
+
+  module _ (accepted : (means c.budget page).refusal ≡ None) (u : O) (n : ℕ) (v : Printing O) where
+    finds : ForPage (λ p seen. Finds c p seen (lines (list_of c.budget page)) verdict.Accepted)
+    finds p seen whole is = (whole, (page, is, rw list (accepted, refl)))
+
+    partly_of : (q left : List ℕ) → lines (list_of c.budget page) ≡ q ++ left → ForPage (λ p seen. IsPartly c p seen q)
+    partly_of q left is p seen whole streams =
+        inl (lines (list_of c.budget page), verdict.Accepted, finds p seen whole streams, front_taken q left (lines (list_of c.budget page)) is)
+
+    all_printed : (t : CountSink) → Took o begun (list_of c.budget page) v → Closes o v u n → Leaves u n (Ok t)
+    all_printed t took closes =
+        let all = passes_more (sending o w 0) (shown o v) (sending o u n) [] v.held closes.left (lines (list_of c.budget page)) [] took.passes closes.passes in
+        let parts = sym (append-nil (lines (list_of c.budget page))) ∙ all.parts in
         record {
-          q = [];
-          grows = rw (output, written) (grows_none (sending o w 0));
-          partly = λ p seen whole streams. inr (failure.Refused r, fails p seen whole streams, refl);
-          ends = λ clear p seen whole streams. (fails p seen whole streams, inl refl);
+          q = all.sent;
+          grows = all.grows;
+          partly = partly_of all.sent closes.left parts;
+          ends = λ clear p seen whole streams.
+              let same = parts ∙ ap (λ (left : List ℕ). all.sent ++ left) (closes.all clear) ∙ append-nil all.sent in
+              subst (λ (q : List ℕ). Finds c p seen q verdict.Accepted) same (finds p seen whole streams);
         }
 
-    module _ (accepted : (means c.budget page).refusal ≡ None) (u : O) (n : ℕ) (v : Printing O) where
-      finds : ForPage (λ p seen. Finds c p seen (lines (list_of c.budget page)) verdict.Accepted)
-      finds p seen whole is = (whole, (page, is, rw list (accepted, refl)))
+    module _ (r : Refusal) (place : BreaksWithin c.budget page r.place) (output : u ≡ v.outlet) (written : n ≡ v.written) where
+      refuses : r.fault ≡ fault.Memory → ForPage (λ p seen. Fails c p seen (failure.Refused r))
+      refuses is p seen whole streams = list_refuses c p page seen r list whole streams (record { refused = λ no. absurd (no is); memory = λ _. place })
 
-      partly_of : (q left : List ℕ) → lines (list_of c.budget page) ≡ q ++ left → ForPage (λ p seen. IsPartly c p seen q)
-      partly_of q left is p seen whole streams =
-          inl (lines (list_of c.budget page), verdict.Accepted, finds p seen whole streams, front_taken q left (lines (list_of c.budget page)) is)
-
-      all_printed : (t : S) → Took o begun (list_of c.budget page) v → Closes o v u n → Leaves u n (Ok t)
-      all_printed t took closes =
-          let all = passes_more (sending o w 0) (shown o v) (sending o u n) [] v.held closes.left (lines (list_of c.budget page)) [] took.passes closes.passes in
-          let parts = sym (append-nil (lines (list_of c.budget page))) ∙ all.parts in
+      -- a front of the lines went out
+      some_printed : (first rest : List Entry) (left : List ℕ) → list_of c.budget page ≡ first ++ rest → Passes (sending o w 0) [] (lines first) left (shown o v) →
+          (o.failed v.outlet ≡ false → r.fault ≡ fault.Memory) → Leaves u n (Err r)
+      some_printed first rest left entries passes fault_is =
+          let parts : lines (list_of c.budget page) ≡ passes.sent ++ (left ++ lines rest) =
+          ap lines entries ∙ lines_join first rest ∙ ap (λ (bytes : List ℕ). bytes ++ lines rest) passes.parts ∙ append_assoc passes.sent left (lines rest) in
           record {
-            q = all.sent;
-            grows = all.grows;
-            partly = partly_of all.sent closes.left parts;
+            q = passes.sent;
+            grows = rw (output, written) passes.grows;
+            partly = partly_of passes.sent (left ++ lines rest) parts;
             ends = λ clear p seen whole streams.
-                let same = parts ∙ ap (λ (left : List ℕ). all.sent ++ left) (closes.all clear) ∙ append-nil all.sent in
-                subst (λ (q : List ℕ). Finds c p seen q verdict.Accepted) same (finds p seen whole streams);
+                let is = fault_is (ap o.failed (sym output) ∙ clear) in (
+                  refuses is p seen whole streams,
+                  inr (is, (lines (list_of c.budget page), finds p seen whole streams, front_taken passes.sent (left ++ lines rest) (lines (list_of c.budget page)) parts)),
+                );
           }
 
-      module _ (r : Refusal) (place : BreaksWithin c.budget page r.place) (output : u ≡ v.outlet) (written : n ≡ v.written) where
-        refuses : r.fault ≡ fault.Memory → ForPage (λ p seen. Fails c p seen (failure.Refused r))
-        refuses is p seen whole streams = list_refuses c p page seen r list whole streams (record { refused = λ no. absurd (no is); memory = λ _. place })
+  -- What both readings gave, of which the second is a printer's.
+  module _ (g : Ghosts CountSink) (s : CountSink) (sound : (t : CountSink) → g.failed t ≡ false) (k : Ghosts (Printing O)) (fresh : k.failed begun ≡ false)
+      (took_is : (t : Printing O) (d : List Entry) → k.took begun d t → Took o begun d t) (broke_is : (t : Printing O) (d : List Entry) (e : Entry) → k.broke begun d e t → Broke o begun d e t)
+      (u : O) (n : ℕ) (v : Printing O) where
+    breaks : (accepted : (means c.budget page).refusal ≡ None) (r : Refusal) (cause : Cause) → cause_of r.fault ≡ cause → BreaksWithin c.budget page r.place →
+        TookFront k begun [] (means c.budget page).entries v cause → u ≡ v.outlet → n ≡ v.written → Leaves u n (Err r)
+    breaks accepted r stream is place part output written = absurd part
+    breaks accepted r memory is place (first, rest, entries, took) output written =
+        some_printed accepted u n v r place output written first rest v.held entries (took_is v first took).passes (λ _. memory_fault r.fault is)
+    breaks accepted r device is place (inl (failed, part)) output written = let bad : ⊥ = cc in absurd bad
+    breaks accepted r device is place (inr (front, next, rest, entries, broke)) output written =
+        let h = broke_is v front next broke in
+        some_printed accepted u n v r place output written (front ++ next ∷ []) rest h.left (entries ∙ sym (append_assoc front (next ∷ []) rest)) h.passes
+        (λ clear. (let bad : true ≡ false = sym h.failed ∙ clear in cc))
 
-        -- a front of the lines went out
-        some_printed : (first rest : List Entry) (left : List ℕ) → list_of c.budget page ≡ first ++ rest → Passes (sending o w 0) [] (lines first) left (shown o v) →
-            (o.failed v.outlet ≡ false → r.fault ≡ fault.Memory) → Leaves u n (Err r)
-        some_printed first rest left entries passes fault_is =
-            let parts : lines (list_of c.budget page) ≡ passes.sent ++ (left ++ lines rest) =
-            ap lines entries ∙ lines_join first rest ∙ ap (λ (bytes : List ℕ). bytes ++ lines rest) passes.parts ∙ append_assoc passes.sent left (lines rest) in
-            record {
-              q = passes.sent;
-              grows = rw (output, written) passes.grows;
-              partly = partly_of passes.sent (left ++ lines rest) parts;
-              ends = λ clear p seen whole streams.
-                  let is = fault_is (ap o.failed (sym output) ∙ clear) in (
-                    refuses is p seen whole streams,
-                    inr (is, (lines (list_of c.budget page), finds p seen whole streams, front_taken passes.sent (left ++ lines rest) (lines (list_of c.budget page)) parts)),
-                  );
-            }
+    by : (read : Result CountSink Refusal) → ReadsTwice g k s begun c.budget page v read → MatchResult read (λ _. Closes o v u n) (λ _. (u ≡ v.outlet) × (n ≡ v.written)) → Leaves u n read
+    by (Ok t) (accepted, counted, took) closes = all_printed accepted u n v t (took_is v (means c.budget page).entries took) closes
+    by (Err r) (inl (refused, same)) (output, written) =
+        none_printed u n r (output ∙ ap (λ (v : Printing O). v.outlet) same) (written ∙ ap (λ (v : Printing O). v.written) same) (refusal_by g s sound c page r.fault r.place refused)
+    by (Err r) (inr (accepted, broke)) (output, written) = breaks accepted r (cause_of r.fault) refl broke.place broke.part output written
 
-    -- What both readings gave, of which the second is a printer's.
-    module _ (g : Ghosts S) (s : S) (sound : (t : S) → g.failed t ≡ false) (k : Ghosts (Printing O)) (fresh : k.failed begun ≡ false)
-        (took_is : (t : Printing O) (d : List Entry) → k.took begun d t → Took o begun d t) (broke_is : (t : Printing O) (d : List Entry) (e : Entry) → k.broke begun d e t → Broke o begun d e t)
-        (u : O) (n : ℕ) (v : Printing O) where
-      breaks : (accepted : (means c.budget page).refusal ≡ None) (r : Refusal) (cause : Cause) → cause_of r.fault ≡ cause → BreaksWithin c.budget page r.place →
-          TookFront k begun [] (means c.budget page).entries v cause → u ≡ v.outlet → n ≡ v.written → Leaves u n (Err r)
-      breaks accepted r stream is place part output written = absurd part
-      breaks accepted r memory is place (first, rest, entries, took) output written =
-          some_printed accepted u n v r place output written first rest v.held entries (took_is v first took).passes (λ _. memory_fault r.fault is)
-      breaks accepted r device is place (inl (failed, part)) output written = let bad : ⊥ = cc in absurd bad
-      breaks accepted r device is place (inr (front, next, rest, entries, broke)) output written =
-          let h = broke_is v front next broke in
-          some_printed accepted u n v r place output written (front ++ next ∷ []) rest h.left (entries ∙ sym (append_assoc front (next ∷ []) rest)) h.passes
-          (λ clear. (let bad : true ≡ false = sym h.failed ∙ clear in cc))
+    pub leaves : (printer : Printing O) → printer ≡ begun → (bytes : List ℕ) → bytes ≡ page → (read : Result CountSink Refusal) → IsReadTwice g k s printer c.budget bytes v read →
+        MatchResult read (λ _. Closes o v u n) (λ _. (u ≡ v.outlet) × (n ≡ v.written)) → Leaves u n read
+    leaves printer new bytes same read h =
+        by read (subst (λ (p : List ℕ). ReadsTwice g k s begun c.budget p v read) same (subst (λ (x : Printing O). ReadsTwice g k s x c.budget bytes v read) new h.reads))
 
-      by : (read : Result S Refusal) → ReadsTwice g k s begun c.budget page v read → MatchResult read (λ _. Closes o v u n) (λ _. (u ≡ v.outlet) × (n ≡ v.written)) → Leaves u n read
-      by (Ok t) (accepted, counted, took) closes = all_printed accepted u n v t (took_is v (means c.budget page).entries took) closes
-      by (Err r) (inl (refused, same)) (output, written) =
-          none_printed u n r (output ∙ ap (λ (v : Printing O). v.outlet) same) (written ∙ ap (λ (v : Printing O). v.written) same) (refusal_by g s sound c page r.fault r.place refused)
-      by (Err r) (inr (accepted, broke)) (output, written) = breaks accepted r (cause_of r.fault) refl broke.place broke.part output written
+  -- the output as it is given back
+  module _ (u v : O) (n : ℕ) (found : Result CountSink Refusal) (answer : Result Verdict Failure) (out : Leaves u n found) (keeps : Keeps (o.taken u) (o.taken v))
+      (fails : o.failed u ≡ true → o.failed v ≡ true) (so : EndsSo found n (o.failed v) answer) where
+    works_on : (b : Bool) → o.failed u ≡ b → o.failed v ≡ false → b ≡ false
+    works_on false is whole = refl
+    works_on true is whole = let bad = sym (fails is) ∙ whole in cc
 
-      pub leaves : (read : Result S Refusal) → IsReadTwice g k s begun c.budget page v read → MatchResult read (λ _. Closes o v u n) (λ _. (u ≡ v.outlet) × (n ≡ v.written)) →
-          Leaves u n read
-      leaves read h = by read h.reads
+    at : (failed : Bool) → o.failed v ≡ failed → EndsSo found n failed answer → ForPage (λ p seen. EndsListed c p seen out.q failed answer)
+    at false is h = λ p seen whole streams. rw h (out.ends (works_on (o.failed u) refl is) p seen whole streams)
+    at true is h = λ p seen whole streams. rw h (omega (arith, out.grows.count), out.partly p seen whole streams)
 
-    -- the output as it is given back
-    module _ (u v : O) (n : ℕ) (found : Result S Refusal) (answer : Result Verdict Failure) (out : Leaves u n found) (keeps : Keeps (o.taken u) (o.taken v))
-        (fails : o.failed u ≡ true → o.failed v ≡ true) (so : EndsSo found n (o.failed v) answer) where
-      works_on : (b : Bool) → o.failed u ≡ b → o.failed v ≡ false → b ≡ false
-      works_on false is whole = refl
-      works_on true is whole = let bad = sym (fails is) ∙ whole in cc
+    pub ends : (q : List ℕ) × Appends (o.taken w) (o.taken v) q × ForPage (λ p seen. EndsListed c p seen q (o.failed v) answer)
+    ends = (out.q, Appends-kept (o.taken w) (o.taken u) (o.taken v) out.q out.grows.taken keeps, at (o.failed v) refl so)
 
-      at : (failed : Bool) → o.failed v ≡ failed → EndsSo found n failed answer → ForPage (λ p seen. EndsListed c p seen out.q failed answer)
-      at false is h = λ p seen whole streams. rw h (out.ends (works_on (o.failed u) refl is) p seen whole streams)
-      at true is h = λ p seen whole streams. rw h (omega (arith, out.grows.count), out.partly p seen whole streams)
-
-      pub ends : (q : List ℕ) × Appends (o.taken w) (o.taken v) q × ForPage (λ p seen. EndsListed c p seen q (o.failed v) answer)
-      ends = (out.q, Appends-kept (o.taken w) (o.taken u) (o.taken v) out.q out.grows.taken keeps, at (o.failed v) refl so)
-
-    -- it was flushed once where no write failed
-    pub flushes_once : (u v : O) (n : ℕ) (found : Result S Refusal) → Leaves u n found → o.write_failed w ≡ false → o.flushes v ≡ flushed (o.failed u) (o.flushes u) →
-        o.write_failed v ≡ o.write_failed u → FlushedOnce o w v
-    flushes_once u v n found out none flushes wrote =
-        let same : o.failed u ≡ o.write_failed u = out.grows.writes.failed ∙ ap (λ (b : Bool). b || out.grows.writes.fails) (works ∙ sym none) ∙ sym out.grows.writes.write_failed in
-        flushes ∙ ap (λ (b : Bool). flushed b (o.flushes u)) (same ∙ sym wrote) ∙ ap (flushed (o.write_failed v)) out.grows.writes.flushes
+  -- it was flushed once where no write failed
+  pub flushes_once : (u v : O) (n : ℕ) (found : Result CountSink Refusal) → Leaves u n found → o.write_failed w ≡ false → o.flushes v ≡ flushed (o.failed u) (o.flushes u) →
+      o.write_failed v ≡ o.write_failed u → FlushedOnce o w v
+  flushes_once u v n found out none flushes wrote =
+      let same : o.failed u ≡ o.write_failed u = out.grows.writes.failed ∙ ap (λ (b : Bool). b || out.grows.writes.fails) (works ∙ sym none) ∙ sym out.grows.writes.write_failed in
+      flushes ∙ ap (λ (b : Bool). flushed b (o.flushes u)) (same ∙ sym wrote) ∙ ap (flushed (o.write_failed v)) out.grows.writes.flushes

@@ -1,6 +1,4 @@
-use Rattle.std.proofs.Common.{ℕ, List, refl, subst}
-use Rattle.nap_lines.specs.Printing.{Printing}
-use Rattle.nap_reader.specs.Twice.{IsReadTwice}
+use Rattle.std.proofs.Common.{refl}
 use Rattle.nap_command.proofs.DeviceLemmas.{none_written_amiss}
 use Rattle.nap_command.proofs.ListingLemmas.{ends, flushes_once, leaves}
 use Rattle.nap_command.proofs.listing.print_lines.Goals as goal
@@ -14,10 +12,8 @@ returns g c =
     let twice = c.read_twice-printer.result in
     let out = c.finished-output.result in
     let ended = c.ended-answer.ensures in
-    let reads = subst (λ (s : Printing _). IsReadTwice _ _ c.new.result s command.budget page twice.0 twice.1) c.new-printer.ensures
-    (subst (λ (p : List ℕ). IsReadTwice _ _ c.new.result c.new-printer.result command.budget p twice.0 twice.1) c.as_slice.ensures.value c.read_twice-printer.ensures) in
-    let gone = leaves O w c.requires.works command c.requires.list page _ c.new.result (λ t. refl) _ c.requires.works (λ t d k. k) (λ t d e k. k) out.0 out.1 twice.0 twice.1 reads
-    c.finished-output.ensures in
+    let gone = leaves O w c.requires.works command c.requires.list page _ c.new.result (λ t. refl) _ c.requires.works (λ t d k. k) (λ t d e k. k) out.0 out.1 twice.0
+    c.new-printer.result c.new-printer.ensures c.as_slice.result.now c.as_slice.ensures.value twice.1 c.read_twice-printer.ensures c.finished-output.ensures in
     record {
       ends = ends O w c.requires.works command c.requires.list page out.0 c.ended-answer.new.output out.1 twice.1 c.ended-answer.result gone ended.taken ended.failed ended.answer;
       sends = ended.sent;
