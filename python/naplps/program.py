@@ -74,6 +74,7 @@ class ChildProcess:
         self.complaint = b""
         self.end_of_time = 0.0
         self.ended = False
+        self.waiting = selectors.DefaultSelector()
         try:
             with ENDING.starting(self):
                 self.process = subprocess.Popen(
@@ -91,7 +92,6 @@ class ChildProcess:
         for pipe in (self.process.stdin, self.process.stdout, self.process.stderr):
             if pipe:
                 os.set_blocking(pipe.fileno(), False)
-        self.waiting = selectors.DefaultSelector()
         for pipe in (self.process.stdout, self.process.stderr):
             assert pipe
             self.waiting.register(pipe, selectors.EVENT_READ)
@@ -101,34 +101,28 @@ class ChildProcess:
         it is given nothing. Raises ProcessFailure, also where the output ends before `take` has all.
         """
         self.end_of_time = time.monotonic() + self.limits.seconds
-        left = self._write(memoryview(request)) if request else memoryview(b"")
-        if not left:  # (most requests are written at once)
-            self._hear_answer(left, take)
-            return
-        assert self.process.stdin
-        self.waiting.register(self.process.stdin, selectors.EVENT_WRITE)
+        stdin, waiting = self.process.stdin, self.waiting
+        left = self._write(memoryview(request)) if request else memoryview(request)
+        if left and stdin:  # (most requests are written at once)
+            waiting.register(stdin, selectors.EVENT_WRITE)
         try:
-            self._hear_answer(left, take)
+            while True:
+                ready = waiting.select(max(0.0, self.end_of_time - time.monotonic()))
+                if not ready:
+                    raise ProcessFailure(f"no answer in {self.limits.seconds:g} s")
+                for key, _ in ready:
+                    if key.fileobj is stdin:
+                        left = self._write(left)
+                        if not left:
+                            waiting.unregister(stdin)
+                    elif key.fileobj is self.process.stderr:
+                        if not self._hear():
+                            waiting.unregister(key.fileobj)
+                    elif self._take(take):
+                        return
         finally:
-            if self.process.stdin in self.waiting.get_map():
-                self.waiting.unregister(self.process.stdin)
-
-    def _hear_answer(self, left: memoryview, take: Callable[[bytes], bool]) -> None:
-        """Gives what comes to `take`, and writes what is left of the request meanwhile."""
-        while True:
-            ready = self.waiting.select(max(0.0, self.end_of_time - time.monotonic()))
-            if not ready:
-                raise ProcessFailure(f"no answer in {self.limits.seconds:g} s")
-            for key, _ in ready:
-                if key.fileobj is self.process.stdin:
-                    left = self._write(left)
-                    if not left:
-                        self.waiting.unregister(key.fileobj)
-                elif key.fileobj is self.process.stderr:
-                    if not self._hear():
-                        self.waiting.unregister(key.fileobj)
-                elif self._take(take):
-                    return
+            if left and stdin:
+                waiting.unregister(stdin)
 
     def wind(self) -> None:
         """Lets the time for the next answer begin now."""
