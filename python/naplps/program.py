@@ -74,6 +74,7 @@ class ChildProcess:
         self.complaint = b""
         self.end_of_time = 0.0
         self.ended = False
+        self.waiting = selectors.DefaultSelector()
         try:
             with ENDING.starting(self):
                 self.process = subprocess.Popen(
@@ -88,35 +89,40 @@ class ChildProcess:
                 resource.prlimit(self.process.pid, what, (least, least))
             except (OSError, ValueError, AttributeError):
                 pass  # it has ended already, or the system has no such call
-        self.pipes = [pipe for pipe in (self.process.stdin, self.process.stdout, self.process.stderr) if pipe]
-        for pipe in self.pipes:
-            os.set_blocking(pipe.fileno(), False)
+        for pipe in (self.process.stdin, self.process.stdout, self.process.stderr):
+            if pipe:
+                os.set_blocking(pipe.fileno(), False)
+        for pipe in (self.process.stdout, self.process.stderr):
+            assert pipe
+            self.waiting.register(pipe, selectors.EVENT_READ)
 
     def talk(self, request: bytes, take: Callable[[bytes], bool]) -> None:
         """Writes the request, and gives what comes to `take` until that says that it has all; at the end of the output
         it is given nothing. Raises ProcessFailure, also where the output ends before `take` has all.
         """
         self.end_of_time = time.monotonic() + self.limits.seconds
-        left = memoryview(request)
-        with selectors.DefaultSelector() as waiting:
-            for pipe in self.pipes:
-                writes = pipe is self.process.stdin
-                if not writes or request:
-                    waiting.register(pipe, selectors.EVENT_WRITE if writes else selectors.EVENT_READ)
+        stdin, waiting = self.process.stdin, self.waiting
+        left = self._write(memoryview(request)) if request else memoryview(request)
+        if left and stdin:  # (most requests are written at once)
+            waiting.register(stdin, selectors.EVENT_WRITE)
+        try:
             while True:
                 ready = waiting.select(max(0.0, self.end_of_time - time.monotonic()))
                 if not ready:
                     raise ProcessFailure(f"no answer in {self.limits.seconds:g} s")
                 for key, _ in ready:
-                    if key.fileobj is self.process.stdin:
+                    if key.fileobj is stdin:
                         left = self._write(left)
                         if not left:
-                            waiting.unregister(key.fileobj)
+                            waiting.unregister(stdin)
                     elif key.fileobj is self.process.stderr:
                         if not self._hear():
                             waiting.unregister(key.fileobj)
                     elif self._take(take):
                         return
+        finally:
+            if left and stdin:
+                waiting.unregister(stdin)
 
     def wind(self) -> None:
         """Lets the time for the next answer begin now."""
@@ -179,6 +185,7 @@ class ChildProcess:
             pass
         self.process.wait()
         ENDING.processes.discard(self)
+        self.waiting.close()
         for pipe in (self.process.stdin, self.process.stdout, self.process.stderr):
             if pipe:
                 pipe.close()

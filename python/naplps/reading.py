@@ -90,8 +90,8 @@ def _point(it: Match[str]) -> Point:
 
 
 def _line(it: Match[str]) -> Line:
-    a, b, c, d, *ink = it.groups()
-    return Line((int(a), int(b)), (int(c), int(d)), *_ink(*ink))
+    a, b, c, d, pel, colour, texture = it.groups()
+    return Line((int(a), int(b)), (int(c), int(d)), _pel(pel), _colour(colour), _texture(texture))
 
 
 def _rect(filled: bool, it: Match[str]) -> Rect:

@@ -84,11 +84,28 @@ class Cutter:
             front = self.peek()
             if front is None:
                 return
+            if front[0] in LETTERS and self.sets[self.gl] == "primary":
+                yield from self._letters()
+                continue
             try:
                 yield self._code(front[1])
             except PageEnded:
                 yield Code(front[1], self.length, self.length, "unfinished code")
                 return
+
+    def _letters(self) -> Iterator[Code]:
+        """The letters of the primary set in front, which is in use."""
+        data, taken, place = self.frames[-1]
+        end = min(len(data), taken + self.most_steps - self.steps)
+        for at in range(taken, end):
+            name = LETTERS.get(data[at])
+            if name is None:
+                end = at
+                break
+            self.last = at if place is None else place
+            yield Code(self.last, self.last + 1, self.last, name)
+        self.frames[-1] = (data, end, place)
+        self.steps += end - taken
 
     def _code(self, start: int) -> Code:
         byte = self.take()
@@ -121,7 +138,7 @@ class Cutter:
             if body:
                 self.frames.append((body, 0, self.last))
             return code
-        if name == "primary" and byte in LETTERS:
+        if name == "primary" and byte in LETTERS:  # (behind a single shift)
             return self._named(start, LETTERS[byte])
         return self._named(start, f"{name} character {byte:02x}")
 

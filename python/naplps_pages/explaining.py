@@ -1,7 +1,6 @@
 """The command explain: entries beside the bytes that brought them, and the reason of a refusal."""
 import bisect
 from dataclasses import dataclass, field, replace
-from itertools import groupby
 from textwrap import wrap
 from typing import Iterable, Iterator, List, Optional, Tuple, Union
 
@@ -20,10 +19,13 @@ from .source import Page
 IN_ROW = 8
 AROUND = 16
 # Kinds of entries that come with the last byte of their own code; the others come with the byte behind a run.
-OF_CONTROLS = ("CHAR", "MOVE", "TO-EOL", "BELL", "CLEAR", "CURSOR", "BLINK-START", "BLINK-STOP", "GLYPH", "MASK", "END")
+OF_CONTROLS = frozenset((
+    "CHAR", "MOVE", "TO-EOL", "BELL", "CLEAR", "CURSOR", "BLINK-START", "BLINK-STOP", "GLYPH", "MASK", "END"))
 
 # Codes of which many may stand behind each other, and bring nothing.
 WITHOUT_EFFECT = ("NUL", "control without effect")
+# Codes behind which the body of a macro stands.
+OF_BODIES = ("DEF MACRO", "DEFP MACRO")
 # The name of characters that have one row.
 CHARACTERS = "characters"
 # The name of what stands behind the codes that are cut: a page of very many is shown up to there.
@@ -32,13 +34,14 @@ REST = "the rest, which isn't cut"
 
 @dataclass
 class CodeRow:
-    """Some bytes of the page, the code that they are, and the lines of the entries that came of them."""
+    """Some bytes of the page, the code that they are, and the entries that came of them: their numbers, and lines."""
 
     start: int
     end: int
     acts: int
     name: str
     opcode: bool
+    entries: List[int] = field(default_factory=list)
     lines: List[str] = field(default_factory=list)
 
 
@@ -110,25 +113,34 @@ def _folded(row: CodeRow) -> CodeRow:
 
 
 def assigned(data: bytes, entries: List[Placed], stop: Optional[int]) -> List[CodeRow]:
-    """The rows of a page, up to the place of a refusal, with the entries beside the bytes that brought them."""
-    rows = [row for row in _joined(_rows(cut(data), len(data))) if stop is None or row.start <= stop]
+    """The rows of a page, up to the place of a refusal, with the lines of the entries that their bytes brought."""
+    rows = numbered(data, entries, stop)
+    for row in rows:
+        row.lines = [entries[number][1] for number in row.entries]
+    return rows
+
+
+def numbered(data: bytes, entries: List[Placed], stop: Optional[int]) -> List[CodeRow]:
+    """The same rows, with the numbers of the entries alone."""
+    rows = [row for row in _rows(cut(data), len(data)) if stop is None or row.start <= stop]
     starts = [row.start for row in rows]
     runs = {row.acts: row for row in rows if row.opcode}
     behind: List[CodeRow] = []
-    for place, line in entries:
+    for number, (place, line) in enumerate(entries):
         assert place is not None
-        own = line.split(" ", 1)[0] in OF_CONTROLS
-        at = bisect.bisect_right(starts, place) - 1
-        holder = rows[at] if at >= 0 and place < rows[at].end else None
-        row = (holder or runs.get(place)) if own else (runs.get(place) or holder)
+        own = line.partition(" ")[0] in OF_CONTROLS
+        row = None if own else runs.get(place)
+        if row is None:
+            at = bisect.bisect_right(starts, place) - 1
+            row = rows[at] if at >= 0 and place < rows[at].end else runs.get(place)
         if row is None and rows:
             row = rows[-1]
         if row is None or row.name == REST:
-            behind.append(CodeRow(place, place, place, "", False, [line]))
+            behind.append(CodeRow(place, place, place, "", False, [number]))
         else:
-            row.lines.append(line)
+            row.entries.append(number)
     # (the code that is refused stays where a macro that it calls drew something)
-    return [row for row in rows if stop is None or row.end <= stop or row.lines] + behind
+    return [row for row in rows if stop is None or row.end <= stop or row.entries] + behind
 
 
 def behind(rows: Iterable[CodeRow], start: int) -> List[CodeRow]:
@@ -137,29 +149,26 @@ def behind(rows: Iterable[CodeRow], start: int) -> List[CodeRow]:
             for row in rows if row.end > start or row.start >= start]
 
 
-def _joined(rows: Iterable[CodeRow]) -> Iterator[CodeRow]:
-    """The rows, of which those with the same code without effect behind each other are one."""
-    for _, group in groupby(rows, key=lambda row: row.name if row.name in WITHOUT_EFFECT else id(row)):
-        first = next(group)
-        for other in group:
-            first.end = other.end
-        yield first
-
-
-def _rows(codes: Iterable[Code], length: int) -> Iterator[CodeRow]:
-    """Rows without a gap: what comes of a macro has no bytes of its own, and what no code takes is told as that."""
+def _rows(codes: Iterable[Code], length: int) -> List[CodeRow]:
+    """Rows without a gap: what comes of a macro has no bytes of its own, and what no code takes is told as that. The
+    same code without effect again has no row of its own."""
+    rows: List[CodeRow] = []
     done = 0
-    body = False
-    for code in codes:
-        start = max(code.start, done)
-        if code.start > done:
-            yield CodeRow(done, code.start, code.start, "body" if body else "", False)
-        if code.end > start:
-            yield CodeRow(start, code.end, code.acts, code.name, code.opcode)
-            done = code.end
-        body = code.name in ("DEF MACRO", "DEFP MACRO")
+    last = ""
+    for start, end, acts, name, opcode in codes:
+        if start > done:
+            rows.append(CodeRow(done, start, start, "body" if last in OF_BODIES else "", False))
+            done = start
+        if end > done:
+            if name in WITHOUT_EFFECT and rows and rows[-1].name == name:
+                rows[-1].end = end
+            else:
+                rows.append(CodeRow(done, end, acts, name, opcode))
+            done = end
+        last = name
     if done < length:
-        yield CodeRow(done, length, length, REST, False)
+        rows.append(CodeRow(done, length, length, REST, False))
+    return rows
 
 
 def printed(row: CodeRow, data: bytes) -> Iterator[str]:

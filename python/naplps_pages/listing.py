@@ -20,15 +20,19 @@ Row = Tuple[Optional[int], str]
 
 @dataclass(frozen=True)
 class Listed:
-    """The answer to a page, and its entries, of a refused one those before the refusal; None where they're too much."""
+    """The answer to a page, and its entries, of a refused one those before the refusal; None where they're too much.
+
+    Those of which no places were wanted are lines alone.
+    """
 
     answer: Answer
     rows: Optional[List[Row]] = None
+    unplaced: Optional[List[str]] = None
 
     @cached_property
     def lines(self) -> Optional[List[str]]:
         """The lines of the entries without their places."""
-        return None if self.rows is None else [line for _, line in self.rows]
+        return self.unplaced if self.rows is None else [line for _, line in self.rows]
 
     @cached_property
     def entries(self) -> Optional[Entries]:
@@ -43,12 +47,15 @@ def listed(program: Client, page: Page) -> Listed:
 
 def listed_of_few(program: Client, page: Page, has_places: bool = True) -> Listed:
     """The same of a page that was accepted before with few entries: asks for these alone, where they are few still.
-    Where places aren't wanted there are none, which is faster."""
+    Where places aren't wanted there are no rows but lines, which is faster."""
     command = command_of(page) if has_places else LIST
     told = program.ask(command, page)
     if isinstance(told, Unanswered):
         return listed(program, page) if told.too_much else Listed(told)
-    return _with_rows(command, told, told)
+    if has_places:
+        return _with_rows(command, told, told)
+    lines = told.body.decode("ascii").splitlines()
+    return Listed(told, unplaced=lines if len(lines) <= MOST_LISTED else None)
 
 
 def _listed(program: Client, page: Page, answer: Answer) -> Listed:

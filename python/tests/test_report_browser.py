@@ -9,8 +9,9 @@ import pytest
 
 from browser import Browser
 from conftest import COMMAND
+from contrasts import FAINT
 from reports import HOSTILE, MARKUP, SPELLED, collection, words
-from samples import POINT, has
+from samples import OUTSIDE, POINT, has
 from scans import start, wait_until
 
 pytestmark = pytest.mark.skipif(not has("chromium"), reason="there is no chromium")
@@ -255,6 +256,27 @@ def test_nothing_is_wider_than_the_page(page, width, media, dark):
     if not media:
         details(page, "equal/one.nap")
         assert page.run("((it) => it.scrollWidth <= it.clientWidth)(document.getElementById('details'))")
+
+
+@pytest.mark.parametrize("dark", [False, True])
+def test_all_texts_can_be_read(page, address, dark):
+    """In the parts of a report, in a refused page, and in a player whose first code is chosen."""
+    page.look(dark=dark)
+    for part in ("pages", "list", "equal", "summary"):
+        page.run("location.hash = %r" % part)
+        page.until("!document.getElementById('view-%s').hidden" % part)
+        assert page.run(FAINT) == []
+    heads = "new Set([...document.querySelectorAll('.chart thead th')].map((each) => getComputedStyle(each).color))"
+    assert page.run(heads + ".size") == 1
+    for data in (OUTSIDE, POINT):
+        page.open("%s#page=%s" % (address, hashlib.sha256(data).hexdigest()[:16]))
+        page.until(OPEN)
+        assert page.run(FAINT) == []
+    page.run("document.getElementById('as-played').click()")
+    page.until("document.querySelector('.player .code')")
+    page.run("document.querySelector('.player .code').click()")
+    page.until("document.querySelector('.player .code[aria-selected=true]')")
+    assert page.run(FAINT) == []
 
 
 def test_the_wall(wall, archive):

@@ -1,8 +1,10 @@
 """Letters that follow each other in a list and look the same: read together, from their lines."""
 from typing import List, Sequence
 
-LETTER, PEN, AFTER = "CHAR primary ", " pen=", " pen=after"
-SIGNS = {"%02x" % code: chr(code) for code in range(0x20, 0x7F)}
+PEN, AFTER = " pen=", " pen=after"
+# Signs by what their lines begin with, all of which are of one length.
+SIGNS = {"CHAR primary %02x" % code: chr(code) for code in range(0x20, 0x7F)}
+FRONT = len("CHAR primary 20")
 
 
 def letters_behind(lines: Sequence[str], number: int, end: int) -> List[str]:
@@ -10,12 +12,11 @@ def letters_behind(lines: Sequence[str], number: int, end: int) -> List[str]:
     in the line before, each behind the last."""
     before = lines[number - 1]
     rest = AFTER + before[before.find(" ", before.find(PEN) + 1):]
-    code, behind = len(LETTER), len(LETTER) + 2
     signs: List[str] = []
     while number < end:
         line = lines[number]
-        sign = SIGNS.get(line[code:behind])
-        if sign is None or line[behind:] != rest or line[:code] != LETTER:
+        sign = SIGNS.get(line[:FRONT])
+        if sign is None or line[FRONT:] != rest:
             break
         signs.append(sign)
         number += 1

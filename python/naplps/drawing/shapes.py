@@ -1,5 +1,6 @@
 """Points, lines, rectangles, polygons and arcs."""
-from typing import Any, Callable, Dict, List, Sequence, Tuple
+from functools import lru_cache
+from typing import Any, Callable, Dict, List, NamedTuple, Sequence, Tuple
 
 from ..entry import ONE, Arc, Line, Point, Poly, Position, Rect
 from . import arcs
@@ -10,7 +11,7 @@ from .paper import Paper
 from .pels import pel
 from .sweeps import dashed, least_of_dashes, sweep
 from .textures import Stroked, SvgAttributes, dashes_of
-from .weight import Extent, box, extent, of_line
+from .weight import Extent, Weight, box, extent, of_line
 
 
 class Shapes:
@@ -30,11 +31,10 @@ class Shapes:
     def point(self, entry: Point) -> None:
         """A point: the pel's rectangle, from its corner."""
         (x, y), = self._places((entry.at,))
-        dot = pel(entry.pel, self.looks.thin())
-        wide, high = dot.wide, dot.high
+        dot = _dot(entry.pel, self.looks.thin())
         self.paper.put(Element("rect", {
-            "x": num(x + dot.left), "y": num(y + dot.top), "width": num(wide), "height": num(high),
-            "fill": self.looks.ink(entry)}), box(wide, high))
+            "x": num(x + dot.left), "y": num(y + dot.top), "width": dot.wide, "height": dot.high,
+            "fill": self.looks.ink(entry)}), dot.weight)
 
     def line(self, entry: Line) -> None:
         """A line; a thin one has square ends."""
@@ -88,6 +88,23 @@ class Shapes:
             pieces = list(dashed(pieces, unit, dashes))
         swept = sweep(pieces, dot)
         self.paper.put(Element("path", {"d": swept.path, "fill": self.looks.ink(entry)}), swept.weight)
+
+
+class Dot(NamedTuple):
+    """What a point is drawn as: where its edges are from there, its sides as numbers are written, and its cost."""
+
+    left: float
+    top: float
+    wide: str
+    high: str
+    weight: Weight
+
+
+@lru_cache(maxsize=1024)
+def _dot(size: Position, least: float) -> Dot:
+    """What a point of a pel of this size is drawn as."""
+    it = pel(size, least)
+    return Dot(it.left, it.top, num(it.wide), num(it.high), box(it.wide, it.high))
 
 
 def _is_swept(entry: Stroked) -> bool:

@@ -1,4 +1,5 @@
 """How lines and areas look: thickness, dashes, fills."""
+from functools import lru_cache
 from typing import Dict, List, NamedTuple, Optional, Tuple, Union
 
 from ..entry import Arc, Line, Point, Poly, Rect, Texture
@@ -45,9 +46,7 @@ class SvgAttributes:
     def _stroke(self, entry: Stroked, shape: Extent) -> Style:
         """Those of a line or an outline that has no pel."""
         thick, dashes = self.thin(), dashes_of(entry)
-        attributes = {"fill": "none", "stroke": self.ink(entry), "stroke-width": num(thick)}
-        if dashes:
-            attributes["stroke-dasharray"] = " ".join(num(part * thick) for part in dashes)
+        attributes = {"fill": "none", "stroke": self.ink(entry), **_thick(thick, dashes)}
         return Style(attributes, outlined(shape, thick, dashes))
 
     def _fill(self, entry: Area, shape: Extent) -> Style:
@@ -101,6 +100,15 @@ class SvgAttributes:
             return Element("g", {"color": ink, "transform": scale}, self.paper.drawing_of(mask))
         self.paper.note("a texture mask without a definition is drawn as a half tone")
         return Element("rect", {"width": num(wide), "height": num(high), "fill": ink, "fill-opacity": "0.5"})
+
+
+@lru_cache(maxsize=1024)
+def _thick(thick: float, dashes: Tuple[int, ...]) -> Dict[str, str]:
+    """How thick a stroke is, and its dashes, if it has any."""
+    attributes = {"stroke-width": num(thick)}
+    if dashes:
+        attributes["stroke-dasharray"] = " ".join(num(part * thick) for part in dashes)
+    return attributes
 
 
 def dashes_of(entry: Stroked) -> Tuple[int, ...]:

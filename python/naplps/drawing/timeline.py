@@ -37,12 +37,12 @@ class AddressPalette(Palette):
 
 
 class TimelinePaper(Paper):
-    """Keeps elements as JSON, with the entries that they came with."""
+    """Keeps elements as they are in JSON, with the entries that they came with."""
 
     def __init__(self) -> None:
         super().__init__(lambda: "n")
-        self.steps: List[str] = []
-        self.named: Dict[str, str] = {}
+        self.steps: List[Dict[str, object]] = []
+        self.named: Dict[str, Dict[str, object]] = {}
         self.held = 0
         self.highest = 0.0
 
@@ -59,8 +59,7 @@ class TimelinePaper(Paper):
 
     def step(self, **members: object) -> None:
         """Adds a step, which came with the entry that is drawn."""
-        told: Dict[str, object] = {"entry": self.entry, **members}
-        self.steps.append(_json(told))
+        self.steps.append({"entry": self.entry, **members})
 
     def keep_on_page(self, element: Element, markup: str, letters: Optional[LetterCells]) -> None:
         """Adds a step that draws."""
@@ -72,7 +71,7 @@ class TimelinePaper(Paper):
 
     def keep_definition(self, element: Element, markup: str) -> None:
         """Keeps a definition by its name."""
-        self.named[element.attributes["id"]] = _json(_members(element))
+        self.named[element.attributes["id"]] = _members(element)
 
     def clear(self, colour: str) -> None:
         """Adds a step that clears."""
@@ -114,9 +113,8 @@ def timeline(lines: Lines) -> Timeline:
     paper = walk.timeline
     is_tall = max(paper.top, paper.highest) > HEIGHT / WIDTH + 0.001
     members = {"wide": WIDTH, "high": WIDTH if is_tall else HEIGHT, "foot": HEIGHT, "ground": BLACK, "first": FIRST,
-               "address": ADDRESS, "drawn": drawn}
-    named = ",".join(f"{json.dumps(name)}:{element}" for name, element in paper.named.items())
-    told = '%s,"named":{%s},"steps":[%s]}' % (_json(members)[:-1], named, ",".join(paper.steps))
+               "address": ADDRESS, "drawn": drawn, "named": paper.named, "steps": paper.steps}
+    told = json.dumps(members, separators=(",", ":"))
     return Timeline(told, drawn, "" if drawn == len(entries) else ENDS % (drawn + 1))
 
 
@@ -127,6 +125,3 @@ def _members(element: Element) -> Dict[str, object]:
     if element.text:
         members["text"] = element.text
     return members
-
-
-_json = json.JSONEncoder(ensure_ascii=True, separators=(",", ":")).encode

@@ -17,6 +17,8 @@ EDGE, OUTLINE = 2.5, 5.0
 SMALL = 300
 # Points for the screen, filled once; how many times more it takes with a pattern; and for what the pattern repeats.
 SCREEN, PATTERNED, TILE = 120, 60, 100
+# The screen, in square units.
+SQUARE = WIDTH * HEIGHT
 
 
 class Weight(NamedTuple):
@@ -41,7 +43,7 @@ class Weight(NamedTuple):
 
     def total(self) -> float:
         """All of it in points."""
-        return self.points + self.edges / EDGE + self.area * SCREEN / (WIDTH * HEIGHT)
+        return self.points + self.edges / EDGE + self.area * SCREEN / SQUARE
 
 
 # A text without its letters, and the element that uses a glyph.

@@ -103,16 +103,17 @@ def columns(told: str) -> Tuple[Column, ...]:
 
 def checked(rows: Iterable[Row], told: str) -> Iterator[Row]:
     """These rows, once their values are what `columns` says. Texts are made fit to be printed. Raises NotAStore."""
-    some = [(each, each.kind.fits, each.kind is TEXT or each.kind is LINES) for each in columns(told)]
+    some = columns(told)
+    tests = [(each.kind.fits, each.may_lack, each.kind.name) for each in some]
+    texts = [(at, each) for at, each in enumerate(some) if each.kind is TEXT or each.kind is LINES]
     for row in rows:
+        for value, (fits, may_lack, name) in zip(row, tests):
+            if (value is not None or not may_lack) and not fits(value):
+                raise NotAStore(WRONG % (TOOL, _name_of(value), name))
         made = list(row)
-        for at, (value, (column, fits, is_text)) in enumerate(zip(row, some)):
-            if value is None and column.may_lack:
-                continue
-            if not fits(value):
-                raise NotAStore(WRONG % (TOOL, _name_of(value), column.kind.name))
-            if is_text:
-                made[at] = _printable(value, column)
+        for at, column in texts:
+            if row[at] is not None:
+                made[at] = _printable(row[at], column)
         yield tuple(made)
 
 

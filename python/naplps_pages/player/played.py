@@ -2,6 +2,7 @@
 import base64
 import json
 from dataclasses import dataclass, field
+from itertools import takewhile
 from typing import Dict, List, Sequence, Tuple
 
 from naplps.answers import Accepted, Refusal
@@ -9,7 +10,7 @@ from naplps.drawing.timeline import timeline
 from naplps.drawing.walk import ENDS
 from naplps.reading import Entries
 
-from ..explaining import assigned
+from ..explaining import numbered
 from ..listing import Listed, Row
 from . import limits
 
@@ -63,17 +64,15 @@ def _length(data: bytes, told: Listed, some: Sequence[Row]) -> int:
     return min(len(data), told.answer.place + 1) if isinstance(told.answer, Refusal) else len(data)
 
 
-def _codes(data: bytes, told: Listed, some: Sequence[Row], length: int) -> CodeColumns:
+def _codes(data: bytes, told: Listed, some: List[Row], length: int) -> CodeColumns:
     """The codes as `explain` has them, with the entries that came of each."""
     stop = told.answer.place if isinstance(told.answer, Refusal) else None
-    numbered: List[Row] = [(place, f"{line.partition(' ')[0]} {number}") for number, (place, line) in enumerate(some)]
     columns = CodeColumns(entry=[-1] * len(some))
     numbers: Dict[str, int] = {}
-    for row in assigned(data, numbered, stop):
-        if row.start >= length or row.start >= limits.MOST_BYTES or len(columns.start) == limits.MOST_CODES:
-            break
-        for line in row.lines:
-            columns.entry[int(line.rpartition(" ")[2])] = len(columns.start)
+    rows = numbered(data, some, stop)[:limits.MOST_CODES]
+    for at, row in enumerate(takewhile(lambda row: row.start < length and row.start < limits.MOST_BYTES, rows)):
+        for number in row.entries:
+            columns.entry[number] = at
         columns.start.append(row.start)
         columns.end.append(row.end)
         columns.name.append(numbers.setdefault(row.name, len(numbers)))

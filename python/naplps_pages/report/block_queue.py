@@ -77,13 +77,16 @@ class BlockQueue:
         for share in self.shares:
             share.worker.close()
 
-    def drawn(self, blocks: Iterable[Block], tell: Callable[[int], None]) -> Iterator[DrawnBlock]:
+    def begin(self, blocks: Iterable[Block]) -> None:
+        """Takes the blocks, and gives each process the first that it has to draw."""
+        self.waiting.extend(blocks)
+        self._give()
+
+    def drawn(self, tell: Callable[[int], None]) -> Iterator[DrawnBlock]:
         """The blocks as they come; `tell` is called with the number of pages that were drawn, again and again.
 
         A page that ends a process has no drawing, and neither has one that there is no room for.
         """
-        self.waiting.extend(blocks)
-        self._give()
         while any(share.block for share in self.shares):
             ready = wait([share.worker.connection for share in self.shares if share.block])
             for share in [each for each in self.shares if each.worker.connection in ready]:

@@ -1,5 +1,6 @@
 """The commands report and serve, as they were asked for on the command line."""
 import argparse
+import gc
 import sqlite3
 import sys
 
@@ -15,7 +16,7 @@ from ..unexpected import told
 from . import making
 from .drawing import DrawingLimits
 from .limits import SERVED_LINES, SERVED_PLAYER, SERVED_SKETCH, SERVED_TEXT
-from .sketch_workers import DrawingOptions
+from .sketch_workers import OBJECTS, DrawingOptions
 
 Given = argparse.Namespace
 
@@ -34,6 +35,7 @@ def run(given: Given, command: str) -> int:
 
 
 def _report(given: Given, command: str) -> int:
+    gc.set_threshold(OBJECTS)  # (a large store has many objects, all of which are needed)
     made = making.make(open_to_read(given.store), making.ReportOptions(
         given.store, given.into, find(command), given.sketches, given.all, given.processes,
         given.seconds, given.replace, given.full))

@@ -20,6 +20,7 @@ JOINS = """JOIN folders d ON d.id = f.folder LEFT JOIN pages p ON p.id = f.page 
 FROM = "FROM files f " + JOINS
 THERE = f"f.state <> {tables.GONE} AND {tables.IS_FILE}"
 ALL = f"SELECT {COLUMNS} {FROM} WHERE {THERE} ORDER BY d.path, f.name"
+COUNT = f"SELECT count(*) FROM files f WHERE {THERE}"
 # States whose reasons differ by a number only.
 NUMBERED = (tables.TOO_LONG,)
 

@@ -14,12 +14,14 @@ from .block_queue import BlockQueue, Room
 from .blocks import Block, DrawnBlock
 from .document import Document, data_of
 from .drawing import Drawing, DrawingLimits, WantedDrawing, wanted
-from .facts import Facts, load_facts, told_refusals
+from .facts import load_facts, told_refusals
+from .files import COUNT
 from .limits import (
     A_PLAYED_BLOCK, HELD_LINES, HELD_PLAYER, HELD_SKETCH, HELD_TEXT, MOST_FILES, MOST_HELD, MOST_PLAYED, MOST_SKETCHES,
     SOME_TEXTS, in_block,
 )
 from .packing import Packing
+from .roots import load as load_roots
 from .sketch_workers import DrawingOptions
 from .table import Table
 
@@ -87,14 +89,20 @@ def make(connection: sqlite3.Connection, options: ReportOptions) -> ReportTotals
     require_room(options.into, options.replace)
     most = DrawingLimits(HELD_SKETCH, HELD_TEXT, HELD_LINES, HELD_PLAYER, options.full, shortens=True)
     how = DrawingOptions(options.program, options.seconds, most)
-    # (the processes begin while the store is read)
+    # (the processes begin while the store is read, and to draw before all of it is)
     with BlockQueue(how, _processes(connection, options), Room(MOST_HELD)) as queue:
-        some, facts, table = _read(connection, options.store)
-        pictures = sketch_choice.pictures(table)
-        if options.all and pictures > MOST_SKETCHES:
-            raise TooLarge(f"{pictures} sketches are too many for one file; `naplps-pages serve` shows them")
-        tasks = _tasks(table, sketch_choice.choose(table, MOST_SKETCHES if options.all else options.sketches))
-        blocks = _drawn(table, tasks, queue)
+        connection.execute("BEGIN")
+        try:
+            some, table = _read(connection)
+            pictures = sketch_choice.pictures(table)
+            if options.all and pictures > MOST_SKETCHES:
+                raise TooLarge(f"{pictures} sketches are too many for one file; `naplps-pages serve` shows them")
+            tasks = _tasks(table, sketch_choice.choose(table, MOST_SKETCHES if options.all else options.sketches))
+            queue.begin(_blocks(tasks))
+            facts = load_facts(connection, options.store, some)
+        finally:
+            connection.execute("ROLLBACK")
+        blocks = _drawn(table, len(tasks), queue)
     drawings = [(number, page.drawing) for (number, _), page in zip(tasks, chain(*(each.pages for each in blocks)))]
     data = _data(table, drawings, [each.packed for each in blocks], options.processes)
     missed = [(table.files[number].place.path, each.why) for number, each in drawings if each.why]
@@ -113,17 +121,13 @@ def _processes(connection: sqlite3.Connection, options: ReportOptions) -> int:
     return min(options.processes, -(-pages // in_block(pages)))
 
 
-def _read(connection: sqlite3.Connection, path: str) -> Tuple[List[groups.GroupSummary], Facts, Table]:
-    """What a report tells of the store at the path. Raises TooLarge."""
-    connection.execute("BEGIN")
-    try:
-        some = groups.load(connection)
-        facts = load_facts(connection, path, some)
-        if facts.files > MOST_FILES:
-            raise TooLarge(f"{facts.files} files are too many for one file; `naplps-pages serve` shows them")
-        return some, facts, Table(connection, facts.roots, some)
-    finally:
-        connection.execute("ROLLBACK")
+def _read(connection: sqlite3.Connection) -> Tuple[List[groups.GroupSummary], Table]:
+    """The groups and the files of a store. Raises TooLarge."""
+    files: int = connection.execute(COUNT).fetchone()[0]
+    if files > MOST_FILES:
+        raise TooLarge(f"{files} files are too many for one file; `naplps-pages serve` shows them")
+    some = groups.load(connection)
+    return some, Table(connection, load_roots(connection), some)
 
 
 def _told_held(drawings: List[Numbered], pictures: int) -> str:
@@ -143,15 +147,19 @@ def _tasks(table: Table, numbers: List[int]) -> List[Task]:
     return sorted(tasks)
 
 
-def _drawn(table: Table, tasks: List[Task], queue: BlockQueue) -> List[DrawnBlock]:
-    """The blocks with the drawings, in the order of their files. Meanwhile the table is filled."""
+def _blocks(tasks: List[Task]) -> List[Block]:
+    """What is drawn together."""
     size = in_block(len(tasks))
-    blocks = [Block(at // size, [it for _, it in tasks[at:at + size]]) for at in range(0, len(tasks), size)]
-    progress = Progress(sys.stderr, lambda: len(tasks), what="sketches")
+    return [Block(at // size, [it for _, it in tasks[at:at + size]]) for at in range(0, len(tasks), size)]
+
+
+def _drawn(table: Table, tasks: int, queue: BlockQueue) -> List[DrawnBlock]:
+    """The blocks with so many drawings, in the order of their files. Meanwhile the table is filled."""
+    progress = Progress(sys.stderr, lambda: tasks, what="sketches")
     try:
         with ThreadPoolExecutor(1) as beside:
             filled = beside.submit(table.fill)
-            made = sorted(queue.drawn(blocks, progress.show), key=lambda each: each.block.number)
+            made = sorted(queue.drawn(progress.show), key=lambda each: each.block.number)
             filled.result()
     finally:
         progress.clear()
