@@ -1,7 +1,7 @@
 //! The bring of an entry: commands that lead to the values that it holds, and draw nothing.
 ghost use Rattle.std.specs.Prelude.{◌≡◌, ◌++◌, [], ◌∷◌, Some};
 ghost use Rattle.nap_canon.specs.Bring.{told, unless, to_pen, to_base, to_colour, to_mask, to_words, to_given, to_named, to_flag, bring_pen, bring_pel, bring_colour, bring_texture};
-ghost use Rattle.nap_canon.specs.Equality.{same_base};
+ghost use Rattle.nap_canon.specs.Equality.{same_base, same_colour};
 
 use nap_codes::Size;
 use nap_list::{Base, CharSize, Colour, Pen, TextLook, Texture};
@@ -101,6 +101,20 @@ fn set_colour(base: Base, grb: Grb) -> Option<Command>
     Some(Command::SetColor(grb))
 }
 
+/// Whether a colour is the other one. Direct colours are compared first, since most are that.
+#[inline(always)]
+pub(crate) fn is_colour(old: &Colour, colour: &Colour) -> bool
+    ensures { result ≡ same_colour old.now colour.now }
+{
+    if let Colour::Direct(grb) = colour {
+        return match old {
+            Colour::Direct(now) => now == grb,
+            _ => false,
+        };
+    }
+    old == colour
+}
+
 #[inline]
 fn other_colour(base: Base, old: Colour, colour: Colour) -> (Option<Command>, Option<Command>)
     ensures { told result.0 ++ told result.1 ≡ to_colour base old colour }
@@ -124,7 +138,7 @@ pub(crate) fn bring_colour(
 ) -> (Option<Command>, Option<Command>)
     ensures { told result.0 ++ told result.1 ≡ bring_colour base old (Some colour) }
 {
-    if old == colour {
+    if is_colour(&old, &colour) {
         return (None, None);
     }
     other_colour(base, old, colour)

@@ -71,8 +71,9 @@ impl Gathered {
         ensures bytes { self.new ≡ self.old ++ byte ∷ [] }
         ensures size { length self.new ≡ length self.old + 1 }
     {
-        lay_byte(&mut self.bytes, self.count, byte);
-        self.count += 1;
+        let at = self.count;
+        lay_byte(&mut self.bytes, at, byte);
+        self.count = at + 1;
     }
 
     /// More bytes.
@@ -82,8 +83,9 @@ impl Gathered {
         ensures bytes { self.new ≡ self.old ++ bytes.now }
         ensures size { length self.new ≡ length self.old + length bytes.now }
     {
-        lay_bytes(&mut self.bytes, self.count, bytes);
-        self.count += bytes.len();
+        let at = self.count;
+        lay_bytes(&mut self.bytes, at, bytes);
+        self.count = at + bytes.len();
     }
 
     /// Codes behind the bytes: many, where `extend` is for few.
@@ -93,8 +95,9 @@ impl Gathered {
         ensures bytes { self.new ≡ self.old ++ codes.now }
         ensures size { length self.new ≡ length self.old + length codes.now }
     {
-        lay_codes(&mut self.bytes, self.count, codes);
-        self.count += codes.len();
+        let at = self.count;
+        lay_codes(&mut self.bytes, at, codes);
+        self.count = at + codes.len();
     }
 
     /// The operands of points behind the bytes.
@@ -104,8 +107,9 @@ impl Gathered {
         ensures bytes { self.new ≡ self.old ++ points_bytes points.now }
         ensures size { length self.new ≡ length self.old + 8 * length points.now }
     {
-        lay_points(&mut self.bytes, self.count, points);
-        self.count += 8 * points.len();
+        let at = self.count;
+        lay_points(&mut self.bytes, at, points);
+        self.count = at + 8 * points.len();
     }
 
     /// The displacements from a point to the others in turn behind the bytes.
@@ -115,8 +119,9 @@ impl Gathered {
         ensures bytes { self.new ≡ self.old ++ onward_bytes first others.now }
         ensures size { length self.new ≡ length self.old + 8 * length others.now }
     {
-        lay_onward(&mut self.bytes, self.count, first, others);
-        self.count += 8 * others.len();
+        let at = self.count;
+        lay_onward(&mut self.bytes, at, first, others);
+        self.count = at + 8 * others.len();
     }
 }
 

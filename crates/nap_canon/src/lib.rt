@@ -15,6 +15,7 @@ mod parts;
 mod plain;
 mod ranges;
 mod room;
+mod standing;
 mod stream;
 mod tail;
 mod text;

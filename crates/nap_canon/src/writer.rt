@@ -2,10 +2,11 @@
 ghost use Rattle.std.specs.Prelude.{◌≡◌, ◌≤◌, ◌+◌, ◌∷◌, length};
 ghost use Rattle.nap_codes.specs.declared.code_set.GSet.TheVariants.{G1};
 ghost use Rattle.nap_canon.specs.declared.tail.Tail.TheVariants.{Apart};
+ghost use Rattle.nap_list.specs.declared.entry.Entry.TheVariants.{Rect};
 ghost use Rattle.nap_list.specs.Entry.{held};
 ghost use Rattle.nap_list.specs.Shapes.{drawn_shape, round};
 ghost use Rattle.nap_list.specs.State.{start, taking, Fits};
-ghost use Rattle.nap_canon.specs.Spelling.{onward_bytes, opcode, shape_bytes, shape, spelled};
+ghost use Rattle.nap_canon.specs.Spelling.{onward_bytes, opcode, rect_piece, shape_bytes, shape, spelled};
 ghost use Rattle.nap_canon.specs.Text.{header, gl_of, begun_tail};
 ghost use Rattle.nap_canon.specs.Writing.{Puts, WritesBytes, WritesLaid, WritesPieces};
 ghost use Rattle.nap_canon.specs.Gathering.{room_limit};
@@ -14,9 +15,10 @@ use crate::byte_sink::ByteSink;
 use crate::form::Form;
 use crate::gathered::Gathered;
 use crate::room::{Path, Room, opcodes, path_of, shape_opcode};
+use crate::standing::{step_rect, step_shape};
 use crate::tail::Tail;
 use nap_codes::GSet;
-use nap_list::{Entry, Shape, ShapeKind, State, start_at};
+use nap_list::{Entry, Ink, Shape, ShapeKind, State, start_at};
 use nap_values::Point;
 
 mod joining;
@@ -161,6 +163,16 @@ impl<T: ByteSink + Drop> Writer<T> {
         }
     }
 
+    /// Writes what was laid, and how a rectangle is spelled.
+    #[inline(always)]
+    fn spell_rect(&mut self, filled: bool, from: Point, to: Point) -> Result<(), T::Fault>
+        requires { length self.old.room.bytes ≤ 72 }
+        ensures { WritesLaid T.sent (rect_piece self.old.form filled from to) self.old self.new result }
+    {
+        self.room.rect(self.form, filled, from, to);
+        self.to.take(self.room.bytes.as_slice())
+    }
+
     /// Writes what was laid, and how an entry is spelled where the values that it holds stand.
     #[inline(always)]
     fn spell(&mut self, entry: &Entry) -> Result<(), T::Fault>
@@ -174,8 +186,9 @@ impl<T: ByteSink + Drop> Writer<T> {
         self.to.take(self.room.bytes.as_slice())
     }
 
-    /// Writes an entry that may come next: its bring, and its spelling. The state stays where this fails.
-    pub(crate) fn put_ref(&mut self, entry: &Entry) -> Result<(), T::Fault>
+    /// Writes an entry that may come next, but for a rectangle: its bring, and its spelling.
+    #[inline(always)]
+    fn put_other(&mut self, entry: &Entry) -> Result<(), T::Fault>
         requires { Fits self.old.state entry.now }
         ensures { Puts T.sent entry.now self.old self.new result }
     {
@@ -186,16 +199,46 @@ impl<T: ByteSink + Drop> Writer<T> {
         Ok(())
     }
 
+    /// Writes a rectangle that may come next, as any entry.
+    #[inline(always)]
+    fn put_rect(&mut self, filled: bool, from: Point, to: Point, ink: &Ink) -> Result<(), T::Fault>
+        requires { Fits self.old.state (Rect filled from to ink.now) }
+        ensures { Puts T.sent (Rect filled from to ink.now) self.old self.new result }
+    {
+        self.room.bytes.clear();
+        let stands = self.room.lead_ink(&self.state.drawing, ink);
+        self.spell_rect(filled, from, to)?;
+        step_rect(&mut self.state, filled, from, to, ink, stands);
+        Ok(())
+    }
+
+    /// Writes an entry that may come next: its bring, and its spelling. The state stays where this fails.
+    pub(crate) fn put_ref(&mut self, entry: &Entry) -> Result<(), T::Fault>
+        requires { Fits self.old.state entry.now }
+        ensures { Puts T.sent entry.now self.old self.new result }
+    {
+        match entry {
+            Entry::Rect {
+                filled,
+                from,
+                to,
+                ink,
+            } => self.put_rect(*filled, *from, *to, ink),
+            _ => self.put_other(entry),
+        }
+    }
+
     /// Writes a shape that may come next, as `put_ref` writes its entry. Its points are written from where they are.
     pub(crate) fn put_shape(&mut self, shape: &Shape) -> Result<(), T::Fault>
         requires { Fits self.old.state (drawn_shape shape.now) }
         ensures { Puts T.sent (drawn_shape shape.now) self.old self.new result }
     {
         self.room.bytes.clear();
-        self.room
+        let stands = self
+            .room
             .lead_ink(&self.state.drawing, &shape.drawing.ink());
         self.spell_shape(shape)?;
-        self.state.step_shape(shape);
+        step_shape(&mut self.state, shape, stands);
         Ok(())
     }
 }

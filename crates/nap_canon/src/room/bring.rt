@@ -1,5 +1,6 @@
 //! What comes before an entry, so that the values that it holds are current.
-ghost use Rattle.std.specs.Prelude.{◌≡◌, ◌≤◌, ◌+◌, [], length, Some};
+ghost use Rattle.std.specs.Prelude.{◌≡◌, ◌↔◌, ◌≤◌, ◌+◌, [], length, Some, IsTrue};
+ghost use Rattle.nap_list.specs.Agreement.{Stands};
 ghost use Rattle.nap_list.specs.Entry.{held, hand_values, ink_values, point_values};
 ghost use Rattle.nap_values.specs.Spellings.{grb_bytes};
 ghost use Rattle.nap_canon.specs.Bring.{told, bring_colour, bring_text, bring};
@@ -12,6 +13,7 @@ use crate::command::{
     bring_texture,
 };
 use crate::room::{LENGTHS, Room, opcodes, word_byte};
+use crate::standing::ink_stands;
 use nap_codes::Size;
 use nap_list::{Colour, Drawing, Entry, Hand, Ink, TextLook};
 use nap_values::{Grb, Move, put_addr, put_grb, put_move, put_point};
@@ -144,15 +146,30 @@ impl Room {
         self.lead_colour(old, colour);
     }
 
-    /// Lays the bring of ink.
+    /// Lays the bring of ink, of which some value doesn't stand.
     #[inline(always)]
-    pub(crate) fn lead_ink(&mut self, old: &Drawing, ink: &Ink)
+    fn lead_other_ink(&mut self, old: &Drawing, ink: &Ink)
         requires { length self.old.bytes + 72 ≤ room_limit }
         ensures lays { LaysCommands (bring old.now (ink_values ink.now)) self.old self.new }
         ensures most { length self.new.bytes ≤ length self.old.bytes + 72 }
     {
         self.lead_dot(old, ink.pel, ink.colour);
         self.tell(bring_texture(old.texture, ink.texture));
+    }
+
+    /// Lays the bring of ink. Answers whether all of it stands, so that nothing is laid.
+    #[inline(always)]
+    pub(crate) fn lead_ink(&mut self, old: &Drawing, ink: &Ink) -> bool
+        requires { length self.old.bytes + 72 ≤ room_limit }
+        ensures lays { LaysCommands (bring old.now (ink_values ink.now)) self.old self.new }
+        ensures most { length self.new.bytes ≤ length self.old.bytes + 72 }
+        ensures stands { IsTrue result ↔ Stands (ink_values ink.now) old.now }
+    {
+        if ink_stands(old, ink) {
+            return true;
+        }
+        self.lead_other_ink(old, ink);
+        false
     }
 
     /// Lays the bring of what text is drawn with.
@@ -180,7 +197,7 @@ impl Room {
             Entry::Line { ink, .. }
             | Entry::Arc { ink, .. }
             | Entry::Rect { ink, .. }
-            | Entry::Poly { ink, .. } => self.lead_ink(old, ink),
+            | Entry::Poly { ink, .. } => self.lead_other_ink(old, ink),
             Entry::Char { hand, .. } | Entry::TextMove { hand, .. } | Entry::ToEol { hand } => {
                 self.lead_hand(old, hand);
             }

@@ -81,7 +81,7 @@ impl Room {
 
     /// A rectangle by its corners.
     #[inline(always)]
-    pub(super) fn rect(&mut self, form: Form, filled: bool, from: Point, to: Point)
+    pub(crate) fn rect(&mut self, form: Form, filled: bool, from: Point, to: Point)
         requires { length self.old.bytes + piece_limit ≤ room_limit }
         ensures { LaysPiece (rect_piece form filled from to) self.old self.new }
     {

@@ -13,6 +13,7 @@ use crate::form::Form;
 use crate::gathered::ROOM;
 use crate::parts::{item, part};
 use crate::room::opcodes;
+use crate::standing::first_stands;
 use crate::tail::Tail;
 use crate::writer::Writer;
 use nap_codes::{CharSet, GSet, format_effector};
@@ -27,11 +28,11 @@ const CODES: usize = 1_023;
 
 impl<T: ByteSink + Drop> Writer<T> {
     /// Whether the values that the first entry of a batch holds are current.
-    #[inline]
+    #[inline(always)]
     pub(crate) fn stands_first(&self, batch: &Batch) -> bool
         ensures { IsTrue result ↔ FirstStands batch.now self.now.state.drawing }
     {
-        self.state.drawing.stands_first(batch)
+        first_stands(&self.state.drawing, batch)
     }
 
     /// How many of the next `count` points make one write: those that join the run of this opcode, or that open one
@@ -123,7 +124,7 @@ impl<T: ByteSink + Drop> Writer<T> {
 
     /// Puts the entry of a batch at an index, whose values are current, and those behind it that make one write with it.
     /// Returns how many they are; an error has the number of those that were taken.
-    #[inline]
+    #[inline(always)]
     pub(crate) fn put_next(&mut self, batch: &Batch, index: usize) -> Result<usize, usize>
         requires some { index < length (listed batch.now) }
         requires stand { EachStands self.old.state (drop index (listed batch.now)) }
@@ -155,6 +156,7 @@ impl<T: ByteSink + Drop> Writer<T> {
     }
 
     /// Writes points that join the run of this opcode, or open one. An error has the number of those that were taken.
+    #[inline(always)]
     fn join_run(&mut self, opcode: u8, points: &[Point]) -> Result<(), usize>
         requires few { length points.now ≤ 126 }
         ensures { WritesWhole T.sent (run_opening self.old.room.tail opcode (8 * length points.now)) 8 (points_bytes points.now) (InRun (run_behind self.old.room.tail opcode (8 * length points.now))) self.old self.new result }

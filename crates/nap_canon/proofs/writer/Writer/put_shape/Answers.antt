@@ -20,10 +20,10 @@ returns-in_err-spell_shape g c =
     let s = c.args.shape.now in
     let holds = ap ink_values c.ink.ensures ∙ of_ink s.kind s.filled s.drawing.now _ in
     let failure = err_from_is_err_and c.from_residual.result c.from_residual.ensures.1 in
-    rw failure.1 (led_fails g.T.ByteSink.sent c.args.self.now (drawn_shape s) (ink_values c.ink.result) holds c.clear.new.self c.clear.ensures c.lead_ink.new.self c.lead_ink.ensures.lays c.spell_shape.new.self failure.0 c.in_err-spell_shape.ensures)
+    rw failure.1 (led_fails g.T.ByteSink.sent c.args.self.now (drawn_shape s) (ink_values c.ink.result) holds c.clear.new.self c.clear.ensures c.lead_ink-stands.new.self c.lead_ink-stands.ensures.lays c.spell_shape.new.self failure.0 c.in_err-spell_shape.ensures)
 
 pub returns : goal.returns
 returns g c =
     let s = c.args.shape.now in
     let holds = ap ink_values c.ink.ensures ∙ of_ink s.kind s.filled s.drawing.now _ in
-    led g.T.ByteSink.sent c.args.self.now (drawn_shape s) (ink_values c.ink.result) holds c.clear.new.self c.clear.ensures c.lead_ink.new.self c.lead_ink.ensures.lays c.spell_shape.new.self c.in_ok-spell_shape.ensures _ c.step_shape.ensures
+    led g.T.ByteSink.sent c.args.self.now (drawn_shape s) (ink_values c.ink.result) holds c.clear.new.self c.clear.ensures c.lead_ink-stands.new.self c.lead_ink-stands.ensures.lays c.spell_shape.new.self c.in_ok-spell_shape.ensures _ c.step_shape.ensures

@@ -2,7 +2,7 @@ use Rattle.std.proofs.Common.{refl}
 use Rattle.std.proofs.lemmas.Result.{err_from_is_err_and}
 use Rattle.nap_list.specs.Entry.{held}
 use Rattle.nap_canon.proofs.texts.WritingLemmas.{led_fails, led}
-use Rattle.nap_canon.proofs.writer.Writer.put_ref.Goals as goal
+use Rattle.nap_canon.proofs.writer.Writer.put_other.Goals as goal
 
 pub returns-in_err-spell : goal.returns-in_err-spell
 returns-in_err-spell g c =
