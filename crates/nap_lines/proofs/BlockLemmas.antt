@@ -7,7 +7,7 @@ use Rattle.std.proofs.Math.Nat.{suc-mul}
 use Rattle.std.proofs.Math.Seq.{take-add, take-append-add, drop-append-add, take-append_seam, drop-append_seam}
 use Rattle.nap_codes.specs.declared.code_set.CharSet.{CharSet}
 use Rattle.nap_lines.specs.Lines.{code_text}
-use Rattle.nap_lines.specs.Batches.{char_front, typed_front}
+use Rattle.nap_lines.specs.Batches.{typed_front}
 use Rattle.nap_lines.specs.Blocks.{laid, recoded, repeated}
 use Rattle.nap_lines.proofs.BatchLemmas.{char_start, letter_typed}
 

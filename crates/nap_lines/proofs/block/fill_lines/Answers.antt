@@ -1,5 +1,5 @@
 use Rattle.std.proofs.Common.{◌≡◌, ◌+◌, ◌*◌, ◌≤◌, ◌++◌, ℕ, List, arith, ◌∙◌, ap, sym, length, drop}
-use Rattle.std.proofs.Math.Nat.{suc-mul, add-mul, mul-le-mul_right}
+use Rattle.std.proofs.Math.Nat.{add-mul, mul-le-mul_right}
 use Rattle.nap_lines.specs.Blocks.{laid, repeated}
 use Rattle.nap_lines.proofs.BlockLemmas.{one_more_line, repeated_size}
 use Rattle.nap_lines.proofs.block.fill_lines.Goals as goal
