@@ -4,6 +4,7 @@ pub mod PlaceLemmas
 mod AnswerLemmas
 mod SessionLemmas
 mod WaitLemmas
+mod SendLemmas
 mod ExchangeLemmas
 mod GoingLemmas
 mod TellingLemmas

@@ -57,6 +57,15 @@ Sends o written text before after (Err _) = ⊥
 pub record IsSent {O : Type 0} (o : outlet.Ghosts O) (written : ℕ) (text : List ℕ) (before after : O) (result : Result ℕ Ended) : Type 0 where
   pub sends : Sends o written text before after result
 
+-- The same of the first part of an answer, which isn't sent on yet.
+abbrev pub Leads : {O : Type 0} → outlet.Ghosts O → ℕ → List ℕ → O → O → Result ℕ Ended → Type 0
+Leads o written head before after (Ok n) =
+    Appends (o.taken before) (o.taken after) head × (n ≡ count_on written (length head)) × (o.failed after ≡ o.failed before) × (o.flushes after ≡ o.flushes before)
+Leads o written head before after (Err end) = Sends o written head before after (Err end)
+
+pub record IsLed {O : Type 0} (o : outlet.Ghosts O) (written : ℕ) (head : List ℕ) (before after : O) (result : Result ℕ Ended) : Type 0 where
+  pub leads : Leads o written head before after result
+
 -- a request was answered so, behind so many bytes, or the output failed amid the answer
 abbrev pub Replies : {O : Type 0} → outlet.Ghosts O → ℕ → Question → ℕ → List ℕ → O → O → Result ℕ Ended → Type 0
 Replies o written q budget page before after result = (text : List ℕ) × IsAnswered q budget page text × IsSent o written text before after result

@@ -1,5 +1,5 @@
 //! The answer to a request.
-ghost use Rattle.std.specs.Prelude.{◌≡◌, [], IfOk, IfSome, IsSome};
+ghost use Rattle.std.specs.Prelude.{◌≡◌, ◌++◌, [], IfOk, IfSome, IsSome};
 ghost use Rattle.nap_command.specs.declared.command.Action.TheVariants.{Check};
 ghost use Rattle.nap_command.specs.Commands.{PrintsBy, count_line};
 ghost use Rattle.nap_batch.specs.Answers.{AnswersLines, IsAnswer, ShowsText, answer_text, ended_line, page_command, refused_line, unmade_line};
@@ -27,16 +27,16 @@ pub struct Answer {
 }
 
 impl Answer {
-    /// The answer as it goes out: the line, how many bytes the body has, and the body.
-    pub fn spell(&self, alloc: Global) -> Result<Vec<u8>, AllocError>
-        ensures { IfOk result (λ text. text.items ≡ answer_text self.now.line.items self.now.body.items) }
+    /// The answer as it goes out, in two parts: the line and how many bytes the body has, and then the body.
+    pub fn into_parts(self) -> Result<(Vec<u8>, Vec<u8>), AllocError>
+        ensures { IfOk result (λ parts. parts.0.items ++ parts.1.items ≡ answer_text self.line.items self.body.items) }
     {
-        let mut text = Vec::from_slice(alloc, self.line.as_slice())?;
+        let Answer { line, body } = self;
+        let mut head = line;
         let mut digits = Buffer::new();
-        text.extend_from_slice(digits.format(self.body.len()).as_bytes())?;
-        text.push(b'\n')?;
-        text.extend_from_slice(self.body.as_slice())?;
-        Ok(text)
+        head.extend_from_slice(digits.format(body.len()).as_bytes())?;
+        head.push(b'\n')?;
+        Ok((head, body))
     }
 }
 

@@ -1,9 +1,9 @@
 //! Requests one after another, and their answers.
-ghost use Rattle.std.specs.Prelude.{◌≡◌, ◌+◌, IfOk, drop, length, take};
+ghost use Rattle.std.specs.Prelude.{◌≡◌, ◌+◌, ◌++◌, IfOk, drop, length, take};
 ghost use Rattle.nap_command.specs.Devices.{devices};
 ghost use Rattle.nap_batch.specs.declared.held.TheConstants.{ROOM};
 ghost use Rattle.nap_batch.specs.Requests.{IsWhole};
-ghost use Rattle.nap_batch.specs.Sessions.{IsAnswered, IsExchanged, IsSent, Replies, Served, Session, pipes};
+ghost use Rattle.nap_batch.specs.Sessions.{IsAnswered, IsExchanged, IsLed, IsSent, Replies, Served, Session, pipes};
 
 use crate::answer::answer_page;
 use crate::held::{Held, ROOM};
@@ -34,15 +34,33 @@ pub enum Ended {
 /// The answer where there was no memory for one.
 const NO_MEMORY: &[u8] = b"no memory\n0\n";
 
-/// The answer to a request whose page is here, as it goes out.
-fn answer_text(alloc: Global, line: RequestLine, page: &[u8]) -> Result<Vec<u8>, AllocError>
-    ensures { IfOk result (λ text. IsAnswered line.question line.budget page.now text.items) }
+/// The answer to a request whose page is here, as it goes out: what comes before the body, and the body.
+fn answer_parts(
+    alloc: Global,
+    line: RequestLine,
+    page: &[u8],
+) -> Result<(Vec<u8>, Vec<u8>), AllocError>
+    ensures { IfOk result (λ parts. IsAnswered line.question line.budget page.now (parts.0.items ++ parts.1.items)) }
 {
     let answer = answer_page(alloc, line.question, line.budget, page)?;
-    answer.spell(alloc)
+    answer.into_parts()
 }
 
-/// Writes an answer after so many bytes, and returns how many bytes that makes.
+/// Writes what comes before a body, after so many bytes, and returns how many bytes that makes. It isn't flushed.
+fn lead<O: Outlet>(output: &mut O, written: u64, head: &[u8]) -> Result<u64, Ended>
+    ensures { IsLed O.Outlet written head.now output.old output.new result }
+{
+    let mut taken = 0;
+    while taken < head.len() {
+        let Ok(count) = output.write(&head[taken..]) else {
+            return Err(Ended::Write(written.saturating_add(taken as u64)));
+        };
+        taken += count;
+    }
+    Ok(written.saturating_add(taken as u64))
+}
+
+/// Writes an answer, or the rest of one, after so many bytes, and returns how many bytes that makes.
 fn send<O: Outlet>(output: &mut O, written: u64, text: &[u8]) -> Result<u64, Ended>
     ensures { IsSent O.Outlet written text.now output.old output.new result }
 {
@@ -51,6 +69,21 @@ fn send<O: Outlet>(output: &mut O, written: u64, text: &[u8]) -> Result<u64, End
         Err(Failure::Write(taken)) => Err(Ended::Write(written.saturating_add(taken))),
         // It fails in no other way.
         Err(_) => unreachable!(),
+    }
+}
+
+/// Writes an answer in two parts after so many bytes, and returns how many bytes that makes.
+fn send_parts<O: Outlet>(
+    output: &mut O,
+    written: u64,
+    head: &[u8],
+    body: &[u8],
+) -> Result<u64, Ended>
+    ensures { IsSent O.Outlet written (head.now ++ body.now) output.old output.new result }
+{
+    match lead(output, written, head) {
+        Ok(led) => send(output, led, body),
+        Err(ended) => Err(ended),
     }
 }
 
@@ -64,8 +97,8 @@ fn answer<O: Outlet>(
 ) -> Result<u64, Ended>
     ensures { Replies O.Outlet written line.question line.budget page.now output.old output.new result }
 {
-    match answer_text(alloc, line, page) {
-        Ok(text) => send(output, written, text.as_slice()),
+    match answer_parts(alloc, line, page) {
+        Ok((head, body)) => send_parts(output, written, head.as_slice(), body.as_slice()),
         Err(AllocError) => send(output, written, NO_MEMORY),
     }
 }

@@ -3,4 +3,4 @@ use Rattle.nap_batch.specs.Sessions.{no_memory}
 use Rattle.nap_batch.proofs.service.answer.Goals as goal
 
 pub returns-in-Err : goal.returns-in-Err
-returns-in-Err g c = (no_memory, inr refl, c.send-in-Err.ensures)
+returns-in-Err g c = (no_memory, inr refl, c.send.ensures)
