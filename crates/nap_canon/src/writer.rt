@@ -9,7 +9,7 @@ ghost use Rattle.nap_list.specs.State.{start, taking, Fits};
 ghost use Rattle.nap_canon.specs.Spelling.{onward_bytes, opcode, rect_piece, shape_bytes, shape, spelled};
 ghost use Rattle.nap_canon.specs.Text.{header, gl_of, begun_tail};
 ghost use Rattle.nap_canon.specs.Writing.{Puts, WritesBytes, WritesLaid, WritesPieces};
-ghost use Rattle.nap_canon.specs.Gathering.{room_limit};
+ghost use Rattle.nap_canon.specs.Gathering.{piece_limit, room_limit};
 
 use crate::byte_sink::ByteSink;
 use crate::form::Form;
@@ -166,7 +166,7 @@ impl<T: ByteSink + Drop> Writer<T> {
     /// Writes what was laid, and how a rectangle is spelled.
     #[inline(always)]
     fn spell_rect(&mut self, filled: bool, from: Point, to: Point) -> Result<(), T::Fault>
-        requires { length self.old.room.bytes ≤ 72 }
+        requires { length self.old.room.bytes + piece_limit ≤ room_limit }
         ensures { WritesLaid T.sent (rect_piece self.old.form filled from to) self.old self.new result }
     {
         self.room.rect(self.form, filled, from, to);

@@ -6,7 +6,7 @@ ghost use Rattle.nap_lines.specs.Listing.{lines};
 ghost use Rattle.nap_lines.specs.Batches.{point_front, point_end, line_front, char_front, move_front, typed_front, lines_with, pen_at};
 ghost use Rattle.nap_lines.specs.Writing.{line_limit};
 
-use crate::block::{BLOCK, fill_lines, recode_lines};
+use crate::letters::{write_few, write_many};
 use crate::tail::Tail;
 use nap_codes::{CharSet, TextStep, format_effector};
 use nap_list::{Batch, Colour, Hand, Pen, start_at};
@@ -123,7 +123,7 @@ fn write_lines(room: &mut Tail, text: &mut Vec<u8>, from: Point, points: &[Point
 
 /// Writes the line of a byte that may be a move, with the last bytes of the room as its end, and makes the front of a
 /// character's line again.
-fn write_typed(
+pub(crate) fn write_typed(
     room: &mut Tail,
     text: &mut Vec<u8>,
     set: CharSet,
@@ -147,7 +147,7 @@ fn write_typed(
 
 /// So many items, from this index on.
 #[inline(always)]
-fn part<X>(items: &[X], first: usize, count: usize) -> &[X]
+pub(crate) fn part<X>(items: &[X], first: usize, count: usize) -> &[X]
     requires { first + count ≤ length items.now }
     ensures { result.now ≡ take count (drop first items.now) }
 {
@@ -156,70 +156,6 @@ fn part<X>(items: &[X], first: usize, count: usize) -> &[X]
 
 /// From so many characters on, lines are written by blocks.
 const MANY: usize = 8;
-
-/// Writes a line for each character and for each move among them, one by one, as `write_dots` does.
-fn write_few(room: &mut Tail, text: &mut Vec<u8>, set: CharSet, codes: &[u8]) -> usize
-    requires room { length room.old + 21 ≤ line_limit }
-    ensures count { result ≤ length codes.now }
-    ensures text { text.new.items ≡ text.old.items ++ flat_map (λ code. typed_front set code ++ room.old) (take result codes.now) }
-{
-    let end = room.len();
-    // The digits stand for those of any code.
-    room.letter_front(set, 0);
-    let place = room.len() - end - 2;
-    let mut written = 0;
-    for code in codes {
-        if *code < 0x20 {
-            if write_typed(room, text, set, *code, end).is_err() {
-                return written;
-            }
-        } else {
-            room.recode(place, *code);
-            if text.extend_from_slice(room.as_slice()).is_err() {
-                return written;
-            }
-        }
-        written += 1;
-    }
-    written
-}
-
-/// Writes a line for each character and for each move among them, by blocks of lines, as `write_dots` does.
-#[inline(never)]
-fn write_many(room: &mut Tail, text: &mut Vec<u8>, set: CharSet, codes: &[u8]) -> usize
-    requires room { length room.old + 21 ≤ line_limit }
-    ensures count { result ≤ length codes.now }
-    ensures text { text.new.items ≡ text.old.items ++ flat_map (λ code. typed_front set code ++ room.old) (take result codes.now) }
-{
-    let end = room.len();
-    // The digits stand for those of any code.
-    room.letter_front(set, 0);
-    let size = room.len();
-    let place = size - end - 2;
-    let ready = (BLOCK / size).min(codes.len());
-    let mut block = [0; BLOCK];
-    fill_lines(&mut block, room.as_slice(), ready);
-    let mut written = 0;
-    while written < codes.len() {
-        let most = ready.min(codes.len() - written);
-        let count = recode_lines(&mut block, size, place, part(codes, written, most));
-        if count == 0 {
-            if write_typed(room, text, set, codes[written], end).is_err() {
-                return written;
-            }
-            written += 1;
-        } else {
-            if text
-                .extend_from_slice(part(&block, 0, count * size))
-                .is_err()
-            {
-                return written;
-            }
-            written += count;
-        }
-    }
-    written
-}
 
 /// Writes a line for each character and for each move among them, as `write_dots` does.
 fn write_letters(room: &mut Tail, text: &mut Vec<u8>, set: CharSet, codes: &[u8]) -> usize

@@ -45,7 +45,7 @@ impl Tail {
     /// A point, and a copy of its text.
     #[inline(always)]
     pub(crate) fn point_kept(&mut self, point: Point) -> Kept
-        requires room { length self.old + 21 ≤ line_limit }
+        requires room { length self.old + 24 ≤ line_limit }
         ensures text { self.new ≡ point_text point ++ self.old }
         ensures size { length self.new ≡ length result + length self.old }
         ensures kept { result ≡ point_text point }

@@ -4,6 +4,7 @@
 mod batch;
 mod block;
 mod field;
+mod letters;
 mod line;
 mod line_sink;
 mod printer;

@@ -2,7 +2,7 @@ use Rattle.std.proofs.Common.{ℕ, List, ◌≡◌, ◌-◌, ◌≤◌, ◌++◌
 use Rattle.nap_lines.specs.Batches.{char_front, typed_front}
 use Rattle.nap_lines.proofs.BatchLemmas.{char_start}
 use Rattle.nap_lines.proofs.BlockLemmas.{coded}
-use Rattle.nap_lines.proofs.batch.write_many.Given as goal
+use Rattle.nap_lines.proofs.letters.write_many.Given as goal
 
 abbrev pub invariant-loop-written : goal.invariant-loop-written
 invariant-loop-written l = record {

@@ -1,6 +1,6 @@
 use Rattle.std.proofs.Common.{ℕ, ◌≡◌, ◌++◌, flat_map, take}
 use Rattle.nap_lines.specs.Batches.{char_front, typed_front}
-use Rattle.nap_lines.proofs.batch.write_few.Given as goal
+use Rattle.nap_lines.proofs.letters.write_few.Given as goal
 
 abbrev pub invariant-loop-code : goal.invariant-loop-code
 invariant-loop-code l = record {

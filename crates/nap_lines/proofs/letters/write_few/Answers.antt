@@ -2,8 +2,8 @@ use Rattle.std.proofs.Common.{ℕ, ◌≡◌, ◌≤◌, ◌+◌, ◌-◌, List,
 use Rattle.nap_lines.specs.Lines.{code_text}
 use Rattle.nap_lines.specs.Batches.{char_front, typed_front}
 use Rattle.nap_lines.proofs.BatchLemmas.{appended, worked, around, kept, char_start, start_utf8, letter_typed, one_more, text_goes}
-use Rattle.nap_lines.proofs.batch.write_few.Goals as goal
-use Rattle.nap_lines.proofs.batch.write_few.Goals.{then-code-lt32+else-is_err, else-code-lt32+else-is_err-2}
+use Rattle.nap_lines.proofs.letters.write_few.Goals as goal
+use Rattle.nap_lines.proofs.letters.write_few.Goals.{then-code-lt32+else-is_err, else-code-lt32+else-is_err-2}
 
 -- the digits stand behind the name of the set, and the end of a line behind them
 recoded : (start end old room : List ℕ) (last all rest place : ℕ) → old ≡ (start ++ code_text 0) ++ end → all ≡ length old → rest ≡ length end → place ≡ all - rest - 2 →

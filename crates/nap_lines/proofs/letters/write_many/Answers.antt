@@ -6,7 +6,7 @@ use Rattle.nap_lines.specs.Batches.{char_front, typed_front}
 use Rattle.nap_lines.specs.Blocks.{recoded}
 use Rattle.nap_lines.proofs.BatchLemmas.{appended, worked, kept, char_start, one_more, text_goes}
 use Rattle.nap_lines.proofs.BlockLemmas.{block_again, coded_typed, filled, first_lines, more_lines}
-use Rattle.nap_lines.proofs.batch.write_many.Goals as goal
+use Rattle.nap_lines.proofs.letters.write_many.Goals as goal
 
 pub loop-written-init : goal.loop-written-init
 loop-written-init c =
