@@ -121,7 +121,7 @@ class ChildProcess:
                     elif self._take(take):
                         return
         finally:
-            if left and stdin:
+            if left and stdin and not self.ended:
                 waiting.unregister(stdin)
 
     def wind(self) -> None:

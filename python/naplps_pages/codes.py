@@ -103,9 +103,9 @@ class Cutter:
                 end = at
                 break
             self.last = at if place is None else place
+            self.steps += 1
             yield Code(self.last, self.last + 1, self.last, name)
         self.frames[-1] = (data, end, place)
-        self.steps += end - taken
 
     def _code(self, start: int) -> Code:
         byte = self.take()

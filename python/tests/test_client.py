@@ -90,6 +90,12 @@ def test_a_program_that_dies(fake):
     assert ask(fake(half), "list") == Unanswered("the program ended with status 0")
 
 
+@pytest.mark.parametrize("before", ["", "os.read(0, 100000); "])
+def test_a_program_that_dies_before_it_has_read_all(fake, before):
+    answer = ask(fake(before + "time.sleep(0.2); sys.exit(3)"), page=bytes(1 << 20))
+    assert answer == Unanswered("the program ended with status 3")
+
+
 @pytest.mark.parametrize("said", [
     "b'hello\\n0\\n'", "b'accepted 1 entries\\nmany\\n'", "b'accepted 1 entries\\n-1\\n'",
     "b'accepted 1 entries\\n2\\nab'",

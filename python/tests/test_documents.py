@@ -58,9 +58,11 @@ def settings(folder, naplps):
 def assert_is_served(command, folder, settings):
     """Runs a command that serves until it is ended, and opens the address that it prints."""
     with subprocess.Popen(["sh", "-c", "exec " + command], cwd=folder, stdout=subprocess.PIPE, env=settings) as server:
-        with urlopen(server.stdout.readline().decode("ascii").strip()) as page:
-            assert page.read(15) == b"<!doctype html>"
-        server.terminate()
+        try:
+            with urlopen(server.stdout.readline().decode("ascii").strip()) as page:
+                assert page.read(15) == b"<!doctype html>"
+        finally:
+            server.terminate()
 
 
 @pytest.mark.parametrize("command", sorted(set(shown())))
